@@ -118,36 +118,16 @@ def counts(text):
     return ["" if told else f"(least count {case} is not printed)" for told, case in zip(is_told, found)]
 
 
-def summary(text):
-    """The gains, the bound, and count, first four samples and sums of a recording by number."""
-    gains = [f"({a}, {b})" for a, b in re.findall(r"(?:\(|gain )(-?\d+),? (-?\d+)", text)]
-    bound, count = re.search(r"bound (\d+) samples (\d+)", text).groups()
-    sums = ", ".join(re.search(r"sums (\S+) (\S+) weighted (\S+) (\S+)", text).groups())
-    front = ", ".join(f"({a}, {b})" for a, b in re.findall(r"^\d+ (-?\d+) (-?\d+)$", text, re.M)[:4])
-    return ", ".join(gains), bound, f"count: {count}, front: [{front}], sums: [{sums}] }};"
+def made(number):
+    """The row of a recording by number: its gains where there are any, the bound, and what it holds."""
 
-
-def of_one_port(number):
     def patterns(text):
-        _, bound, told = summary(text)
-        return [exactly(told) + "[^{}]*" + exactly(f"alloc(), {number}, {bound}, &summary)")]
-
-    return patterns
-
-
-def of_ports(number):
-    def patterns(text):
-        gains, bound, told = summary(text)
-        ending = exactly(f"is_made(&made, [{gains}], {bound}, &summary)")
-        return [exactly(told) + rf"[^{{}}]*alloc\(\),(Carrier::FourPorts,)?{number}\)[^{{}}]*{ending}"]
-
-    return patterns
-
-
-def of_long_prefix(number):
-    def patterns(text):
-        gains, bound, told = summary(text)
-        return [exactly(told) + "[^{}]*" + exactly(f"alloc(), {number})?, {gains}, {bound}, &summary)")]
+        gains = ", ".join(f"({a}, {b})" for a, b in re.findall(r"(?:\(|gain )(-?\d+),? (-?\d+)", text))
+        bound, count = re.search(r"bound (\d+) samples (\d+)", text).groups()
+        sums = ", ".join(re.search(r"sums (\S+) (\S+) weighted (\S+) (\S+)", text).groups())
+        front = ", ".join(f"({a}, {b})" for a, b in re.findall(r"^\d+ (-?\d+) (-?\d+)$", text, re.M)[:4])
+        holds = f"Summary {{ count: {count}, front: [{front}], sums: [{sums}] }}"
+        return [exactly(f"({number}, ") + rf"\[?{exactly(gains)}\]?,?" + exactly(f"{bound}, {holds})")]
 
     return patterns
 
@@ -370,10 +350,10 @@ LOOKS += of_forms("cat ../crates/capture_example/stdin", SHOWN_FORMS)
 LOOKS += of_forms("cat ../crates/lte_tune/stdin", [("tell --json", OUTPUTS + "tell.json")])
 for n in ("0", "7", "4294967221"):
     LOOKS += [
-        Look("crates/sent_tests/src/made_recordings.rt", f"$PY peers/second_make.py -i {n}", of_one_port(n)),
-        Look("crates/sent_tests/src/two_antenna_ports.rt", f"$PY peers/second_two_ports.py -i {n}", of_ports(n)),
-        Look("crates/sent_tests/src/four_antenna_ports.rt", f"$PY peers/second_four_ports.py -i {n}", of_ports(n)),
-        Look("crates/list_tests/src/extended_prefix.rt", f"$PY peers/second_long_prefix.py -i {n}", of_long_prefix(n)),
+        Look("crates/sent_tests/src/made_recordings.rt", f"$PY peers/second_make.py -i {n}", made(n)),
+        Look("crates/sent_tests/src/two_antenna_ports.rt", f"$PY peers/second_two_ports.py -i {n}", made(n)),
+        Look("crates/sent_tests/src/four_antenna_ports.rt", f"$PY peers/second_four_ports.py -i {n}", made(n)),
+        Look("crates/list_tests/src/extended_prefix.rt", f"$PY peers/second_long_prefix.py -i {n}", made(n)),
     ]
 
 

@@ -6,7 +6,7 @@ use lte_types::{Bandwidth, CellId, Duration, Entry, Mib, Resource, Sfn, Sib1Reas
 use sample_file::Recording;
 use std::alloc::{AllocError, Global};
 use std::test::Fail;
-use test_support::{Summary, is_summed_up, silent_recording};
+use test_support::{Summary, are_samples, is_summed_up, silent_recording};
 
 // Samples of the cell of number 7 from frame 7 on.
 const SENT: [(u32, i16, i16); 27] = [
@@ -39,44 +39,23 @@ const SENT: [(u32, i16, i16); 27] = [
     (28_800, 45, 45),
 ];
 
-// The plan of number 7.
-fn plan_7() -> Option<LongPlan> {
-    let mib = Mib::new(Bandwidth::N6, Duration::Extended, Resource::Two, 1, 7)?;
+// The plan of number 7, with a bandwidth and upper bits of the frame number in its block.
+fn plan_7(bandwidth: Bandwidth, upper: u8) -> Option<LongPlan> {
+    let mib = Mib::new(bandwidth, Duration::Extended, Resource::Two, upper, 7)?;
     Some(LongPlan {
         id: CellId::new(7)?,
         mib,
     })
 }
 
-// Whether these samples are sent of a plan from frame 7 on.
-fn sends(plan: &LongPlan, rows: &[(u32, i16, i16)]) -> bool {
-    let mut all = true;
-    for &(i, re, im) in rows {
-        all &= sample(plan, Sfn::modulo(7), i as u64) == Sample { re, im };
-    }
-    all
-}
-
+// A bandwidth and upper bits in the block change nothing that is sent.
 #[test]
 fn samples_of_a_plan(rt: HostRuntime) -> Result<(), Fail> {
-    let plan = plan_7().ok_or("in range")?;
-    assert!(rt; sends(&plan, &SENT));
-    Ok(())
-}
-
-// Whether the upper bits of the frame number in the block change nothing that is sent.
-fn is_sent_alike(block: u8) -> Option<bool> {
-    let mib = Mib::new(Bandwidth::N100, Duration::Extended, Resource::Two, block, 7)?;
-    let plan = LongPlan {
-        id: CellId::new(7)?,
-        mib,
-    };
-    Some(sends(&plan, &SENT))
-}
-
-#[test]
-fn the_frame_tells_its_number(rt: HostRuntime) -> Result<(), Fail> {
-    assert!(rt; is_sent_alike(255) == Some(true));
+    for (bandwidth, upper) in [(Bandwidth::N6, 1), (Bandwidth::N100, 255)] {
+        let plan = plan_7(bandwidth, upper).ok_or("in range")?;
+        let sent = |i: u32| Some(sample(&plan, Sfn::modulo(7), i as u64));
+        assert!(rt; are_samples(&SENT, sent), "upper bits {upper}");
+    }
     Ok(())
 }
 
@@ -85,37 +64,49 @@ fn is_made(made: &LongMade, gain: (i16, i16), bound: i16, summary: &Summary) -> 
     made.gain == gain && made.bound == bound && is_summed_up(&made.recording, summary)
 }
 
+// Recordings by number: the gain, the bound of its errors, and what it holds.
+const MADE: [(u32, (i16, i16), i16, Summary); 3] = [
+    (
+        0,
+        (1, 0),
+        2,
+        Summary {
+            count: 192_000,
+            front: [(0, -23), (-28, -22), (12, 13), (51, 11)],
+            sums: [-29_145, 2157, -12_175_129, -3_334_298],
+        },
+    ),
+    (
+        7,
+        (8, 7),
+        21,
+        Summary {
+            count: 326_400,
+            front: [(105, -77), (348, -278), (145, 189), (-230, 711)],
+            sums: [-327_871, 315_644, -159_347_480, 96_467_028],
+        },
+    ),
+    (
+        4_294_967_221,
+        (8, 1),
+        16,
+        Summary {
+            count: 211_200,
+            front: [(9, -15), (9, -13), (-5, -5), (-7, 3)],
+            sums: [180_775, 34_420, 104_354_895, 12_631_419],
+        },
+    ),
+];
+
 #[test]
-fn the_first_recording(rt: HostRuntime) -> Result<(), Fail> {
+fn recordings_by_number(rt: HostRuntime) -> Result<(), Fail> {
     made_is_clean();
-    let summary = Summary {
-        count: 192_000,
-        front: [(0, -23), (-28, -22), (12, 13), (51, 11)],
-        sums: [-29_145, 2157, -12_175_129, -3_334_298],
-    };
-    assert!(rt; is_made(&make(rt.alloc(), 0)?, (1, 0), 2, &summary));
-    Ok(())
-}
-
-#[test]
-fn a_recording_of_17_frames(rt: HostRuntime) -> Result<(), Fail> {
-    let summary = Summary {
-        count: 326_400,
-        front: [(105, -77), (348, -278), (145, 189), (-230, 711)],
-        sums: [-327_871, 315_644, -159_347_480, 96_467_028],
-    };
-    assert!(rt; is_made(&make(rt.alloc(), 7)?, (8, 7), 21, &summary));
-    Ok(())
-}
-
-#[test]
-fn a_recording_of_a_large_number(rt: HostRuntime) -> Result<(), Fail> {
-    let summary = Summary {
-        count: 211_200,
-        front: [(9, -15), (9, -13), (-5, -5), (-7, 3)],
-        sums: [180_775, 34_420, 104_354_895, 12_631_419],
-    };
-    assert!(rt; is_made(&make(rt.alloc(), 4_294_967_221)?, (8, 1), 16, &summary));
+    for (n, gain, bound, summary) in MADE {
+        assert!(rt;
+            is_made(&make(rt.alloc(), n)?, gain, bound, &summary),
+            "number {n}"
+        );
+    }
     Ok(())
 }
 
@@ -159,48 +150,52 @@ fn is_list(alloc: Global, n: u32, told: &Told) -> Result<bool, AllocError> {
     })
 }
 
-// Frame 8 begins at sample 19,193, since sample 7 of frame 7 is the first.
-#[test]
-fn the_cell_of_a_recording(rt: HostRuntime) -> Result<(), Fail> {
-    let told = Told {
-        identity: 7,
-        start: 19_193,
-        sfn: 8,
-        duration: Duration::Extended,
-        resource: Resource::Two,
-        spare: 7,
-    };
-    assert!(rt; is_list(rt.alloc(), 7, &told)?);
-    Ok(())
-}
+// What is told of the cell of recordings by number.
+const TOLD: [(u32, Told); 3] = [
+    // Frame 8 begins at sample 19,193, since sample 7 of frame 7 is the first.
+    (
+        7,
+        Told {
+            identity: 7,
+            start: 19_193,
+            sfn: 8,
+            duration: Duration::Extended,
+            resource: Resource::Two,
+            spare: 7,
+        },
+    ),
+    // The first primary signal, of subframe 5, stands at sample 142, where there is no room for the secondary one
+    // before it: the frame begins 8,768 samples later.
+    (
+        10_290,
+        Told {
+            identity: 210,
+            start: 8_910,
+            sfn: 51,
+            duration: Duration::Normal,
+            resource: Resource::One,
+            spare: 50,
+        },
+    ),
+    // Here at sample 152.
+    (
+        10_280,
+        Told {
+            identity: 200,
+            start: 8_920,
+            sfn: 41,
+            duration: Duration::Normal,
+            resource: Resource::OneSixth,
+            spare: 40,
+        },
+    ),
+];
 
-// The first primary signal, of subframe 5, stands at sample 142, where there is no room for the secondary one before
-// it: the frame begins 8,768 samples later.
 #[test]
-fn a_first_place_of_142(rt: HostRuntime) -> Result<(), Fail> {
-    let told = Told {
-        identity: 210,
-        start: 8_910,
-        sfn: 51,
-        duration: Duration::Normal,
-        resource: Resource::One,
-        spare: 50,
-    };
-    assert!(rt; is_list(rt.alloc(), 10_290, &told)?);
-    Ok(())
-}
-
-#[test]
-fn a_first_place_of_152(rt: HostRuntime) -> Result<(), Fail> {
-    let told = Told {
-        identity: 200,
-        start: 8_920,
-        sfn: 41,
-        duration: Duration::Normal,
-        resource: Resource::OneSixth,
-        spare: 40,
-    };
-    assert!(rt; is_list(rt.alloc(), 10_280, &told)?);
+fn the_cells_of_recordings(rt: HostRuntime) -> Result<(), Fail> {
+    for (n, told) in TOLD {
+        assert!(rt; is_list(rt.alloc(), n, &told)?, "number {n}");
+    }
     Ok(())
 }
 
@@ -279,8 +274,7 @@ fn no_frames_are_added(rt: HostRuntime) -> Result<(), Fail> {
     let alloc = rt.alloc();
     for most in [1000, 900] {
         let recording = spoiled(alloc, most)?;
-        let list = list_of(alloc, &recording)?;
-        assert!(rt; list.slice().is_empty());
+        assert!(rt; list_of(alloc, &recording)?.slice().is_empty());
     }
     Ok(())
 }
@@ -288,7 +282,6 @@ fn no_frames_are_added(rt: HostRuntime) -> Result<(), Fail> {
 #[test]
 fn silence_has_no_cells(rt: HostRuntime) -> Result<(), Fail> {
     let recording = silent_recording(rt.alloc())?;
-    let list = list_of(rt.alloc(), &recording)?;
-    assert!(rt; list.slice().is_empty());
+    assert!(rt; list_of(rt.alloc(), &recording)?.slice().is_empty());
     Ok(())
 }

@@ -3,11 +3,10 @@
 ghost use Rattle.std.specs.Prelude.{◌≡◌, IfOk, length};
 ghost use Rattle.explain.specs.Entries.{IsExplained};
 
+use crate::plans;
 use crate::rows::SPARSE;
 use cs_num::Sample;
-use explain::{
-    EntryList, Workspace, explain, one_frame_is_enough, the_list_in_plain_words, values_of,
-};
+use explain::{EntryList, Workspace, one_frame_is_enough, the_list_in_plain_words, values_of};
 use lte_types::{Bandwidth, Duration, Entry, Mib, Resource, Sib1Reason};
 use sample_file::Recording;
 use std::alloc::{AllocError, Global};
@@ -39,10 +38,7 @@ fn send_frames(samples: &mut [Sample], frames: &[Rows; 4])
 fn list_of(alloc: Global, recording: &Recording) -> Result<EntryList, AllocError>
     ensures { IfOk result (λ list. IsExplained recording.now list) }
 {
-    let mut work = Workspace::new(alloc)?;
-    let mut list = EntryList::new(alloc)?;
-    explain(recording, &mut work, &mut list);
-    Ok(list)
+    plans::list_of(alloc, recording, &mut Workspace::new(alloc)?)
 }
 
 // Whether an entry is of identity 0, and has this place, frame number and count of ports.
@@ -58,22 +54,20 @@ fn is_told_by(entry: &Entry, frames: u8, frame: u8, phase: u8) -> bool {
     entry.frames == frames && entry.frame == frame && entry.phase == phase && entry.cost == 0
 }
 
-// Whether a master block is of the width n6, with PHICH extended and two, and has these bits.
-fn is_narrow(mib: &Mib, upper: u8, spare: u16) -> bool {
-    mib.bandwidth == Bandwidth::N6
-        && mib.duration == Duration::Extended
-        && mib.resource == Resource::Two
-        && mib.upper == upper
-        && mib.spare == spare
+// The master block of the width n6, with PHICH extended and two, and these bits.
+fn narrow(upper: u8, spare: u16) -> Option<Mib> {
+    Mib::new(
+        Bandwidth::N6,
+        Duration::Extended,
+        Resource::Two,
+        upper,
+        spare,
+    )
 }
 
-// Whether a master block is that of the rows of width n50.
-fn is_wide(mib: &Mib) -> bool {
-    mib.bandwidth == Bandwidth::N50
-        && mib.duration == Duration::Normal
-        && mib.resource == Resource::One
-        && mib.upper == 0
-        && mib.spare == 0
+// That of the rows of width n50.
+fn wide() -> Option<Mib> {
+    Mib::new(Bandwidth::N50, Duration::Normal, Resource::One, 0, 0)
 }
 
 // Whether an entry has no system information, since its width is n50.
@@ -119,7 +113,7 @@ fn a_master_block_of_the_first_frame_is_an_entry(rt: HostRuntime) -> Result<(), 
         return Err(Fail::from("one entry"));
     };
     assert!(rt; is_cell_at(entry, 0, 0, 1) && is_told_by(entry, 1, 0, 0));
-    assert!(rt; is_wide(&entry.mib) && is_too_wide(entry));
+    assert!(rt; Some(entry.mib) == wide() && is_too_wide(entry));
     assert!(rt; has_signs(&values_of(&recording, entry)));
     list.clear();
     assert!(rt; list.slice().is_empty());
@@ -137,7 +131,7 @@ fn a_later_frame_tells_the_number_of_the_first(rt: HostRuntime) -> Result<(), Fa
         return Err(Fail::from("one entry"));
     };
     assert!(rt; is_cell_at(entry, 18_000, 22, 4) && is_told_by(entry, 1, 1, 3));
-    assert!(rt; is_narrow(&entry.mib, 5, 1023));
+    assert!(rt; Some(entry.mib) == narrow(5, 1023));
     Ok(())
 }
 
@@ -152,7 +146,7 @@ fn four_frames_tell_together_what_fewer_do_not(rt: HostRuntime) -> Result<(), Fa
         return Err(Fail::from("one entry"));
     };
     assert!(rt; is_cell_at(entry, 0, 724, 2) && is_told_by(entry, 4, 0, 0));
-    assert!(rt; is_narrow(&entry.mib, 181, 1000));
+    assert!(rt; Some(entry.mib) == narrow(181, 1000));
     let _values = values_of(&recording, entry);
     one_frame_is_enough();
     Ok(())

@@ -1,58 +1,20 @@
 // The values of pairs are those of a second program, `scripts/peers/second_pairs.py --ports 4`, and the recordings by
 // number those whose samples `scripts/peers/second_four_ports.py` gives too.
-ghost use Rattle.std.specs.Prelude.{◌≡◌, ◌*◌, ◌^◌, ◌<◌, All, IfOk, length};
-ghost use Rattle.cs_num.specs.Complex.{IsWithin};
+ghost use Rattle.std.specs.Prelude.{◌≡◌, ◌*◌, ◌<◌, All, IfOk, length};
 
+use crate::ports::{is_of, of_port, opposed, symbols, with_port};
 use capture_make::{make_by, plan};
-use cell_tx::{Cell, CellPlan, Port, PortOfFour, Sender, sequence};
-use cs_num::{Cpx, Sample};
+use cell_tx::{Cell, Port, PortOfFour};
+use cs_num::Sample;
 use explain::EntryList;
 use four_ports::{FourSlot, Workspace4, explain_clean};
 use grid_map::Place;
-use lte_types::{Carrier, CellId, Entry, Sfn, Sib1Reason, Timing};
+use lte_types::{Carrier, CellId, Sib1Reason};
 use sample_file::Recording;
 use soft_bits::ReadSlot;
 use std::alloc::{AllocError, Global};
 use std::test::Fail;
-use test_support::{silent, silent_recording};
-
-// What is seen at subcarrier k of symbol l.
-fn seen_at(l: u8, k: u8) -> Cpx
-    requires l { l < 7 }
-    requires k { k < 72 }
-    ensures { IsWithin (2 ^ 25) result }
-{
-    Cpx {
-        re: 64 * ((7 * l as i64 + 3 * k as i64) % 41 - 20),
-        im: 64 * ((5 * l as i64 + 11 * k as i64) % 37 - 18),
-    }
-}
-
-// All subcarriers of symbol l.
-fn symbol(l: u8) -> [Cpx; 72]
-    requires { l < 7 }
-    ensures { All (IsWithin (2 ^ 25)) result }
-{
-    let mut values = [Cpx::ZERO; 72];
-    for k in 0..72_u8 {
-        values[k as usize] = seen_at(l, k);
-    }
-    values
-}
-
-// The slot.
-fn slot(id: CellId) -> FourSlot {
-    let seen = [
-        symbol(0),
-        symbol(1),
-        symbol(2),
-        symbol(3),
-        symbol(4),
-        symbol(5),
-        symbol(6),
-    ];
-    FourSlot::new(seen, 10, id)
-}
+use test_support::silent_recording;
 
 // The pairs by number, each at a subcarrier of a symbol and the next subcarrier: symbol, subcarrier and values.
 const PAIRS: [(u8, u8, [i16; 4]); 12] = [
@@ -108,7 +70,8 @@ fn is_pair(values: &[i16; 48], i: usize, expected: [i16; 4]) -> bool {
 
 #[test]
 fn values_of_pairs(rt: HostRuntime) -> Result<(), Fail> {
-    let slot = slot(CellId::new(271).ok_or("an identity")?);
+    let id = CellId::new(271).ok_or("an identity")?;
+    let slot = FourSlot::new(symbols(), 10, id);
     let values = values_of(&slot);
     let mut i = 0_usize;
     for (_, _, expected) in PAIRS {
@@ -129,34 +92,16 @@ fn list_of(alloc: Global, recording: &Recording) -> Result<EntryList, AllocError
 #[test]
 fn silence_has_no_cell(rt: HostRuntime) -> Result<(), Fail> {
     let recording = silent_recording(rt.alloc())?;
-    let list = list_of(rt.alloc(), &recording)?;
-    assert!(rt; list.slice().is_empty());
+    assert!(rt; list_of(rt.alloc(), &recording)?.slice().is_empty());
     Ok(())
 }
 
-// Whether the master block of an entry is that of a plan.
-fn has_master_block(entry: &Entry, sent: &CellPlan, sfn: u16) -> bool {
-    entry.mib.duration == sent.duration
-        && entry.mib.resource == sent.resource
-        && entry.mib.upper as u16 == sfn / 4
-        && entry.mib.spare == sent.spare
-}
-
-// Whether an entry is that of recording number n.
-fn is_entry_of(entry: &Entry, n: u32, start: u32, sfn: u16) -> bool {
-    let sent = plan(n);
-    entry.id.value() == sent.identity
-        && entry.start == start
-        && entry.sfn.value() == sfn
-        && entry.ports == 4
-        && has_master_block(entry, &sent, sfn)
-        && matches!(&entry.sib1, Err(Sib1Reason::NotOnePort(4)))
-}
-
-// Whether that is the only one.
-fn is_list_of(list: &EntryList, n: u32, start: u32, sfn: u16) -> bool {
+// Whether the only entry is that of recording number 7.
+fn is_list_of_7(list: &EntryList, start: u32, sfn: u16) -> bool {
     match list.slice() {
-        [entry] => is_entry_of(entry, n, start, sfn),
+        [entry] => {
+            is_of(entry, 7, start, sfn, 4) && matches!(&entry.sib1, Err(Sib1Reason::NotOnePort(4)))
+        }
         _ => false,
     }
 }
@@ -166,47 +111,20 @@ fn is_list_of(list: &EntryList, n: u32, start: u32, sfn: u16) -> bool {
 fn recording_7_has_its_cell(rt: HostRuntime) -> Result<(), Fail> {
     let made = make_by(rt.alloc(), Carrier::FourPorts, 7)?;
     let list = list_of(rt.alloc(), &made.recording)?;
-    assert!(rt; is_list_of(&list, 7, 19_193, 8));
+    assert!(rt; is_list_of_7(&list, 19_193, 8));
     Ok(())
-}
-
-// A component with an error of 1 against its sign.
-fn opposed(component: i64) -> i16 {
-    let component = component.clamp(-32_000, 32_000);
-    let moved = if component > 0 {
-        component - 1
-    } else {
-        component + 1
-    };
-    moved as i16
 }
 
 // The gains of ports 0 to 3. The first is as small as any may be, and each pair of ports has three eighths of the
 // power.
 const GAINS: [(i64, i64); 4] = [(1, 0), (5, -5), (-6, 6), (0, 7)];
 
-// What is received of a port's sample by its gain, added to what is received of others.
-fn with_port(sum: (i64, i64), sample: Sample, gain: (i64, i64)) -> (i64, i64) {
-    let ((re, im), (a, b)) = (sum, gain);
-    let (x, y) = (sample.re as i64, sample.im as i64);
-    (
-        re.wrapping_add(a.wrapping_mul(x))
-            .wrapping_sub(b.wrapping_mul(y)),
-        im.wrapping_add(a.wrapping_mul(y))
-            .wrapping_add(b.wrapping_mul(x)),
-    )
-}
-
 // What is received of all ports, each component off by 1 against its sign.
 fn received(zero: Sample, one: Sample, two: Sample, three: Sample) -> Sample {
     let sum = with_port((0, 0), zero, GAINS[0]);
     let sum = with_port(sum, one, GAINS[1]);
     let sum = with_port(sum, two, GAINS[2]);
-    let (re, im) = with_port(sum, three, GAINS[3]);
-    Sample {
-        re: opposed(re),
-        im: opposed(im),
-    }
+    opposed(with_port(sum, three, GAINS[3]), 1)
 }
 
 // Writes over the samples of port 0 what is received of all.
@@ -220,32 +138,14 @@ fn receive(samples: &mut [Sample], one: &[Sample], two: &[Sample], three: &[Samp
     }
 }
 
-// 30 ms of a port of a cell, from frame 512 on.
-fn of_port(alloc: Global, cell: &Cell, port: PortOfFour) -> Result<Vec<Sample>, AllocError>
-    ensures { IfOk result (λ samples. length samples.items ≡ 57600) }
-{
-    let mut samples = silent(alloc, 57_600)?;
-    let sender = Sender {
-        cell,
-        port: Port::OfFour(port),
-        timing: Timing {
-            sfn: Sfn::modulo(512),
-            offset: 0,
-        },
-        load: None,
-    };
-    sequence(&sender, &mut samples);
-    Ok(samples)
-}
-
-// The same of all ports, as they are received.
+// 30 ms of all ports of a cell, as they are received.
 fn all_ports(alloc: Global, cell: &Cell) -> Result<Vec<Sample>, AllocError>
     ensures { IfOk result (λ samples. length samples.items ≡ 57600) }
 {
-    let mut samples = of_port(alloc, cell, PortOfFour::Zero)?;
-    let one = of_port(alloc, cell, PortOfFour::One)?;
-    let two = of_port(alloc, cell, PortOfFour::Two)?;
-    let three = of_port(alloc, cell, PortOfFour::Three)?;
+    let mut samples = of_port(alloc, cell, Port::OfFour(PortOfFour::Zero))?;
+    let one = of_port(alloc, cell, Port::OfFour(PortOfFour::One))?;
+    let two = of_port(alloc, cell, Port::OfFour(PortOfFour::Two))?;
+    let three = of_port(alloc, cell, Port::OfFour(PortOfFour::Three))?;
     receive(&mut samples, &one, &two, &three);
     Ok(samples)
 }
@@ -255,6 +155,6 @@ fn a_weak_first_port_beside_three_strong_ones(rt: HostRuntime) -> Result<(), Fai
     let cell = Cell::of(Carrier::FourPorts, plan(7))?;
     let recording = Recording::new(all_ports(rt.alloc(), &cell)?).ok_or("30 ms")?;
     let list = list_of(rt.alloc(), &recording)?;
-    assert!(rt; is_list_of(&list, 7, 0, 512));
+    assert!(rt; is_list_of_7(&list, 0, 512));
     Ok(())
 }

@@ -14,6 +14,8 @@ mod four_antenna_ports;
 #[cfg(test)]
 mod plans;
 #[cfg(test)]
+mod ports;
+#[cfg(test)]
 mod rounds_of_recordings;
 #[cfg(test)]
 mod rows;

@@ -28,7 +28,7 @@ fn plain_recording(alloc: Global) -> Result<Recording, Fail> {
 }
 
 // The list of a recording.
-fn list_of(
+pub(crate) fn list_of(
     alloc: Global,
     recording: &Recording,
     work: &mut Workspace,

@@ -151,34 +151,25 @@ fn is_taken_off(
     })
 }
 
+// The frame before frame 0 is 1023.
 #[test]
 fn a_lone_cell_leaves_nothing(rt: HostRuntime) -> Result<(), Fail> {
-    let mut samples = silent(rt.alloc(), 57_600)?;
-    add(rt.alloc(), &mut samples, plain_plan(0), (0, 0), (1, 0))?;
-    let told = Told {
-        gain: (1, 0),
-        greatest: 0,
-        before: 169_776_488,
-        after: 0,
-        samples: [(0, 0); 3],
-    };
-    assert!(rt; is_taken_off(rt.alloc(), samples, plain_plan(0), (0, 0), &told)?);
+    for (sent, gain, heard, before) in [
+        ((0, 0), (1, 0), (0, 0), 169_776_488),
+        ((1023, 1), (3, -4), (0, 19_199), 3_594_134_850),
+    ] {
+        let mut samples = silent(rt.alloc(), 57_600)?;
+        add(rt.alloc(), &mut samples, plain_plan(0), sent, gain)?;
+        let told = Told {
+            gain,
+            greatest: 0,
+            before,
+            after: 0,
+            samples: [(0, 0); 3],
+        };
+        assert!(rt; is_taken_off(rt.alloc(), samples, plain_plan(0), heard, &told)?);
+    }
     clean_gain_is_candidate();
-    Ok(())
-}
-
-#[test]
-fn the_frame_before_has_the_number_before(rt: HostRuntime) -> Result<(), Fail> {
-    let mut samples = silent(rt.alloc(), 57_600)?;
-    add(rt.alloc(), &mut samples, plain_plan(0), (1023, 1), (3, -4))?;
-    let told = Told {
-        gain: (3, -4),
-        greatest: 0,
-        before: 3_594_134_850,
-        after: 0,
-        samples: [(0, 0); 3],
-    };
-    assert!(rt; is_taken_off(rt.alloc(), samples, plain_plan(0), (0, 19_199), &told)?);
     Ok(())
 }
 

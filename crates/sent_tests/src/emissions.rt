@@ -1,12 +1,11 @@
 // The samples are those of a second program, `scripts/peers/second_cell.py`, and so are the sums.
 use cell_json::{JsonError, read_by};
 use cell_tx::{Cell, CellError, CellPlan, Emission, emit, sum_is_clean};
-use cs_num::Sample;
 use lte_types::Carrier;
 use sample_file::Recording;
 use std::alloc::{AllocError, Global};
 use std::test::Fail;
-use test_support::{description, has_sums, plain_block, silent};
+use test_support::{are_samples, description, has_sums, plain_block, silent};
 
 // What the tables send, beside the plain cell's keys.
 const TURNED_KEYS: &str =
@@ -417,173 +416,86 @@ const LOADED_LONG_PREFIX: [(u32, i16, i16); 45] = [
 
 const LOADED_LONG_PREFIX_SUMS: (i64, i64) = (-164_475_309, 64_888_093);
 
+// A description that is read, or why it is refused.
+type Answer = Result<Emission, JsonError>;
+
 // What is read, by a carrier, where the plain description has this change.
-fn answer(
-    alloc: Global,
-    carrier: Carrier,
-    change: &str,
-) -> Result<Result<Emission, JsonError>, AllocError> {
+fn answer(alloc: Global, carrier: Carrier, change: &str) -> Result<Answer, AllocError> {
     let text = description(alloc, change, "")?;
     Ok(read_by(alloc, carrier, text.as_bytes()))
 }
 
 // Whether that is refused for this cause.
-fn is_refused(
-    alloc: Global,
-    carrier: Carrier,
-    change: &str,
-    cause: CellError,
-) -> Result<bool, AllocError> {
-    let found = answer(alloc, carrier, change)?;
-    Ok(found.err() == Some(JsonError::Cell(cause)))
+fn is_refused(alloc: Global, row: (Carrier, &str, CellError)) -> Result<bool, AllocError> {
+    let (carrier, change, cause) = row;
+    Ok(answer(alloc, carrier, change)?.err() == Some(JsonError::Cell(cause)))
 }
 
-// The samples of an emission with this load, or without.
-fn emitted(
+// What a described cell sends by a carrier, with this load or without.
+fn sent(
     alloc: Global,
-    mut emission: Emission,
+    carrier: Carrier,
     load: Option<u32>,
-) -> Result<Vec<Sample>, AllocError> {
+    change: &str,
+) -> Result<Recording, Fail> {
+    let mut emission = answer(alloc, carrier, change)??;
     emission.load = load;
     let mut samples = silent(alloc, emission.samples as usize)?;
     emit(&emission, &mut samples);
-    Ok(samples)
+    let recording = Recording::new(samples).ok_or("30 ms")?;
+    Ok(recording)
 }
 
-// Whether these samples are among all.
-fn are_among(rows: &[(u32, i16, i16)], samples: &[Sample]) -> bool {
-    let mut all = true;
-    for &(i, re, im) in rows {
-        all &= samples.get(i as usize) == Some(&Sample { re, im });
-    }
-    all
-}
-
-// Whether a described cell sends these samples, with these sums, by a carrier and with this load.
-fn sends(
-    alloc: Global,
-    carrier: Carrier,
-    load: Option<u32>,
-    change: &str,
-    rows: &[(u32, i16, i16)],
-    sums: (i64, i64),
-) -> Result<bool, Fail> {
-    let emission = answer(alloc, carrier, change)??;
-    let samples = emitted(alloc, emission, load)?;
-    let among = are_among(rows, &samples);
-    Ok(match Recording::new(samples) {
-        Some(recording) => among && has_sums(&recording, sums),
-        None => false,
-    })
+// Whether a recording has these samples and these sums.
+fn holds(recording: &Recording, rows: &[(u32, i16, i16)], sums: (i64, i64)) -> bool {
+    let samples = recording.as_slice();
+    are_samples(rows, |i| samples.get(i as usize).copied()) && has_sums(recording, sums)
 }
 
 #[test]
 fn one_port_with_load(rt: HostRuntime) -> Result<(), Fail> {
-    let load = Some(4_294_967_295);
-    assert!(rt;
-        sends(
-            rt.alloc(),
-            Carrier::OnePort,
-            load,
-            TURNED_KEYS,
-            &LOADED,
-            LOADED_SUMS
-        )?
-    );
+    let loaded = sent(
+        rt.alloc(),
+        Carrier::OnePort,
+        Some(4_294_967_295),
+        TURNED_KEYS,
+    )?;
+    assert!(rt; holds(&loaded, &LOADED, LOADED_SUMS));
     Ok(())
 }
 
 #[test]
-fn two_ports(rt: HostRuntime) -> Result<(), Fail> {
-    assert!(rt;
-        sends(
-            rt.alloc(),
-            Carrier::TwoPorts,
-            None,
-            TWO_PORTS_KEYS,
-            &TWO_PORTS,
-            TWO_PORTS_SUMS
-        )?
-    );
+fn two_ports_without_and_with_load(rt: HostRuntime) -> Result<(), Fail> {
+    let plain = sent(rt.alloc(), Carrier::TwoPorts, None, TWO_PORTS_KEYS)?;
+    assert!(rt; holds(&plain, &TWO_PORTS, TWO_PORTS_SUMS));
+    let loaded = sent(rt.alloc(), Carrier::TwoPorts, Some(7), TWO_PORTS_KEYS)?;
+    assert!(rt; holds(&loaded, &LOADED_TWO_PORTS, LOADED_TWO_PORTS_SUMS));
     sum_is_clean();
     Ok(())
 }
 
 #[test]
-fn two_ports_with_load(rt: HostRuntime) -> Result<(), Fail> {
-    let rows = &LOADED_TWO_PORTS;
-    assert!(rt;
-        sends(
-            rt.alloc(),
-            Carrier::TwoPorts,
-            Some(7),
-            TWO_PORTS_KEYS,
-            rows,
-            LOADED_TWO_PORTS_SUMS
-        )?
-    );
-    Ok(())
-}
-
-#[test]
 fn four_ports(rt: HostRuntime) -> Result<(), Fail> {
-    assert!(rt;
-        sends(
-            rt.alloc(),
-            Carrier::FourPorts,
-            None,
-            FOUR_PORTS_KEYS,
-            &FOUR_PORTS,
-            FOUR_PORTS_SUMS
-        )?
-    );
+    let plain = sent(rt.alloc(), Carrier::FourPorts, None, FOUR_PORTS_KEYS)?;
+    assert!(rt; holds(&plain, &FOUR_PORTS, FOUR_PORTS_SUMS));
     Ok(())
 }
 
 #[test]
 fn four_ports_with_load(rt: HostRuntime) -> Result<(), Fail> {
-    let (load, rows) = (Some(3_735_928_559), &LOADED_FOUR_PORTS);
-    assert!(rt;
-        sends(
-            rt.alloc(),
-            Carrier::FourPorts,
-            load,
-            FOUR_PORTS_KEYS,
-            rows,
-            LOADED_FOUR_PORTS_SUMS
-        )?
-    );
+    let load = Some(3_735_928_559);
+    let loaded = sent(rt.alloc(), Carrier::FourPorts, load, FOUR_PORTS_KEYS)?;
+    assert!(rt; holds(&loaded, &LOADED_FOUR_PORTS, LOADED_FOUR_PORTS_SUMS));
     Ok(())
 }
 
 #[test]
-fn the_extended_prefix(rt: HostRuntime) -> Result<(), Fail> {
-    assert!(rt;
-        sends(
-            rt.alloc(),
-            Carrier::LongPrefix,
-            None,
-            LONG_PREFIX_KEYS,
-            &LONG_PREFIX,
-            LONG_PREFIX_SUMS
-        )?
-    );
-    Ok(())
-}
-
-#[test]
-fn the_extended_prefix_with_load(rt: HostRuntime) -> Result<(), Fail> {
-    let (load, rows) = (Some(2_863_311_530), &LOADED_LONG_PREFIX);
-    assert!(rt;
-        sends(
-            rt.alloc(),
-            Carrier::LongPrefix,
-            load,
-            LONG_PREFIX_KEYS,
-            rows,
-            LOADED_LONG_PREFIX_SUMS
-        )?
-    );
+fn the_extended_prefix_without_and_with_load(rt: HostRuntime) -> Result<(), Fail> {
+    let (carrier, load) = (Carrier::LongPrefix, Some(2_863_311_530));
+    let plain = sent(rt.alloc(), carrier, None, LONG_PREFIX_KEYS)?;
+    assert!(rt; holds(&plain, &LONG_PREFIX, LONG_PREFIX_SUMS));
+    let loaded = sent(rt.alloc(), carrier, load, LONG_PREFIX_KEYS)?;
+    assert!(rt; holds(&loaded, &LOADED_LONG_PREFIX, LOADED_LONG_PREFIX_SUMS));
     Ok(())
 }
 
@@ -660,8 +572,8 @@ const REFUSALS: [(Carrier, &str, CellError); 19] = [
 
 #[test]
 fn descriptions_that_a_carrier_does_not_send(rt: HostRuntime) -> Result<(), Fail> {
-    for (carrier, change, cause) in REFUSALS {
-        assert!(rt; is_refused(rt.alloc(), carrier, change, cause)?);
+    for row in REFUSALS {
+        assert!(rt; is_refused(rt.alloc(), row)?);
     }
     Ok(())
 }

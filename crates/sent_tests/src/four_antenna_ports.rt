@@ -17,39 +17,46 @@ fn is_made(made: &MadeBy, gains: [(i64, i64); 4], bound: i16, summary: &Summary)
         && is_summed_up(&made.recording, summary)
 }
 
-#[test]
-fn the_first_recording(rt: HostRuntime) -> Result<(), Fail> {
-    let summary = Summary {
-        count: 192_000,
-        front: [(-237, 242), (-221, -25), (-224, 6), (-306, 64)],
-        sums: [-35_436, 134_037, 14_755_531, 72_564_921],
-    };
-    let made = make_by(rt.alloc(), Carrier::FourPorts, 0)?;
-    assert!(rt; is_made(&made, [(4, -3), (-2, 4), (-3, -2), (-1, -4)], 1, &summary));
-    Ok(())
-}
+// Recordings by number: the gains, the bound of its errors, and what it holds.
+const MADE: [(u32, [(i64, i64); 4], i16, Summary); 3] = [
+    (
+        0,
+        [(4, -3), (-2, 4), (-3, -2), (-1, -4)],
+        1,
+        Summary {
+            count: 192_000,
+            front: [(-237, 242), (-221, -25), (-224, 6), (-306, 64)],
+            sums: [-35_436, 134_037, 14_755_531, 72_564_921],
+        },
+    ),
+    (
+        7,
+        [(4, -3), (0, 4), (-3, 1), (0, -4)],
+        1,
+        Summary {
+            count: 326_400,
+            front: [(-134, -207), (418, -113), (408, -37), (21, -89)],
+            sums: [126_386, -338_228, 75_019_312, -161_765_572],
+        },
+    ),
+    (
+        4_294_967_221,
+        [(4, 3), (-1, 4), (-3, -1), (0, -4)],
+        1,
+        Summary {
+            count: 211_200,
+            front: [(-96, -316), (193, -176), (73, 63), (31, 136)],
+            sums: [109_106, -31_036, 57_589_023, -33_304_974],
+        },
+    ),
+];
 
-// Frame 8 begins at sample 19,193, since sample 7 of frame 7 is the first.
+// Frame 8 of number 7 begins at sample 19,193, since sample 7 of frame 7 is the first.
 #[test]
-fn a_recording_of_17_frames(rt: HostRuntime) -> Result<(), Fail> {
-    let summary = Summary {
-        count: 326_400,
-        front: [(-134, -207), (418, -113), (408, -37), (21, -89)],
-        sums: [126_386, -338_228, 75_019_312, -161_765_572],
-    };
-    let made = make_by(rt.alloc(), Carrier::FourPorts, 7)?;
-    assert!(rt; is_made(&made, [(4, -3), (0, 4), (-3, 1), (0, -4)], 1, &summary));
-    Ok(())
-}
-
-#[test]
-fn a_recording_of_a_large_number(rt: HostRuntime) -> Result<(), Fail> {
-    let summary = Summary {
-        count: 211_200,
-        front: [(-96, -316), (193, -176), (73, 63), (31, 136)],
-        sums: [109_106, -31_036, 57_589_023, -33_304_974],
-    };
-    let made = make_by(rt.alloc(), Carrier::FourPorts, 4_294_967_221)?;
-    assert!(rt; is_made(&made, [(4, 3), (-1, 4), (-3, -1), (0, -4)], 1, &summary));
+fn recordings_by_number(rt: HostRuntime) -> Result<(), Fail> {
+    for (n, gains, bound, summary) in MADE {
+        let made = make_by(rt.alloc(), Carrier::FourPorts, n)?;
+        assert!(rt; is_made(&made, gains, bound, &summary), "number {n}");
+    }
     Ok(())
 }

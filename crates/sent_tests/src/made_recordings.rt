@@ -28,36 +28,42 @@ fn is_made(alloc: Global, n: u32, bound: i16, summary: &Summary) -> Result<bool,
     Ok(made.bound == bound && is_summed_up(&made.recording, summary))
 }
 
+// Recordings by number: the bound of its errors, and what it holds.
+const MADE: [(u32, i16, Summary); 3] = [
+    (
+        0,
+        2,
+        Summary {
+            count: 192_000,
+            front: [(-99, 130), (8, 49), (-8, -20), (-79, 6)],
+            sums: [-18_788, 17_625, -9_972_807, 11_997_076],
+        },
+    ),
+    (
+        7,
+        21,
+        Summary {
+            count: 326_400,
+            front: [(253, -569), (1269, -23), (812, 476), (-181, 203)],
+            sums: [192_959, -37_286, 50_607_859, 12_638_627],
+        },
+    ),
+    (
+        4_294_967_221,
+        16,
+        Summary {
+            count: 211_200,
+            front: [(9, -15), (9, -13), (-5, -5), (-7, 3)],
+            sums: [76_653, -104_939, 63_929_638, -82_101_710],
+        },
+    ),
+];
+
 #[test]
-fn the_first_recording(rt: HostRuntime) -> Result<(), Fail> {
+fn recordings_by_number(rt: HostRuntime) -> Result<(), Fail> {
     made_is_clean();
-    let summary = Summary {
-        count: 192_000,
-        front: [(-99, 130), (8, 49), (-8, -20), (-79, 6)],
-        sums: [-18_788, 17_625, -9_972_807, 11_997_076],
-    };
-    assert!(rt; is_made(rt.alloc(), 0, 2, &summary)?);
-    Ok(())
-}
-
-#[test]
-fn a_recording_of_17_frames(rt: HostRuntime) -> Result<(), Fail> {
-    let summary = Summary {
-        count: 326_400,
-        front: [(253, -569), (1269, -23), (812, 476), (-181, 203)],
-        sums: [192_959, -37_286, 50_607_859, 12_638_627],
-    };
-    assert!(rt; is_made(rt.alloc(), 7, 21, &summary)?);
-    Ok(())
-}
-
-#[test]
-fn a_recording_of_a_large_number(rt: HostRuntime) -> Result<(), Fail> {
-    let summary = Summary {
-        count: 211_200,
-        front: [(9, -15), (9, -13), (-5, -5), (-7, 3)],
-        sums: [76_653, -104_939, 63_929_638, -82_101_710],
-    };
-    assert!(rt; is_made(rt.alloc(), 4_294_967_221, 16, &summary)?);
+    for (n, bound, summary) in MADE {
+        assert!(rt; is_made(rt.alloc(), n, bound, &summary)?, "number {n}");
+    }
     Ok(())
 }

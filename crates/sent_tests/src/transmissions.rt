@@ -8,7 +8,7 @@ use cell_tx::{
 use cs_num::Sample;
 use lte_types::{Duration, Mnc, Plmn, Plmns, Resource, Schedule, Sfn, Sib1};
 use std::test::Fail;
-use test_support::{message, plain_block, silent};
+use test_support::{are_samples, message, plain_block, silent};
 
 // Samples of the plain cell from frame 0 on.
 const ROW: [(u32, i16, i16); 52] = [
@@ -497,48 +497,30 @@ fn a_text_has_to_fit_its_block(rt: HostRuntime) {
     assert!(rt; has_scheme(fits, 6));
 }
 
-// Whether a cell sends these samples from frame 0 on.
-fn sends_row(cell: &Cell, rows: &[(u32, i16, i16)]) -> bool {
-    let mut all = true;
-    for &(i, re, im) in rows {
-        all &= sample(cell, Sfn::modulo(0), i as u64) == Sample { re, im };
-    }
-    all
-}
-
 #[test]
 fn samples_of_a_sequence(rt: HostRuntime) -> Result<(), Fail> {
     let cell = cell_of(plain_plan())?;
-    assert!(rt; sends_row(&cell, &ROW));
+    assert!(rt; are_samples(&ROW, |i| Some(sample(&cell, Sfn::modulo(0), i as u64))));
     frames_stand();
     sent_is_clean();
     Ok(())
 }
 
-// Whether a transmission sends these samples.
-fn sends(transmission: &Transmission, rows: &[(u32, i16, i16)]) -> bool {
-    let mut all = true;
-    for &(i, re, im) in rows {
-        all &= i < transmission.samples && send(transmission, i) == Sample { re, im };
+// Sample i of a transmission, if there is one.
+fn sent_at(transmission: &Transmission, i: u32) -> Option<Sample> {
+    if i < transmission.samples {
+        Some(send(transmission, i))
+    } else {
+        None
     }
-    all
 }
 
 #[test]
 fn samples_of_a_transmission(rt: HostRuntime) -> Result<(), Fail> {
     let transmission = turned()?;
-    assert!(rt; sends(&transmission, &TURNED));
+    assert!(rt; are_samples(&TURNED, |i| sent_at(&transmission, i)));
     sizes();
     Ok(())
-}
-
-// Whether these samples are among all.
-fn are_among(rows: &[(u32, i16, i16)], samples: &[Sample]) -> bool {
-    let mut all = true;
-    for &(i, re, im) in rows {
-        all &= samples.get(i as usize) == Some(&Sample { re, im });
-    }
-    all
 }
 
 #[test]
@@ -555,7 +537,7 @@ fn a_whole_frame(rt: HostRuntime) -> Result<(), Fail> {
     })?;
     let mut out = silent(rt.alloc(), 19_200)?;
     frame(&cell, Sfn::modulo(6), &mut out);
-    assert!(rt; are_among(&FRAME, &out));
+    assert!(rt; are_samples(&FRAME, |i| out.get(i as usize).copied()));
     symbols_stand();
     Ok(())
 }
@@ -565,6 +547,6 @@ fn a_whole_transmission(rt: HostRuntime) -> Result<(), Fail> {
     let transmission = turned()?;
     let mut out = silent(rt.alloc(), 57_600)?;
     send_all(&transmission, &mut out);
-    assert!(rt; are_among(&TURNED, &out));
+    assert!(rt; are_samples(&TURNED, |i| out.get(i as usize).copied()));
     Ok(())
 }

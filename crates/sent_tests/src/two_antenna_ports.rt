@@ -1,12 +1,9 @@
 // The numbers are those of a second program, `scripts/peers/second_two_ports.py`.
-ghost use Rattle.std.specs.Prelude.{◌<◌};
-
 use capture_make::plan;
 use cell_tx::{CellError, CellPlan, sum_is_clean};
-use cs_num::Sample;
 use lte_types::{Sfn, Sib1};
 use std::test::Fail;
-use test_support::{Summary, is_summed_up};
+use test_support::{Summary, are_samples, is_summed_up};
 use two_tx::{Cell2, TwoMade, made_is_clean, make, sample};
 
 // The cell of a plan.
@@ -119,23 +116,13 @@ const SECOND: [(u32, i16, i16); 22] = [
     (30_711, -72, -31),
 ];
 
-// Whether a port of a cell sends these samples from frame 7 on.
-fn sends(cell: &Cell2, port: u8, rows: &[(u32, i16, i16)]) -> bool
-    requires { port < 2 }
-{
-    let mut all = true;
-    for &(i, re, im) in rows {
-        all &= sample(cell, port, Sfn::modulo(7), i as u64) == Sample { re, im };
-    }
-    all
-}
-
 #[test]
 fn samples_of_each_port(rt: HostRuntime) -> Result<(), Fail> {
     let cell = cell_of(plan(7))?;
     assert!(rt; cell.plan().identity == 7);
-    assert!(rt; sends(&cell, 0, &FIRST));
-    assert!(rt; sends(&cell, 1, &SECOND));
+    let seven = Sfn::modulo(7);
+    assert!(rt; are_samples(&FIRST, |i| Some(sample(&cell, 0, seven, i as u64))));
+    assert!(rt; are_samples(&SECOND, |i| Some(sample(&cell, 1, seven, i as u64))));
     Ok(())
 }
 
@@ -144,47 +131,54 @@ fn is_made(made: &TwoMade, gains: [(i16, i16); 2], bound: i16, summary: &Summary
     made.gains == gains && made.bound == bound && is_summed_up(&made.recording, summary)
 }
 
-#[test]
-fn the_first_recording(rt: HostRuntime) -> Result<(), Fail> {
-    made_is_clean();
-    sum_is_clean();
-    let summary = Summary {
-        count: 192_000,
-        front: [(-99, 131), (8, 51), (-8, -20), (-79, 8)],
-        sums: [-21_460, 22_307, -10_660_202, 15_255_748],
-    };
-    let made = make(rt.alloc(), 0)?;
-    assert!(rt; is_made(&made, [(1, 0), (0, 0)], 0, &summary));
-    Ok(())
-}
-
 // Whether number 7 is the identity, the first sample and the number of the first frame.
 fn begins_with_7(made: &TwoMade) -> bool {
     made.plan.identity == 7 && made.offset == 7 && made.sfn.value() == 7
 }
 
-// Frame 8 begins at sample 19,193, since sample 7 of frame 7 is the first.
-#[test]
-fn a_recording_of_17_frames(rt: HostRuntime) -> Result<(), Fail> {
-    let summary = Summary {
-        count: 326_400,
-        front: [(-795, -83), (1333, -81), (1653, -106), (320, -598)],
-        sums: [-274_529, -501_490, -159_689_669, -191_308_503],
-    };
-    let made = make(rt.alloc(), 7)?;
-    assert!(rt; begins_with_7(&made));
-    assert!(rt; is_made(&made, [(8, 7), (7, -7)], 7, &summary));
-    Ok(())
-}
+// Recordings by number: the gains, the bound of its errors, and what it holds.
+const MADE: [(u32, [(i16, i16); 2], i16, Summary); 3] = [
+    (
+        0,
+        [(1, 0), (0, 0)],
+        0,
+        Summary {
+            count: 192_000,
+            front: [(-99, 131), (8, 51), (-8, -20), (-79, 8)],
+            sums: [-21_460, 22_307, -10_660_202, 15_255_748],
+        },
+    ),
+    (
+        7,
+        [(8, 7), (7, -7)],
+        7,
+        Summary {
+            count: 326_400,
+            front: [(-795, -83), (1333, -81), (1653, -106), (320, -598)],
+            sums: [-274_529, -501_490, -159_689_669, -191_308_503],
+        },
+    ),
+    (
+        4_294_967_221,
+        [(2, 1), (6, -5)],
+        4,
+        Summary {
+            count: 211_200,
+            front: [(0, -3), (0, 2), (-2, 1), (-4, 3)],
+            sums: [22_915, 32_955, 23_928_973, 49_666_016],
+        },
+    ),
+];
 
+// Frame 8 of number 7 begins at sample 19,193, since sample 7 of frame 7 is the first.
 #[test]
-fn a_recording_of_a_large_number(rt: HostRuntime) -> Result<(), Fail> {
-    let summary = Summary {
-        count: 211_200,
-        front: [(0, -3), (0, 2), (-2, 1), (-4, 3)],
-        sums: [22_915, 32_955, 23_928_973, 49_666_016],
-    };
-    let made = make(rt.alloc(), 4_294_967_221)?;
-    assert!(rt; is_made(&made, [(2, 1), (6, -5)], 4, &summary));
+fn recordings_by_number(rt: HostRuntime) -> Result<(), Fail> {
+    made_is_clean();
+    sum_is_clean();
+    for (n, gains, bound, summary) in MADE {
+        let made = make(rt.alloc(), n)?;
+        assert!(rt; is_made(&made, gains, bound, &summary), "number {n}");
+        assert!(rt; n != 7 || begins_with_7(&made));
+    }
     Ok(())
 }

@@ -1,0 +1,110 @@
+//! What the tests of two and of four antenna ports share: a slot in no order, the cells of recordings by number, and
+//! what a cell sends by port.
+
+ghost use Rattle.std.specs.Prelude.{◌≡◌, ◌*◌, ◌^◌, ◌<◌, All, IfOk, length};
+ghost use Rattle.cs_num.specs.Complex.{IsWithin};
+
+use capture_make::plan;
+use cell_tx::{Cell, Port, Sender, sequence};
+use cs_num::{Cpx, Sample};
+use lte_types::{Entry, Sfn, Timing};
+use std::alloc::{AllocError, Global};
+use test_support::silent;
+
+// What is seen at subcarrier k of symbol l.
+pub(crate) fn seen_at(l: u8, k: u8) -> Cpx
+    requires l { l < 7 }
+    requires k { k < 72 }
+    ensures { IsWithin (2 ^ 25) result }
+{
+    Cpx {
+        re: 64 * ((7 * l as i64 + 3 * k as i64) % 41 - 20),
+        im: 64 * ((5 * l as i64 + 11 * k as i64) % 37 - 18),
+    }
+}
+
+// All subcarriers of symbol l.
+pub(crate) fn symbol(l: u8) -> [Cpx; 72]
+    requires { l < 7 }
+    ensures { All (IsWithin (2 ^ 25)) result }
+{
+    let mut values = [Cpx::ZERO; 72];
+    for k in 0..72_u8 {
+        values[k as usize] = seen_at(l, k);
+    }
+    values
+}
+
+// The symbols of the slot.
+pub(crate) fn symbols() -> [[Cpx; 72]; 7]
+    ensures { All (All (IsWithin (2 ^ 25))) result }
+{
+    [
+        symbol(0),
+        symbol(1),
+        symbol(2),
+        symbol(3),
+        symbol(4),
+        symbol(5),
+        symbol(6),
+    ]
+}
+
+// Whether an entry is of the cell of recording number n, but for its system information.
+pub(crate) fn is_of(entry: &Entry, n: u32, start: u32, sfn: u16, ports: u8) -> bool {
+    let sent = plan(n);
+    (entry.id.value(), entry.start, entry.sfn.value()) == (sent.identity, start, sfn)
+        && entry.ports == ports
+        && entry.mib.duration == sent.duration
+        && entry.mib.resource == sent.resource
+        && entry.mib.upper as u16 == sfn / 4
+        && entry.mib.spare == sent.spare
+}
+
+// 30 ms of a port of a cell, from frame 512 on.
+pub(crate) fn of_port(alloc: Global, cell: &Cell, port: Port) -> Result<Vec<Sample>, AllocError>
+    ensures { IfOk result (λ samples. length samples.items ≡ 57600) }
+{
+    let mut samples = silent(alloc, 57_600)?;
+    let sender = Sender {
+        cell,
+        port,
+        timing: Timing {
+            sfn: Sfn::modulo(512),
+            offset: 0,
+        },
+        load: None,
+    };
+    sequence(&sender, &mut samples);
+    Ok(samples)
+}
+
+// What is received of a port's sample by its gain, added to what is received of others.
+pub(crate) fn with_port(sum: (i64, i64), sample: Sample, gain: (i64, i64)) -> (i64, i64) {
+    let ((re, im), (a, b)) = (sum, gain);
+    let (x, y) = (sample.re as i64, sample.im as i64);
+    (
+        re.wrapping_add(a.wrapping_mul(x))
+            .wrapping_sub(b.wrapping_mul(y)),
+        im.wrapping_add(a.wrapping_mul(y))
+            .wrapping_add(b.wrapping_mul(x)),
+    )
+}
+
+// A component with an error against its sign.
+fn off(component: i64, error: i16) -> i16 {
+    let component = component.clamp(-32_000, 32_000) as i16;
+    if component > 0 {
+        component.saturating_sub(error)
+    } else {
+        component.saturating_add(error)
+    }
+}
+
+// A sample with this error against the sign of each component.
+pub(crate) fn opposed(sum: (i64, i64), error: i16) -> Sample {
+    Sample {
+        re: off(sum.0, error),
+        im: off(sum.1, error),
+    }
+}
