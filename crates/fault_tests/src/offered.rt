@@ -165,25 +165,19 @@ fn sends_from(rt: &impl Abort, alloc: Global, change: &str) -> Result<(), Fail> 
 }
 
 #[test]
-fn what_is_sent_from_the_first_samples_is_written_in_whole_pieces(
-    rt: HostRuntime,
-) -> Result<(), Fail> {
+fn what_is_sent_from_the_first_samples_is_in_whole_pieces(rt: HostRuntime) -> Result<(), Fail> {
     sends_from(&rt, rt.alloc(), ", \"offset\": 0")?;
     sends_from(&rt, rt.alloc(), ", \"offset\": 1")
 }
 
 #[test]
-fn what_is_sent_from_within_a_frame_is_written_in_whole_pieces(
-    rt: HostRuntime,
-) -> Result<(), Fail> {
+fn what_is_sent_from_within_a_frame_is_in_whole_pieces(rt: HostRuntime) -> Result<(), Fail> {
     sends_from(&rt, rt.alloc(), ", \"offset\": 5115")
 }
 
 // The first frame has 1,023 samples, one too few for a piece, or one.
 #[test]
-fn what_is_sent_from_the_last_samples_is_written_in_whole_pieces(
-    rt: HostRuntime,
-) -> Result<(), Fail> {
+fn what_is_sent_from_the_last_samples_is_in_whole_pieces(rt: HostRuntime) -> Result<(), Fail> {
     sends_from(&rt, rt.alloc(), ", \"offset\": 18177")?;
     sends_from(&rt, rt.alloc(), ", \"offset\": 19199")
 }
@@ -238,17 +232,19 @@ fn each_other_output_of_the_tuner_is_one_piece(rt: HostRuntime) -> Result<(), Fa
     are_one_piece(&rt, rt.alloc(), Program::Tuner, &PAGES)
 }
 
-// No call follows call number `call` where that one fails, and each takes all that it is offered.
-fn ends_with_call(
+// No call follows one of these where that one fails, and each takes all that it is offered.
+fn end_with_calls(
     rt: &impl Abort,
     alloc: Global,
     program: Program,
     line: &str,
     bytes: &Vec<u8>,
-    call: usize,
+    calls: &[usize],
 ) -> Result<(), Fail> {
-    let run = Run::new(alloc, program, line, bytes.clone()?, usize::MAX, call)?;
-    assert!(rt; run.ends_with(call), "{line} call {call}");
+    for &call in calls {
+        let run = Run::new(alloc, program, line, bytes.clone()?, usize::MAX, call)?;
+        assert!(rt; run.ends_with(call), "{line} call {call}");
+    }
     Ok(())
 }
 
@@ -258,9 +254,7 @@ fn no_call_follows_one_that_fails_where_samples_are_sent(rt: HostRuntime) -> Res
     let alloc = rt.alloc();
     for (line, input) in SENDING {
         let bytes = description_with(alloc, input, ", \"offset\": 19199")?;
-        for call in [0, 1, 14] {
-            ends_with_call(&rt, alloc, Program::Receiver, line, &bytes, call)?;
-        }
+        end_with_calls(&rt, alloc, Program::Receiver, line, &bytes, &[0, 1, 14])?;
     }
     Ok(())
 }
@@ -269,18 +263,12 @@ fn no_call_follows_one_that_fails_where_samples_are_sent(rt: HostRuntime) -> Res
 fn no_call_follows_one_that_fails_where_a_recording_is_turned(rt: HostRuntime) -> Result<(), Fail> {
     let alloc = rt.alloc();
     let bytes = recording(alloc)?;
-    for call in [0, 1, 14] {
-        ends_with_call(&rt, alloc, Program::Tuner, "apply -5", &bytes, call)?;
-    }
-    Ok(())
+    end_with_calls(&rt, alloc, Program::Tuner, "apply -5", &bytes, &[0, 1, 14])
 }
 
 #[test]
 fn no_call_follows_one_that_fails_where_cells_are_certified(rt: HostRuntime) -> Result<(), Fail> {
     let alloc = rt.alloc();
     let bytes = sixteen_cells(alloc)?;
-    for call in [0, 15] {
-        ends_with_call(&rt, alloc, Program::Receiver, "certify", &bytes, call)?;
-    }
-    Ok(())
+    end_with_calls(&rt, alloc, Program::Receiver, "certify", &bytes, &[0, 15])
 }

@@ -2,6 +2,7 @@
 
 ghost use Rattle.std.specs.Prelude.{◌+◌, ◌^◌, ◌≤◌, ◌<◌, length};
 
+use crate::cells::zeros_give;
 use crate::{
     Output, ROOM, command_line, gives, output_from, output_into, output_of, sent_by,
     with_four_ports, with_long_prefix, with_two_ports,
@@ -167,8 +168,7 @@ fn a_byte_that_breaks_the_form_comes_before_a_fault(rt: HostRuntime) -> Result<(
 
 #[test]
 fn silence_has_no_certificate(rt: HostRuntime) -> Result<(), Fail> {
-    let bytes = silence(rt.alloc(), 230_400)?;
-    assert!(rt; gives(rt.alloc(), "certify", bytes, Status::Done, b"")?);
+    assert!(rt; zeros_give(rt.alloc(), "certify", "")?);
     Ok(())
 }
 
@@ -178,8 +178,8 @@ fn wide_bytes(alloc: Global) -> Result<Vec<u8>, AllocError> {
 }
 
 // The lines of the wide cell.
-const WIDE_LINES: &[u8] =
-    b"cells 1\ncell 0 at 0 sfn 0 ports 1 n50 phich normal one br 0 spare 0\nsib1 none bandwidth n50\n";
+const WIDE_LINES: &str =
+    "cells 1\ncell 0 at 0 sfn 0 ports 1 n50 phich normal one br 0 spare 0\nsib1 none bandwidth n50\n";
 
 // Whether a run is done, and writes as many bytes as one certificate has.
 fn is_one_certificate(output: &Output) -> bool {
@@ -189,15 +189,7 @@ fn is_one_certificate(output: &Output) -> bool {
 #[test]
 fn a_wider_cell_is_certified(rt: HostRuntime) -> Result<(), Fail> {
     let bytes = wide_bytes(rt.alloc())?;
-    assert!(rt;
-        gives(
-            rt.alloc(),
-            "search",
-            bytes.clone()?,
-            Status::Done,
-            WIDE_LINES
-        )?
-    );
+    assert!(rt; gives(rt.alloc(), "search", bytes.clone()?, WIDE_LINES)?);
     assert!(rt; is_certified(rt.alloc(), "certify", bytes)?);
     Ok(())
 }
@@ -208,8 +200,7 @@ fn is_certified(alloc: Global, line: &str, bytes: Vec<u8>) -> Result<bool, Alloc
     if !is_one_certificate(&certified) {
         return Ok(false);
     }
-    let text = b"certificates 1\n0 yes\n";
-    gives(alloc, "check", certified.written, Status::Done, text)
+    gives(alloc, "check", certified.written, "certificates 1\n0 yes\n")
 }
 
 #[test]

@@ -45,12 +45,8 @@ pub fn output_from<S: Source>(
     words: &Words,
     source: &mut S,
 ) -> Result<Output, AllocError> {
-    let mut sink = MemSink::new(alloc, ROOM)?;
-    let status = run_program(alloc, program, words, source, &mut sink);
-    Ok(Output {
-        status,
-        written: sink.taken().to_vec(alloc)?,
-    })
+    let mut sink = FailSink::new(alloc, Vec::new(alloc), ROOM, ROOM)?;
+    output_into(alloc, program, words, source, &mut sink)
 }
 
 /// What words of a program come to over a source and into a sink of which calls fail.
@@ -88,9 +84,19 @@ pub fn is_no_form(alloc: Global, program: Program, words: &Words) -> Result<bool
 
 /// What a command line of the receiver comes to over these bytes.
 pub fn output_of(alloc: Global, line: &str, bytes: Vec<u8>) -> Result<Output, AllocError> {
+    output_within(alloc, line, bytes, ROOM)
+}
+
+/// The same where the sink has this room.
+pub(crate) fn output_within(
+    alloc: Global,
+    line: &str,
+    bytes: Vec<u8>,
+    room: usize,
+) -> Result<Output, AllocError> {
     let words = command_line(alloc, line)?;
     let mut source = MemSource::new(bytes);
-    let mut sink = MemSink::new(alloc, ROOM)?;
+    let mut sink = MemSink::new(alloc, room)?;
     let status = run_in_memory(alloc, &words, &mut source, &mut sink);
     Ok(Output {
         status,
@@ -109,27 +115,20 @@ pub fn output_by(
     output_from(alloc, program, &words, &mut MemSource::new(bytes))
 }
 
-/// Whether a command line of the receiver ends so over these bytes, and writes this text and no other.
-pub fn gives(
-    alloc: Global,
-    line: &str,
-    bytes: Vec<u8>,
-    status: Status,
-    text: &[u8],
-) -> Result<bool, AllocError> {
-    Ok(output_of(alloc, line, bytes)?.is(status, text))
+/// Whether a command line of the receiver is done over these bytes, and writes this text and no other.
+pub fn gives(alloc: Global, line: &str, bytes: Vec<u8>, text: &str) -> Result<bool, AllocError> {
+    Ok(output_of(alloc, line, bytes)?.is(Status::Done, text.as_bytes()))
 }
 
-/// Whether a command line of a program ends so over these bytes, and writes this text and no other.
+/// Whether a command line of a program is done over these bytes, and writes this text and no other.
 pub fn gives_by(
     alloc: Global,
     program: Program,
     line: &str,
     bytes: Vec<u8>,
-    status: Status,
-    text: &[u8],
+    text: &str,
 ) -> Result<bool, AllocError> {
-    Ok(output_by(alloc, program, line, bytes)?.is(status, text))
+    Ok(output_by(alloc, program, line, bytes)?.is(Status::Done, text.as_bytes()))
 }
 
 /// What a command line comes to over the plain cell's description with this change.

@@ -1,65 +1,61 @@
 //! The command `evidence`. The texts are those of other programs, `scripts/peers/second_evidence.py` and, as JSON,
 //! `scripts/peers/second_forms.py`.
 
-use crate::cells::{EARLY, TURNED};
+use crate::cells::{EARLY, TURNED, plain_gives, zeros_give};
 use crate::lengths::refuse_lengths;
 use crate::{gives, sent_by, with_four_ports, with_long_prefix, with_two_ports};
-use lte_top::{Program, Status};
+use lte_top::Program;
 use std::alloc::{AllocError, Global};
 use std::test::Fail;
-use test_support::{add_errors, oppose, silence};
+use test_support::{add_errors, oppose};
 
-// Whether `evidence` over these bytes is done, and writes this text and no other.
-fn supports(alloc: Global, bytes: Vec<u8>, text: &str) -> Result<bool, AllocError> {
-    gives(alloc, "evidence", bytes, Status::Done, text.as_bytes())
-}
+const OF_PLAIN: &str = "evidence 1
+0 0 0 t 832 peak 1000 cost 0 total 32162 frames 1 frame 0 phase 0 power 1590713504 noise 6886
+";
+
+const OF_A_CELL_AND_CHANCE: &str = "evidence 2
+46 0 0 t 832 peak 1000 cost 0 total 32157 frames 1 frame 0 phase 0 power 1592012801 noise 5446
+46 0 267 t 832 peak 1000 cost 1474 total 12061 frames 1 frame 0 phase 3 power 1592012801 noise 5446
+";
+
+const OF_EARLY: &str = "evidence 1
+503 1 6 t 833 peak 999 cost 0 total 32161 frames 1 frame 0 phase 2 power 1248302040323 noise 2804544
+";
+
+const OF_TURNED: &str = "evidence 1
+1 0 4 t 832 peak 999 cost 0 total 32558 frames 1 frame 0 phase 0 power 1140024279413 noise 186309067
+";
 
 #[test]
 fn evidence_of_a_plain_cell(rt: HostRuntime) -> Result<(), Fail> {
-    let bytes = sent_by(rt.alloc(), "")?.written;
-    let text = "evidence 1
-0 0 0 t 832 peak 1000 cost 0 total 32162 frames 1 frame 0 phase 0 power 1590713504 noise 6886
-";
-    assert!(rt; supports(rt.alloc(), bytes, text)?);
+    assert!(rt; plain_gives(rt.alloc(), "evidence", OF_PLAIN)?);
+    assert!(rt; plain_gives(rt.alloc(), "evidence --json", AS_JSON)?);
     Ok(())
 }
 
 #[test]
 fn evidence_of_a_cell_and_of_an_entry_by_chance(rt: HostRuntime) -> Result<(), Fail> {
     let bytes = sent_by(rt.alloc(), r#", "identity": 46, "spare": 10"#)?.written;
-    let text = "evidence 2
-46 0 0 t 832 peak 1000 cost 0 total 32157 frames 1 frame 0 phase 0 power 1592012801 noise 5446
-46 0 267 t 832 peak 1000 cost 1474 total 12061 frames 1 frame 0 phase 3 power 1592012801 noise 5446
-";
-    assert!(rt; supports(rt.alloc(), bytes, text)?);
+    assert!(rt; gives(rt.alloc(), "evidence", bytes, OF_A_CELL_AND_CHANCE)?);
     Ok(())
 }
 
+// A cell that begins before the recording, with errors; and a cell with errors against the signal.
 #[test]
-fn evidence_of_a_cell_that_begins_before_the_recording(rt: HostRuntime) -> Result<(), Fail> {
-    let mut bytes = sent_by(rt.alloc(), EARLY)?.written;
-    add_errors(&mut bytes, 56);
-    let text = "evidence 1
-503 1 6 t 833 peak 999 cost 0 total 32161 frames 1 frame 0 phase 2 power 1248302040323 noise 2804544
-";
-    assert!(rt; supports(rt.alloc(), bytes, text)?);
-    Ok(())
-}
-
-#[test]
-fn evidence_of_a_cell_with_errors_against_the_signal(rt: HostRuntime) -> Result<(), Fail> {
-    let mut bytes = sent_by(rt.alloc(), TURNED)?.written;
-    oppose(&mut bytes, 55);
-    let text = "evidence 1
-1 0 4 t 832 peak 999 cost 0 total 32558 frames 1 frame 0 phase 0 power 1140024279413 noise 186309067
-";
-    assert!(rt; supports(rt.alloc(), bytes, text)?);
+fn evidence_of_cells_with_errors(rt: HostRuntime) -> Result<(), Fail> {
+    let mut early = sent_by(rt.alloc(), EARLY)?.written;
+    add_errors(&mut early, 56);
+    assert!(rt; gives(rt.alloc(), "evidence", early, OF_EARLY)?);
+    let mut turned = sent_by(rt.alloc(), TURNED)?.written;
+    oppose(&mut turned, 55);
+    assert!(rt; gives(rt.alloc(), "evidence", turned, OF_TURNED)?);
     Ok(())
 }
 
 #[test]
 fn zeros_have_no_evidence(rt: HostRuntime) -> Result<(), Fail> {
-    assert!(rt; supports(rt.alloc(), silence(rt.alloc(), 230_400)?, "evidence 0\n")?);
+    assert!(rt; zeros_give(rt.alloc(), "evidence", "evidence 0\n")?);
+    assert!(rt; zeros_give(rt.alloc(), "evidence --json", "[]\n")?);
     Ok(())
 }
 
@@ -97,76 +93,31 @@ const AS_JSON: &str = "\
 [67,-67],[-67,-67],[67,67],[67,67],[-67,67],[-67,67],[-67,67],[67,67],[-67,-68],[-67,-67],[67,67]]}]\n";
 
 #[test]
-fn evidence_of_a_plain_cell_as_json(rt: HostRuntime) -> Result<(), Fail> {
-    let (alloc, line) = (rt.alloc(), "evidence --json");
-    let bytes = sent_by(alloc, "")?.written;
-    assert!(rt; gives(alloc, line, bytes, Status::Done, AS_JSON.as_bytes())?);
-    Ok(())
-}
-
-#[test]
-fn no_evidence_is_an_empty_array(rt: HostRuntime) -> Result<(), Fail> {
-    let (line, zeros) = ("evidence --json", silence(rt.alloc(), 230_400)?);
-    assert!(rt; gives(rt.alloc(), line, zeros, Status::Done, b"[]\n")?);
-    Ok(())
-}
-
-#[test]
-fn evidence_of_the_cell_of_number_90_with_two_ports(rt: HostRuntime) -> Result<(), Fail> {
-    let (line, bytes) = ("evidence --ports 2", with_two_ports(rt.alloc())?);
-    let text = "evidence 1
-90 19110 91 t 742 peak 999 cost 0 total 32160 frames 1 frame 0 phase 3 power 14334247838 noise 130497
-";
-    assert!(rt; gives(rt.alloc(), line, bytes, Status::Done, text.as_bytes())?);
-    Ok(())
-}
-
-#[test]
-fn evidence_of_the_cell_of_number_90_with_four_ports(rt: HostRuntime) -> Result<(), Fail> {
-    let (line, bytes) = ("evidence --ports 4", with_four_ports(rt.alloc())?);
-    let text = "evidence 1
-90 19110 91 t 742 peak 999 cost 0 total 32180 frames 1 frame 0 phase 3 power 112936696441 noise 1156722
-";
-    assert!(rt; gives(rt.alloc(), line, bytes, Status::Done, text.as_bytes())?);
-    Ok(())
-}
-
-#[test]
-fn evidence_of_the_cell_of_number_90_with_the_extended_prefix(rt: HostRuntime) -> Result<(), Fail> {
-    let (line, bytes) = ("evidence --prefix long", with_long_prefix(rt.alloc())?);
-    let text = "evidence 1
-90 19110 91 t 742 peak 999 cost 0 total 28910 frames 1 frame 0 phase 3 power 517982821499 noise 46795055
-";
-    assert!(rt; gives(rt.alloc(), line, bytes, Status::Done, text.as_bytes())?);
-    Ok(())
-}
-
-// The plain cell has no evidence by a rule.
-fn has_none(alloc: Global, line: &str) -> Result<bool, AllocError> {
-    let bytes = sent_by(alloc, "")?.written;
-    gives(alloc, line, bytes, Status::Done, b"evidence 0\n")
-}
-
-#[test]
-fn no_cell_of_two_ports_has_evidence(rt: HostRuntime) -> Result<(), Fail> {
-    assert!(rt; has_none(rt.alloc(), "evidence --ports 2")?);
-    Ok(())
-}
-
-#[test]
-fn no_cell_of_four_ports_has_evidence(rt: HostRuntime) -> Result<(), Fail> {
-    assert!(rt; has_none(rt.alloc(), "evidence --ports 4")?);
-    Ok(())
-}
-
-#[test]
-fn no_cell_with_the_extended_prefix_has_evidence(rt: HostRuntime) -> Result<(), Fail> {
-    assert!(rt; has_none(rt.alloc(), "evidence --prefix long")?);
+fn a_plain_cell_has_no_evidence_by_another_rule(rt: HostRuntime) -> Result<(), Fail> {
+    for line in [
+        "evidence --ports 2",
+        "evidence --ports 4",
+        "evidence --prefix long",
+    ] {
+        assert!(rt; plain_gives(rt.alloc(), line, "evidence 0\n")?, "{line}");
+    }
     Ok(())
 }
 
 // The evidence of the cells of number 90 of the other carriers.
-const OF_TWO_PORTS: &str = "\
+const OF_TWO_PORTS: &str = "evidence 1
+90 19110 91 t 742 peak 999 cost 0 total 32160 frames 1 frame 0 phase 3 power 14334247838 noise 130497
+";
+
+const OF_FOUR_PORTS: &str = "evidence 1
+90 19110 91 t 742 peak 999 cost 0 total 32180 frames 1 frame 0 phase 3 power 112936696441 noise 1156722
+";
+
+const OF_LONG_PREFIX: &str = "evidence 1
+90 19110 91 t 742 peak 999 cost 0 total 28910 frames 1 frame 0 phase 3 power 517982821499 noise 46795055
+";
+
+const TWO_PORTS_AS_JSON: &str = "\
 [{\"at\":19110,\"channel\":[[[1044360,1440],[1023750,2970],[1040220,-3960],[1040850,7830],[1040490,-4770],\
 [1040490,4410],[1046340,-3240],[1037160,-1260],[1038780,12240],[1043730,-8190],[1029150,630],[1038420,-5760],\
 [1035810,11430],[1042920,-3960],[1045350,1350],[1032660,180],[1040760,-14040],[1036170,5850],[1034820,7920],\
@@ -198,7 +149,7 @@ const OF_TWO_PORTS: &str = "\
 [67,67],[-67,67],[68,68],[67,-67],[-67,-67],[67,-67],[-67,67],[-67,-68],[67,67],[67,67],[67,67],[67,66],[68,67],\
 [67,-67],[66,-67],[67,-67],[67,-67]]}]\n";
 
-const OF_FOUR_PORTS: &str = "\
+const FOUR_PORTS_AS_JSON: &str = "\
 [{\"at\":19110,\"channel\":[[[4139100,3115440],[4144680,3104460],[4142430,3123450],[4140360,3113640],[4148550,\
 3118770],[4150710,3114630],[4153230,3112650],[4164390,3108690],[4128300,3114900],[4170510,3118590],[4119390,3111390],\
 [4146210,3096450],[4120290,3111930],[4128120,3108060],[4155300,3105900],[4164570,3126690],[4150710,3096450],[4156020,\
@@ -234,7 +185,7 @@ const OF_FOUR_PORTS: &str = "\
 [-70,-71],[-71,70],[-64,-64],[64,-64],[70,-70],[71,-69],[-64,-64],[-64,-64],[-70,70],[70,-70],[64,64],[-64,64],[-70,\
 70],[70,70],[64,-64],[64,-64],[70,-69],[70,-70]]}]\n";
 
-const OF_LONG_PREFIX: &str = "\
+const LONG_AS_JSON: &str = "\
 [{\"at\":19110,\"channel\":[[[15644250,10482750],[15459660,10419480],[15541470,10458090],[15665130,10345050],\
 [15555870,10445310],[15414120,10369620],[15736320,10242720],[15554160,10360800],[15536790,10074510],\
 [15629670,10217790],[15550020,10362780],[15269760,10414620],[15399810,10389150],[15762690,10386270],\
@@ -261,50 +212,39 @@ const OF_LONG_PREFIX: &str = "\
 [-67,-70],[-67,-68],[-67,67],[67,-67],[-66,67],[-69,68],[67,-68],[67,-68],[-66,-66],[-67,68],[67,-68],[67,68],\
 [-67,-67],[-66,-66],[-68,68],[67,-67],[-66,67],[-68,-67],[-66,67],[-66,-67],[67,66],[-66,-66]]}]\n";
 
+// Whether the evidence by a rule, over these bytes, is this text, and as JSON the other one.
+fn supports(
+    alloc: Global,
+    rule: &str,
+    bytes: Vec<u8>,
+    text: &str,
+    json: &str,
+) -> Result<bool, AllocError> {
+    let line = format!(in alloc; "evidence {rule}")?;
+    let as_json = format!(in alloc; "evidence {rule} --json")?;
+    Ok(
+        gives(alloc, line.as_str(), bytes.clone()?, text)?
+            && gives(alloc, as_json.as_str(), bytes, json)?,
+    )
+}
+
 #[test]
-fn evidence_of_number_90_of_two_ports_as_json(rt: HostRuntime) -> Result<(), Fail> {
-    let (line, bytes) = ("evidence --ports 2 --json", with_two_ports(rt.alloc())?);
-    assert!(rt;
-        gives(
-            rt.alloc(),
-            line,
-            bytes,
-            Status::Done,
-            OF_TWO_PORTS.as_bytes()
-        )?
-    );
+fn evidence_of_number_90_of_two_ports(rt: HostRuntime) -> Result<(), Fail> {
+    let (alloc, bytes) = (rt.alloc(), with_two_ports(rt.alloc())?);
+    assert!(rt; supports(alloc, "--ports 2", bytes, OF_TWO_PORTS, TWO_PORTS_AS_JSON)?);
     Ok(())
 }
 
 #[test]
-fn evidence_of_number_90_of_four_ports_as_json(rt: HostRuntime) -> Result<(), Fail> {
-    let (line, bytes) = ("evidence --ports 4 --json", with_four_ports(rt.alloc())?);
-    assert!(rt;
-        gives(
-            rt.alloc(),
-            line,
-            bytes,
-            Status::Done,
-            OF_FOUR_PORTS.as_bytes()
-        )?
-    );
+fn evidence_of_number_90_of_four_ports(rt: HostRuntime) -> Result<(), Fail> {
+    let (alloc, bytes) = (rt.alloc(), with_four_ports(rt.alloc())?);
+    assert!(rt; supports(alloc, "--ports 4", bytes, OF_FOUR_PORTS, FOUR_PORTS_AS_JSON)?);
     Ok(())
 }
 
 #[test]
-fn evidence_of_number_90_with_the_extended_prefix_as_json(rt: HostRuntime) -> Result<(), Fail> {
-    let (line, bytes) = (
-        "evidence --prefix long --json",
-        with_long_prefix(rt.alloc())?,
-    );
-    assert!(rt;
-        gives(
-            rt.alloc(),
-            line,
-            bytes,
-            Status::Done,
-            OF_LONG_PREFIX.as_bytes()
-        )?
-    );
+fn evidence_of_number_90_with_the_extended_prefix(rt: HostRuntime) -> Result<(), Fail> {
+    let (alloc, bytes) = (rt.alloc(), with_long_prefix(rt.alloc())?);
+    assert!(rt; supports(alloc, "--prefix long", bytes, OF_LONG_PREFIX, LONG_AS_JSON)?);
     Ok(())
 }

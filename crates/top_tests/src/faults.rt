@@ -1,8 +1,9 @@
 //! Runs over zeros that a source or a sink breaks off.
 
+use crate::commands::output_within;
 use crate::{Output, ROOM, command_line, output_from, output_into};
-use cs_outside::{FailSink, FailSource, MemSink, MemSource};
-use lte_top::{Program, run};
+use cs_outside::{FailSink, FailSource, MemSource};
+use lte_top::{Program, Status};
 use std::alloc::{AllocError, Global};
 use test_support::silence;
 
@@ -28,12 +29,12 @@ pub(crate) fn output_with_write_fault(alloc: Global, word: &str) -> Result<Outpu
 
 /// What a word comes to over zeros where the sink has room for three bytes.
 pub(crate) fn output_with_little_room(alloc: Global, word: &str) -> Result<Output, AllocError> {
-    let words = command_line(alloc, word)?;
-    let mut source = MemSource::new(silence(alloc, 230_400)?);
-    let mut sink = MemSink::new(alloc, 3)?;
-    let status = run(alloc, &words, &mut source, &mut sink);
-    Ok(Output {
-        status,
-        written: sink.taken().to_vec(alloc)?,
-    })
+    output_within(alloc, word, silence(alloc, 230_400)?, 3)
+}
+
+/// Whether nothing is written where the source fails, and this front where the sink does.
+pub(crate) fn is_broken_off(alloc: Global, word: &str, front: &[u8]) -> Result<bool, AllocError> {
+    let unread = output_with_read_fault(alloc, word)?;
+    let unwritten = output_with_write_fault(alloc, word)?;
+    Ok(unread.is(Status::ReadFault, b"") && unwritten.is(Status::WriteFault, front))
 }

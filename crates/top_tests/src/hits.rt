@@ -1,71 +1,55 @@
 //! The command `hits`.
 
-ghost use Rattle.std.specs.Prelude.{◌+◌, ◌*◌, ◌≤◌, length};
-
-use crate::cells::many_signals;
+use crate::cells::{lone_signal, many_signals, plain_gives, zeros_give};
 use crate::faults::{output_with_little_room, output_with_write_fault};
-use crate::{Output, ROOM, command_line, gives, output_of, sent_by};
+use crate::lengths::refuse_lengths;
+use crate::{Output, ROOM, command_line, gives};
 use cs_outside::{FailSource, MemSink, StdSink, StdSource};
-use lte_top::{Status, run};
+use lte_top::{Program, Status, run};
 use std::alloc::{AllocError, Global};
 use std::test::Fail;
-use test_support::{PRIMARY, put_sample, put_signal, silence};
-
-// Whether `hits` over these bytes is done, and writes this text and no other.
-fn hits_give(alloc: Global, bytes: Vec<u8>, text: &[u8]) -> Result<bool, AllocError> {
-    gives(alloc, "hits", bytes, Status::Done, text)
-}
+use test_support::{PRIMARY, put_sample, silence};
 
 #[test]
 fn zeros_hold_no_hit(rt: HostRuntime) -> Result<(), Fail> {
-    assert!(rt; hits_give(rt.alloc(), silence(rt.alloc(), 230_400)?, b"hits 0\n")?);
+    assert!(rt; zeros_give(rt.alloc(), "hits", "hits 0\n")?);
+    assert!(rt; zeros_give(rt.alloc(), "hits --json", "[]\n")?);
     Ok(())
 }
 
 #[test]
 fn one_second_of_zeros_is_read_whole(rt: HostRuntime) -> Result<(), Fail> {
-    assert!(rt; hits_give(rt.alloc(), silence(rt.alloc(), 7_680_000)?, b"hits 0\n")?);
+    let zeros = silence(rt.alloc(), 7_680_000)?;
+    assert!(rt; gives(rt.alloc(), "hits", zeros, "hits 0\n")?);
     Ok(())
 }
 
 #[test]
 fn lengths_that_are_refused(rt: HostRuntime) -> Result<(), Fail> {
-    for (len, refusal, code) in [
-        (0, Status::TooShort, 4),
-        (230_396, Status::TooShort, 4),
-        (230_399, Status::Ragged, 3),
-        (230_401, Status::Ragged, 3),
-        (7_680_001, Status::TooLong, 5),
-    ] {
-        let output = output_of(rt.alloc(), "hits", silence(rt.alloc(), len)?)?;
-        assert!(rt; output.is_refused(refusal, code), "{len} bytes");
-    }
-    Ok(())
+    refuse_lengths(&rt, rt.alloc(), Program::Receiver, "hits")
 }
 
-#[test]
-fn a_signal_is_one_hit(rt: HostRuntime) -> Result<(), Fail> {
-    let mut bytes = silence(rt.alloc(), 230_400)?;
-    put_signal(&mut bytes, 1000, &PRIMARY);
-    assert!(rt; hits_give(rt.alloc(), bytes, b"hits 1\n1000 0\n")?);
-    Ok(())
-}
-
-// Writes the primary signal times 28j from a sample on.
-fn put_turned_signal(bytes: &mut [u8], at: usize)
-    requires { 4 * at + 512 ≤ length bytes.old }
-{
+// The primary signal times 28j alone, from sample 1,000 on.
+fn turned_signal(alloc: Global) -> Result<Vec<u8>, AllocError> {
+    let mut bytes = silence(alloc, 230_400)?;
     for n in 0..128 {
         let (re, im) = (PRIMARY[2 * n], PRIMARY[2 * n + 1]);
-        put_sample(bytes, at + n, im.saturating_mul(-28), re.saturating_mul(28));
+        put_sample(
+            &mut bytes,
+            1000 + n,
+            im.saturating_mul(-28),
+            re.saturating_mul(28),
+        );
     }
+    Ok(bytes)
 }
 
 #[test]
-fn a_signal_of_another_phase_and_size_is_the_same_hit(rt: HostRuntime) -> Result<(), Fail> {
-    let mut bytes = silence(rt.alloc(), 230_400)?;
-    put_turned_signal(&mut bytes, 1000);
-    assert!(rt; hits_give(rt.alloc(), bytes, b"hits 1\n1000 0\n")?);
+fn a_signal_of_any_phase_and_size_is_one_hit(rt: HostRuntime) -> Result<(), Fail> {
+    let alloc = rt.alloc();
+    let (plain, turned) = (lone_signal(alloc)?, turned_signal(alloc)?);
+    assert!(rt; gives(alloc, "hits", plain, "hits 1\n1000 0\n")?);
+    assert!(rt; gives(alloc, "hits", turned, "hits 1\n1000 0\n")?);
     Ok(())
 }
 
@@ -81,8 +65,8 @@ fn hits_of_many(alloc: Global) -> Result<String, AllocError> {
 
 #[test]
 fn signals_past_the_first_frame_are_not_listed(rt: HostRuntime) -> Result<(), Fail> {
-    let wanted = hits_of_many(rt.alloc())?;
-    assert!(rt; hits_give(rt.alloc(), many_signals(rt.alloc())?, wanted.as_bytes())?);
+    let alloc = rt.alloc();
+    assert!(rt; gives(alloc, "hits", many_signals(alloc)?, &hits_of_many(alloc)?)?);
     Ok(())
 }
 
@@ -148,10 +132,10 @@ fn readers_and_writers_of_std(rt: HostRuntime) -> Result<(), Fail> {
         let output = hits_of_std(alloc, &silence(alloc, len)?)?;
         assert!(rt; output.is(refusal, b""), "{len} bytes");
     }
-    let mut bytes = silence(alloc, 230_400)?;
-    assert!(rt; hits_of_std(alloc, &bytes)?.is(Status::Done, b"hits 0\n"));
-    put_signal(&mut bytes, 1000, &PRIMARY);
-    assert!(rt; hits_of_std(alloc, &bytes)?.is(Status::Done, b"hits 1\n1000 0\n"));
+    let zeros = silence(alloc, 230_400)?;
+    assert!(rt; hits_of_std(alloc, &zeros)?.is(Status::Done, b"hits 0\n"));
+    let signal = lone_signal(alloc)?;
+    assert!(rt; hits_of_std(alloc, &signal)?.is(Status::Done, b"hits 1\n1000 0\n"));
     Ok(())
 }
 
@@ -162,15 +146,6 @@ const AS_JSON: &str =
 
 #[test]
 fn hits_of_a_plain_cell_as_json(rt: HostRuntime) -> Result<(), Fail> {
-    let (alloc, line) = (rt.alloc(), "hits --json");
-    let bytes = sent_by(alloc, "")?.written;
-    assert!(rt; gives(alloc, line, bytes, Status::Done, AS_JSON.as_bytes())?);
-    Ok(())
-}
-
-#[test]
-fn no_hits_are_an_empty_array(rt: HostRuntime) -> Result<(), Fail> {
-    let (line, zeros) = ("hits --json", silence(rt.alloc(), 230_400)?);
-    assert!(rt; gives(rt.alloc(), line, zeros, Status::Done, b"[]\n")?);
+    assert!(rt; plain_gives(rt.alloc(), "hits --json", AS_JSON)?);
     Ok(())
 }

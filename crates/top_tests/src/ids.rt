@@ -1,17 +1,11 @@
 //! The command `ids`.
 
-use crate::cells::many_signals;
-use crate::faults::{output_with_read_fault, output_with_write_fault};
-use crate::{gives, sent_by};
-use lte_top::Status;
+use crate::cells::{lone_signal, many_signals, plain_gives, zeros_give};
+use crate::faults::is_broken_off;
+use crate::gives;
 use std::alloc::{AllocError, Global};
 use std::test::Fail;
-use test_support::{PRIMARY, SECONDARY, put_signal, silence};
-
-// Whether `ids` over these bytes is done, and writes this text and no other.
-fn ids_give(alloc: Global, bytes: Vec<u8>, text: &[u8]) -> Result<bool, AllocError> {
-    gives(alloc, "ids", bytes, Status::Done, text)
-}
+use test_support::{SECONDARY, put_signal};
 
 // The identities of many signals that begin in the first frame.
 fn ids_of_many(alloc: Global) -> Result<String, AllocError> {
@@ -25,40 +19,36 @@ fn ids_of_many(alloc: Global) -> Result<String, AllocError> {
 
 #[test]
 fn each_of_many_hits_has_its_identity(rt: HostRuntime) -> Result<(), Fail> {
-    let wanted = ids_of_many(rt.alloc())?;
-    assert!(rt; ids_give(rt.alloc(), many_signals(rt.alloc())?, wanted.as_bytes())?);
+    let alloc = rt.alloc();
+    assert!(rt; gives(alloc, "ids", many_signals(alloc)?, &ids_of_many(alloc)?)?);
     Ok(())
 }
 
 #[test]
 fn zeros_hold_no_identity(rt: HostRuntime) -> Result<(), Fail> {
-    assert!(rt; ids_give(rt.alloc(), silence(rt.alloc(), 230_400)?, b"ids 0\n")?);
+    assert!(rt; zeros_give(rt.alloc(), "ids", "ids 0\n")?);
+    assert!(rt; zeros_give(rt.alloc(), "ids --json", "[]\n")?);
     Ok(())
 }
 
 #[test]
 fn both_signals_tell_identity_subframe_and_frame_start(rt: HostRuntime) -> Result<(), Fail> {
-    let mut bytes = silence(rt.alloc(), 230_400)?;
-    put_signal(&mut bytes, 1000, &PRIMARY);
+    let mut bytes = lone_signal(rt.alloc())?;
     put_signal(&mut bytes, 863, &SECONDARY);
-    assert!(rt; ids_give(rt.alloc(), bytes, b"ids 1\n1000 501 5 9768\n")?);
+    assert!(rt; gives(rt.alloc(), "ids", bytes, "ids 1\n1000 501 5 9768\n")?);
     Ok(())
 }
 
 #[test]
 fn without_a_secondary_signal_the_first_pair_stands(rt: HostRuntime) -> Result<(), Fail> {
-    let mut bytes = silence(rt.alloc(), 230_400)?;
-    put_signal(&mut bytes, 1000, &PRIMARY);
-    assert!(rt; ids_give(rt.alloc(), bytes, b"ids 1\n1000 0 0 168\n")?);
+    let bytes = lone_signal(rt.alloc())?;
+    assert!(rt; gives(rt.alloc(), "ids", bytes, "ids 1\n1000 0 0 168\n")?);
     Ok(())
 }
 
 #[test]
 fn faults_of_identities(rt: HostRuntime) -> Result<(), Fail> {
-    let output = output_with_read_fault(rt.alloc(), "ids")?;
-    assert!(rt; output.is(Status::ReadFault, b""));
-    let output = output_with_write_fault(rt.alloc(), "ids")?;
-    assert!(rt; output.is(Status::WriteFault, b"ids"));
+    assert!(rt; is_broken_off(rt.alloc(), "ids", b"ids")?);
     Ok(())
 }
 
@@ -73,15 +63,6 @@ const AS_JSON: &str =
 
 #[test]
 fn identities_of_a_plain_cell_as_json(rt: HostRuntime) -> Result<(), Fail> {
-    let (alloc, line) = (rt.alloc(), "ids --json");
-    let bytes = sent_by(alloc, "")?.written;
-    assert!(rt; gives(alloc, line, bytes, Status::Done, AS_JSON.as_bytes())?);
-    Ok(())
-}
-
-#[test]
-fn no_identities_are_an_empty_array(rt: HostRuntime) -> Result<(), Fail> {
-    let (line, zeros) = ("ids --json", silence(rt.alloc(), 230_400)?);
-    assert!(rt; gives(rt.alloc(), line, zeros, Status::Done, b"[]\n")?);
+    assert!(rt; plain_gives(rt.alloc(), "ids --json", AS_JSON)?);
     Ok(())
 }

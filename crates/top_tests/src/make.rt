@@ -48,18 +48,10 @@ fn made_by(alloc: Global, line: &str) -> Result<Option<Output>, AllocError> {
 
 // Whether a command line reads nothing, is done, and writes this text and no other.
 fn makes(alloc: Global, line: &str, text: &[u8]) -> Result<bool, AllocError> {
-    match made_by(alloc, line)? {
-        Some(output) => Ok(output.is(Status::Done, text)),
-        None => Ok(false),
-    }
-}
-
-// The same of a text that begins so.
-fn makes_first(alloc: Global, line: &str, text: &[u8]) -> Result<bool, AllocError> {
-    match made_by(alloc, line)? {
-        Some(output) => Ok(output.status == Status::Done && output.written.starts_with(text)),
-        None => Ok(false),
-    }
+    Ok(match made_by(alloc, line)? {
+        Some(output) => output.is(Status::Done, text),
+        None => false,
+    })
 }
 
 #[test]
@@ -70,7 +62,8 @@ fn the_first_recording_holds_its_cell(rt: HostRuntime) -> Result<(), Fail> {
 
 #[test]
 fn a_recording_of_99_frames_holds_its_cell(rt: HostRuntime) -> Result<(), Fail> {
-    assert!(rt; makes_first(rt.alloc(), "make 89", LONGEST)?);
+    let output = made_by(rt.alloc(), "make 89")?.ok_or("it reads")?;
+    assert!(rt; output.status == Status::Done && output.written.starts_with(LONGEST));
     Ok(())
 }
 

@@ -45,23 +45,21 @@ fn print(alloc: Global, program: Program, lines: &[&str], text: &str) -> Result<
 }
 
 #[test]
-fn each_program_has_its_help(rt: HostRuntime) -> Result<(), Fail> {
-    for (program, text) in [
-        (Program::Receiver, HELP_OF_THE_RECEIVER),
-        (Program::Tuner, HELP_OF_THE_TUNER),
+fn each_program_has_its_pages(rt: HostRuntime) -> Result<(), Fail> {
+    for (program, help, version) in [
+        (
+            Program::Receiver,
+            HELP_OF_THE_RECEIVER,
+            "lte_cli 0.9.0\ndefinition 2\n",
+        ),
+        (
+            Program::Tuner,
+            HELP_OF_THE_TUNER,
+            "lte_tune 0.9.0\ndefinition 2\n",
+        ),
     ] {
-        assert!(rt; print(rt.alloc(), program, &["help", "--help", "-h"], text)?);
-    }
-    Ok(())
-}
-
-#[test]
-fn each_program_has_its_version(rt: HostRuntime) -> Result<(), Fail> {
-    for (program, text) in [
-        (Program::Receiver, "lte_cli 0.9.0\ndefinition 2\n"),
-        (Program::Tuner, "lte_tune 0.9.0\ndefinition 2\n"),
-    ] {
-        assert!(rt; print(rt.alloc(), program, &["version", "--version"], text)?);
+        assert!(rt; print(rt.alloc(), program, &["help", "--help", "-h"], help)?);
+        assert!(rt; print(rt.alloc(), program, &["version", "--version"], version)?);
     }
     Ok(())
 }

@@ -1,18 +1,13 @@
 //! The command `search`.
 
-use crate::cells::{EARLY, TURNED, many_signals};
-use crate::faults::{output_with_little_room, output_with_read_fault, output_with_write_fault};
+use crate::cells::{EARLY, TURNED, many_signals, zeros_give};
+use crate::faults::{is_broken_off, output_with_little_room};
 use crate::lengths::refuse_lengths;
 use crate::{Output, gives, output_of, sent_by, sent_with};
 use lte_top::{Program, Status};
 use std::alloc::{AllocError, Global};
 use std::test::Fail;
 use test_support::{PLAIN_REPORT, add_errors, oppose, silence};
-
-// Whether `search` over these bytes is done, and writes this text and no other.
-fn search_gives(alloc: Global, bytes: Vec<u8>, text: &[u8]) -> Result<bool, AllocError> {
-    gives(alloc, "search", bytes, Status::Done, text)
-}
 
 // Whether `search` over these bytes is done, and some of its lines are these.
 fn search_shows(alloc: Global, bytes: Vec<u8>, lines: &str) -> Result<bool, AllocError> {
@@ -38,27 +33,21 @@ fn contains(text: &[u8], piece: &[u8]) -> bool {
 
 #[test]
 fn silence_holds_no_cell(rt: HostRuntime) -> Result<(), Fail> {
-    assert!(rt; search_gives(rt.alloc(), silence(rt.alloc(), 230_400)?, b"cells 0\n")?);
+    assert!(rt; zeros_give(rt.alloc(), "search", "cells 0\n")?);
+    assert!(rt; zeros_give(rt.alloc(), "search --json", "[]\n")?);
     Ok(())
 }
 
 #[test]
 fn a_second_of_silence_holds_no_cell(rt: HostRuntime) -> Result<(), Fail> {
-    assert!(rt; search_gives(rt.alloc(), silence(rt.alloc(), 7_680_000)?, b"cells 0\n")?);
+    let zeros = silence(rt.alloc(), 7_680_000)?;
+    assert!(rt; gives(rt.alloc(), "search", zeros, "cells 0\n")?);
     Ok(())
 }
 
 #[test]
 fn many_signals_are_no_cell(rt: HostRuntime) -> Result<(), Fail> {
-    let bytes = many_signals(rt.alloc())?;
-    assert!(rt; gives(rt.alloc(), "search", bytes, Status::Done, b"cells 0\n")?);
-    Ok(())
-}
-
-#[test]
-fn no_cells_are_an_empty_array(rt: HostRuntime) -> Result<(), Fail> {
-    let bytes = silence(rt.alloc(), 230_400)?;
-    assert!(rt; gives(rt.alloc(), "search --json", bytes, Status::Done, b"[]\n")?);
+    assert!(rt; gives(rt.alloc(), "search", many_signals(rt.alloc())?, "cells 0\n")?);
     Ok(())
 }
 
@@ -76,10 +65,7 @@ fn lengths_that_are_refused(rt: HostRuntime) -> Result<(), Fail> {
 
 #[test]
 fn calls_that_fail(rt: HostRuntime) -> Result<(), Fail> {
-    let output = output_with_read_fault(rt.alloc(), "search")?;
-    assert!(rt; output.is(Status::ReadFault, b""));
-    let output = output_with_write_fault(rt.alloc(), "search")?;
-    assert!(rt; output.is(Status::WriteFault, b"cel"));
+    assert!(rt; is_broken_off(rt.alloc(), "search", b"cel")?);
     Ok(())
 }
 
@@ -114,10 +100,7 @@ fn a_sent_cell_is_found(rt: HostRuntime) -> Result<(), Fail> {
         ("search", PLAIN_REPORT),
     ] {
         let bytes = sent.written.clone()?;
-        assert!(rt;
-            gives(rt.alloc(), line, bytes, Status::Done, text.as_bytes())?,
-            "{line}"
-        );
+        assert!(rt; gives(rt.alloc(), line, bytes, text)?, "{line}");
     }
     Ok(())
 }

@@ -1,10 +1,10 @@
 //! The command `search --all`. The texts are those of another program, `scripts/peers/second_forms.py`.
 
+use crate::cells::{plain_gives, zeros_give};
 use crate::lengths::refuse_lengths;
-use crate::{gives, sent_by, with_four_ports, with_two_ports};
-use lte_top::{Program, Status};
+use crate::{gives, with_four_ports, with_two_ports};
+use lte_top::Program;
 use std::test::Fail;
-use test_support::silence;
 
 // The lists of the plain cell.
 const OF_PLAIN: &str = "rule one-port
@@ -49,49 +49,32 @@ const AS_JSON: &str =
 
 #[test]
 fn the_lists_of_a_plain_cell(rt: HostRuntime) -> Result<(), Fail> {
-    let (alloc, line) = (rt.alloc(), "search --all");
-    let bytes = sent_by(alloc, "")?.written;
-    assert!(rt; gives(alloc, line, bytes, Status::Done, OF_PLAIN.as_bytes())?);
+    assert!(rt; plain_gives(rt.alloc(), "search --all", OF_PLAIN)?);
     Ok(())
 }
 
 #[test]
 fn the_lists_of_a_cell_with_four_antenna_ports(rt: HostRuntime) -> Result<(), Fail> {
-    let (line, bytes) = ("search --all", with_four_ports(rt.alloc())?);
-    assert!(rt;
-        gives(
-            rt.alloc(),
-            line,
-            bytes,
-            Status::Done,
-            OF_FOUR_PORTS.as_bytes()
-        )?
-    );
+    let bytes = with_four_ports(rt.alloc())?;
+    assert!(rt; gives(rt.alloc(), "search --all", bytes, OF_FOUR_PORTS)?);
     Ok(())
 }
 
 #[test]
 fn the_lists_of_a_cell_with_two_antenna_ports_as_json(rt: HostRuntime) -> Result<(), Fail> {
-    let (line, bytes) = ("search --all --json", with_two_ports(rt.alloc())?);
-    assert!(rt; gives(rt.alloc(), line, bytes, Status::Done, AS_JSON.as_bytes())?);
+    let bytes = with_two_ports(rt.alloc())?;
+    assert!(rt; gives(rt.alloc(), "search --all --json", bytes, AS_JSON)?);
     Ok(())
 }
 
+// The lists of zeros.
+const OF_ZEROS: &str =
+    "rule one-port\ncells 0\nrule two-ports\ncells 0\nrule long-prefix\ncells 0\nrule four-ports\ncells 0\n";
+
 #[test]
 fn zeros_hold_no_cell_of_any_kind(rt: HostRuntime) -> Result<(), Fail> {
-    for (line, text) in [
-        (
-            "search --all",
-            "rule one-port\ncells 0\nrule two-ports\ncells 0\nrule long-prefix\ncells 0\nrule four-ports\ncells 0\n",
-        ),
-        ("search --all --json", "[]\n"),
-    ] {
-        let zeros = silence(rt.alloc(), 230_400)?;
-        assert!(rt;
-            gives(rt.alloc(), line, zeros, Status::Done, text.as_bytes())?,
-            "{line}"
-        );
-    }
+    assert!(rt; zeros_give(rt.alloc(), "search --all", OF_ZEROS)?);
+    assert!(rt; zeros_give(rt.alloc(), "search --all --json", "[]\n")?);
     Ok(())
 }
 

@@ -1,15 +1,16 @@
 //! The command `search --cancel`.
 
+use crate::cells::{plain_gives, zeros_give};
 use crate::lengths::refuse_lengths;
-use crate::{gives, sent_by};
-use lte_top::{Program, Status};
+use lte_top::Program;
 use std::test::Fail;
-use test_support::silence;
+
+const NONE_AS_JSON: &str = "{\"cells\":[],\"ended\":true,\"rounds\":[]}\n";
 
 #[test]
 fn zeros_hold_no_cell_to_take_off(rt: HostRuntime) -> Result<(), Fail> {
-    let (zeros, text) = (silence(rt.alloc(), 230_400)?, b"cells 0\ncancelled none\n");
-    assert!(rt; gives(rt.alloc(), "search --cancel", zeros, Status::Done, text)?);
+    assert!(rt; zeros_give(rt.alloc(), "search --cancel", "cells 0\ncancelled none\n")?);
+    assert!(rt; zeros_give(rt.alloc(), "search --cancel --json", NONE_AS_JSON)?);
     Ok(())
 }
 
@@ -29,16 +30,6 @@ const AS_JSON: &str =
 
 #[test]
 fn a_plain_cell_taken_off_as_json(rt: HostRuntime) -> Result<(), Fail> {
-    let (alloc, line) = (rt.alloc(), "search --cancel --json");
-    let bytes = sent_by(alloc, "")?.written;
-    assert!(rt; gives(alloc, line, bytes, Status::Done, AS_JSON.as_bytes())?);
-    Ok(())
-}
-
-#[test]
-fn zeros_end_with_no_round(rt: HostRuntime) -> Result<(), Fail> {
-    let (line, zeros) = ("search --cancel --json", silence(rt.alloc(), 230_400)?);
-    let text = b"{\"cells\":[],\"ended\":true,\"rounds\":[]}\n";
-    assert!(rt; gives(rt.alloc(), line, zeros, Status::Done, text)?);
+    assert!(rt; plain_gives(rt.alloc(), "search --cancel --json", AS_JSON)?);
     Ok(())
 }

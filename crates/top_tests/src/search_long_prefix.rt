@@ -1,15 +1,14 @@
 //! The command `search --prefix long`.
 
+use crate::cells::zeros_give;
 use crate::lengths::refuse_lengths;
 use crate::{gives, with_long_prefix};
-use lte_top::{Program, Status};
+use lte_top::Program;
 use std::test::Fail;
-use test_support::silence;
 
 #[test]
 fn zeros_hold_no_cell(rt: HostRuntime) -> Result<(), Fail> {
-    let (line, zeros) = ("search --prefix long", silence(rt.alloc(), 230_400)?);
-    assert!(rt; gives(rt.alloc(), line, zeros, Status::Done, b"cells 0\n")?);
+    assert!(rt; zeros_give(rt.alloc(), "search --prefix long", "cells 0\n")?);
     Ok(())
 }
 
@@ -25,7 +24,7 @@ const AS_JSON: &str =
 
 #[test]
 fn the_cell_of_number_90_as_json(rt: HostRuntime) -> Result<(), Fail> {
-    let (line, bytes) = ("search --prefix long --json", with_long_prefix(rt.alloc())?);
-    assert!(rt; gives(rt.alloc(), line, bytes, Status::Done, AS_JSON.as_bytes())?);
+    let bytes = with_long_prefix(rt.alloc())?;
+    assert!(rt; gives(rt.alloc(), "search --prefix long --json", bytes, AS_JSON)?);
     Ok(())
 }

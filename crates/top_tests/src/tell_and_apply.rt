@@ -33,17 +33,10 @@ fn words_of_forms_of_the_tuner_read(rt: HostRuntime) -> Result<(), Fail> {
 fn zeros_have_no_offset(rt: HostRuntime) -> Result<(), Fail> {
     let (alloc, tuner) = (rt.alloc(), Program::Tuner);
     let zeros = silence(alloc, 230_400)?;
-    assert!(rt;
-        gives_by(
-            alloc,
-            tuner,
-            "tell",
-            zeros.clone()?,
-            Status::Done,
-            b"hits 0\n"
-        )?
-    );
-    assert!(rt; gives_by(alloc, tuner, "apply", zeros.clone()?, Status::Done, &zeros)?);
+    assert!(rt; gives_by(alloc, tuner, "tell", zeros.clone()?, "hits 0\n")?);
+    let none = "{\"candidates\":[],\"told\":null}\n";
+    assert!(rt; gives_by(alloc, tuner, "tell --json", zeros.clone()?, none)?);
+    assert!(rt; output_by(alloc, tuner, "apply", zeros.clone()?)?.is(Status::Done, &zeros));
     Ok(())
 }
 
@@ -65,17 +58,8 @@ const AS_JSON: &str =
 #[test]
 fn what_is_told_of_a_plain_cell_as_json(rt: HostRuntime) -> Result<(), Fail> {
     let (alloc, tuner) = (rt.alloc(), Program::Tuner);
-    let (line, bytes) = ("tell --json", sent_by(alloc, "")?.written);
-    assert!(rt; gives_by(alloc, tuner, line, bytes, Status::Done, AS_JSON.as_bytes())?);
-    Ok(())
-}
-
-#[test]
-fn nothing_is_told_of_zeros_as_json(rt: HostRuntime) -> Result<(), Fail> {
-    let (alloc, tuner) = (rt.alloc(), Program::Tuner);
-    let text = b"{\"candidates\":[],\"told\":null}\n";
-    let zeros = silence(alloc, 230_400)?;
-    assert!(rt; gives_by(alloc, tuner, "tell --json", zeros, Status::Done, text)?);
+    let bytes = sent_by(alloc, "")?.written;
+    assert!(rt; gives_by(alloc, tuner, "tell --json", bytes, AS_JSON)?);
     Ok(())
 }
 
@@ -105,8 +89,8 @@ fn recordings_of_8_bits_are_applied_as_those_of_16(rt: HostRuntime) -> Result<()
     let bytes = of_8_bits(alloc)?;
     let wide = output_by(alloc, tuner, "apply 5", of_16_bits(alloc, &bytes)?)?;
     assert!(rt; wide.status == Status::Done && wide.written.len() == 230_400);
-    let line = "apply 5 --format cu8";
-    assert!(rt; gives_by(alloc, tuner, line, bytes, Status::Done, &wide.written)?);
+    let applied = output_by(alloc, tuner, "apply 5 --format cu8", bytes)?;
+    assert!(rt; applied.is(Status::Done, &wide.written));
     Ok(())
 }
 
@@ -114,9 +98,16 @@ fn recordings_of_8_bits_are_applied_as_those_of_16(rt: HostRuntime) -> Result<()
 fn silence_of_8_bits_has_no_offset(rt: HostRuntime) -> Result<(), Fail> {
     let (alloc, tuner) = (rt.alloc(), Program::Tuner);
     let silent = vec![in alloc; 127_u8; 115_200]?;
-    let (line, text) = ("tell --format cu8", b"hits 0\n");
-    assert!(rt; gives_by(alloc, tuner, line, silent.clone()?, Status::Done, text)?);
-    let (line, zeros) = ("apply --format cu8", silence(alloc, 230_400)?);
-    assert!(rt; gives_by(alloc, tuner, line, silent, Status::Done, &zeros)?);
+    assert!(rt;
+        gives_by(
+            alloc,
+            tuner,
+            "tell --format cu8",
+            silent.clone()?,
+            "hits 0\n"
+        )?
+    );
+    let applied = output_by(alloc, tuner, "apply --format cu8", silent)?;
+    assert!(rt; applied.is(Status::Done, &silence(alloc, 230_400)?));
     Ok(())
 }

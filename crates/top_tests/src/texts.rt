@@ -8,6 +8,7 @@ use lte_top::Status;
 use sample_file::FileError;
 use std::alloc::{AllocError, Global};
 use std::fmt::Display;
+use std::process::Abort;
 use std::test::Fail;
 use tail_cert::BadCertificate;
 
@@ -41,56 +42,46 @@ fn texts_of_the_conditions_of_a_description(rt: HostRuntime) -> Result<(), Fail>
     Ok(())
 }
 
+// Each of these values is printed as its text.
+fn print_each<T: Display>(rt: &impl Abort, alloc: Global, rows: &[(T, &str)]) -> Result<(), Fail> {
+    for (value, text) in rows {
+        assert!(rt; prints(alloc, value, text)?, "{text}");
+    }
+    Ok(())
+}
+
 #[test]
-fn texts_of_the_errors_of_recordings(rt: HostRuntime) -> Result<(), Fail> {
+fn texts_of_other_errors(rt: HostRuntime) -> Result<(), Fail> {
     let alloc = rt.alloc();
-    for (error, text) in [
+    let of_recordings = [
         (FileError::Ragged, "ragged"),
         (FileError::TooShort, "too short"),
         (FileError::TooLong, "too long"),
         (FileError::ReadFault, "read fault"),
         (FileError::OutOfMemory, "out of memory"),
-    ] {
-        assert!(rt; prints(alloc, &error, text)?, "{text}");
-    }
-    Ok(())
-}
-
-#[test]
-fn texts_of_the_errors_of_sources_descriptions_and_certificates(
-    rt: HostRuntime,
-) -> Result<(), Fail> {
-    let alloc = rt.alloc();
-    for (error, text) in [
+    ];
+    print_each(&rt, alloc, &of_recordings)?;
+    let of_sources = [
         (ReadError::TooLong, "too long"),
         (ReadError::ReadFault, "read fault"),
         (ReadError::OutOfMemory, "out of memory"),
-    ] {
-        assert!(rt; prints(alloc, &error, text)?, "{text}");
-    }
-    for (error, text) in [
+    ];
+    print_each(&rt, alloc, &of_sources)?;
+    let of_descriptions = [
         (JsonError::Cell(CellError::Gain), "bad cell: gain"),
         (JsonError::OutOfMemory, "out of memory"),
-    ] {
-        assert!(rt; prints(alloc, &error, text)?, "{text}");
-    }
-    assert!(rt; prints(alloc, &Failed, "the call failed")?);
-    let broken = BadCertificate { place: 244 };
-    assert!(rt; prints(alloc, &broken, "bad certificate at byte 244")?);
-    Ok(())
-}
-
-#[test]
-fn texts_of_the_errors_of_streams_of_certificates(rt: HostRuntime) -> Result<(), Fail> {
-    let alloc = rt.alloc();
-    for (error, text) in [
+    ];
+    print_each(&rt, alloc, &of_descriptions)?;
+    let of_streams = [
         (StreamError::Broken(10_501), "bad certificate at byte 10501"),
         (StreamError::TooLong, "too long"),
         (StreamError::ReadFault, "read fault"),
         (StreamError::OutOfMemory, "out of memory"),
-    ] {
-        assert!(rt; prints(alloc, &error, text)?, "{text}");
-    }
+    ];
+    print_each(&rt, alloc, &of_streams)?;
+    assert!(rt; prints(alloc, &Failed, "the call failed")?);
+    let broken = BadCertificate { place: 244 };
+    assert!(rt; prints(alloc, &broken, "bad certificate at byte 244")?);
     Ok(())
 }
 

@@ -60,10 +60,8 @@ fn a_description_that_is_too_long(rt: HostRuntime) -> Result<(), Fail> {
         (65_537, Status::TooLong),
     ] {
         let spaces = vec![in rt.alloc(); b' '; len]?;
-        assert!(rt;
-            gives(rt.alloc(), "transmit", spaces, refusal, b"")?,
-            "{len} bytes"
-        );
+        let output = output_of(rt.alloc(), "transmit", spaces)?;
+        assert!(rt; output.is(refusal, b""), "{len} bytes");
     }
     Ok(())
 }
@@ -104,7 +102,7 @@ fn is_found(
     report: &str,
 ) -> Result<bool, AllocError> {
     let sent = sent_with_words(alloc, line, change)?;
-    gives(alloc, search, sent.written, Status::Done, report.as_bytes())
+    gives(alloc, search, sent.written, report)
 }
 
 #[test]
