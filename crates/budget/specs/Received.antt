@@ -50,4 +50,5 @@ pub record IsSeenAs (gain amplitude seen : Cpx) : Type 0 where
 -- what is seen of the amplitudes of so many ports is 64 times what is received of them, off by at most `most` times the
 -- root of the sum of the gains' squares: most / 64 units of amplitude
 pub record IsSeenBy (ports most : ℕ) (gains amplitudes : ℕ → Cpx) (seen : Cpx) : Type 0 where
-  pub off : square (minus seen (multiple 64 (received_of ports gains amplitudes))) ≤ most * most * energy_below ports gains
+  pub off : square (minus seen (multiple 64 (received_of ports gains amplitudes))) ≤
+      most * most * energy_below ports gains

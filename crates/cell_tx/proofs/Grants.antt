@@ -1,5 +1,5 @@
 -- What grants the system information of a plan that can be sent.
-use Rattle.std.proofs.Common.{◌≡◌, ℕ, zero, suc, ◌/◌, ◌%◌, ◌<◌, ◌≤◌, [], ◌∷◌, arith}
+use Rattle.std.proofs.Common.{ℕ, zero, suc, ◌/◌, ◌%◌, ◌<◌, [], ◌∷◌, arith}
 use Rattle.std.specs.Prelude.{slice_index_or}
 use Rattle.dci.specs.Format1A.{IsGrant}
 use Rattle.cell_plan.specs.declared.cell.CellPlan.{CellPlan}

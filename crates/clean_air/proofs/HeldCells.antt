@@ -1,5 +1,5 @@
 -- A recording that is clean of a cell shows it to a receiver of one antenna port, whatever else the cell sends.
-use Rattle.std.proofs.Common.{◌%◌, ◌≤◌, arith, refl}
+use Rattle.std.proofs.Common.{◌%◌, arith, refl}
 use Rattle.cs_num.specs.Complex.{value_at}
 use Rattle.lte_types.specs.declared.carrier.Carrier.TheVariants.{OnePort}
 use Rattle.lte_types.specs.Numerology.{normal, useful_start}

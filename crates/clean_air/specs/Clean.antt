@@ -1,4 +1,5 @@
--- The list of a clean recording, by any receiver: it holds each cell that was sent to it. (own)
+-- The list of a recording by any receiver: it holds each cell of the receiver's carrier of which the recording is
+-- clean. (own)
 use Rattle.std.specs.Prelude.{◌≡◌, ℕ, ◌/◌, ◌≤◌, List, length, Option, Result, Ok, Err}
 use Rattle.std.specs.List.{Contains}
 use Rattle.cs_num.specs.declared.Cpx.{Cpx}

@@ -22,9 +22,9 @@ impl CleanReader for OnePort {
 }
 
 /// Afterwards the list is that of the recording by a receiver, as `explain::explain_by` makes it, whatever it held
-/// before. Wherever the recording is what the antenna ports of a cell send by the receiver's carrier, each times its
-/// own whole-number gain, up to errors, all within the carrier's bounds (`cell_tx/specs/Clean.antt`), the list has an
-/// entry with this cell's identity, the sample at which its first frame begins, that frame's number, the carrier's
+/// before. Wherever the recording is what the antenna ports of a cell send by the receiver's carrier, by a plan that it
+/// can send (`IsKnownBy`), each times its own whole-number gain, up to errors, all within the carrier's bounds
+/// (`cell_plan/specs/Gains.antt`), the list has an entry with this cell's identity, the sample at which its first frame begins, that frame's number, the carrier's
 /// count of antenna ports, its master block, read at no cost from that frame alone, and what is told of its system
 /// information, and no other with this identity, sample and number. It does so whatever else the cell sends where its
 /// plan sends nothing, beside the synchronisation signals nothing, in elements of size at most 256 (`loaded`), and so

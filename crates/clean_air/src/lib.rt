@@ -1,6 +1,5 @@
-//! Clean reception: what is sent of a cell, received with one gain and errors of at most twice its
-//! size, is found by the receiver. The list of cells of a recording holds each cell of which it is
-//! clean. Each law on the way is the contract of a function without a body, whole, with its
+//! Clean reception: what is sent of a cell, received with one gain for each antenna port and small errors, is found by
+//! the receiver of its carrier. The list of cells of a recording holds each cell of which it is clean. Each law on the way is the contract of a function without a body, whole, with its
 //! premises; it speaks of the receiver's definitions alone.
 #![tactic(auto)]
 

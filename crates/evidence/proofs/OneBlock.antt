@@ -10,34 +10,25 @@ use Rattle.lte_types.specs.declared.sib1.Sib1.{Sib1}
 use Rattle.lte_types.specs.declared.sib1_reason.Sib1Reason.{Sib1Reason}
 use Rattle.lte_types.specs.CellPlace.{Place}
 use Rattle.dci.specs.declared.grant.Grant.{Grant}
-use Rattle.turbo_code.specs.declared.rows.Row.{Row}
-use Rattle.turbo_code.specs.Reading.{summed}
-use Rattle.turbo_code.proofs.OneRow.{one_row}
-use Rattle.turbo_dec.specs.Block.{block}
 use Rattle.system_block.specs.Subframe.{Subframe}
 use Rattle.system_block.specs.declared.reading.Attempt.{Attempt}
 use Rattle.system_block.specs.Attempt.{Reads}
 use Rattle.system_block.specs.Block.{IsBlock}
-use Rattle.system_block.proofs.Once.{one_attempt}
+use Rattle.system_block.proofs.Once.{one_attempt, one_block}
 use Rattle.explain.specs.Receiver.{Subframes}
 use Rattle.explain.specs.System.{even_frame}
 use Rattle.explain.specs.Entries.{place_of}
 use Rattle.evidence.specs.Blocks.{HasBlock, IsFirstBlock, IsBlockRead, IsBlockWith, IsToldWith, IsSystemBlock, subframes_of}
-
-one_told : (values : List ℤ) (grant : Grant) (a b : List Bool) → IsBlock values grant (Some a) → IsBlock values grant (Some b) → a ≡ b
-one_told values grant a b p q =
-    let row : p.row ≡ q.row = one_row p.row q.row p.is_row q.is_row (p.size ∙ sym q.size) in
-    let same : Some a ≡ Some b = sym p.tells ∙ ap (λ (r : Row). block r (summed r.k grant.rv values)) row ∙ q.tells in
-    ap (λ (found : Option (List Bool)). unwrap_or found a) same
 
 one_of_subframe : (values : Subframe) (a b : List Bool) → HasBlock values a → HasBlock values b → a ≡ b
 one_of_subframe values a b p q =
     let same = one_attempt values (record { cfi = p.cfi; grant = Some p.grant; answer = Ok p.fields }) (record { cfi = q.cfi; grant = Some q.grant; answer = Ok q.fields }) p.attempt q.attempt in
     let cfi : p.cfi ≡ q.cfi = ap (λ (t : Attempt). t.cfi) same in
     let grant : p.grant ≡ q.grant = ap (λ (o : Option Grant). unwrap_or o p.grant) (ap (λ (t : Attempt). t.grant) same) in
-    one_told (values.shared q.cfi q.grant.start q.grant.blocks) q.grant a b
-    (subst (λ n. IsBlock (values.shared n q.grant.start q.grant.blocks) q.grant (Some a)) cfi
-    (subst (λ (g : Grant). IsBlock (values.shared p.cfi g.start g.blocks) g (Some a)) grant p.block)) q.block
+    let block : IsBlock (values.shared q.cfi q.grant.start q.grant.blocks) q.grant (Some a) =
+    subst (λ n. IsBlock (values.shared n q.grant.start q.grant.blocks) q.grant (Some a)) cfi
+    (subst (λ (g : Grant). IsBlock (values.shared p.cfi g.start g.blocks) g (Some a)) grant p.block) in
+    ap (λ (found : Option (List Bool)). unwrap_or found a) (one_block (values.shared q.cfi q.grant.start q.grant.blocks) q.grant (Some a) (Some b) block q.block)
 
 reads_by : (values : Subframe) (bits : List Bool) (has : HasBlock values bits) → Reads values (Ok has.fields)
 reads_by values bits has = record { attempt = record { cfi = has.cfi; grant = Some has.grant; answer = Ok has.fields }; is = has.attempt; answers = refl }

@@ -1,4 +1,5 @@
--- The bits of an entry's blocks: of its master block, and of the transport block that told its system information. (own)
+-- The bits of an entry's blocks: of its master block, and of the transport block that told its system information.
+-- (own)
 use Rattle.std.specs.Prelude.{◌≡◌, ◌⊎◌, ℕ, ◌+◌, ◌*◌, ◌<◌, Bool, List, [], Option, Some, None, Result, Ok, Err}
 use Rattle.cs_num.specs.declared.Sample.{Sample}
 use Rattle.cs_bits.specs.Numbers.{bits_of}
@@ -27,8 +28,8 @@ use Rattle.four_ports.specs.Entries.{four_ports_receiver}
 -- frame number, and the last 10 bits (TS 36.331 section 6.2.2)
 abbrev pub master_number : Mib → ℕ
 master_number mib =
-    (((bandwidth_code mib.bandwidth * 2 + duration_code mib.duration) * 4 + resource_code mib.resource) * 256 + mib.upper) * 1024
-    + mib.spare
+    (((bandwidth_code mib.bandwidth * 2 + duration_code mib.duration) * 4 + resource_code mib.resource) * 256 +
+    mib.upper) * 1024 + mib.spare
 
 abbrev pub master_bits : Mib → List Bool
 master_bits mib = bits_of 24 (master_number mib)
@@ -84,8 +85,8 @@ subframes_of FourPorts = four_ports_receiver.subframe
 
 -- a block is told where there are fields, and none otherwise
 abbrev pub IsToldWith : Result Sib1 Sib1Reason → (List Bool → Type 0) → List Bool → Type 0
-IsToldWith (Ok fields) IsBlock bits = IsBlock bits
-IsToldWith (Err reason) IsBlock bits = bits ≡ []
+IsToldWith (Ok fields) Is bits = Is bits
+IsToldWith (Err reason) Is bits = bits ≡ []
 
 -- these are the bits of the transport block that told the system information of an entry, without their check; none
 -- where it has none

@@ -96,7 +96,8 @@ differences_by FourPorts slot =
     + upper_differences Third slot + upper_differences Fourth slot
 
 -- the noise: the sum of the second differences' squares, divided by six times the square of a reference value's size,
--- and rounded down. Errors of one variance v in what is seen make a second difference of variance 6 v, times that square
+-- and rounded down. Errors of one variance v in what is seen make a second difference of variance 6 v, times that
+-- square
 abbrev pub noise_of : ℕ → ℕ
 noise_of differences = differences / (6 * point_power)
 

@@ -61,8 +61,8 @@ pair_at values i = record { re = slice_index_or values (2 * i) (pos 0); im = sli
 unfoldable pub pairs_of : List ℤ → List SoftPair
 pairs_of values = values_below (length values / 2) (pair_at values)
 
--- what a slot shows: the energy of its pilots, and the squares of their second differences, of all antenna ports together;
--- the channel of each port; and the soft values of the broadcast channel
+-- what a slot shows: the energy of its pilots, and the squares of their second differences, of all antenna ports
+-- together; the channel of each port; and the soft values of the broadcast channel
 pub record SlotShown : Type 0 where
   pub power : ℕ
   pub differences : ℕ

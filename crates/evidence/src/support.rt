@@ -57,8 +57,8 @@ pub fn support_of_list(
     Ok(list)
 }
 
-// What supports an entry, what its slot shows, and its blocks. A private call of six parameters: a turn of the loop over
-// entries.
+// What supports an entry, what its slot shows, and its blocks. A private call of six parameters: a turn of the loop
+// over entries.
 fn support_of(
     alloc: Global,
     recording: &Recording,

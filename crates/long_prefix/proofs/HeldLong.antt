@@ -1,5 +1,5 @@
 -- A recording that is clean of a cell shows it to a receiver of the extended prefix, whatever else the cell sends.
-use Rattle.std.proofs.Common.{◌≡◌, ℕ, ◌*◌, ◌%◌, ◌≤◌, arith, refl, sym, subst, List, [], ◌∷◌, get_or, None, Err}
+use Rattle.std.proofs.Common.{◌≡◌, ℕ, ◌*◌, ◌%◌, arith, refl, sym, subst, List, [], ◌∷◌, get_or, None, Err}
 use Rattle.std.specs.Prelude.{All}
 use Rattle.std.proofs.lemmas.List.Elements.{Contains-get_or}
 use Rattle.cs_num.specs.declared.Cpx.{Cpx}

@@ -27,7 +27,7 @@ impl CleanReader for ExtendedPrefix {
 ///
 /// It holds each cell of which the recording is clean (`clean_air::explain_clean_by`), by a plan whose identity is at
 /// most 503 and whose spare bits are at most 1,023, times a gain of size 1 to 28, each component off by at most twice
-/// the gain's size; and so each plan of which it is (`holds`, `sample`). (own)
+/// the gain's size; of a plan with the extended prefix alone `holds` says the same. (own)
 pub fn explain_clean(recording: &Recording, work: &mut Workspace3, list: &mut EntryList)
     ensures list { IsListBy long_prefix_receiver recording.now list.new }
     ensures readings { AllZip (IsReadingOfLong recording.now) list.new work.new }

@@ -14,9 +14,9 @@ use std::alloc::{AllocError, Global};
 
 /// What `cancel_text` tells of a recording as JSON in one line, without a line feed: an object with `cells`, the list
 /// as `json` writes it, `ended`, whether a round followed in which no cell could be taken off, and `rounds`, an
-/// array with an object for each cell that was taken off: `identity`, `gain`, an array of its components, `residue`, the
-/// greatest size of a component that was left, `power`, an array of the power before and after, and `cells`, the list of
-/// what is left. Only memory can be wanting. (own)
+/// array with an object for each cell that was taken off: `identity`, `gain`, an array of its components, `residue`,
+/// the greatest size of a component that was left, `power`, an array of the power before and after, and `cells`, the
+/// list of what is left. Only memory can be wanting. (own)
 pub fn cancel_json(alloc: Global, recording: &Recording) -> Result<String, AllocError>
     ensures { IfOk result (λ text. IsCancelJson recording.now (string_bytes text)) }
 {

@@ -11,8 +11,8 @@ use sample_file::Recording;
 use std::alloc::{AllocError, Global};
 
 /// The text of a recording: that of its list as `text` gives it, then for each round that takes a cell off its
-/// two lines and the text of the list of what is left, and the line `cancelled none` where a round follows that takes off
-/// none. Only memory can be wanting. (own)
+/// two lines and the text of the list of what is left, and the line `cancelled none` where a round follows that takes
+/// off none. Only memory can be wanting. (own)
 pub fn cancel_text(alloc: Global, recording: &Recording) -> Result<String, AllocError>
     ensures { IfOk result (λ text. IsCancelText recording.now (string_bytes text)) }
 {

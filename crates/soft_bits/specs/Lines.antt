@@ -1,5 +1,5 @@
--- The pilots of an antenna port of a slot with the normal prefix as a line of data, and the channel along it: the only
--- place with cases by port (TS 36.211 section 6.10.1.2). (own)
+-- The pilots of an antenna port of a slot with the normal prefix as a line of data, and the channel along it, by the
+-- port's number (TS 36.211 section 6.10.1.2). (own)
 use Rattle.std.specs.Prelude.{ℕ, zero, suc, ◌+◌, ◌*◌, ◌/◌, ◌%◌}
 use Rattle.finite.specs.Sums.{total_below}
 use Rattle.cs_num.specs.declared.Cpx.{Cpx}

@@ -85,7 +85,7 @@ one_grant count values a b g h = cases (grants_so count values a g) (grants_so c
 
 -- ---- the block
 
-one_block : (values : List ℤ) (grant : Grant) (f g : Option (List Bool)) → IsBlock values grant f → IsBlock values grant g → f ≡ g
+pub one_block : (values : List ℤ) (grant : Grant) (f g : Option (List Bool)) → IsBlock values grant f → IsBlock values grant g → f ≡ g
 one_block values grant f g a b =
     let same : a.row ≡ b.row = one_row a.row b.row a.is_row b.is_row (a.size ∙ sym b.size) in
     sym a.tells ∙ ap (λ (row : Row). block row (summed row.k grant.rv values)) same ∙ b.tells
