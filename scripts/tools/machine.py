@@ -47,25 +47,6 @@ def run(main):
         sys.exit(f"{name}: stopped")
 
 
-def check_place(path):
-    """Refuses a place where nothing can be written."""
-    if path.is_dir() or not os.access(path.parent, os.W_OK | os.X_OK):
-        raise Refused(f"{path}: {'a folder' if path.is_dir() else 'nothing can be written into its folder'}")
-
-
-def write(path, data):
-    """Beside the file first, so that an older one of this name stays where that fails."""
-    part = path.with_name(f".{os.getpid()}.{path.name}")
-    try:
-        part.write_bytes(data)
-        os.replace(part, path)
-    except OSError as fault:
-        fault.filename = str(path)
-        raise
-    finally:
-        part.unlink(missing_ok=True)
-
-
 def want(*packages):
     """Goes on with Debian's Python where this one has not these packages."""
     missing = [package for package in packages if importlib.util.find_spec(package) is None]
@@ -88,9 +69,11 @@ def write(path, data):
     try:
         part.write_bytes(data)
         os.replace(part, path)
-    except BaseException:
-        part.unlink(missing_ok=True)
+    except OSError as fault:
+        fault.filename = str(path)
         raise
+    finally:
+        part.unlink(missing_ok=True)
 
 
 def program(name):

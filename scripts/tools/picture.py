@@ -27,55 +27,10 @@ import picture_map
 import picture_panels
 import picture_view
 import radio_file
-import survey_table
-from machine import write
-from picture_style import STYLE
+import survey_page
+from page import details, image, page, saved, text
+from picture_style import begin
 from words import Words, number
-
-
-def saved(figure, form):
-    """The figure's bytes, without the time at which it was made; of .svg without what only makes it longer."""
-    out = io.BytesIO()
-    figure.savefig(out, format=form, dpi=100, metadata={"Date": None} if form == "svg" else {"Software": None})
-    pyplot.close(figure)
-    data = out.getvalue()
-    if form == "svg":
-        data = re.sub(rb' (d|x|y)="[^"]*"', lambda part: re.sub(rb"(\.\d)\d+", rb"\1", part[0]), data)
-        data = re.sub(rb"<!--.*?-->|\n +(?=<)", b"", data, flags=re.S).replace(b"DejaVuSans-", b"g")
-    return data
-
-
-PAGE = """<!doctype html>
-<html lang="en"><head><meta charset="utf-8"><title>{title}</title>
-<style>body {{ font: 14px sans-serif; max-width: 1200px; margin: 1em auto }} img {{ width: 100% }}
-table {{ border-collapse: collapse }} td, th {{ padding: 2px 9px; text-align: left; border-bottom: 1px solid #ddd }}
-h1 {{ overflow-wrap: anywhere }} pre {{ white-space: pre-wrap; overflow-wrap: anywhere }}</style></head>
-<body><h1>{title}</h1>
-{body}
-</body></html>
-"""
-
-
-def page(title, facts, figure, parts):
-    """A page with the picture, and what was said, by its name."""
-    title, facts = (html.escape(text.encode(errors="replace").decode()) for text in (title, facts))
-    picture = base64.b64encode(saved(figure, "svg")).decode()
-    image = f'<img alt="{title}" src="data:image/svg+xml;base64,{picture}">'
-    return PAGE.format(title=title, body="\n".join((f"<p>{facts}", image, *parts))).encode()
-
-
-def html_table(rows):
-    """A table by names of columns; the one without a name is that of the mark."""
-    if not rows:
-        return "<p>No cell."
-    lines = [[name or "?" for name in rows[0]], *(list(row.values()) for row in rows)]
-    cells = ["".join(f"<t{'dh'[i == 0]}>{html.escape(word)}" for word in line) for i, line in enumerate(lines)]
-    return "<table>" + "\n".join(f"<tr>{line}" for line in cells) + "</table>"
-
-
-def details(name, value):
-    text = html.escape(json.dumps(value, indent=1))
-    return f"<details><summary>{html.escape(name)}</summary><pre>{text}</pre></details>"
 
 
 def page_of_view(view, count):
@@ -97,8 +52,6 @@ def survey_in(path):
 def drawn(told, form):
     """The bytes of what is asked for."""
     found = survey_in(told.file) if told.file.suffix == ".json" else None
-    if found and form == "html":
-        return survey_page.page_of(found, told.title)
     if found:
         return of_survey(found, told, form)
     file = radio_file.opened(told)
@@ -111,8 +64,10 @@ def of_survey(found, told, form):
     """Of what survey.py --json wrote."""
     try:
         if form == "html":
-            return page_of_survey(found, told.title)
-        return saved(picture_survey.survey_sheet(found, told.title), form)
+            return survey_page.page_of(found, told.title)
+        is_map = picture_map.is_with_places(found) and not told.time
+        sheet = picture_map.map_sheet if is_map else picture_map.time_sheet
+        return saved(sheet(found, told.title), form)
     except (KeyError, TypeError, AttributeError) as fault:
         raise machine.Refused(f"{told.file}: not as survey.py --json writes it: {fault}") from None
 

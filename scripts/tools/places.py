@@ -179,4 +179,4 @@ def at_window(one, file):
 
 
 def write(path, survey, file):
-    machine.write(path, json.dumps(geojson_of(survey, file), separators=(",", ":")).encode() + b"\n")
+    machine.write(path, (json.dumps(geojson_of(survey, file), separators=(",", ":")) + "\n").encode())

@@ -255,10 +255,8 @@ def check_form(file):
     width = np.dtype(FORMS[file.form].numbers).itemsize
     total = 2 * file.channels * file.count
     places = {total * i // PROBES // 2 * 2 for i in range(PROBES)}
-    parts = [
-        np.fromfile(file.path, "u1", width * min(PROBE, total - place), offset=file.begins + width * place)
-        for place in places
-    ]
+    sizes = [(file.begins + width * place, width * min(PROBE, total - place)) for place in sorted(places)]
+    parts = [np.fromfile(file.path, "u1", size, offset=begins) for begins, size in sizes]
     fault = fault_of(np.concatenate(parts), file.form)
     if fault:
         raise Refused(f"{file.path}: read as {file.form}, {fault}")

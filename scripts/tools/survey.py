@@ -1,6 +1,6 @@
 #!/usr/bin/python3
 """survey.py FILE [--form u8|s8|s16|f32|sigmf] [--rate R] [--shift HZ] [--at S] [--every S] [--csv | --json]
-survey.py FILE --track TRACK [--start TIME] --geojson OUT
+survey.py FILE --track TRACK [--start TIME] [--html OUT] [--geojson OUT]
 survey.py FILE --pcap OUT.pcap
 survey.py FILE --scan [--carrier CENTRE]
 rtl_sdr -f 796e6 -s 1.92e6 - | survey.py - --form u8 --rate 1.92e6 --follow
@@ -16,9 +16,10 @@ each list with a cell, tell of each window, one process a processor; by the pilo
 the rest of the offset is taken off, and each cell has its own. Lines are one cell where identity, frame numbers and
 offset fit, and one with an echo where they come within 40 samples. Where no cell is sure, I and Q are tried exchanged.
 
-With --track each window gets the place of its time: the file's time is SigMF's, else --start. --pcap writes the blocks
-of MIB and SIB1 for Wireshark (pcap.py). --scan looks at each carrier of the 100 kHz raster in the file. Standard input
-(-) is looked at as it comes, until it ends or a signal comes.
+With --track each window gets the place of its time: the file's time is SigMF's, else --start. --html writes a page with
+the table, which sorts, the cells over time, and a map where there are places. --pcap writes the blocks of MIB and SIB1 for
+Wireshark (pcap.py). --scan looks at each carrier of the 100 kHz raster in the file. Standard input (-) is looked at as
+it comes, until it ends or a signal comes.
 
 Debian: python3-numpy, python3-scipy; for --html python3-matplotlib. Needs lte_cli and lte_tune (README, "Build").
 """
@@ -155,6 +156,7 @@ def arguments():
     live.add_arguments(parser)
     places.add_arguments(parser)
     pcap.add_arguments(parser)
+    parser.add_argument("--html", type=pathlib.Path, metavar="OUT", help="a page with the table, a map and pictures")
     form = parser.add_mutually_exclusive_group()
     form.add_argument("--csv", action="store_true", help="the table for other programs, with the file's name")
     form.add_argument("--json", action="store_true", help="all that is known of each cell and window (docs/FORMATS.md)")
@@ -166,6 +168,9 @@ def arguments():
     live.check(told)
     places.check(told)
     pcap.check(told)
+    if told.html:
+        machine.want("matplotlib")
+        machine.check_place(told.html)
     return told
 
 

@@ -19,7 +19,8 @@ _lte_survey() {
         --start) compopt +o default 2> /dev/null; return ;;
         --geojson) return ;;
         --pcap) return ;;
-        *) if [[ $current == -* ]]; then choices='-h --help --form --rate --shift --carrier --at --exchanged --channel --every --offset --gain --jobs --scan --earfcn --follow --wait --track --start --geojson --pcap --csv --json'; else return; fi ;;
+        --html) return ;;
+        *) if [[ $current == -* ]]; then choices='-h --help --form --rate --shift --carrier --at --exchanged --channel --every --offset --gain --jobs --scan --earfcn --follow --wait --track --start --geojson --pcap --html --csv --json'; else return; fi ;;
     esac
     mapfile -t COMPREPLY < <(compgen -W "$choices" -- "$current")
 }
