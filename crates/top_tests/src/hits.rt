@@ -1,5 +1,7 @@
 //! The command `hits`.
 
+ghost use Rattle.std.specs.Prelude.{◌+◌, ◌*◌, ◌≤◌, length};
+
 use crate::cells::{lone_signal, many_signals, plain_gives, zeros_give};
 use crate::faults::{output_with_little_room, output_with_write_fault};
 use crate::lengths::refuse_lengths;
@@ -29,18 +31,20 @@ fn lengths_that_are_refused(rt: HostRuntime) -> Result<(), Fail> {
     refuse_lengths(&rt, rt.alloc(), Program::Receiver, "hits")
 }
 
+// Writes the primary signal times 28j from a sample on.
+fn put_turned_signal(bytes: &mut [u8], at: usize)
+    requires { 4 * at + 512 ≤ length bytes.old }
+{
+    for n in 0..128 {
+        let (re, im) = (PRIMARY[2 * n], PRIMARY[2 * n + 1]);
+        put_sample(bytes, at + n, im.saturating_mul(-28), re.saturating_mul(28));
+    }
+}
+
 // The primary signal times 28j alone, from sample 1,000 on.
 fn turned_signal(alloc: Global) -> Result<Vec<u8>, AllocError> {
     let mut bytes = silence(alloc, 230_400)?;
-    for n in 0..128 {
-        let (re, im) = (PRIMARY[2 * n], PRIMARY[2 * n + 1]);
-        put_sample(
-            &mut bytes,
-            1000 + n,
-            im.saturating_mul(-28),
-            re.saturating_mul(28),
-        );
-    }
+    put_turned_signal(&mut bytes, 1000);
     Ok(bytes)
 }
 
