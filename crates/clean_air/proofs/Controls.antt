@@ -4,7 +4,7 @@ use Rattle.std.specs.Result.{result_ok}
 use Rattle.std.proofs.lemmas.Option.{none-some}
 use Rattle.cs_bits.specs.Numbers.{bits_of}
 use Rattle.cs_bits.specs.Checks.{message_of, HasCheck16}
-use Rattle.cs_bits.proofs.Signs.{supports-speaks, supports-less}
+use Rattle.cs_bits.proofs.Signs.{supports-speaks}
 use Rattle.cs_bits.proofs.Checks.{checked_16}
 use Rattle.lte_types.specs.declared.duration.Duration.{Duration}
 use Rattle.lte_types.specs.declared.resource.Resource.{Resource}
@@ -24,7 +24,6 @@ use Rattle.dci.specs.Fields.{system_information_rnti}
 use Rattle.dci.specs.Format1A.{IsGrant, Carries, sent_word}
 use Rattle.dci.proofs.Words.{sent_carries}
 use Rattle.soft_bits.specs.Soft.{SeenSlot}
-use Rattle.soft_bits.specs.Places.{soft_values_of}
 use Rattle.pcfich.specs.Indicator.{IsIndicator, Speak}
 use Rattle.pcfich.specs.Values.{indicator_values, indicator_values_by}
 use Rattle.pcfich.proofs.Indicators.{some_indicator, spoken_indicator}
@@ -36,12 +35,11 @@ use Rattle.system_block.proofs.Once.{one_grant}
 use Rattle.cell_tx.specs.Block.{coded_bit}
 use Rattle.clean_air.specs.Words.{SpeakInOrder, IsOnlyWord}
 use Rattle.clean_air.specs.Carried.{AreHeard}
-use Rattle.clean_air.specs.Indicator.{IsOnlyIndicator, SentIndicatorIsTold, TellsIndicator, indicator_scrambled, SeenIndicatorIsTold, ReceivedIndicatorIsTold}
-use Rattle.clean_air.specs.Grant.{grant_word, IsOnlyGrant, SentGrantIsTold, TellsGrant, grant_places, grant_scrambled, SeenGrantIsTold, ReceivedGrantIsTold}
-use Rattle.clean_air.specs.Attempt.{SpokenGrantIsRead, SeenGrantIsRead, ReceivedGrantIsRead}
-use Rattle.clean_air.proofs.SoftValues.{pilots_seen}
+use Rattle.clean_air.specs.Indicator.{IsOnlyIndicator, SentIndicatorIsTold, TellsIndicator, indicator_scrambled, HeardIndicatorIsTold, CarriedIndicatorIsTold}
+use Rattle.clean_air.specs.Grant.{grant_word, IsOnlyGrant, SentGrantIsTold, TellsGrant, grant_places, grant_scrambled, HeardGrantIsTold, CarriedGrantIsTold}
+use Rattle.clean_air.specs.Attempt.{IsReadWith, SpokenGrantIsRead, HeardGrantIsRead, CarriedGrantIsRead}
 use Rattle.clean_air.proofs.SpokenWords.{sums_speak, spoken_word_is_only}
-use Rattle.clean_air.proofs.Speaking.{seen_bits_are_heard, descrambled_bits_are_heard, carried_bits_are_heard, places_seen}
+use Rattle.clean_air.proofs.Speaking.{scrambled_places_are_heard, carried_places_are_heard}
 use Rattle.clean_air.proofs.Placed.{pcfich_placed, candidate_placed}
 use Rattle.clean_air.proofs.Subframes.{carried_in_slot}
 
@@ -55,28 +53,21 @@ sent_indicator_is_told values indicator low high speak =
       only = λ other told. spoken_indicator values indicator other low high speak told;
     }
 
--- values of the channel's places that speak for the scrambled bits tell the indicator
-indicator_heard : (slot : SeenSlot) (indicator : ℕ) → 1 ≤ indicator → indicator ≤ 3 →
-    AreHeard 8 (2 * length (pcfich_places slot.identity)) (indicator_scrambled slot indicator) (soft_values_of slot (pcfich_places slot.identity)) → TellsIndicator slot indicator
+pub heard_indicator_is_told : HeardIndicatorIsTold
 unfolding indicator_values_by
-indicator_heard slot indicator low high heard = record { speak = speak; told = sent_indicator_is_told (indicator_values slot) indicator low high speak }
+heard_indicator_is_told slot indicator low high heard = record { speak = speak; told = sent_indicator_is_told (indicator_values slot) indicator low high speak }
   where
-    all : AreHeard 8 (2 * 16) (indicator_bit indicator) (indicator_values slot)
-    all = subst (λ n. AreHeard 8 (2 * n) (indicator_bit indicator) (indicator_values slot)) (length-pcfich_places slot.identity)
-        (descrambled_bits_are_heard 8 (2 * length (pcfich_places slot.identity)) (pcfich_c_init slot.identity slot.number) (indicator_bit indicator) (soft_values_of slot (pcfich_places slot.identity)) heard)
+    all : AreHeard 1 (2 * 16) (indicator_bit indicator) (indicator_values slot)
+    all = subst (λ n. AreHeard 1 (2 * n) (indicator_bit indicator) (indicator_values slot)) (length-pcfich_places slot.identity)
+        (scrambled_places_are_heard (pcfich_c_init slot.identity slot.number) (λ p. slot) (pcfich_places slot.identity) (indicator_bit indicator) heard)
 
     speak : Speak (indicator_values slot) indicator
-    speak i l = supports-speaks (indicator_bit indicator i) (get_or (indicator_values slot) i (pos 0))
-        (supports-less 1 8 (indicator_bit indicator i) (get_or (indicator_values slot) i (pos 0)) (omega arith) (all.value i l))
+    speak i l = supports-speaks (indicator_bit indicator i) (get_or (indicator_values slot) i (pos 0)) (all.value i l)
 
-pub seen_indicator_is_told : SeenIndicatorIsTold
-seen_indicator_is_told gain slot indicator low high pilots points =
-    indicator_heard slot indicator low high (seen_bits_are_heard gain slot (pcfich_places slot.identity) (indicator_scrambled slot indicator) pilots points)
-
-pub received_indicator_is_told : ReceivedIndicatorIsTold
-received_indicator_is_told recording starts grids slot indicator low high received carry =
-    indicator_heard slot indicator low high (carried_bits_are_heard recording starts grids slot (pcfich_places slot.identity) (indicator_scrambled slot indicator) received
-    (λ k d l. (pcfich_placed slot.identity k d l).1) carry)
+pub carried_indicator_is_told : CarriedIndicatorIsTold
+carried_indicator_is_told grids slot indicator low high heard carry =
+    heard_indicator_is_told slot indicator low high
+    (carried_places_are_heard grids slot (pcfich_places slot.identity) (indicator_scrambled slot indicator) heard (λ k d l. (pcfich_placed slot.identity k d l).1) carry)
 
 -- ---- the grant
 
@@ -127,12 +118,9 @@ four_elements identity indicator duration resource low high =
     enough : (n : ℕ) → 36 ≤ n → 4 ≤ n / 9
     enough n h = omega (arith, h)
 
--- values of the elements' places that speak for the scrambled bits tell the grant
-grant_heard : (slot : SeenSlot) (indicator : ℕ) (duration : Duration) (resource : Resource) (grant : Grant) → 2 ≤ indicator → indicator ≤ 3 → IsGrant grant →
-    AreHeard 8 (2 * length (grant_places slot indicator duration resource)) (grant_scrambled slot grant) (soft_values_of slot (grant_places slot indicator duration resource)) →
-    TellsGrant slot indicator duration resource grant
+pub heard_grant_is_told : HeardGrantIsTold
 unfolding stream_values_by
-grant_heard slot indicator duration resource grant low high is heard = record {
+heard_grant_is_told slot indicator duration resource grant low high is heard = record {
   enough = elements;
   speak = speak;
   told = sent_grant_is_told (element_count indicator duration resource) (candidate_values slot indicator duration resource) grant is elements speak;
@@ -144,27 +132,21 @@ grant_heard slot indicator duration resource grant low high is heard = record {
     elements : 4 ≤ element_count indicator duration resource
     elements = four_elements slot.identity indicator duration resource low high
 
-    all : AreHeard 8 (2 * 144) (coded_bit (grant_word grant)) (candidate_values slot indicator duration resource)
-    all = subst (λ n. AreHeard 8 (2 * n) (coded_bit (grant_word grant)) (candidate_values slot indicator duration resource))
+    all : AreHeard 1 (2 * 144) (coded_bit (grant_word grant)) (candidate_values slot indicator duration resource)
+    all = subst (λ n. AreHeard 1 (2 * n) (coded_bit (grant_word grant)) (candidate_values slot indicator duration resource))
         (length-candidate_places slot.identity (pdcch_groups slot.identity indicator duration resource) carry.enough carry.few carry.are)
-        (descrambled_bits_are_heard 8 (2 * length (grant_places slot indicator duration resource)) (pdcch_c_init slot.identity slot.number) (coded_bit (grant_word grant))
-        (soft_values_of slot (grant_places slot indicator duration resource)) heard)
+        (scrambled_places_are_heard (pdcch_c_init slot.identity slot.number) (λ p. slot) (grant_places slot indicator duration resource) (coded_bit (grant_word grant)) heard)
 
     speak : SpeakInOrder (grant_word grant) (candidate_values slot indicator duration resource)
     speak = record {
       enough = let size = (grant_parts grant).size in let count = all.size in omega (arith, size, count);
-      value = λ i l. supports-less 1 8 (coded_bit (grant_word grant) i) (get_or (candidate_values slot indicator duration resource) i (pos 0)) (omega arith)
-          (all.value i (let count = all.size in omega (arith, l, count)));
+      value = λ i l. all.value i (let count = all.size in omega (arith, l, count));
     }
 
-pub seen_grant_is_told : SeenGrantIsTold
-seen_grant_is_told gain slot indicator duration resource grant low high is pilots points =
-    grant_heard slot indicator duration resource grant low high is (seen_bits_are_heard gain slot (grant_places slot indicator duration resource) (grant_scrambled slot grant) pilots points)
-
-pub received_grant_is_told : ReceivedGrantIsTold
-received_grant_is_told recording starts grids slot indicator duration resource grant low high is received carry =
-    grant_heard slot indicator duration resource grant low high is
-    (carried_bits_are_heard recording starts grids slot (grant_places slot indicator duration resource) (grant_scrambled slot grant) received
+pub carried_grant_is_told : CarriedGrantIsTold
+carried_grant_is_told grids slot indicator duration resource grant low high is heard carry =
+    heard_grant_is_told slot indicator duration resource grant low high is
+    (carried_places_are_heard grids slot (grant_places slot indicator duration resource) (grant_scrambled slot grant) heard
     (λ k d l. (candidate_placed slot.identity indicator duration resource low high k d l).1) carry)
 
 -- ---- the attempt
@@ -196,18 +178,22 @@ spoken_grant_is_read values indicator grant speak = record {
     only : IsOnlyGrant (values.elements indicator) (values.candidate indicator) grant
     only = sent_grant_is_told (values.elements indicator) (values.candidate indicator) grant speak.is_grant speak.enough speak.of_control
 
-pub seen_grant_is_read : SeenGrantIsRead
-seen_grant_is_read gain first second indicator duration resource grant low high is pilots indicator_points grant_points =
-    let told = seen_indicator_is_told gain first indicator (omega (arith, low)) high pilots indicator_points in
-    let granted = seen_grant_is_told gain first indicator duration resource grant low high is pilots grant_points in
+-- so it is where the first slot tells both
+told_grant_is_read : (first second : SeenSlot) (indicator : ℕ) (duration : Duration) (resource : Resource) (grant : Grant) → 2 ≤ indicator → indicator ≤ 3 → IsGrant grant →
+    TellsIndicator first indicator → TellsGrant first indicator duration resource grant → IsReadWith (one_port first second duration resource) indicator grant
+told_grant_is_read first second indicator duration resource grant low high is told granted =
     spoken_grant_is_read (one_port first second duration resource) indicator grant
     (record { range = (omega (arith, low), high); is_grant = is; enough = granted.enough; of_indicator = told.speak; of_control = granted.speak })
 
-pub received_grant_is_read : ReceivedGrantIsRead
-received_grant_is_read recording starts grids first second indicator duration resource grant low high is received indicator_carried grant_carried =
-    let inside = candidate_placed first.identity indicator duration resource low high in
-    seen_grant_is_read received.gain first second indicator duration resource grant low high is (pilots_seen recording starts grids first received)
-    (places_seen recording starts grids first received (pcfich_places first.identity) (indicator_scrambled first indicator) (λ k d l. (pcfich_placed first.identity k d l).1)
+pub heard_grant_is_read : HeardGrantIsRead
+heard_grant_is_read first second indicator duration resource grant low high is indicator_heard grant_heard =
+    told_grant_is_read first second indicator duration resource grant low high is
+    (heard_indicator_is_told first indicator (omega (arith, low)) high indicator_heard) (heard_grant_is_told first indicator duration resource grant low high is grant_heard)
+
+pub carried_grant_is_read : CarriedGrantIsRead
+carried_grant_is_read grids first second indicator duration resource grant low high is heard indicator_carried grant_carried =
+    told_grant_is_read first second indicator duration resource grant low high is
+    (carried_indicator_is_told grids first indicator (omega (arith, low)) high heard
     (carried_in_slot grids (pcfich_places first.identity) (indicator_scrambled first indicator) (pcfich_placed first.identity) indicator_carried))
-    (places_seen recording starts grids first received (grant_places first indicator duration resource) (grant_scrambled first grant) (λ k d l. (inside k d l).1)
-    (carried_in_slot grids (grant_places first indicator duration resource) (grant_scrambled first grant) inside grant_carried))
+    (carried_grant_is_told grids first indicator duration resource grant low high is heard
+    (carried_in_slot grids (grant_places first indicator duration resource) (grant_scrambled first grant) (candidate_placed first.identity indicator duration resource low high) grant_carried))

@@ -14,6 +14,7 @@ use Rattle.clean_air.proofs.Carrying.{only_loaded}
 use Rattle.clean_air.proofs.Held.{sent_place, sent_mib, ShowsCells, number_fits, told_by_frames, shown_are_held}
 use Rattle.clean_air.proofs.Masters.{slot_speaks}
 use Rattle.clean_air.proofs.SentBlock.{is_block}
+use Rattle.clean_air.proofs.SoftValues.{received_slot_is_heard}
 use Rattle.clean_air.proofs.SentSlots.{slot_grid, slot_received, carries_word}
 use Rattle.clean_air.proofs.SentSystem.{fields_read}
 
@@ -24,12 +25,14 @@ shows_cells recording plan grids sfn offset gains eps long sendable clean =
     let gain = value_at gains 0 in
     let loaded = only_loaded recording plan grids sfn offset gains eps clean in
     let number = number_at_start sfn offset in
+    let slot = broadcast_slot recording plan.identity (start_after offset) 0 in
     let block = is_block Only plan number sendable.spare (number_fits sfn offset clean.number clean.within) in
     record {
       word = broadcast_word plan number;
       block = block;
-      speaks = slot_speaks recording (useful_start normal (frame_at (start_after offset) 0) 1) (slot_grid grid number 1) (broadcast_slot recording plan.identity (start_after offset) 0)
-          (number % 4) (broadcast_word plan number) (slot_received recording plan grid sfn offset gain eps loaded long) block.size (carries_word plan grid (clean.carries Only refl) number);
+      speaks = slot_speaks (slot_grid grid number 1) slot (number % 4) (broadcast_word plan number)
+          (received_slot_is_heard recording (useful_start normal (frame_at (start_after offset) 0) 1) (slot_grid grid number 1) slot (slot_received recording plan grid sfn offset gain eps loaded long))
+          block.size (carries_word plan grid (clean.carries Only refl) number);
       single = omega arith;
       taken = refl;
       system = told_by_frames OnePort (subframes_by OnePort placed_values) recording (sent_place plan.identity offset) number

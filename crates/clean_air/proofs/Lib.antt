@@ -8,7 +8,7 @@ pub mod SpokenWords
 pub mod Speaking
 -- Where the places of the channels stand.
 pub mod Placed
--- So do those of a subframe, each seen in its slot.
+-- So do those of a subframe, each heard in its slot.
 pub mod Subframes
 -- The control region tells the indicator and the grant that were sent, and the attempt has them.
 pub mod Controls

@@ -13,7 +13,6 @@ use Rattle.conv_code.proofs.Sums.{length-summed_by}
 use Rattle.cs_bits.proofs.Signs.{speaks_with_size}
 use Rattle.tailbite.specs.Clean.{Speaks}
 use Rattle.cs_num.specs.declared.Cpx.{Cpx}
-use Rattle.cs_num.specs.declared.Sample.{Sample}
 use Rattle.grid_map.specs.declared.Place.{Place}
 use Rattle.grid_map.specs.Place.{place}
 use Rattle.grid_map.specs.Broadcast.{pbch_places, pbch_place, is_pbch}
@@ -24,9 +23,9 @@ use Rattle.soft_bits.specs.Places.{descrambled}
 use Rattle.pbch.specs.Values.{received_values, summed_values, coded_values}
 use Rattle.pbch.specs.Master.{total}
 use Rattle.cell_tx.specs.Block.{scrambled_bit}
-use Rattle.clean_air.specs.Values.{IsSlotReceived}
+use Rattle.clean_air.specs.Values.{IsSlotHeard}
 use Rattle.clean_air.specs.Carried.{SpeakOfWord, sums_of, CarryWord}
-use Rattle.clean_air.specs.Broadcast.{TellsFreely, SpokenWordIsTold, SentWordIsTold, ReceivedSlotTells}
+use Rattle.clean_air.specs.Broadcast.{TellsFreely, SpokenWordIsTold, SentWordIsTold, HeardSlotTells}
 use Rattle.clean_air.proofs.Speaking.{heard_bits_speak, sums_speak_all, carried_bits_are_heard}
 use Rattle.clean_air.proofs.SpokenWords.{spoken_word_is_only}
 
@@ -61,7 +60,7 @@ sent_word_is_told c_init first ports word values size speaks passes width =
     spoken_word_is_told ports word (sums_of c_init first 40 values) size (length-summed_by (λ i. item_of 40 (first + i)) 40 (descrambled c_init first values))
     (subst (λ n. Speaks (sums_of c_init first n values) word) size (sums_speak_all c_init first word values (omega (arith, size)) (omega (arith, size)) speaks)) passes width
 
--- ---- in a recording
+-- ---- in a slot
 
 below_72 : (identity i : ℕ) → i < 240 → (pbch_place identity i).k < 72
 unfolding is_pbch
@@ -74,16 +73,16 @@ all_below_72 : (identity : ℕ) → All (λ p. p.k < 72) (pbch_places identity)
 unfolding pbch_place
 all_below_72 identity = All-from_get_or (λ (p : Place). p.k < 72) (pbch_places identity) (place 0 0) (λ i l. below_72 identity i (omega (arith, l, length-pbch_places identity)))
 
--- the values of a slot that is received, and whose broadcast channel carries a word in a frame of this phase, speak of it
-pub slot_speaks : (recording : List Sample) (starts : ℕ → ℕ) (grids : ℕ → ℕ → Cpx) (slot : SeenSlot) (phase : ℕ) (word : List Bool) → IsSlotReceived recording starts grids slot →
+-- the values of a slot that is heard, and whose broadcast channel carries a word in a frame of this phase, speak of it
+pub slot_speaks : (grids : ℕ → ℕ → Cpx) (slot : SeenSlot) (phase : ℕ) (word : List Bool) → IsSlotHeard grids slot →
     length word ≡ 40 → CarryWord grids (pbch_places slot.identity) (pbch_c_init slot.identity) (480 * phase) word → SpeakOfWord (pbch_c_init slot.identity) (480 * phase) word (received_values slot)
-slot_speaks recording starts grids slot phase word received size carry =
+slot_speaks grids slot phase word heard size carry =
     let places = length-pbch_places slot.identity in
-    heard_bits_speak 8 (2 * length (pbch_places slot.identity)) (pbch_c_init slot.identity) (480 * phase) word (received_values slot) (omega arith) (omega (arith, size, places))
-    (carried_bits_are_heard recording starts grids slot (pbch_places slot.identity) (λ n. scrambled_bit (pbch_c_init slot.identity) word (480 * phase + n)) received (all_below_72 slot.identity) carry)
+    heard_bits_speak 1 (2 * length (pbch_places slot.identity)) (pbch_c_init slot.identity) (480 * phase) word (received_values slot) (omega arith) (omega (arith, size, places))
+    (carried_bits_are_heard grids slot (pbch_places slot.identity) (λ n. scrambled_bit (pbch_c_init slot.identity) word (480 * phase + n)) heard (all_below_72 slot.identity) carry)
 
-pub received_slot_tells : ReceivedSlotTells
+pub heard_slot_tells : HeardSlotTells
 unfolding coded_values summed_values
-received_slot_tells recording starts grids slot phase ports word received size carry passes width =
+heard_slot_tells grids slot phase ports word heard size carry passes width =
     subst (λ values. TellsFreely (sums_of (pbch_c_init slot.identity) (480 * phase) 40 values) word ports) (sym (append-nil (received_values slot)))
-    (sent_word_is_told (pbch_c_init slot.identity) (480 * phase) ports word (received_values slot) size (slot_speaks recording starts grids slot phase word received size carry) passes width)
+    (sent_word_is_told (pbch_c_init slot.identity) (480 * phase) ports word (received_values slot) size (slot_speaks grids slot phase word heard size carry) passes width)

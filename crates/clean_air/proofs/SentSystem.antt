@@ -1,13 +1,10 @@
 -- The system information of a clean recording, whatever else its cell sends: each whole frame of even number answers with the plan's.
-use Rattle.std.proofs.Common.{◌≡◌, ℕ, ◌+◌, ◌-◌, ◌*◌, ◌%◌, ◌<◌, List, [], length, Ok, nat_lt, ℤ, refl, ap, sym, subst, ◌∙◌, arith}
-use Rattle.std.specs.Prelude.{if◌then◌else◌, slice_index_or}
+use Rattle.std.proofs.Common.{◌≡◌, ℕ, ◌+◌, ◌*◌, ◌%◌, ◌<◌, List, length, Ok, ℤ, refl, ap, sym, subst, ◌∙◌, arith}
 use Rattle.std.proofs.Math.Path.{fun_ext}
-use Rattle.std.proofs.lemmas.Bool.{lt-ltb, le-ltb}
 use Rattle.cs_num.specs.declared.Cpx.{Cpx}
 use Rattle.cs_num.specs.declared.Sample.{Sample}
 use Rattle.lte_types.specs.Numerology.{normal, useful_start}
 use Rattle.lte_types.specs.Timing.{start_of, number_at_start}
-use Rattle.observe.specs.Seen.{seen_symbol}
 use Rattle.soft_bits.specs.Soft.{SeenSlot}
 use Rattle.cs_bits.specs.Checks.{message_of}
 use Rattle.turbo_code.specs.declared.rows.Row.{Row}
@@ -33,73 +30,39 @@ use Rattle.cell_plan.proofs.BlockRows.{IsRowOf}
 use Rattle.cell_plan.proofs.WholeBlocks.{resolvable_at}
 use Rattle.cell_plan.proofs.SystemWords.{row_is, word_checked, word_size, word_says}
 use Rattle.cell_tx.proofs.Grants.{version-fits, grant_is}
-use Rattle.budget.specs.Received.{IsReceived, samples_from}
 use Rattle.explain.specs.Frame.{IsWhole, frame_at, seen_slot}
-use Rattle.clean_air.specs.Values.{IsSlotReceived}
-use Rattle.clean_air.specs.Subframe.{IsSubframeReceived, CarryInSubframe, shared_scrambled}
+use Rattle.clean_air.specs.Values.{IsSlotHeard}
+use Rattle.clean_air.specs.Subframe.{AreSlotsHeard, CarryInSubframe, shared_scrambled}
 use Rattle.clean_air.specs.Block.{matched_bit, IsSentBlock, TellsBlock}
 use Rattle.clean_air.specs.Indicator.{indicator_scrambled}
 use Rattle.clean_air.specs.Grant.{grant_places, grant_scrambled}
 use Rattle.clean_air.specs.Attempt.{IsReadWith}
-use Rattle.clean_air.proofs.Controls.{received_grant_is_read}
-use Rattle.clean_air.proofs.SharedBlocks.{received_block_is_told}
+use Rattle.clean_air.proofs.Controls.{carried_grant_is_read}
+use Rattle.clean_air.proofs.SharedBlocks.{carried_block_is_told}
+use Rattle.clean_air.proofs.SoftValues.{received_slot_is_heard}
 use Rattle.clean_air.proofs.SentSlots.{slot_grid, each_slot_received}
-
--- ---- two slots
-
--- where symbols 0 to 13 of two slots begin, by those of each
-abbrev both : (ℕ → ℕ) → (ℕ → ℕ) → ℕ → ℕ
-both first second l = if nat_lt l 7 then first l else second (l - 7)
-
-both_first : (first second : ℕ → ℕ) (l : ℕ) → l < 7 → first l ≡ both first second l
-both_first first second l low = rw (lt-ltb l 7 low) refl
-
-both_second : (first second : ℕ → ℕ) (l : ℕ) → second l ≡ both first second (7 + l)
-both_second first second l =
-    let e : 7 + l - 7 ≡ l = omega arith in
-    rw (le-ltb (7 + l) 7 (omega arith), e) refl
-
--- only the seven symbols of a slot count
-same_slot : (recording : List Sample) (starts others : ℕ → ℕ) (grids : ℕ → ℕ → Cpx) (slot : SeenSlot) → ((l : ℕ) → l < 7 → starts l ≡ others l) →
-    IsSlotReceived recording starts grids slot → IsSlotReceived recording others grids slot
-same_slot recording starts others grids slot same is = record {
-  eps = is.eps;
-  gain = is.gain;
-  seen = λ l inside. subst (λ n. slice_index_or slot.symbols l [] ≡ seen_symbol recording n) (same l inside) (is.seen l inside);
-  amplitudes = is.amplitudes;
-  received = λ l inside. subst (λ n. IsReceived is.eps is.gain (grids l) (samples_from recording n)) (same l inside) (is.received l inside);
-  references = is.references;
-}
-
--- ---- a frame of even number
 
 module _ (recording : List Sample) (plan : CellPlan) (grid : Elements) (sfn offset : ℕ) (gain : Cpx) (eps : ℕ) (sendable : IsSendable plan)
     (clean : IsLoaded recording plan grid sfn offset gain eps) (j : ℕ) (whole : IsWhole recording (start_of offset) j) where
   abbrev number : ℕ
   number = (number_at_start sfn offset + j) % 1024
 
-  -- the slot of subframe 5 with this number, 10 or 11, and where its symbols begin
+  -- the slot of subframe 5 with this number, 10 or 11
   abbrev slot : ℕ → SeenSlot
   slot s = seen_slot recording (frame_at (start_of offset) j) s plan.identity
 
-  abbrev starts : ℕ → ℕ → ℕ
-  starts s = useful_start normal (frame_at (start_of offset) j) s
+  -- they are heard
+  slot_heard : (s : ℕ) → s < 20 → IsSlotHeard (slot_grid grid number s) (slot s)
+  slot_heard s few =
+      received_slot_is_heard recording (useful_start normal (frame_at (start_of offset) j) s) (slot_grid grid number s) (slot s)
+      (each_slot_received recording plan grid sfn offset gain eps clean j s whole few)
 
-  -- they are received
-  first_received : IsSlotReceived recording (starts 10) (grid number 5) (slot 10)
-  first_received =
-      let same : slot_grid grid number 10 ≡ grid number 5 = fun_ext (λ l. ap (grid number 5) (omega arith)) in
-      subst (λ g. IsSlotReceived recording (starts 10) g (slot 10)) same (each_slot_received recording plan grid sfn offset gain eps clean j 10 whole (omega arith))
-
-  second_received : IsSlotReceived recording (starts 11) (λ l. grid number 5 (7 + l)) (slot 11)
-  second_received = each_slot_received recording plan grid sfn offset gain eps clean j 11 whole (omega arith)
-
-  both_received : IsSubframeReceived recording (both (starts 10) (starts 11)) (grid number 5) (slot 10) (slot 11)
-  both_received = record {
-    first_slot = same_slot recording (starts 10) (both (starts 10) (starts 11)) (grid number 5) (slot 10)
-        (λ l low. both_first (starts 10) (starts 11) l low) first_received;
-    second_slot = same_slot recording (starts 11) (λ l. both (starts 10) (starts 11) (7 + l)) (λ l. grid number 5 (7 + l)) (slot 11)
-        (λ l low. both_second (starts 10) (starts 11) l) second_received;
+  both_heard : AreSlotsHeard (grid number 5) (slot 10) (slot 11)
+  both_heard = record {
+    first_slot =
+        let same : slot_grid grid number 10 ≡ grid number 5 = fun_ext (λ l. ap (grid number 5) (omega arith)) in
+        subst (λ g. IsSlotHeard g (slot 10)) same (slot_heard 10 (omega arith));
+    second_slot = slot_heard 11 (omega arith);
   }
 
   module _ (even : number % 2 ≡ 0) where
@@ -145,8 +108,8 @@ module _ (recording : List Sample) (plan : CellPlan) (grid : Elements) (sfn offs
         TellsBlock row (version_of number) (shared_word plan) values
     unfolding seen_slot
     block_told row same of =
-        received_block_is_told recording (both (starts 10) (starts 11)) (grid number 5) (slot 10) (slot 11) plan.cfi plan.start plan.blocks row (version_of number) (shared_word plan)
-        (sent_block row same of) both_received (carries_matched row same of.size)
+        carried_block_is_told (grid number 5) (slot 10) (slot 11) plan.cfi plan.start plan.blocks row (version_of number) (shared_word plan)
+        (sent_block row same of) both_heard (carries_matched row same of.size)
 
     says_fields : BlockSays values (grant_of plan number) (Ok plan.sib1)
     says_fields =
@@ -160,8 +123,8 @@ module _ (recording : List Sample) (plan : CellPlan) (grid : Elements) (sfn offs
     -- so the frame is read with the plan's indicator and grant
     pub grant_read : IsReadWith (one_port (slot 10) (slot 11) plan.duration plan.resource) plan.cfi (grant_of plan number)
     grant_read =
-        received_grant_is_read recording (starts 10) (grid number 5) (slot 10) (slot 11) plan.cfi plan.duration plan.resource (grant_of plan number)
-        sendable.cfi.0 sendable.cfi.1 (grant_is plan sendable number) first_received carries_indicator carries_grant
+        carried_grant_is_read (grid number 5) (slot 10) (slot 11) plan.cfi plan.duration plan.resource (grant_of plan number)
+        sendable.cfi.0 sendable.cfi.1 (grant_is plan sendable number) both_heard.first_slot carries_indicator carries_grant
 
     -- and answers with its fields
     pub fields_read : Reads (one_port (slot 10) (slot 11) plan.duration plan.resource) (Ok plan.sib1)

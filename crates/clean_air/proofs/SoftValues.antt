@@ -17,7 +17,8 @@ use Rattle.observe.specs.Seen.{seen, seen_symbol}
 use Rattle.soft_bits.specs.Soft.{SeenSlot, seen_at, pilot_subcarrier, pattern_symbol, pattern_seen, pattern_sent, pattern_channel, pattern_energy, soft_value, soft_values}
 use Rattle.budget.specs.Received.{IsSeenAs}
 use Rattle.cs_bits.specs.Signs.{Supports}
-use Rattle.clean_air.specs.Values.{ArePatternSeen, ArePilotsSeen, SeenPairSupportsBits, IsPatternReceived, IsSlotReceived, ValuesSupportBits, ReceivedValuesSupportBits}
+use Rattle.cs_bits.proofs.Signs.{supports-less}
+use Rattle.clean_air.specs.Values.{SupportBoth, ArePatternSeen, ArePilotsSeen, SeenPairSupportsBits, IsPatternReceived, IsSlotReceived, ValuesSupportBits, ReceivedSlotIsHeard}
 use Rattle.budget.proofs.Deviations.{deviation, seen_is, deviation-sized}
 use Rattle.budget.proofs.Near.{IsNear}
 use Rattle.budget.proofs.Pilots.{IsPilot, pilot-square}
@@ -147,7 +148,10 @@ place_seen recording starts grids slot is symbol k few inside = pattern_place_se
 pub pilots_seen : (recording : List Sample) (starts : ℕ → ℕ) (grids : ℕ → ℕ → Cpx) (slot : SeenSlot) (slot_is : IsSlotReceived recording starts grids slot) → ArePilotsSeen slot_is.gain slot
 pilots_seen recording starts grids slot is = pattern_pilots_seen port_0 7 recording starts grids slot is (omega arith)
 
-pub received_values_support_bits : ReceivedValuesSupportBits
-received_values_support_bits recording starts grids slot symbol k first second is few inside same =
-    values_support_bits is.gain slot symbol k first second (pilots_seen recording starts grids slot is)
-    (subst (λ (z : Cpx). IsSeenAs is.gain z (seen_at slot symbol k)) same (place_seen recording starts grids slot is symbol k few inside))
+pub received_slot_is_heard : ReceivedSlotIsHeard
+received_slot_is_heard recording starts grids slot is symbol k first second few inside same =
+    record { re = supports-less 1 8 first _ (omega arith) both.re; im = supports-less 1 8 second _ (omega arith) both.im }
+  where
+    both : SupportBoth 8 first second (soft_values slot symbol k)
+    both = values_support_bits is.gain slot symbol k first second (pilots_seen recording starts grids slot is)
+        (subst (λ (z : Cpx). IsSeenAs is.gain z (seen_at slot symbol k)) same (place_seen recording starts grids slot is symbol k few inside))

@@ -4,7 +4,6 @@ use Rattle.std.proofs.Common.{◌≡◌, ℕ, ◌+◌, ◌*◌, ◌/◌, ◌%◌
 use Rattle.std.proofs.lemmas.Bool.{cases_lt}
 use Rattle.std.specs.Prelude.{All}
 use Rattle.cs_num.specs.declared.Cpx.{Cpx}
-use Rattle.cs_num.specs.declared.Sample.{Sample}
 use Rattle.gold.specs.Gold.{gold_bit}
 use Rattle.conv_code.specs.Code.{coded_word}
 use Rattle.conv_code.specs.Reading.{bit_of_item, item_of}
@@ -14,15 +13,14 @@ use Rattle.cs_bits.proofs.Signs.{supports-less}
 use Rattle.tailbite.specs.Clean.{Speaks}
 use Rattle.grid_map.specs.declared.Place.{Place}
 use Rattle.grid_map.specs.Place.{place}
-use Rattle.soft_bits.specs.Soft.{SeenSlot, seen_at}
+use Rattle.soft_bits.specs.Soft.{SeenSlot}
 use Rattle.soft_bits.specs.Places.{values_at, placed_values, descrambled, descrambled_value}
 use Rattle.soft_bits.proofs.Channel.{length-placed, placed-at, length-descrambled, descrambled-at}
-use Rattle.budget.specs.Received.{IsSeenAs}
+use Rattle.cell_tx.specs.Points.{scrambled}
 use Rattle.cell_tx.specs.Block.{scrambled_bit}
-use Rattle.clean_air.specs.Values.{SupportBoth, IsSlotReceived}
+use Rattle.clean_air.specs.Values.{SupportBoth, IsSlotHeard}
 use Rattle.clean_air.specs.Words.{SpeakInOrderFrom}
-use Rattle.clean_air.specs.Carried.{SpeakOfWord, AreHeard, sums_of, SentWordIsOnly, ArePlacesSeen, SeenBitsAreHeard, DescrambledBitsAreHeard, CarryBits, CarriedBitsAreHeard}
-use Rattle.clean_air.proofs.SoftValues.{values_support_bits, place_seen, pilots_seen}
+use Rattle.clean_air.specs.Carried.{SpeakOfWord, AreHeard, sums_of, SentWordIsOnly, ArePlacesHeardIn, ArePlacesHeard, ValuesOfPlacesAreHeard, DescrambledBitsAreHeard, CarryBits, CarriedBitsAreHeard}
 use Rattle.clean_air.proofs.SpokenWords.{descrambling_keeps, sums_speak_from, spoken_word_is_only}
 
 -- ---- values in the order of the reading
@@ -64,26 +62,19 @@ even_or_odd i = elim (cases_lt (i % 2) 1) [
 ]
 
 -- one of the two values of a place
-pub one_value : (values : List ℤ) (i : ℕ) (bits : ℕ → Bool) → SupportBoth 8 (bits (2 * (i / 2))) (bits (2 * (i / 2) + 1)) values → Supports 8 (bits i) (get_or values (i % 2) (pos 0))
-one_value values i bits both = elim (even_or_odd i) [
-  | inl (place, index) ↦ subst (λ (n : ℕ). Supports 8 (bits i) (get_or values n (pos 0))) (sym place) (subst (λ (n : ℕ). Supports 8 (bits n) (get_or values 0 (pos 0))) index both.re)
-  | inr (place, index) ↦ subst (λ (n : ℕ). Supports 8 (bits i) (get_or values n (pos 0))) (sym place) (subst (λ (n : ℕ). Supports 8 (bits n) (get_or values 1 (pos 0))) index both.im)
+pub one_value : {least : ℕ} (values : List ℤ) (i : ℕ) (bits : ℕ → Bool) → SupportBoth least (bits (2 * (i / 2))) (bits (2 * (i / 2) + 1)) values →
+    Supports least (bits i) (get_or values (i % 2) (pos 0))
+one_value {least} values i bits both = elim (even_or_odd i) [
+  | inl (place, index) ↦ subst (λ (n : ℕ). Supports least (bits i) (get_or values n (pos 0))) (sym place) (subst (λ (n : ℕ). Supports least (bits n) (get_or values 0 (pos 0))) index both.re)
+  | inr (place, index) ↦ subst (λ (n : ℕ). Supports least (bits i) (get_or values n (pos 0))) (sym place) (subst (λ (n : ℕ). Supports least (bits n) (get_or values 1 (pos 0))) index both.im)
 ]
 
--- where both values of each place speak, so do all
-pub placed_heard : (slot : Place → SeenSlot) (places : List Place) (bits : ℕ → Bool) →
-    ((i : ℕ) → i < length places → let p = get_or places i (place 0 0) in SupportBoth 8 (bits (2 * i)) (bits (2 * i + 1)) (values_at (slot p) p)) →
-    AreHeard 8 (2 * length places) bits (placed_values slot places)
-placed_heard slot places bits both = record {
+pub values_of_places_are_heard : ValuesOfPlacesAreHeard
+values_of_places_are_heard slot places bits heard = record {
   size = length-placed slot places;
   value = λ i l. let p = get_or places (i / 2) (place 0 0) in
-      subst (Supports 8 (bits i)) (sym (placed-at slot places i l)) (one_value (values_at (slot p) p) i bits (both (i / 2) (omega (arith, l))));
+      subst (Supports 1 (bits i)) (sym (placed-at slot places i l)) (one_value (values_at (slot p) p) i bits (heard (i / 2) (omega (arith, l))));
 }
-
-pub seen_bits_are_heard : SeenBitsAreHeard
-seen_bits_are_heard gain slot places bits pilots points =
-    placed_heard (λ p. slot) places bits
-    (λ i l. let p = get_or places i (place 0 0) in values_support_bits gain slot (p.symbol % 7) p.k (bits (2 * i)) (bits (2 * i + 1)) pilots (points i l))
 
 pub descrambled_bits_are_heard : DescrambledBitsAreHeard
 descrambled_bits_are_heard least count c_init bits values heard = record {
@@ -97,17 +88,19 @@ descrambled_bits_are_heard least count c_init bits values heard = record {
     from_start : (n : ℕ) → n ≡ 0 + n
     from_start n = omega arith
 
--- ---- in a recording
+-- those of places that are heard with scrambled bits speak for the bits before scrambling
+pub scrambled_places_are_heard : (c_init : ℕ) (slot : Place → SeenSlot) (places : List Place) (bits : ℕ → Bool) → ArePlacesHeardIn slot places (scrambled c_init bits) →
+    AreHeard 1 (2 * length places) bits (descrambled c_init 0 (placed_values slot places))
+scrambled_places_are_heard c_init slot places bits heard =
+    descrambled_bits_are_heard 1 (2 * length places) c_init bits (placed_values slot places) (values_of_places_are_heard slot places (scrambled c_init bits) heard)
 
-pub places_seen : (recording : List Sample) (starts : ℕ → ℕ) (grids : ℕ → ℕ → Cpx) (slot : SeenSlot) (received : IsSlotReceived recording starts grids slot) (places : List Place) (bits : ℕ → Bool) →
-    All (λ p. p.k < 72) places → CarryBits grids places bits → ArePlacesSeen received.gain slot places bits
-places_seen recording starts grids slot received places bits inside carry i l =
-    subst (λ (z : Cpx). IsSeenAs received.gain z (seen_at slot (p.symbol % 7) p.k)) (carry i l)
-    (place_seen recording starts grids slot received (p.symbol % 7) p.k (omega arith) (inside i (place 0 0) l))
-  where
-    p : Place
-    p = get_or places i (place 0 0)
+-- ---- places of a grid
+
+pub carried_places_are_heard : (grids : ℕ → ℕ → Cpx) (slot : SeenSlot) (places : List Place) (bits : ℕ → Bool) → IsSlotHeard grids slot → All (λ p. p.k < 72) places → CarryBits grids places bits →
+    ArePlacesHeard slot places bits
+carried_places_are_heard grids slot places bits heard inside carry i l =
+    let p = get_or places i (place 0 0) in
+    heard (p.symbol % 7) p.k (bits (2 * i)) (bits (2 * i + 1)) (omega arith) (inside i (place 0 0) l) (carry i l)
 
 pub carried_bits_are_heard : CarriedBitsAreHeard
-carried_bits_are_heard recording starts grids slot places bits received inside carry =
-    seen_bits_are_heard received.gain slot places bits (pilots_seen recording starts grids slot received) (places_seen recording starts grids slot received places bits inside carry)
+carried_bits_are_heard grids slot places bits heard inside carry = values_of_places_are_heard (λ p. slot) places bits (carried_places_are_heard grids slot places bits heard inside carry)

@@ -1,7 +1,6 @@
 -- The attempt to read SystemInformationBlockType1 on a subframe whose values speak for an indicator and a grant. (own)
-use Rattle.std.specs.Prelude.{◌≡◌, ℕ, ◌≤◌, List, Some, Result}
+use Rattle.std.specs.Prelude.{◌≡◌, ℕ, ◌≤◌, Some, Result}
 use Rattle.cs_num.specs.declared.Cpx.{Cpx}
-use Rattle.cs_num.specs.declared.Sample.{Sample}
 use Rattle.lte_types.specs.declared.sib1.Sib1.{Sib1}
 use Rattle.lte_types.specs.declared.sib1_reason.Sib1Reason.{Sib1Reason}
 use Rattle.lte_types.specs.declared.duration.Duration.{Duration}
@@ -15,9 +14,9 @@ use Rattle.system_block.specs.declared.reading.Attempt.{Attempt}
 use Rattle.system_block.specs.Subframe.{Subframe, one_port}
 use Rattle.system_block.specs.Block.{Tells}
 use Rattle.system_block.specs.Attempt.{IsAttempt, Reads}
-use Rattle.clean_air.specs.Values.{ArePilotsSeen, IsSlotReceived}
+use Rattle.clean_air.specs.Values.{IsSlotHeard}
 use Rattle.clean_air.specs.Words.{SpeakInOrder}
-use Rattle.clean_air.specs.Carried.{ArePlacesSeen}
+use Rattle.clean_air.specs.Carried.{ArePlacesHeard}
 use Rattle.clean_air.specs.Subframe.{CarryInSubframe}
 use Rattle.clean_air.specs.Indicator.{indicator_scrambled}
 use Rattle.clean_air.specs.Grant.{grant_word, grant_places, grant_scrambled}
@@ -48,22 +47,20 @@ abbrev pub SpokenGrantIsRead : Type 0
 SpokenGrantIsRead = (values : Subframe) (indicator : ℕ) (grant : Grant) → SpeakOfGrant values indicator grant →
     IsReadWith values indicator grant
 
--- a subframe is read with the indicator and the grant whose points are seen in its first slot, with the gain of the
--- pilots
-abbrev pub SeenGrantIsRead : Type 0
-SeenGrantIsRead =
-    (gain : Cpx) (first second : SeenSlot) (indicator : ℕ) (duration : Duration) (resource : Resource) (grant : Grant) →
-    2 ≤ indicator → indicator ≤ 3 → IsGrant grant → ArePilotsSeen gain first →
-    ArePlacesSeen gain first (pcfich_places first.identity) (indicator_scrambled first indicator) →
-    ArePlacesSeen gain first (grant_places first indicator duration resource) (grant_scrambled first grant) →
+-- a subframe is read with the indicator and the grant whose bits are heard in its first slot
+abbrev pub HeardGrantIsRead : Type 0
+HeardGrantIsRead =
+    (first second : SeenSlot) (indicator : ℕ) (duration : Duration) (resource : Resource) (grant : Grant) →
+    2 ≤ indicator → indicator ≤ 3 → IsGrant grant →
+    ArePlacesHeard first (pcfich_places first.identity) (indicator_scrambled first indicator) →
+    ArePlacesHeard first (grant_places first indicator duration resource) (grant_scrambled first grant) →
     IsReadWith (one_port first second duration resource) indicator grant
 
--- a subframe of a recording whose first slot is received is read with the indicator and the grant that it carries
-abbrev pub ReceivedGrantIsRead : Type 0
-ReceivedGrantIsRead =
-    (recording : List Sample) (starts : ℕ → ℕ) (grids : ℕ → ℕ → Cpx) (first second : SeenSlot) (indicator : ℕ)
-    (duration : Duration) (resource : Resource) (grant : Grant) →
-    2 ≤ indicator → indicator ≤ 3 → IsGrant grant → IsSlotReceived recording starts grids first →
+-- a subframe whose first slot is heard is read with the indicator and the grant that it carries
+abbrev pub CarriedGrantIsRead : Type 0
+CarriedGrantIsRead =
+    (grids : ℕ → ℕ → Cpx) (first second : SeenSlot) (indicator : ℕ) (duration : Duration) (resource : Resource)
+    (grant : Grant) → 2 ≤ indicator → indicator ≤ 3 → IsGrant grant → IsSlotHeard grids first →
     CarryInSubframe grids (pcfich_places first.identity) (indicator_scrambled first indicator) →
     CarryInSubframe grids (grant_places first indicator duration resource) (grant_scrambled first grant) →
     IsReadWith (one_port first second duration resource) indicator grant

@@ -2,7 +2,6 @@
 -- sections 5.1.3.2 and 5.1.4.1). (own)
 use Rattle.std.specs.Prelude.{◌≡◌, ℕ, ◌+◌, ◌*◌, ◌<◌, ◌≤◌, Bool, true, false, List, length, ℤ, Some}
 use Rattle.cs_num.specs.declared.Cpx.{Cpx}
-use Rattle.cs_num.specs.declared.Sample.{Sample}
 use Rattle.cs_bits.specs.Checks.{message_of, has_check_24}
 use Rattle.turbo_code.specs.declared.rows.Row.{Row}
 use Rattle.turbo_code.specs.Table.{IsRow}
@@ -15,7 +14,7 @@ use Rattle.pdsch.specs.Values.{shared_values}
 use Rattle.erasure.specs.Known.{resolvable, sent_of}
 use Rattle.clean_turbo.specs.Tells.{SumsSupport, SumsTell}
 use Rattle.clean_air.specs.Carried.{AreHeard}
-use Rattle.clean_air.specs.Subframe.{IsSubframeSeen, shared_scrambled, IsSubframeReceived, CarryInSubframe}
+use Rattle.clean_air.specs.Subframe.{IsSubframeHeard, shared_scrambled, AreSlotsHeard, CarryInSubframe}
 
 -- bit i of a coded word, as it is matched from a redundancy version on
 abbrev pub matched_bit : Row → ℕ → List Bool → ℕ → Bool
@@ -43,24 +42,21 @@ abbrev pub HeardBlockIsTold : Type 0
 HeardBlockIsTold = (row : Row) (rv count : ℕ) (word : List Bool) (values : List ℤ) → IsSentBlock row rv count word →
     AreHeard 1 count (matched_bit row rv word) values → TellsBlock row rv word values
 
--- the values of resource blocks tell a word where the pilots of both slots of the subframe are seen, those of each
--- with one gain, and the places of the blocks, with the gain of their slot, as the points of the scrambled bits
-abbrev pub SeenBlockIsTold : Type 0
-SeenBlockIsTold =
-    (gain later : Cpx) (first second : SeenSlot) (cfi start blocks : ℕ) (row : Row) (rv : ℕ) (word : List Bool) →
+-- the values of resource blocks of a subframe tell a word where the places of the blocks are heard with its scrambled
+-- bits
+abbrev pub HeardSubframeTells : Type 0
+HeardSubframeTells =
+    (first second : SeenSlot) (cfi start blocks : ℕ) (row : Row) (rv : ℕ) (word : List Bool) →
     let places = shared_places_of false first.identity cfi start blocks in
     IsSentBlock row rv (2 * length places) word →
-    IsSubframeSeen gain later first second places (shared_scrambled first (matched_bit row rv word)) →
+    IsSubframeHeard first second places (shared_scrambled first (matched_bit row rv word)) →
     TellsBlock row rv word (shared_values first second cfi start blocks)
 
--- the values of resource blocks of a recording tell a word where both slots are received, and the places of the
--- blocks carry its scrambled bits
-abbrev pub ReceivedBlockIsTold : Type 0
-ReceivedBlockIsTold =
-    (recording : List Sample) (starts : ℕ → ℕ) (grids : ℕ → ℕ → Cpx) (first second : SeenSlot) (cfi start blocks : ℕ)
-    (row : Row) (rv : ℕ) (word : List Bool) →
+-- they do where both slots are heard, and the places of the blocks carry the scrambled bits
+abbrev pub CarriedBlockIsTold : Type 0
+CarriedBlockIsTold =
+    (grids : ℕ → ℕ → Cpx) (first second : SeenSlot) (cfi start blocks : ℕ) (row : Row) (rv : ℕ) (word : List Bool) →
     let places = shared_places_of false first.identity cfi start blocks in
-    IsSentBlock row rv (2 * length places) word →
-    IsSubframeReceived recording starts grids first second →
+    IsSentBlock row rv (2 * length places) word → AreSlotsHeard grids first second →
     CarryInSubframe grids places (shared_scrambled first (matched_bit row rv word)) →
     TellsBlock row rv word (shared_values first second cfi start blocks)

@@ -2,7 +2,6 @@
 -- section 5.3.1)
 use Rattle.std.specs.Prelude.{◌≡◌, ℕ, ◌*◌, ◌≤◌, Bool, List, [], ◌∷◌, length, ℤ}
 use Rattle.cs_num.specs.declared.Cpx.{Cpx}
-use Rattle.cs_num.specs.declared.Sample.{Sample}
 use Rattle.cs_bits.specs.Numbers.{field}
 use Rattle.grid_map.specs.Broadcast.{pbch_places}
 use Rattle.grid_map.specs.Scrambling.{pbch_c_init}
@@ -11,7 +10,7 @@ use Rattle.conv_code.specs.Cost.{word_cost}
 use Rattle.tailbite.specs.Clean.{Speaks}
 use Rattle.pbch.specs.Values.{coded_values}
 use Rattle.pbch.specs.Master.{PassesWith, Tells}
-use Rattle.clean_air.specs.Values.{IsSlotReceived}
+use Rattle.clean_air.specs.Values.{IsSlotHeard}
 use Rattle.clean_air.specs.Carried.{SpeakOfWord, sums_of, CarryWord}
 
 -- sums tell a word with a number of antenna ports, and it costs nothing
@@ -34,12 +33,11 @@ SentWordIsTold =
     SpeakOfWord c_init first word values → PassesWith ports word → field word 0 3 ≤ 5 →
     TellsFreely (sums_of c_init first 40 values) word ports
 
--- a slot of a recording that is received, and whose broadcast channel carries a master block's word in a frame of
--- this phase, tells it alone
-abbrev pub ReceivedSlotTells : Type 0
-ReceivedSlotTells =
-    (recording : List Sample) (starts : ℕ → ℕ) (grids : ℕ → ℕ → Cpx) (slot : SeenSlot) (phase ports : ℕ)
-    (word : List Bool) → IsSlotReceived recording starts grids slot →
+-- a slot that is heard, and whose broadcast channel carries a master block's word in a frame of this phase, tells it
+-- alone
+abbrev pub HeardSlotTells : Type 0
+HeardSlotTells =
+    (grids : ℕ → ℕ → Cpx) (slot : SeenSlot) (phase ports : ℕ) (word : List Bool) → IsSlotHeard grids slot →
     length word ≡ 40 → CarryWord grids (pbch_places slot.identity) (pbch_c_init slot.identity) (480 * phase) word →
     PassesWith ports word → field word 0 3 ≤ 5 →
     TellsFreely (coded_values (slot ∷ []) phase) word ports

@@ -3,17 +3,15 @@
 -- the scrambling that of TS 36.211 section 7.2)
 use Rattle.std.specs.Prelude.{◌≡◌, ℕ, ◌+◌, ◌*◌, ◌%◌, ◌<◌, ◌≤◌, Bool, All, List, length, slice_index_or, ℤ, pos}
 use Rattle.cs_num.specs.declared.Cpx.{Cpx}
-use Rattle.cs_num.specs.declared.Sample.{Sample}
 use Rattle.cs_bits.specs.Signs.{Supports}
 use Rattle.grid_map.specs.declared.Place.{Place}
 use Rattle.grid_map.specs.Place.{place}
 use Rattle.conv_code.specs.Reading.{summed_from}
-use Rattle.soft_bits.specs.Soft.{SeenSlot, seen_at}
-use Rattle.soft_bits.specs.Places.{soft_values_of, descrambled}
-use Rattle.budget.specs.Received.{IsSeenAs}
+use Rattle.soft_bits.specs.Soft.{SeenSlot}
+use Rattle.soft_bits.specs.Places.{values_at, placed_values, soft_values_of, descrambled}
 use Rattle.cell_tx.specs.Points.{scrambled, point_of}
 use Rattle.cell_tx.specs.Block.{scrambled_bit}
-use Rattle.clean_air.specs.Values.{ArePilotsSeen, IsSlotReceived}
+use Rattle.clean_air.specs.Values.{SupportBoth, IsSlotHeard}
 use Rattle.clean_air.specs.Words.{IsOnlyWord}
 
 -- ---- words
@@ -43,24 +41,28 @@ pub record AreHeard (least count : ℕ) (bits : ℕ → Bool) (values : List ℤ
   pub size : length values ≡ count
   pub value : (i : ℕ) → i < count → Supports least (bits i) (slice_index_or values i (pos 0))
 
--- places of the subframe of a slot are seen with one gain, each as the point of two bits (QPSK, TS 36.211 section
--- 7.1.2)
-abbrev pub ArePlacesSeen : Cpx → SeenSlot → List Place → (ℕ → Bool) → Type 0
-ArePlacesSeen gain slot places bits = (i : ℕ) → i < length places →
-    let p = slice_index_or places i (place 0 0) in IsSeenAs gain (point_of bits i) (seen_at slot (p.symbol % 7) p.k)
+-- places are heard, each in the slot that a function says: its two soft values speak for two bits (QPSK, TS 36.211
+-- section 7.1.2)
+abbrev pub ArePlacesHeardIn : (Place → SeenSlot) → List Place → (ℕ → Bool) → Type 0
+ArePlacesHeardIn slot places bits = (i : ℕ) → i < length places →
+    let p = slice_index_or places i (place 0 0) in
+    SupportBoth 1 (bits (2 * i)) (bits (2 * i + 1)) (values_at (slot p) p)
 
--- where the pilots of a slot and some of its places are seen with one gain, the soft values of these places, two of
--- each, speak for the bits with size 8 and more
-abbrev pub SeenBitsAreHeard : Type 0
-SeenBitsAreHeard = (gain : Cpx) (slot : SeenSlot) (places : List Place) (bits : ℕ → Bool) → ArePilotsSeen gain slot →
-    ArePlacesSeen gain slot places bits → AreHeard 8 (2 * length places) bits (soft_values_of slot places)
+-- places of the subframe of one slot are heard
+abbrev pub ArePlacesHeard : SeenSlot → List Place → (ℕ → Bool) → Type 0
+ArePlacesHeard slot places bits = ArePlacesHeardIn (λ p. slot) places bits
+
+-- the soft values of places that are heard, two of each, speak for the bits
+abbrev pub ValuesOfPlacesAreHeard : Type 0
+ValuesOfPlacesAreHeard = (slot : Place → SeenSlot) (places : List Place) (bits : ℕ → Bool) →
+    ArePlacesHeardIn slot places bits → AreHeard 1 (2 * length places) bits (placed_values slot places)
 
 -- values that speak for scrambled bits speak, once they are descrambled, for the bits before scrambling
 abbrev pub DescrambledBitsAreHeard : Type 0
 DescrambledBitsAreHeard = (least count c_init : ℕ) (bits : ℕ → Bool) (values : List ℤ) →
     AreHeard least count (scrambled c_init bits) values → AreHeard least count bits (descrambled c_init 0 values)
 
--- ---- places of a recording
+-- ---- places of a grid
 
 -- places of the subframe of a slot carry bits, each two of them
 abbrev pub CarryBits : (ℕ → ℕ → Cpx) → List Place → (ℕ → Bool) → Type 0
@@ -71,9 +73,9 @@ CarryBits grids places bits = (i : ℕ) → i < length places →
 abbrev pub CarryWord : (ℕ → ℕ → Cpx) → List Place → ℕ → ℕ → List Bool → Type 0
 CarryWord grids places c_init first word = CarryBits grids places (λ n. scrambled_bit c_init word (first + n))
 
--- where a slot is received, the soft values of places that carry bits speak for them with size 8 and more
+-- where a slot is heard, the soft values of places that carry bits speak for them
 abbrev pub CarriedBitsAreHeard : Type 0
 CarriedBitsAreHeard =
-    (recording : List Sample) (starts : ℕ → ℕ) (grids : ℕ → ℕ → Cpx) (slot : SeenSlot) (places : List Place)
-    (bits : ℕ → Bool) → IsSlotReceived recording starts grids slot → All (λ p. p.k < 72) places →
-    CarryBits grids places bits → AreHeard 8 (2 * length places) bits (soft_values_of slot places)
+    (grids : ℕ → ℕ → Cpx) (slot : SeenSlot) (places : List Place) (bits : ℕ → Bool) → IsSlotHeard grids slot →
+    All (λ p. p.k < 72) places → CarryBits grids places bits →
+    AreHeard 1 (2 * length places) bits (soft_values_of slot places)

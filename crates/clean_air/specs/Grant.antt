@@ -2,7 +2,6 @@
 -- section 6.8, TS 36.212 sections 5.3.3.1.3 and 5.3.3.2). (own)
 use Rattle.std.specs.Prelude.{◌≡◌, ℕ, ◌≤◌, Bool, List, ℤ, Result, Ok}
 use Rattle.cs_num.specs.declared.Cpx.{Cpx}
-use Rattle.cs_num.specs.declared.Sample.{Sample}
 use Rattle.cs_bits.specs.Checks.{with_check_16, HasCheck16}
 use Rattle.lte_types.specs.declared.sib1_reason.Sib1Reason.{Sib1Reason}
 use Rattle.lte_types.specs.declared.duration.Duration.{Duration}
@@ -19,9 +18,9 @@ use Rattle.soft_bits.specs.Soft.{SeenSlot}
 use Rattle.pdcch.specs.Candidate.{candidate_values}
 use Rattle.system_block.specs.Control.{Grants}
 use Rattle.cell_tx.specs.Block.{scrambled_bit}
-use Rattle.clean_air.specs.Values.{ArePilotsSeen, IsSlotReceived}
+use Rattle.clean_air.specs.Values.{IsSlotHeard}
 use Rattle.clean_air.specs.Words.{SpeakInOrder, IsOnlyWord}
-use Rattle.clean_air.specs.Carried.{ArePlacesSeen, CarryBits}
+use Rattle.clean_air.specs.Carried.{ArePlacesHeard, CarryBits}
 
 -- the 37 bits that are sent for a grant: its 21 bits and their check, masked by the identifier of system information
 abbrev pub grant_word : Grant → List Bool
@@ -59,20 +58,19 @@ grant_places slot indicator duration resource =
 abbrev pub grant_scrambled : SeenSlot → Grant → ℕ → Bool
 grant_scrambled slot grant = scrambled_bit (pdcch_c_init slot.identity slot.number) (grant_word grant)
 
--- a slot tells a grant where its pilots, and the places of the first four elements with the grant's points, are seen
--- with one gain, and the indicator is 2 or 3
-abbrev pub SeenGrantIsTold : Type 0
-SeenGrantIsTold =
-    (gain : Cpx) (slot : SeenSlot) (indicator : ℕ) (duration : Duration) (resource : Resource) (grant : Grant) →
-    2 ≤ indicator → indicator ≤ 3 → IsGrant grant → ArePilotsSeen gain slot →
-    ArePlacesSeen gain slot (grant_places slot indicator duration resource) (grant_scrambled slot grant) →
+-- a slot tells a grant where the places of the first four elements are heard with the grant's bits, and the indicator
+-- is 2 or 3
+abbrev pub HeardGrantIsTold : Type 0
+HeardGrantIsTold =
+    (slot : SeenSlot) (indicator : ℕ) (duration : Duration) (resource : Resource) (grant : Grant) →
+    2 ≤ indicator → indicator ≤ 3 → IsGrant grant →
+    ArePlacesHeard slot (grant_places slot indicator duration resource) (grant_scrambled slot grant) →
     TellsGrant slot indicator duration resource grant
 
--- a slot of a recording tells a grant where it is received and its control channel carries the grant
-abbrev pub ReceivedGrantIsTold : Type 0
-ReceivedGrantIsTold =
-    (recording : List Sample) (starts : ℕ → ℕ) (grids : ℕ → ℕ → Cpx) (slot : SeenSlot) (indicator : ℕ)
-    (duration : Duration) (resource : Resource) (grant : Grant) →
-    2 ≤ indicator → indicator ≤ 3 → IsGrant grant → IsSlotReceived recording starts grids slot →
+-- a slot tells a grant where it is heard and its control channel carries the grant
+abbrev pub CarriedGrantIsTold : Type 0
+CarriedGrantIsTold =
+    (grids : ℕ → ℕ → Cpx) (slot : SeenSlot) (indicator : ℕ) (duration : Duration) (resource : Resource)
+    (grant : Grant) → 2 ≤ indicator → indicator ≤ 3 → IsGrant grant → IsSlotHeard grids slot →
     CarryBits grids (grant_places slot indicator duration resource) (grant_scrambled slot grant) →
     TellsGrant slot indicator duration resource grant

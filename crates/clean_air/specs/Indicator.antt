@@ -1,15 +1,14 @@
 -- A control format indicator that was sent is told by its values (PCFICH, TS 36.211 section 6.7). (own)
 use Rattle.std.specs.Prelude.{◌≡◌, ℕ, ◌≤◌, Bool, List, ℤ}
 use Rattle.cs_num.specs.declared.Cpx.{Cpx}
-use Rattle.cs_num.specs.declared.Sample.{Sample}
 use Rattle.grid_map.specs.Control.{pcfich_places}
 use Rattle.grid_map.specs.Scrambling.{pcfich_c_init, indicator_bit}
 use Rattle.soft_bits.specs.Soft.{SeenSlot}
 use Rattle.pcfich.specs.Indicator.{IsIndicator, Speak}
 use Rattle.pcfich.specs.Values.{indicator_values}
 use Rattle.cell_tx.specs.Points.{scrambled}
-use Rattle.clean_air.specs.Values.{ArePilotsSeen, IsSlotReceived}
-use Rattle.clean_air.specs.Carried.{ArePlacesSeen, CarryBits}
+use Rattle.clean_air.specs.Values.{IsSlotHeard}
+use Rattle.clean_air.specs.Carried.{ArePlacesHeard, CarryBits}
 
 -- values tell an indicator and no other number
 pub record IsOnlyIndicator (values : List ℤ) (indicator : ℕ) : Type 0 where
@@ -30,17 +29,15 @@ pub record TellsIndicator (slot : SeenSlot) (indicator : ℕ) : Type 0 where
 abbrev pub indicator_scrambled : SeenSlot → ℕ → ℕ → Bool
 indicator_scrambled slot indicator = scrambled (pcfich_c_init slot.identity slot.number) (indicator_bit indicator)
 
--- a slot tells an indicator where its pilots, and the sixteen places of the channel with the indicator's points, are
--- seen with one gain
-abbrev pub SeenIndicatorIsTold : Type 0
-SeenIndicatorIsTold = (gain : Cpx) (slot : SeenSlot) (indicator : ℕ) → 1 ≤ indicator → indicator ≤ 3 →
-    ArePilotsSeen gain slot →
-    ArePlacesSeen gain slot (pcfich_places slot.identity) (indicator_scrambled slot indicator) →
+-- a slot tells an indicator where the sixteen places of the channel are heard with the indicator's bits
+abbrev pub HeardIndicatorIsTold : Type 0
+HeardIndicatorIsTold = (slot : SeenSlot) (indicator : ℕ) → 1 ≤ indicator → indicator ≤ 3 →
+    ArePlacesHeard slot (pcfich_places slot.identity) (indicator_scrambled slot indicator) →
     TellsIndicator slot indicator
 
--- a slot of a recording tells an indicator where it is received and its channel carries the indicator
-abbrev pub ReceivedIndicatorIsTold : Type 0
-ReceivedIndicatorIsTold =
-    (recording : List Sample) (starts : ℕ → ℕ) (grids : ℕ → ℕ → Cpx) (slot : SeenSlot) (indicator : ℕ) →
-    1 ≤ indicator → indicator ≤ 3 → IsSlotReceived recording starts grids slot →
+-- a slot tells an indicator where it is heard and its channel carries the indicator
+abbrev pub CarriedIndicatorIsTold : Type 0
+CarriedIndicatorIsTold =
+    (grids : ℕ → ℕ → Cpx) (slot : SeenSlot) (indicator : ℕ) → 1 ≤ indicator → indicator ≤ 3 →
+    IsSlotHeard grids slot →
     CarryBits grids (pcfich_places slot.identity) (indicator_scrambled slot indicator) → TellsIndicator slot indicator

@@ -62,8 +62,12 @@ pub record IsPatternReceived (pattern : Pattern) (count : ℕ) (recording : List
 abbrev pub IsSlotReceived : List Sample → (ℕ → ℕ) → (ℕ → ℕ → Cpx) → SeenSlot → Type 0
 IsSlotReceived recording starts grids slot = IsPatternReceived port_0 7 recording starts grids slot
 
-abbrev pub ReceivedValuesSupportBits : Type 0
-ReceivedValuesSupportBits =
-    (recording : List Sample) (starts : ℕ → ℕ) (grids : ℕ → ℕ → Cpx) (slot : SeenSlot) (symbol k : ℕ)
-    (first second : Bool) → IsSlotReceived recording starts grids slot →
-    symbol < 7 → k < 72 → grids symbol k ≡ point first second → SupportBoth 8 first second (soft_values slot symbol k)
+-- the soft values of a slot speak for what a grid says: at each place that carries two bits, for these
+abbrev pub IsSlotHeard : (ℕ → ℕ → Cpx) → SeenSlot → Type 0
+IsSlotHeard grids slot = (symbol k : ℕ) (first second : Bool) → symbol < 7 → k < 72 →
+    grids symbol k ≡ point first second → SupportBoth 1 first second (soft_values slot symbol k)
+
+-- so do those of a slot that is received
+abbrev pub ReceivedSlotIsHeard : Type 0
+ReceivedSlotIsHeard = (recording : List Sample) (starts : ℕ → ℕ) (grids : ℕ → ℕ → Cpx) (slot : SeenSlot) →
+    IsSlotReceived recording starts grids slot → IsSlotHeard grids slot

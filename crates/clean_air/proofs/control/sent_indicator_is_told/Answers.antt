@@ -1,11 +1,11 @@
-use Rattle.clean_air.proofs.Controls.{sent_indicator_is_told, seen_indicator_is_told, received_indicator_is_told}
+use Rattle.clean_air.proofs.Controls.{sent_indicator_is_told, heard_indicator_is_told, carried_indicator_is_told}
 use Rattle.clean_air.proofs.control.sent_indicator_is_told.Goals as goal
 
 pub returns-clause-told : goal.returns-clause-told
 returns-clause-told c = sent_indicator_is_told
 
-pub returns-clause-seen : goal.returns-clause-seen
-returns-clause-seen c = seen_indicator_is_told
+pub returns-clause-heard : goal.returns-clause-heard
+returns-clause-heard c = heard_indicator_is_told
 
-pub returns-clause-recording : goal.returns-clause-recording
-returns-clause-recording c = received_indicator_is_told
+pub returns-clause-carried : goal.returns-clause-carried
+returns-clause-carried c = carried_indicator_is_told
