@@ -18,7 +18,7 @@ use Rattle.sizes.proofs.Rounding.{rounded_near}
 use Rattle.fold128.specs.Symbol.{frequency, useful_term, useful_at}
 use Rattle.fold128.specs.Spectrum.{spectrum_at}
 use Rattle.fold128.proofs.EntrySizes.{w-square}
-use Rattle.budget.specs.Received.{AreAmplitudes}
+use Rattle.budget.specs.Received.{AreAmplitudes, in_parts, off_by}
 use Rattle.budget.specs.Budget.{SendingHasTwoCauses, LeakageIsSmall, RoundingSentIsSmall, SendingIsSmall, SendingIsLinear, DeviationHasThreeCauses, DeviationHasFourCauses}
 use Rattle.budget.specs.Budget.{leakage, rounding_sent, sending_off, with_gains}
 use Rattle.budget.proofs.Leakage.{sum_sent, tone_at, leak, seen_sent, leak-small}
@@ -31,15 +31,12 @@ energy-le n bound f h = total_below-within n bound (λ k. square (f k)) h
 tone-energy : (k : ℕ) → energy_below 128 (tone_at k) ≤ 128 * 268468225
 tone-energy k = energy-le 128 268468225 (tone_at k) (λ n l. w-square (frequency k * n))
 
--- by Cauchy: samples of components of at most this size, seen at a subcarrier
-seen-small : (f : ℕ → Cpx) (k m : ℕ) → ((n : ℕ) → n < 128 → IsWithin m (f n)) → square (correlation_below 128 f (tone_at k)) ≤ (256 * (m * m)) * (128 * 268468225)
-seen-small f k m h = chain (square (correlation_below 128 f (tone_at k))) (energy_below 128 f) (energy_below 128 (tone_at k)) (m * m)
-    (cauchy 128 f (tone_at k)) (energy-le 128 (2 * (m * m)) f (λ n l. square-within (f n) m (h n l))) (tone-energy k)
+-- by Cauchy: samples of this energy, seen at a subcarrier
+seen-small : (f : ℕ → Cpx) (k e : ℕ) → energy_below 128 f ≤ e → square (correlation_below 128 f (tone_at k)) ≤ e * (128 * 268468225)
+seen-small f k e h = chain (square (correlation_below 128 f (tone_at k))) (energy_below 128 f) (energy_below 128 (tone_at k)) (cauchy 128 f (tone_at k)) h (tone-energy k)
   where
-    chain : (s a b c : ℕ) → s ≤ a * b → a ≤ 128 * (2 * c) → b ≤ 128 * 268468225 → s ≤ (256 * c) * (128 * 268468225)
-    chain s a b c p q r =
-        let t : a * b ≤ (128 * (2 * c)) * (128 * 268468225) = mul-le-mul q r in
-        omega (arith, p, t)
+    chain : (s a b : ℕ) → s ≤ a * b → a ≤ e → b ≤ 128 * 268468225 → s ≤ e * (128 * 268468225)
+    chain s a b p q r = let t : a * b ≤ e * (128 * 268468225) = mul-le-mul q r in omega (arith, p, t)
 
 -- ---- what sending is off by
 
@@ -50,6 +47,11 @@ rounding_off grid n = minus (multiple 131072 (useful_at grid n)) (sum_sent grid 
 rounding-off_small : (grid : ℕ → Cpx) (n : ℕ) → IsWithin 65536 (rounding_off grid n)
 unfolding rounding_off useful_at sum_sent
 rounding-off_small grid n = rounded_near (complex_sum_below 72 (useful_term grid n)) 17 65536 (omega arith) refl refl
+
+rounding-seen_small : (grid : ℕ → Cpx) (k : ℕ) → square (correlation_below 128 (rounding_off grid) (tone_at k)) ≤ (128 * (2 * (65536 * 65536))) * (128 * 268468225)
+rounding-seen_small grid k =
+    seen-small (rounding_off grid) k (128 * (2 * (65536 * 65536)))
+    (energy-le 128 (2 * (65536 * 65536)) (rounding_off grid) (λ n l. square-within (rounding_off grid n) 65536 (rounding-off_small grid n)))
 
 -- 2^17 times what is seen of a useful part, less 2^35 times the amplitude
 sending : (ℕ → Cpx) → ℕ → Cpx
@@ -86,9 +88,9 @@ leakage_is_small grid k small l =
 
 pub rounding_sent_is_small : RoundingSentIsSmall
 unfolding spectrum_at rounding_off sum_sent
-rounding_sent_is_small grid k = fits (square (rounding_sent grid k)) (seen-small (rounding_off grid) k 65536 (λ n p. rounding-off_small grid n))
+rounding_sent_is_small grid k = fits (square (rounding_sent grid k)) (rounding-seen_small grid k)
   where
-    fits : (s : ℕ) → s ≤ (256 * (65536 * 65536)) * (128 * 268468225) → 100 * s ≤ (907 * 2 ^ 31) * (907 * 2 ^ 31)
+    fits : (s : ℕ) → s ≤ (128 * (2 * (65536 * 65536))) * (128 * 268468225) → 100 * s ≤ (907 * 2 ^ 31) * (907 * 2 ^ 31)
     fits s h = omega (arith, h)
 
 -- together 97 units of 2^31
@@ -97,11 +99,11 @@ unfolding sending spectrum_at
 sending_is_small grid k small l =
     let r : Cpx = correlation_below 128 (rounding_off grid) (tone_at k) in
     let a : IsSized 13094092800 1 (leak grid k) = leak-small grid k small in
-    let b : IsSized 194584248320 1 r = sized_plain r 194584248320 (fits (square r) (seen-small (rounding_off grid) k 65536 (λ n p. rounding-off_small grid n))) in
+    let b : IsSized 194584248320 1 r = sized_plain r 194584248320 (fits (square r) (rounding-seen_small grid k)) in
     subst (λ (z : Cpx). square z ≤ (97 * 2 ^ 31) * (97 * 2 ^ 31)) (sym (sending_is grid k l))
     (plain (square (plus (leak grid k) r)) (sized-plus (leak grid k) r 13094092800 194584248320 1 a b).sized)
   where
-    fits : (s : ℕ) → s ≤ (256 * (65536 * 65536)) * (128 * 268468225) → s ≤ 194584248320 * 194584248320
+    fits : (s : ℕ) → s ≤ (128 * (2 * (65536 * 65536))) * (128 * 268468225) → s ≤ 194584248320 * 194584248320
     fits s h = omega (arith, h)
 
     plain : (s : ℕ) → s ≤ (13094092800 + 194584248320) * (13094092800 + 194584248320) * 1 → s ≤ (97 * 2 ^ 31) * (97 * 2 ^ 31)
@@ -109,53 +111,67 @@ sending_is_small grid k small l =
 
 -- ---- the whole
 
--- the plain sum of the samples, by its parts
-sum_is : (sent samples : ℕ → Cpx) (k : ℕ) →
-    correlation_below 128 samples (tone_at k) ≡ plus (correlation_below 128 sent (tone_at k)) (correlation_below 128 (λ n. minus (samples n) (sent n)) (tone_at k))
-sum_is sent samples k =
-    correlation_same 128 samples (λ n. plus (sent n) (minus (samples n) (sent n))) (tone_at k) (tone_at k) (λ n p. sym (plus-minus (samples n) (sent n))) (λ n p. refl)
-    ∙ correlation_plus 128 sent (λ n. minus (samples n) (sent n)) (tone_at k)
+-- the sum of what the samples are off by is that of the samples in parts, less that of what was sent
+off_is : (sent samples : ℕ → Cpx) (k : ℕ) →
+    correlation_below 128 (off_by samples sent) (tone_at k) ≡ minus (in_parts (correlation_below 128 samples (tone_at k))) (correlation_below 128 sent (tone_at k))
+off_is sent samples k =
+    let x : Cpx = correlation_below 128 sent (tone_at k) in
+    let e : Cpx = correlation_below 128 (off_by samples sent) (tone_at k) in
+    sym (ap (λ (z : Cpx). minus z x) whole ∙ minus-plus x e)
+  where
+    whole : in_parts (correlation_below 128 samples (tone_at k)) ≡ plus (correlation_below 128 sent (tone_at k)) (correlation_below 128 (off_by samples sent) (tone_at k))
+    whole =
+        sym (correlation_multiple 128 16384 samples (tone_at k))
+        ∙ correlation_same 128 (λ n. in_parts (samples n)) (λ n. plus (sent n) (off_by samples sent n)) (tone_at k) (tone_at k)
+        (λ n p. sym (plus-minus (in_parts (samples n)) (sent n))) (λ n p. refl)
+        ∙ correlation_plus 128 sent (off_by samples sent) (tone_at k)
 
-whole_part : (s p x e : ℤ) →
-    pos 536870912 *ℤ (s -ℤ pos 64 *ℤ p) ≡ pos 131072 *ℤ x -ℤ pos 34359738368 *ℤ p +ℤ (pos 131072 *ℤ e +ℤ pos 131072 *ℤ (pos 4096 *ℤ s -ℤ (x +ℤ e)))
-whole_part s p x e =
+-- of what is seen, the amplitude, the sum of what was sent, and that of the samples
+whole_part : (s p x y : ℤ) →
+    pos 536870912 *ℤ (pos 16384 *ℤ s -ℤ pos 64 *ℤ p)
+    ≡ pos 131072 *ℤ x -ℤ pos 34359738368 *ℤ p +ℤ (pos 131072 *ℤ (pos 16384 *ℤ y -ℤ x) +ℤ pos 2147483648 *ℤ (pos 4096 *ℤ s -ℤ y))
+whole_part s p x y =
     let a = var s in
     let b = var p in
     let c = var x in
-    let d = var e in
-    same (ring.times (lit 536870912) (ring.minus a (ring.times (lit 64) b)))
+    let d = var y in
+    same (ring.times (lit 536870912) (ring.minus (ring.times (lit 16384) a) (ring.times (lit 64) b)))
     (ring.plus (ring.minus (ring.times (lit 131072) c) (ring.times (lit 34359738368) b))
-    (ring.plus (ring.times (lit 131072) d) (ring.times (lit 131072) (ring.minus (ring.times (lit 4096) a) (ring.plus c d))))) (omega arith)
+    (ring.plus (ring.times (lit 131072) (ring.minus (ring.times (lit 16384) d) c)) (ring.times (lit 2147483648) (ring.minus (ring.times (lit 4096) a) d)))) (omega arith)
 
-whole_is : (s p x e : Cpx) →
-    multiple 536870912 (minus s (multiple 64 p))
-    ≡ plus (minus (multiple 131072 x) (multiple 34359738368 p)) (plus (multiple 131072 e) (multiple 131072 (minus (multiple 4096 s) (plus x e))))
-whole_is s p x e = pair (whole_part s.re p.re x.re e.re) (whole_part s.im p.im x.im e.im)
+whole_is : (s p x y : Cpx) →
+    multiple 536870912 (minus (in_parts s) (multiple 64 p))
+    ≡ plus (minus (multiple 131072 x) (multiple 34359738368 p)) (plus (multiple 131072 (minus (in_parts y) x)) (multiple 2147483648 (minus (multiple 4096 s) y)))
+whole_is s p x y = pair (whole_part s.re p.re x.re y.re) (whole_part s.im p.im x.im y.im)
 
 multiple-small : (m b : ℕ) (z : Cpx) → square z ≤ b → square (multiple m z) ≤ m * m * b
 multiple-small m b z h = rw (square-multiple m z) (mul-le-mul_left (m * m) h)
 
 pub three_causes : DeviationHasThreeCauses
 unfolding spectrum_at
-three_causes eps sent samples amplitude k near =
-    let s : Cpx = correlation_below 128 samples (tone_at k) in
+three_causes sent samples amplitude k =
+    let y : Cpx = correlation_below 128 samples (tone_at k) in
     let x : Cpx = correlation_below 128 sent (tone_at k) in
-    let e : Cpx = correlation_below 128 (λ n. minus (samples n) (sent n)) (tone_at k) in
+    let e : Cpx = correlation_below 128 (off_by samples sent) (tone_at k) in
+    let r : Cpx = minus (multiple 4096 (rounded y 12)) y in
     record {
       errors = multiple 131072 e;
-      rounding = multiple 131072 (minus (multiple 4096 (rounded s 12)) s);
+      rounding = multiple 2147483648 r;
       whole =
-          whole_is (rounded s 12) amplitude x e
-          ∙ ap (λ (z : Cpx). plus (minus (multiple 131072 x) (multiple 34359738368 amplitude)) (plus (multiple 131072 e) (multiple 131072 (minus (multiple 4096 (rounded s 12)) z))))
-          (sym (sum_is sent samples k));
+          whole_is (rounded y 12) amplitude x y
+          ∙ ap (λ (z : Cpx). plus (minus (multiple 131072 x) (multiple 34359738368 amplitude)) (plus (multiple 131072 z) (multiple 2147483648 r))) (sym (off_is sent samples k));
       errors_is = refl;
       rounding_is = refl;
-      errors_small = scaled eps (square (multiple 131072 e)) (multiple-small 131072 ((256 * (eps * eps)) * (128 * 268468225)) e (seen-small (λ n. minus (samples n) (sent n)) k eps near));
-      rounding_small = multiple-small 131072 8388608 (minus (multiple 4096 (rounded s 12)) s) (square-within (minus (multiple 4096 (rounded s 12)) s) 2048 (rounded_near s 12 2048 (omega arith) refl refl));
+      errors_small = scaled (energy_below 128 (off_by samples sent)) (square (multiple 131072 e))
+          (multiple-small 131072 (energy_below 128 (off_by samples sent) * (128 * 268468225)) e (seen-small (off_by samples sent) k (energy_below 128 (off_by samples sent)) (itself _)));
+      rounding_small = multiple-small 2147483648 8388608 r (square-within r 2048 (rounded_near y 12 2048 (omega arith) refl refl));
     }
   where
-    scaled : (eps s : ℕ) → s ≤ 131072 * 131072 * ((256 * (eps * eps)) * (128 * 268468225)) → s ≤ 2 ^ 49 * (eps * eps) * (16385 * 16385)
-    scaled eps s h = omega (arith, h)
+    itself : (n : ℕ) → n ≤ n
+    itself n = omega arith
+
+    scaled : (e s : ℕ) → s ≤ 131072 * 131072 * (e * (128 * 268468225)) → s ≤ 2 ^ 41 * e * (16385 * 16385)
+    scaled e s h = omega (arith, h)
 
 -- ---- what several ports send together
 
@@ -203,8 +219,8 @@ both_off g h grid second k l =
     ∙ plus-exchanges (times g (leakage grid k)) (times g (rounding_sent grid k)) (times h (leakage second k)) (times h (rounding_sent second k))
 
 pub four_causes : DeviationHasFourCauses
-four_causes eps gain other grid second samples k l sum =
-    let t = three_causes eps (λ n. with_gains gain other (useful_at grid n) (useful_at second n)) samples (with_gains gain other (grid k) (second k)) k sum in
+four_causes gain other grid second samples k l =
+    let t = three_causes (λ n. with_gains gain other (useful_at grid n) (useful_at second n)) samples (with_gains gain other (grid k) (second k)) k in
     record {
       errors = t.errors;
       rounding = t.rounding;

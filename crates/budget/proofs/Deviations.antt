@@ -1,30 +1,31 @@
--- What is seen, as its main part and a deviation in units of the gain.
-use Rattle.std.proofs.Common.{◌≡◌, ◌*◌, ap, sym, ◌∙◌, pos}
+-- What is seen, in parts, as its main part and a deviation in units of the gain.
+use Rattle.std.proofs.Common.{◌≡◌, ℕ, ◌*◌, ap, sym, ◌∙◌, pos}
 use Rattle.cs_num.specs.declared.Cpx.{Cpx}
 use Rattle.cs_num.specs.Complex.{plus, times, conjugate, square, minus, multiple}
 use Rattle.cs_num.proofs.Complex.{times-plus_left}
 use Rattle.sizes.specs.Sizes.{IsSized}
 use Rattle.sizes.proofs.Algebra.{plus-minus, times-associates, times-multiple, multiple-times, times_real, multiple_twice}
 use Rattle.sizes.proofs.Squares.{times_conjugate}
-use Rattle.budget.specs.Received.{IsSeenAs}
+use Rattle.budget.specs.Received.{in_parts, IsSeenAs}
 
 unfoldable pub deviation : Cpx → Cpx → Cpx → Cpx
-deviation gain amplitude seen = minus seen (multiple 64 (times gain amplitude))
+deviation gain amplitude seen = minus (in_parts seen) (multiple 64 (times gain amplitude))
 
-pub seen_is : (gain amplitude seen : Cpx) → seen ≡ plus (times gain (multiple 64 amplitude)) (deviation gain amplitude seen)
+pub seen_is : (gain amplitude seen : Cpx) → in_parts seen ≡ plus (times gain (multiple 64 amplitude)) (deviation gain amplitude seen)
 unfolding deviation
 seen_is gain amplitude seen =
-    sym (plus-minus seen (multiple 64 (times gain amplitude)))
-    ∙ ap (λ (z : Cpx). plus z (minus seen (multiple 64 (times gain amplitude)))) (sym (times-multiple 64 gain amplitude))
+    sym (plus-minus (in_parts seen) (multiple 64 (times gain amplitude)))
+    ∙ ap (λ (z : Cpx). plus z (minus (in_parts seen) (multiple 64 (times gain amplitude)))) (sym (times-multiple 64 gain amplitude))
 
-pub deviation-sized : (gain amplitude seen : Cpx) → IsSeenAs gain amplitude seen → IsSized 1920 (square gain) (deviation gain amplitude seen)
+pub deviation-sized : (most : ℕ) (gain amplitude seen : Cpx) → IsSeenAs most gain amplitude seen → IsSized most (square gain) (deviation gain amplitude seen)
 unfolding deviation
-deviation-sized gain amplitude seen is = record { sized = is.off }
+deviation-sized most gain amplitude seen is = record { sized = is.off }
 
--- what is seen of a known amplitude d, turned back by it, is 64 |d|^2 times the gain up to a deviation
-pub channel_is : (g d p : Cpx) → times p (conjugate d) ≡ plus (multiple (64 * square d) g) (times (deviation g d p) (conjugate d))
+-- what is seen of a known amplitude d, turned back by it, is in parts 64 |d|^2 times the gain up to a deviation
+pub channel_is : (g d p : Cpx) → in_parts (times p (conjugate d)) ≡ plus (multiple (64 * square d) g) (times (deviation g d p) (conjugate d))
 channel_is g d p =
-    ap (λ (z : Cpx). times z (conjugate d)) (seen_is g d p) ∙ times-plus_left (times g (multiple 64 d)) (deviation g d p) (conjugate d)
+    sym (multiple-times 16384 p (conjugate d))
+    ∙ ap (λ (z : Cpx). times z (conjugate d)) (seen_is g d p) ∙ times-plus_left (times g (multiple 64 d)) (deviation g d p) (conjugate d)
     ∙ ap (λ (z : Cpx). plus z (times (deviation g d p) (conjugate d))) main
   where
     main : times (times g (multiple 64 d)) (conjugate d) ≡ multiple (64 * square d) g

@@ -4,6 +4,8 @@ pub mod Products
 pub mod Leakage
 -- It with the rounding of the sent samples, the errors of the samples and the rounding of what is seen, and the sum of all.
 pub mod Causes
+-- Values in parts: their laws, and errors by component.
+pub mod Parts
 -- Together: what is seen is near 64 times the gain times the amplitude.
 pub mod Seen
 -- The samples of the three primary signals, as a table.

@@ -1,4 +1,4 @@
--- Channel estimates: numbers that are a multiple of a gain, up to a deviation in any unit.
+-- Channel estimates: numbers that are, in parts, a multiple of a gain, up to a deviation in any unit.
 use Rattle.std.proofs.Common.{◌≡◌, ℕ, ◌+◌, ◌-◌, ◌*◌, ◌/◌, ◌%◌, ◌<◌, ◌≤◌, arith, refl, ap, ap₂, sym, ◌∙◌, subst, Bool, true, false, nat_lt}
 use Rattle.std.specs.Prelude.{if◌then◌else◌}
 use Rattle.std.proofs.lemmas.Bool.{ltb-true, ltb-false}
@@ -10,29 +10,31 @@ use Rattle.sizes.specs.Sizes.{IsSized}
 use Rattle.sizes.proofs.Algebra.{minus-plus, plus-exchanges, multiple-plus, multiple_twice, multiple_sum}
 use Rattle.sizes.proofs.Sized.{sized-plus}
 use Rattle.sizes.proofs.Products.{sized-multiple}
+use Rattle.budget.specs.Received.{in_parts}
+use Rattle.budget.proofs.Parts.{multiple-swaps}
 use Rattle.soft_bits.specs.Estimate.{place_by, between_by, line_by, estimate}
 
--- z is c times the gain, up to t times the root of n
+-- z in parts is c times the gain, up to t times the root of n
 pub record IsNear (n : ℕ) (gain : Cpx) (c t : ℕ) (z : Cpx) : Type 0 where
   pub off : Cpx
-  pub is : z ≡ plus (multiple c gain) off
+  pub is : in_parts z ≡ plus (multiple c gain) off
   pub small : IsSized t n off
 
 pub near-multiple : (n : ℕ) (gain z : Cpx) (m c t : ℕ) → IsNear n gain c t z → IsNear n gain (m * c) (m * t) (multiple m z)
 near-multiple n gain z m c t near = record {
   off = multiple m near.off;
-  is = ap (multiple m) near.is ∙ multiple-plus m (multiple c gain) near.off ∙ ap (λ (x : Cpx). plus x (multiple m near.off)) (multiple_twice m c gain);
+  is = multiple-swaps 16384 m z ∙ ap (multiple m) near.is ∙ multiple-plus m (multiple c gain) near.off ∙ ap (λ (x : Cpx). plus x (multiple m near.off)) (multiple_twice m c gain);
   small = sized-multiple m near.off t n near.small;
 }
 
 pub near-plus : (n : ℕ) (gain x y : Cpx) (a b s t : ℕ) → IsNear n gain a s x → IsNear n gain b t y → IsNear n gain (a + b) (s + t) (plus x y)
 near-plus n gain x y a b s t p q = record {
   off = plus p.off q.off;
-  is = ap₂ plus p.is q.is ∙ plus-exchanges (multiple a gain) p.off (multiple b gain) q.off ∙ ap (λ (z : Cpx). plus z (plus p.off q.off)) (sym (multiple_sum a b gain));
+  is = multiple-plus 16384 x y ∙ ap₂ plus p.is q.is ∙ plus-exchanges (multiple a gain) p.off (multiple b gain) q.off ∙ ap (λ (z : Cpx). plus z (plus p.off q.off)) (sym (multiple_sum a b gain));
   small = sized-plus p.off q.off s t n p.small q.small;
 }
 
-pub near-off : (n : ℕ) (gain z : Cpx) (c t : ℕ) → IsNear n gain c t z → square (minus z (multiple c gain)) ≤ t * t * n
+pub near-off : (n : ℕ) (gain z : Cpx) (c t : ℕ) → IsNear n gain c t z → square (minus (in_parts z) (multiple c gain)) ≤ t * t * n
 near-off n gain z c t near =
     subst (λ (x : Cpx). square x ≤ t * t * n) (sym (ap (λ (x : Cpx). minus x (multiple c gain)) near.is ∙ minus-plus (multiple c gain) near.off)) near.small.sized
 

@@ -40,12 +40,12 @@ edges q d = energy_below (before d) q + energy_below (skipped d) (λ n. q (befor
 -- by these four numbers: whatever stands beside p, four times the peak of q is at most so much of the window's energy
 pub record IsFaint (share power overlap kept edges : ℕ) : Type 0 where
   pub rest : 4 * edges ≤ share
-  pub much : 112640 ≤ 10 * kept
-  pub small : 44 * (11 * overlap + 112640 * power) ≤ 10 * ((share - 4 * edges) * (10 * kept - 112640))
+  pub much : 198000 ≤ 10 * kept
+  pub small : 44 * (11 * overlap + 198000 * power) ≤ 10 * ((share - 4 * edges) * (10 * kept - 198000))
 
 unfoldable is_faint : ℕ → ℕ → ℕ → ℕ → ℕ → Bool
 is_faint share power overlap kept edges =
-    nat_le (4 * edges) share && (nat_le 112640 (10 * kept) && nat_le (44 * (11 * overlap + 112640 * power)) (10 * ((share - 4 * edges) * (10 * kept - 112640))))
+    nat_le (4 * edges) share && (nat_le 198000 (10 * kept) && nat_le (44 * (11 * overlap + 198000 * power)) (10 * ((share - 4 * edges) * (10 * kept - 198000))))
 
 faint_tells : (share power overlap kept edges : ℕ) → is_faint share power overlap kept edges ≡ true → IsFaint share power overlap kept edges
 unfolding is_faint

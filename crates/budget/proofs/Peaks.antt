@@ -1,20 +1,19 @@
 -- A clean primary signal stands out, so that its place is a hit and no place near it is.
-use Rattle.std.proofs.Common.{◌≡◌, ◌≢◌, ℕ, ◌+◌, ◌-◌, ◌*◌, ◌<◌, ◌≤◌, ◌⊎◌, inl, inr, arith, refl, ap, sym, ◌∙◌, subst, List, mul-le-mul_right}
-use Rattle.finite.proofs.Sums.{total_below-within}
+use Rattle.std.proofs.Common.{◌≡◌, ◌≢◌, ℕ, ◌+◌, ◌-◌, ◌*◌, ◌^◌, ◌<◌, ◌≤◌, ◌⊎◌, inl, inr, arith, refl, ap, sym, ◌∙◌, subst, List}
 use Rattle.cs_num.specs.declared.Cpx.{Cpx}
 use Rattle.cs_num.specs.declared.Sample.{Sample}
 use Rattle.cs_num.specs.Complex.{plus, times, square, sample_at, minus}
-use Rattle.cs_num.proofs.Complex.{plus-associates, plus-commutes, square-within}
+use Rattle.cs_num.proofs.Complex.{plus-associates, plus-commutes}
 use Rattle.sizes.specs.Sizes.{energy_below, correlation_below}
 use Rattle.sizes.proofs.Algebra.{plus-minus}
-use Rattle.sizes.proofs.Cauchy.{energy_same, energy_split, correlation_same, correlation_split}
-use Rattle.fold128.specs.Symbol.{useful_at}
+use Rattle.sizes.proofs.Cauchy.{energy_same, energy_split, energy_part, correlation_same, correlation_split, correlation_multiple}
 use Rattle.pss_search.specs.Correlation.{pss_grid, wave, wave_power, peak, energy}
 use Rattle.pss_search.specs.Hits.{IsAbove, IsLevel, IsHit, found}
 use Rattle.pss_search.proofs.Symmetry.{power_high}
 use Rattle.pss_search.proofs.Listed.{list_is_right}
-use Rattle.budget.specs.Received.{IsReceived, samples_from}
+use Rattle.budget.specs.Received.{in_parts, IsReceived, samples_from}
 use Rattle.budget.specs.Peak.{PrimaryStandsOut, PrimaryIsHit, PrimaryIsListed, OnlyHitNear, IsPrimaryAt}
+use Rattle.budget.proofs.Parts.{square_in_parts, energy_in_parts}
 use Rattle.budget.proofs.PeakSums.{IsSharp, IsFaintAt, AreApart, before, skipped, common, wave_is_sharp, waves_are_apart}
 use Rattle.budget.proofs.Windows.{Peaks, with_errors, true_place, beside, above}
 
@@ -29,32 +28,21 @@ received_is g p r n = sym (plus-minus (r n) (times g (p n)))
 middle_first : (a b c : Cpx) → plus (plus a b) c ≡ plus b (plus a c)
 middle_first a b c = ap (λ (z : Cpx). plus z c) (plus-commutes a b) ∙ plus-associates b a c
 
--- 128 samples are a gain times the signal p, and errors whose squares are at most 8 times the gain's
+-- 128 numbers are a gain in parts times the signal p, and errors whose energy is at most 1800 times the gain's square
 record HasSmallErrors (g : Cpx) (p r : ℕ → Cpx) : Type 0 where
   pub some : 1 ≤ square g
-  pub small : (n : ℕ) → n < 128 → square (error g p r n) ≤ 8 * square g
-
-clean_from : (eps n2 : ℕ) (g : Cpx) (r : ℕ → Cpx) → IsReceived eps g (pss_grid n2) r → HasSmallErrors g (wave n2) r
-unfolding error wave
-clean_from eps n2 g r received = record {
-  some = received.sounds;
-  small = λ n l. bound (square (minus (r n) (times g (useful_at (pss_grid n2) n)))) (square g) (square-within (minus (r n) (times g (useful_at (pss_grid n2) n))) eps (received.near n l)) received.quiet;
-}
-  where
-    bound : (s n : ℕ) → s ≤ 2 * (eps * eps) → eps * eps ≤ 4 * n → s ≤ 8 * n
-    bound s n h q = omega (arith, h, q)
+  pub small : energy_below 128 (error g p r) ≤ 1800 * square g
 
 -- the energy of a part of the errors
-errors_small : (g : Cpx) (p r : ℕ → Cpx) → HasSmallErrors g p r → (a m : ℕ) → a + m ≤ 128 → energy_below m (λ k. error g p r (a + k)) ≤ 1024 * square g
+errors_small : (g : Cpx) (p r : ℕ → Cpx) → HasSmallErrors g p r → (a m : ℕ) → a + m ≤ 128 → energy_below m (λ k. error g p r (a + k)) ≤ 1800 * square g
 errors_small g p r clean a m l =
-    sums (square g) (energy_below m (λ k. error g p r (a + k))) (total_below-within m (8 * square g) (λ k. square (error g p r (a + k))) (λ k b. clean.small (a + k) (omega arith)))
+    part (energy_below (a + m) (error g p r)) (energy_below a (error g p r)) (energy_below m (λ k. error g p r (a + k))) (energy_below 128 (error g p r)) (square g)
+    (energy_split a m (error g p r)) (energy_part (a + m) 128 (error g p r) l) clean.small
   where
-    sums : (n e : ℕ) → e ≤ m * (8 * n) → e ≤ 1024 * n
-    sums n e h =
-        let k : m * (8 * n) ≤ 128 * (8 * n) = mul-le-mul_right (8 * n) (omega arith) in
-        omega (arith, h, k)
+    part : (e i j w n : ℕ) → e ≡ i + j → e ≤ w → w ≤ 1800 * n → j ≤ 1800 * n
+    part e i j w n same h k = omega (arith, same, h, k)
 
--- a window x that begins at most 9 samples before or after 128 samples r of a signal p with errors, correlated with a signal q
+-- a window x that begins at most 9 places before or after 128 numbers r of a signal p with errors, correlated with a signal q
 near : (g : Cpx) (p q r x : ℕ → Cpx) (d share : ℕ) → d < 19 → HasSmallErrors g p r → ((n : ℕ) → x (before d + n) ≡ r (skipped d + n)) → IsFaintAt share p q d →
     4 * square (correlation_below 128 x q) ≤ share * energy_below 128 x
 near g p q r x d share l clean known faint =
@@ -115,40 +103,77 @@ near g p q r x d share l clean known faint =
 
 -- ---- in a recording
 
--- at a place within 9, the metric of another signal, or of the same one beside its place, is small
-near_low : (recording : List Sample) (t u n2 m2 share : ℕ) (g : Cpx) → HasSmallErrors g (wave n2) (samples_from recording t) → u ≤ t + 9 → t ≤ u + 9 →
-    IsFaintAt share (wave n2) (wave m2) (u + 9 - t) → 4 * peak recording m2 u ≤ share * energy recording u
-unfolding peak energy
-near_low recording t u n2 m2 share g clean a b faint =
-    near g (wave n2) (wave m2) (samples_from recording t) (samples_from recording u) (u + 9 - t) share (omega (arith, a)) clean
-    (λ n. ap (sample_at recording) (place n)) faint
-  where
-    place : (n : ℕ) → u + (before (u + 9 - t) + n) ≡ t + (skipped (u + 9 - t) + n)
-    place n = omega (arith, a, b)
+-- the samples from a place on, in parts
+parts_from : List Sample → ℕ → ℕ → Cpx
+parts_from recording t n = in_parts (sample_at recording (t + n))
 
-beside_low : (recording : List Sample) (t u n2 : ℕ) (g : Cpx) → IsSharp (wave n2) → HasSmallErrors g (wave n2) (samples_from recording t) → u ≢ t → u ≤ t + 9 → t ≤ u + 9 →
+clean_from : (n2 t : ℕ) (g : Cpx) (recording : List Sample) → IsReceived 1800 g (pss_grid n2) (samples_from recording t) → HasSmallErrors g (wave n2) (parts_from recording t)
+unfolding error wave parts_from
+clean_from n2 t g recording received = record { some = some (square g) received.sounds; small = received.quiet }
+  where
+    some : (n : ℕ) → 2 ^ 28 ≤ n → 1 ≤ n
+    some n h = omega (arith, h)
+
+-- the peak and the energy of what is in parts are 2^28 times those of the samples
+record AreInParts (c e c' e' : ℕ) : Type 0 where
+  peaks : c' ≡ 268435456 * c
+  energies : e' ≡ 268435456 * e
+
+in_parts_from : (recording : List Sample) (n2 t : ℕ) →
+    AreInParts (peak recording n2 t) (energy recording t) (square (correlation_below 128 (parts_from recording t) (wave n2))) (energy_below 128 (parts_from recording t))
+unfolding peak energy parts_from
+in_parts_from recording n2 t = record {
+  peaks = ap (λ (z : Cpx). square z) (correlation_multiple 128 16384 (samples_from recording t) (wave n2)) ∙ square_in_parts (correlation_below 128 (samples_from recording t) (wave n2));
+  energies = energy_in_parts 128 (samples_from recording t);
+}
+
+low_in_parts : (c e c' e' share : ℕ) → AreInParts c e c' e' → 4 * c' ≤ share * e' → 4 * c ≤ share * e
+low_in_parts c e c' e' share parts h =
+    let k : share * e' ≡ share * (268435456 * e) = ap (λ (n : ℕ). share * n) parts.energies in
+    omega (arith, parts.peaks, k, h)
+
+peaks_in_parts : (c e c' e' w : ℕ) → AreInParts c e c' e' → Peaks c' e' w → Peaks c e w
+peaks_in_parts c e c' e' w parts high =
+    let k : e' * w ≡ 268435456 * e * w = ap (λ (n : ℕ). n * w) parts.energies in
+    record { some = omega (arith, parts.energies, high.some); high = omega (arith, parts.peaks, k, high.high) }
+
+same_sample : (recording : List Sample) (t u : ℕ) → u ≤ t + 9 → t ≤ u + 9 → (n : ℕ) → parts_from recording u (before (u + 9 - t) + n) ≡ parts_from recording t (skipped (u + 9 - t) + n)
+unfolding parts_from
+same_sample recording t u a b n =
+    ap (λ (i : ℕ). in_parts (sample_at recording i)) (let e : u + (before (u + 9 - t) + n) ≡ t + (skipped (u + 9 - t) + n) = omega (arith, a, b) in e)
+
+-- at a place within 9, the metric of another signal, or of the same one beside its place, is small
+near_low : (recording : List Sample) (t u n2 m2 share : ℕ) (g : Cpx) → HasSmallErrors g (wave n2) (parts_from recording t) → u ≤ t + 9 → t ≤ u + 9 →
+    IsFaintAt share (wave n2) (wave m2) (u + 9 - t) → 4 * peak recording m2 u ≤ share * energy recording u
+near_low recording t u n2 m2 share g clean a b faint =
+    low_in_parts (peak recording m2 u) (energy recording u) (square (correlation_below 128 (parts_from recording u) (wave m2))) (energy_below 128 (parts_from recording u)) share
+    (in_parts_from recording m2 u)
+    (near g (wave n2) (wave m2) (parts_from recording t) (parts_from recording u) (u + 9 - t) share (omega (arith, a)) clean (same_sample recording t u a b) faint)
+
+beside_low : (recording : List Sample) (t u n2 : ℕ) (g : Cpx) → IsSharp (wave n2) → HasSmallErrors g (wave n2) (parts_from recording t) → u ≢ t → u ≤ t + 9 → t ≤ u + 9 →
     4 * peak recording n2 u ≤ 3 * wave_power n2 * energy recording u
 unfolding wave_power
 beside_low recording t u n2 g sharp clean ne a b =
     near_low recording t u n2 n2 (3 * energy_below 128 (wave n2)) g clean a b (sharp.beside (u + 9 - t) (omega (arith, a)) (omega (arith, ne, a, b)))
 
-other_low : (recording : List Sample) (t u n2 m2 : ℕ) (g : Cpx) → AreApart (wave n2) (wave m2) → HasSmallErrors g (wave n2) (samples_from recording t) → u ≤ t + 9 → t ≤ u + 9 →
+other_low : (recording : List Sample) (t u n2 m2 : ℕ) (g : Cpx) → AreApart (wave n2) (wave m2) → HasSmallErrors g (wave n2) (parts_from recording t) → u ≤ t + 9 → t ≤ u + 9 →
     4 * peak recording m2 u ≤ (wave_power m2 - 1) * energy recording u
 unfolding wave_power
 other_low recording t u n2 m2 g apart clean a b =
     near_low recording t u n2 m2 (energy_below 128 (wave m2) - 1) g clean a b (apart (u + 9 - t) (omega (arith, a)))
 
-peaks_at : (recording : List Sample) (t n2 : ℕ) (g : Cpx) → IsSharp (wave n2) → HasSmallErrors g (wave n2) (samples_from recording t) →
+peaks_at : (recording : List Sample) (t n2 : ℕ) (g : Cpx) → IsSharp (wave n2) → HasSmallErrors g (wave n2) (parts_from recording t) →
     Peaks (peak recording n2 t) (energy recording t) (wave_power n2)
-unfolding peak energy wave_power
+unfolding wave_power
 peaks_at recording t n2 g sharp clean =
-    let r : ℕ → Cpx = samples_from recording t in
+    let r : ℕ → Cpx = parts_from recording t in
     let p : ℕ → Cpx = wave n2 in
     let e : ℕ → Cpx = λ n. error g p r (0 + n) in
     let same : (n : ℕ) → n < 128 → r n ≡ with_errors g p e n = λ n l. received_is g p r n ∙ ap (λ j. plus (times g (p n)) (error g p r j)) (none n) in
-    subst (λ (z : Cpx). Peaks (square z) (energy_below 128 r) (energy_below 128 p)) (sym (correlation_same 128 r (with_errors g p e) p p same (λ n l. refl)))
+    peaks_in_parts (peak recording n2 t) (energy recording t) (square (correlation_below 128 r p)) (energy_below 128 r) (energy_below 128 p) (in_parts_from recording n2 t)
+    (subst (λ (z : Cpx). Peaks (square z) (energy_below 128 r) (energy_below 128 p)) (sym (correlation_same 128 r (with_errors g p e) p p same (λ n l. refl)))
     (subst (λ (n : ℕ). Peaks (square (correlation_below 128 (with_errors g p e) p)) n (energy_below 128 p)) (sym (energy_same 128 r (with_errors g p e) same))
-    (true_place g p e clean.some sharp.power (errors_small g p r clean 0 128 (omega arith))))
+    (true_place g p e clean.some sharp.power (errors_small g p r clean 0 128 (omega arith)))))
   where
     none : (n : ℕ) → n ≡ 0 + n
     none n = omega arith
@@ -166,7 +191,7 @@ clear_enough c e w h = omega (arith, h)
 pub primary_stands_out : PrimaryStandsOut
 primary_stands_out recording t n2 primary =
     let sharp = wave_is_sharp n2 primary.root in
-    let clean = clean_from primary.eps n2 primary.gain (samples_from recording t) primary.received in
+    let clean = clean_from n2 t primary.gain recording primary.received in
     let here = peaks_at recording t n2 primary.gain sharp clean in
     record {
       sounds = here.some;
@@ -244,7 +269,7 @@ same_root recording t u n2 m2 primary root a b hit = elim (same_or_not m2 n2) [
   | inl same ↦ same
   | inr ne ↦ absurd (faint_is_no_hit (peak recording m2 u) (energy recording u) (wave_power m2) (power_high m2 root) hit.sounds
       (other_low recording t u n2 m2 primary.gain (waves_are_apart n2 m2 primary.root root (λ e. ne (sym e)))
-      (clean_from primary.eps n2 primary.gain (samples_from recording t) primary.received) a b) hit.clear)
+      (clean_from n2 t primary.gain recording primary.received) a b) hit.clear)
 ]
 
 pub only_hit_near : OnlyHitNear

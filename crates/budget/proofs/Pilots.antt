@@ -1,10 +1,11 @@
 -- Pilots: what is seen of an amplitude of known size, as the square of what is seen and as a channel.
-use Rattle.std.proofs.Common.{◌≡◌, ℕ, ◌+◌, ◌*◌, ◌≤◌, arith, ap, sym, ◌∙◌, subst, mul-le-mul_left}
+use Rattle.std.proofs.Common.{◌≡◌, ℕ, ◌+◌, ◌*◌, ◌^◌, ◌≤◌, arith, ap, sym, ◌∙◌, subst, mul-le-mul_left}
 use Rattle.cs_num.specs.declared.Cpx.{Cpx}
 use Rattle.cs_num.specs.Complex.{plus, times, conjugate, square, multiple}
 use Rattle.sizes.specs.Sizes.{IsSized}
 use Rattle.sizes.proofs.Squares.{square-times, square-conjugate, square-multiple}
 use Rattle.sizes.proofs.TwoTerms.{weighted, weighted_term}
+use Rattle.budget.proofs.Parts.{square_in_parts}
 use Rattle.budget.proofs.Deviations.{deviation, seen_is, channel_is}
 use Rattle.budget.proofs.Near.{IsNear}
 
@@ -28,15 +29,15 @@ turned_pilot-near t n g d p is = record {
         let g : s ≡ a * 16200 = e ∙ ap (λ m. a * m) f in
         omega (arith, g, h)
 
--- its square is near 4096 * 16200 times that of the gain, by any weight
+-- its square, in parts, is near 4096 * 16200 times that of the gain, by any weight
 pub record IsPilotSquare (m t n w e : ℕ) : Type 0 where
-  pub least : m * (66355200 * w) ≤ (m + 1) * e + m * (m + 1) * (t * t * n)
-  pub most : m * e ≤ (m + 1) * (66355200 * w) + m * (m + 1) * (t * t * n)
+  pub least : m * (66355200 * w) ≤ (m + 1) * (2 ^ 28 * e) + m * (m + 1) * (t * t * n)
+  pub most : m * (2 ^ 28 * e) ≤ (m + 1) * (66355200 * w) + m * (m + 1) * (t * t * n)
 
 pub pilot-square : (m t n : ℕ) (g d p : Cpx) → IsPilot t n g d p → IsPilotSquare m t n (square g) (square p)
 pilot-square m t n g d p is =
-    subst (λ (z : Cpx). IsPilotSquare m t n (square g) (square z)) (sym (seen_is g d p))
-    (numbers (square g) (square d) (square (multiple 64 d)) (square x) (square v) (square (plus x v)) is.full (square-multiple 64 d) (square-times g (multiple 64 d)) is.seen.sized (weighted m x v) (weighted_term m x v))
+    numbers (square g) (square d) (square (multiple 64 d)) (square x) (square v) (square (plus x v)) (square p) (sym (square_in_parts p) ∙ ap (λ (z : Cpx). square z) (seen_is g d p))
+    is.full (square-multiple 64 d) (square-times g (multiple 64 d)) is.seen.sized (weighted m x v) (weighted_term m x v)
   where
     x : Cpx
     x = times g (multiple 64 d)
@@ -44,13 +45,13 @@ pilot-square m t n g d p is =
     v : Cpx
     v = deviation g d p
 
-    numbers : (w a b x v s : ℕ) → a ≡ 16200 → b ≡ 64 * 64 * a → x ≡ w * b → v ≤ t * t * n → m * s ≤ (m + 1) * x + m * (m + 1) * v → m * x ≤ (m + 1) * s + m * (m + 1) * v → IsPilotSquare m t n w s
-    numbers w a b x v s e f c h up low =
-        let main : x ≡ 66355200 * w = whole w b x c (omega (arith, e, f)) in
-        let off : m * (m + 1) * v ≤ m * (m + 1) * (t * t * n) = mul-le-mul_left (m * (m + 1)) h in
+    numbers : (w a b x v s e : ℕ) → 2 ^ 28 * e ≡ s → a ≡ 16200 → b ≡ 64 * 64 * a → x ≡ w * b → v ≤ t * t * n → m * s ≤ (m + 1) * x + m * (m + 1) * v → m * x ≤ (m + 1) * s + m * (m + 1) * v → IsPilotSquare m t n w e
+    numbers w a b x v s e parts f h c k up low =
+        let main : x ≡ 66355200 * w = whole w b x c (omega (arith, f, h)) in
+        let off : m * (m + 1) * v ≤ m * (m + 1) * (t * t * n) = mul-le-mul_left (m * (m + 1)) k in
         record {
-          least = subst (λ y. m * y ≤ (m + 1) * s + m * (m + 1) * (t * t * n)) main (omega (arith, off, low));
-          most = subst (λ y. m * s ≤ (m + 1) * y + m * (m + 1) * (t * t * n)) main (omega (arith, off, up));
+          least = subst (λ y. m * (66355200 * w) ≤ (m + 1) * y + m * (m + 1) * (t * t * n)) (sym parts) (subst (λ y. m * y ≤ (m + 1) * s + m * (m + 1) * (t * t * n)) main (omega (arith, off, low)));
+          most = subst (λ y. m * y ≤ (m + 1) * (66355200 * w) + m * (m + 1) * (t * t * n)) (sym parts) (subst (λ y. m * s ≤ (m + 1) * y + m * (m + 1) * (t * t * n)) main (omega (arith, off, up)));
         }
       where
         whole : (w b x : ℕ) → x ≡ w * b → b ≡ 66355200 → x ≡ 66355200 * w

@@ -1,5 +1,5 @@
 -- The score of what was sent: each term is above 0, so no other sequence agrees as well.
-use Rattle.std.proofs.Common.{◌≡◌, ℕ, ◌+◌, ◌-◌, ◌*◌, ◌%◌, ◌<◌, ◌≤◌, ◌⊎◌, inl, inr, neg_ℤ, arith, refl, ap, ap₂, sym, ◌∙◌, subst, Bool, true, false, nat_le, nat_lt, ℤ, pos, negsuc, ◌-ℤ◌, ◌*ℤ◌, ◌<ℤ◌, ◌≤ℤ◌, int_lt, mul-le-mul_right}
+use Rattle.std.proofs.Common.{◌≡◌, ℕ, ◌+◌, ◌-◌, ◌*◌, ◌%◌, ◌^◌, ◌<◌, ◌≤◌, ◌⊎◌, inl, inr, neg_ℤ, arith, refl, ap, ap₂, sym, ◌∙◌, subst, Bool, true, false, nat_le, nat_lt, ℤ, pos, negsuc, ◌-ℤ◌, ◌*ℤ◌, ◌<ℤ◌, ◌≤ℤ◌, int_lt, mul-le-mul_right}
 use Rattle.std.specs.Prelude.{◌&&◌, if◌then◌else◌, nat_abs}
 use Rattle.std.proofs.lemmas.Int.{ints, unsigned_abs-mul}
 use Rattle.std.proofs.lemmas.Bool.{leb-true, and_parts}
@@ -34,6 +34,7 @@ use Rattle.pss_search.specs.Correlation.{pss_grid}
 use Rattle.budget.specs.Received.{AreAmplitudes, IsSeenAs}
 use Rattle.budget.specs.Score.{AreSeen, TermsArePositive, SentPairIsGreatest, SentPairIsBest, SentPairIsIdentified, sss_grid}
 use Rattle.sync_seq.specs.Secondary.{sss_amplitude}
+use Rattle.budget.proofs.Parts.{product_in_parts}
 use Rattle.budget.proofs.Deviations.{deviation, seen_is, deviation-sized, channel_is}
 use Rattle.budget.proofs.Seen.{amplitude_is_seen_in_recording}
 
@@ -70,7 +71,7 @@ unit_square s unit =
     let a : nat_abs (pos 127 *ℤ s) ≡ 127 = unsigned_abs-mul (pos 127) s ∙ ap (λ m. 127 * m) unit in
     rw (square-multiple 64 (record { re = pos 127 *ℤ s; im = pos 0 })) (rw a (omega arith))
 
-numbers : (v : ℤ) (w n : ℕ) → 16000 ≤ w → 1 ≤ n → nat_abs (v -ℤ pos (64 * w * n) *ℤ pos 8128) ≤ (8128 * 245760 + 1920 * (64 * w + 245760)) * n → pos 0 <ℤ v
+numbers : (v : ℤ) (w n : ℕ) → 16000 ≤ w → 2 ^ 28 ≤ n → nat_abs (v -ℤ pos (64 * w * n) *ℤ pos 8128) ≤ (8128 * 296448 + 2316 * (64 * w + 296448)) * n → pos 0 <ℤ v
 numbers v w n least some h =
     let m : 16000 * n ≤ w * n = mul-le-mul_right n least in
     omega (arith, ints)
@@ -78,13 +79,27 @@ numbers v w n least some h =
 regrouped : (x s : ℤ) → x *ℤ (pos 64 *ℤ (pos 127 *ℤ s)) ≡ x *ℤ pos 8128 *ℤ s
 regrouped x s = same (ring.times (var x) (ring.times (lit 64) (ring.times (lit 127) (var s)))) (ring.times (ring.times (var x) (lit 8128)) (var s)) (omega arith)
 
-one_term : (g d p q : Cpx) (s : ℤ) → 1 ≤ square g → HasZSize (square d) → nat_abs s ≡ 1 → IsSeenAs g d p → IsSeenAs g (record { re = pos 127 *ℤ s; im = pos 0 }) q →
+-- what is above 0 in parts is above 0
+positive_in_parts : (s x : ℤ) → pos 0 <ℤ (s *ℤ (pos 268435456 *ℤ x)) → pos 0 <ℤ (s *ℤ x)
+positive_in_parts s x h = less (s *ℤ x) (subst (λ y. pos 0 <ℤ y) (out s x) h)
+  where
+    out : (s x : ℤ) → s *ℤ (pos 268435456 *ℤ x) ≡ pos 268435456 *ℤ (s *ℤ x)
+    out s x = same (ring.times (var s) (ring.times (lit 268435456) (var x))) (ring.times (lit 268435456) (ring.times (var s) (var x))) (omega arith)
+
+    less : (y : ℤ) → pos 0 <ℤ (pos 268435456 *ℤ y) → pos 0 <ℤ y
+    less y h = omega (arith, ints)
+
+one_term : (g d p q : Cpx) (s : ℤ) → 2 ^ 28 ≤ square g → HasZSize (square d) → nat_abs s ≡ 1 → IsSeenAs 2316 g d p → IsSeenAs 2316 g (record { re = pos 127 *ℤ s; im = pos 0 }) q →
     pos 0 <ℤ (s *ℤ (times q (conjugate (times p (conjugate d)))).re)
 one_term g d p q s some size unit primary secondary =
-    numbers (s *ℤ (times q (conjugate (times p (conjugate d)))).re) (square d) (square g) size.least some
-    (sign-turns s (times q (conjugate (times p (conjugate d)))).re (pos (64 * square d * square g) *ℤ pos 8128) _ unit
-    (subst (λ x. nat_abs ((times q (conjugate (times p (conjugate d)))).re -ℤ x) ≤ (8128 * 245760 + 1920 * (64 * square d + 245760)) * square g) (regrouped (pos (64 * square d * square g)) s) near.re))
+    positive_in_parts s z.re
+    (numbers (s *ℤ (pos 268435456 *ℤ z.re)) (square d) (square g) size.least some
+    (sign-turns s (pos 268435456 *ℤ z.re) (pos (64 * square d * square g) *ℤ pos 8128) _ unit
+    (subst (λ x. nat_abs (pos 268435456 *ℤ z.re -ℤ x) ≤ (8128 * 296448 + 2316 * (64 * square d + 296448)) * square g) (regrouped (pos (64 * square d * square g)) s) near.re)))
   where
+    z : Cpx
+    z = times q (conjugate (times p (conjugate d)))
+
     a : Cpx
     a = record { re = pos 127 *ℤ s; im = pos 0 }
 
@@ -94,14 +109,14 @@ one_term g d p q s some size unit primary secondary =
     once : (n : ℕ) → n * 1 ≡ n
     once n = omega arith
 
-    e_sized : IsSized 245760 (square g) e
-    e_sized = subst (λ (n : ℕ). IsSized 245760 n e) (once (square g)) (sized-times (deviation g d p) (conjugate d) 1920 128 (square g) 1 (deviation-sized g d p primary)
+    e_sized : IsSized 296448 (square g) e
+    e_sized = subst (λ (n : ℕ). IsSized 296448 n e) (once (square g)) (sized-times (deviation g d p) (conjugate d) 2316 128 (square g) 1 (deviation-sized 2316 g d p primary)
         (sized_plain (conjugate d) 128 (subst (λ (n : ℕ). n ≤ 128 * 128) (sym (square-conjugate d)) size.most)))
 
-    near : IsWithin ((8128 * 245760 + 1920 * (64 * square d + 245760)) * square g) (minus (times q (conjugate (times p (conjugate d)))) (multiple (64 * square d * square g) (multiple 64 a)))
-    near = subst (λ (z : Cpx). IsWithin ((8128 * 245760 + 1920 * (64 * square d + 245760)) * square g) (minus z (multiple (64 * square d * square g) (multiple 64 a))))
-        (ap₂ (λ (x y : Cpx). times x (conjugate y)) (sym (seen_is g a q)) (sym (channel_is g d p)))
-        (product_near g (multiple 64 a) (deviation g a q) e (64 * square d) 8128 1920 245760 (unit_square s unit) (deviation-sized g a q secondary) e_sized)
+    near : IsWithin ((8128 * 296448 + 2316 * (64 * square d + 296448)) * square g) (minus (multiple 268435456 (times q (conjugate (times p (conjugate d))))) (multiple (64 * square d * square g) (multiple 64 a)))
+    near = subst (λ (z : Cpx). IsWithin ((8128 * 296448 + 2316 * (64 * square d + 296448)) * square g) (minus z (multiple (64 * square d * square g) (multiple 64 a))))
+        (ap₂ (λ (x y : Cpx). times x (conjugate y)) (sym (seen_is g a q)) (sym (channel_is g d p)) ∙ product_in_parts q (times p (conjugate d)))
+        (product_near g (multiple 64 a) (deviation g a q) e (64 * square d) 8128 2316 296448 (unit_square s unit) (deviation-sized 2316 g a q secondary) e_sized)
 
 pub terms_are_positive : TermsArePositive
 terms_are_positive gain n1 n2 half primary secondary seen n l =
@@ -260,8 +275,8 @@ sent_pair_is_identified prefix recording hit n1 half both =
       group = both.group;
       root = both.root;
       sounds = both.primary.sounds;
-      primary = λ n l. subst (λ (z : Cpx). IsSeenAs both.gain z (seen recording t (n + 5))) (pss_in_grid n2 n l)
-          (amplitude_is_seen_in_recording both.eps both.gain (pss_grid n2) recording t (n + 5) (pss_amplitudes n2) both.primary (omega arith));
-      secondary = λ n l. subst (λ (z : Cpx). IsSeenAs both.gain z (seen recording before (n + 5))) (sss_in_grid n1 n2 half n l)
-          (amplitude_is_seen_in_recording both.eps both.gain (sss_grid n1 n2 half) recording before (n + 5) (sss_amplitudes n1 n2 half) both.secondary (omega arith));
+      primary = λ n l. subst (λ (z : Cpx). IsSeenAs 2316 both.gain z (seen recording t (n + 5))) (pss_in_grid n2 n l)
+          (amplitude_is_seen_in_recording both.gain (pss_grid n2) recording t (n + 5) (pss_amplitudes n2) both.primary (omega arith));
+      secondary = λ n l. subst (λ (z : Cpx). IsSeenAs 2316 both.gain z (seen recording before (n + 5))) (sss_in_grid n1 n2 half n l)
+          (amplitude_is_seen_in_recording both.gain (sss_grid n1 n2 half) recording before (n + 5) (sss_amplitudes n1 n2 half) both.secondary (omega arith));
     })

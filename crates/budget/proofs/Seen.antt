@@ -3,15 +3,15 @@ use Rattle.std.proofs.Common.{◌≡◌, ℕ, zero, suc, ◌+◌, ◌*◌, ◌^�
 use Rattle.std.proofs.Math.Path.{fun_ext}
 use Rattle.finite.specs.Sums.{sum_below, total_below}
 use Rattle.cs_num.specs.declared.Cpx.{Cpx}
-use Rattle.cs_num.specs.Complex.{IsWithin, nothing, plus, times, square, minus, multiple}
+use Rattle.cs_num.specs.Complex.{nothing, plus, times, square, minus, multiple}
 use Rattle.cs_num.proofs.Complex.{plus-nothing}
 use Rattle.sizes.specs.Sizes.{IsSized, energy_below}
 use Rattle.sizes.proofs.Squares.{square-multiple}
 use Rattle.sizes.proofs.Sized.{sized-plus}
 use Rattle.fold128.specs.Symbol.{useful_at}
 use Rattle.observe.specs.Seen.{seen}
-use Rattle.budget.specs.Received.{AreAmplitudes, received_of, samples_from}
-use Rattle.budget.specs.Budget.{AmplitudeIsSeen, AmplitudesAreSeen, TwoAmplitudesAreSeen, FourAmplitudesAreSeen, AmplitudeIsSeenInRecording, AmplitudesAreSeenInRecording, TwoAmplitudesAreSeenInRecording, FourAmplitudesAreSeenInRecording, seen_in, sending_off}
+use Rattle.budget.specs.Received.{AreAmplitudes, in_parts, off_by, received_of, samples_from}
+use Rattle.budget.specs.Budget.{AmplitudeIsSeen, AmplitudesAreSeen, AmplitudeIsSeenInRecording, AmplitudesAreSeenInRecording, seen_in, sending_off}
 use Rattle.budget.proofs.Causes.{three_causes, IsSent, sent_by_one, sent-plus}
 
 -- three sizes in units of 2^31 times the gain, of what is 2^29 times the deviation
@@ -24,53 +24,73 @@ join a b c n d x y z e p q r =
     down : (a b c n s t u : ℕ) → t ≡ 2 ^ 29 * 2 ^ 29 * s → t ≡ u → u ≤ (a * 2 ^ 31 + (b * 2 ^ 31 + c * 2 ^ 31)) * (a * 2 ^ 31 + (b * 2 ^ 31 + c * 2 ^ 31)) * n → s ≤ 16 * ((a + (b + c)) * (a + (b + c))) * n
     down a b c n s t u e f h = omega (arith, e, f, h)
 
-rounding_in : (n s : ℕ) → 1 ≤ n → s ≤ 2 ^ 57 → s ≤ (1 * 2 ^ 31) * (1 * 2 ^ 31) * n
+-- the square of what sending one port's symbol may be off by
+unit : ℕ
+unit = (97 * 2 ^ 31) * (97 * 2 ^ 31)
+
+-- for so many ports, with errors of at most `quota` times n, which are the squares of the gains: a units for sending, b for the errors
+-- and 1 for rounding make at most `most` in all
+record AreUnits (ports quota most a b : ℕ) : Type 0 where
+  some : 1 ≤ ports
+  sending : (n s : ℕ) → s ≤ ports * ((97 * 2 ^ 31) * (97 * 2 ^ 31)) * n → s ≤ (a * 2 ^ 31) * (a * 2 ^ 31) * n
+  errors : (n s : ℕ) → s ≤ 2 ^ 41 * (quota * n) * (16385 * 16385) → s ≤ (b * 2 ^ 31) * (b * 2 ^ 31) * n
+  whole : (n s : ℕ) → s ≤ 16 * ((a + (b + 1)) * (a + (b + 1))) * n → s ≤ most * most * n
+
+rounding_in : (n s : ℕ) → 2 ^ 28 ≤ n → s ≤ 2 ^ 85 → s ≤ (1 * 2 ^ 31) * (1 * 2 ^ 31) * n
 rounding_in n s l h =
-    let k : 2 ^ 62 * 1 ≤ 2 ^ 62 * n = mul-le-mul_left (2 ^ 62) l in
+    let k : 2 ^ 62 * 2 ^ 28 ≤ 2 ^ 62 * n = mul-le-mul_left (2 ^ 62) l in
     omega (arith, h, k)
 
--- errors of this size are at most `bound` units, where n are the squares of the gains
-AreErrors : ℕ → ℕ → ℕ → Type 0
-AreErrors eps bound n = (s : ℕ) → s ≤ 2 ^ 49 * (eps * eps) * (16385 * 16385) → s ≤ (bound * 2 ^ 31) * (bound * 2 ^ 31) * n
+module _ (ports quota most a b : ℕ) (units : AreUnits ports quota most a b) where
+  errors_in : (n e s : ℕ) → e ≤ quota * n → s ≤ 2 ^ 41 * e * (16385 * 16385) → s ≤ (b * 2 ^ 31) * (b * 2 ^ 31) * n
+  errors_in n e s quiet h =
+      units.errors n s (let k : 2 ^ 41 * (16385 * 16385) * e ≤ 2 ^ 41 * (16385 * 16385) * (quota * n) = mul-le-mul_left (2 ^ 41 * (16385 * 16385)) quiet in omega (arith, h, k))
 
--- what is sent gives an amplitude up to a units, and errors add b units
-is_seen : (eps a b n : ℕ) (sent samples : ℕ → Cpx) (amplitude : Cpx) (k : ℕ) → 1 ≤ n → square (sending_off sent amplitude k) ≤ (a * 2 ^ 31) * (a * 2 ^ 31) * n → AreErrors eps b n →
-    ((i : ℕ) → i < 128 → IsWithin eps (minus (samples i) (sent i))) → square (minus (seen_in samples k) (multiple 64 amplitude)) ≤ 16 * ((a + (b + 1)) * (a + (b + 1))) * n
-unfolding AreErrors
-is_seen eps a b n sent samples amplitude k some sending errors near =
-    let causes = three_causes eps sent samples amplitude k near in
-    join a b 1 n (minus (seen_in samples k) (multiple 64 amplitude)) (sending_off sent amplitude k) causes.errors causes.rounding causes.whole
-    (record { sized = sending })
-    (record { sized = errors (square causes.errors) causes.errors_small })
-    (record { sized = rounding_in n (square causes.rounding) some causes.rounding_small })
+  is_seen : (n : ℕ) (sent samples : ℕ → Cpx) (amplitude : Cpx) (k : ℕ) → 2 ^ 28 ≤ n → IsSent (ports * unit) n sent amplitude k → energy_below 128 (off_by samples sent) ≤ quota * n →
+      square (minus (in_parts (seen_in samples k)) (multiple 64 amplitude)) ≤ most * most * n
+  unfolding unit
+  is_seen n sent samples amplitude k some sending quiet =
+      let causes = three_causes sent samples amplitude k in
+      let d : Cpx = minus (in_parts (seen_in samples k)) (multiple 64 amplitude) in
+      units.whole n (square d)
+      (join a b 1 n d (sending_off sent amplitude k) causes.errors causes.rounding causes.whole
+      (record { sized = units.sending n (square (sending_off sent amplitude k)) sending.off })
+      (record { sized = errors_in n (energy_below 128 (off_by samples sent)) (square causes.errors) quiet causes.errors_small })
+      (record { sized = rounding_in n (square causes.rounding) some causes.rounding_small }))
 
 -- ---- one gain
 
-errors_of_one : (eps n : ℕ) → eps * eps ≤ 4 * n → AreErrors eps 363 n
-unfolding AreErrors
-errors_of_one eps n q s h =
-    let k : 2 ^ 49 * (16385 * 16385) * (eps * eps) ≤ 2 ^ 49 * (16385 * 16385) * (4 * n) = mul-le-mul_left (2 ^ 49 * (16385 * 16385)) q in
-    omega (arith, h, k)
+by_one : (quota most b : ℕ) → AreUnits 1 quota most 97 b → AmplitudeIsSeen quota most
+unfolding unit
+by_one quota most b units gain grid samples k small received l = record {
+  off = is_seen 1 quota most 97 b units (square gain) (λ n. times gain (useful_at grid n)) samples (times gain (grid k)) k received.sounds (sent_by_one gain grid k small l) received.quiet;
+}
 
-within_budget : (s n : ℕ) → s ≤ 16 * ((97 + (363 + 1)) * (97 + (363 + 1))) * n → s ≤ 1920 * 1920 * n
-within_budget s n h = omega (arith, h)
-
-pub amplitude_is_seen : AmplitudeIsSeen
-amplitude_is_seen eps gain grid samples k small received l =
-    let sent : ℕ → Cpx = λ n. times gain (useful_at grid n) in
-    record {
-      off = within_budget (square (minus (seen_in samples k) (multiple 64 (times gain (grid k))))) (square gain)
-          (is_seen eps 97 363 (square gain) sent samples (times gain (grid k)) k received.sounds (sent_by_one gain grid k small l).off (errors_of_one eps (square gain) received.quiet) received.near);
-    }
-
-pub amplitude_is_seen_in_recording : AmplitudeIsSeenInRecording
+in_recording : (quota most : ℕ) → AmplitudeIsSeen quota most → AmplitudeIsSeenInRecording quota most
 unfolding seen
-amplitude_is_seen_in_recording eps gain grid recording start k small received l = amplitude_is_seen eps gain grid (samples_from recording start) k small received l
+in_recording quota most is gain grid recording start k small received l = is gain grid (samples_from recording start) k small received l
+
+-- errors of 1800 times the gain's square: 481 units
+units_of_one : AreUnits 1 1800 2316 97 481
+units_of_one = record { some = omega arith; sending = λ n s h. omega (arith, h); errors = λ n s h. omega (arith, h); whole = λ n s h. omega (arith, h) }
+
+pub amplitude_is_seen : AmplitudeIsSeen 1800 2316
+amplitude_is_seen = by_one 1800 2316 481 units_of_one
+
+pub amplitude_is_seen_in_recording : AmplitudeIsSeenInRecording 1800 2316
+amplitude_is_seen_in_recording = in_recording 1800 2316 amplitude_is_seen
+
+-- of 1024 times it: 363 units
+units_of_quiet : AreUnits 1 1024 1920 97 363
+units_of_quiet = record { some = omega arith; sending = λ n s h. omega (arith, h); errors = λ n s h. omega (arith, h); whole = λ n s h. omega (arith, h) }
+
+pub quiet_amplitude_is_seen : AmplitudeIsSeen 1024 1920
+quiet_amplitude_is_seen = by_one 1024 1920 363 units_of_quiet
+
+pub quiet_amplitude_is_seen_in_recording : AmplitudeIsSeenInRecording 1024 1920
+quiet_amplitude_is_seen_in_recording = in_recording 1024 1920 quiet_amplitude_is_seen
 
 -- ---- the gains of several ports
-
-unit : ℕ
-unit = (97 * 2 ^ 31) * (97 * 2 ^ 31)
 
 sent_by_all : (ports : ℕ) (gains : ℕ → Cpx) (grids : ℕ → ℕ → Cpx) (k : ℕ) → 1 ≤ ports → ((port : ℕ) → port < ports → AreAmplitudes (grids port)) → k < 72 →
     IsSent (ports * unit) (energy_below ports gains) (λ n. received_of ports gains (λ port. useful_at (grids port) n)) (received_of ports gains (λ port. grids port k)) k
@@ -96,57 +116,32 @@ sent_by_all (suc (suc m)) gains grids k some small l =
     more : (n u : ℕ) → n * u + u ≡ suc n * u
     more n u = omega arith
 
--- what sending gives a units at most, and errors b, where n are the squares of the gains
-record AreUnits (ports share most a b : ℕ) : Type 0 where
-  some : 1 ≤ ports
-  sending : (n s : ℕ) → s ≤ ports * ((97 * 2 ^ 31) * (97 * 2 ^ 31)) * n → s ≤ (a * 2 ^ 31) * (a * 2 ^ 31) * n
-  errors : (eps n : ℕ) → share * (eps * eps) ≤ n → AreErrors eps b n
-  whole : (n s : ℕ) → s ≤ 16 * ((a + (b + 1)) * (a + (b + 1))) * n → s ≤ most * most * n
+by_all : (ports quota most a b : ℕ) → AreUnits ports quota most a b → AmplitudesAreSeen ports quota most
+by_all ports quota most a b units gains grids samples k small received l = record {
+  off = is_seen ports quota most a b units (energy_below ports gains) (λ n. received_of ports gains (λ port. useful_at (grids port) n)) samples (received_of ports gains (λ port. grids port k)) k
+      received.sounds (sent_by_all ports gains grids k units.some small l) received.quiet;
+}
 
-amplitudes_are_seen : (ports share most a b : ℕ) → AreUnits ports share most a b → AmplitudesAreSeen ports share most
-unfolding unit
-amplitudes_are_seen ports share most a b units eps gains grids samples k small received l =
-    let n : ℕ = energy_below ports gains in
-    let sent : ℕ → Cpx = λ n. received_of ports gains (λ port. useful_at (grids port) n) in
-    let amplitude : Cpx = received_of ports gains (λ port. grids port k) in
-    record {
-      off = units.whole n (square (minus (seen_in samples k) (multiple 64 amplitude)))
-          (is_seen eps a b n sent samples amplitude k received.sounds
-          (units.sending n (square (sending_off sent amplitude k)) (sent_by_all ports gains grids k units.some small l).off) (units.errors eps n received.quiet) received.near);
-    }
-
-in_recording : (ports share most : ℕ) → AmplitudesAreSeen ports share most → AmplitudesAreSeenInRecording ports share most
+all_in_recording : (ports quota most : ℕ) → AmplitudesAreSeen ports quota most → AmplitudesAreSeenInRecording ports quota most
 unfolding seen
-in_recording ports share most are eps gains grids recording start k small received l = are eps gains grids (samples_from recording start) k small received l
+all_in_recording ports quota most are gains grids recording start k small received l = are gains grids (samples_from recording start) k small received l
 
 -- of two: 2 * 97^2 is below 138^2
-units_of_two : AreUnits 2 4 1024 138 91
-unfolding AreErrors
-units_of_two = record {
-  some = omega arith;
-  sending = λ n s h. omega (arith, h);
-  errors = λ eps n q s h. let k : 2 ^ 47 * (16385 * 16385) * (4 * (eps * eps)) ≤ 2 ^ 47 * (16385 * 16385) * n = mul-le-mul_left (2 ^ 47 * (16385 * 16385)) q in omega (arith, h, k);
-  whole = λ n s h. omega (arith, h);
-}
+units_of_two : AreUnits 2 400 1464 138 227
+units_of_two = record { some = omega arith; sending = λ n s h. omega (arith, h); errors = λ n s h. omega (arith, h); whole = λ n s h. omega (arith, h) }
 
-pub two_amplitudes_are_seen : TwoAmplitudesAreSeen
-two_amplitudes_are_seen = amplitudes_are_seen 2 4 1024 138 91 units_of_two
+pub two_amplitudes_are_seen : AmplitudesAreSeen 2 400 1464
+two_amplitudes_are_seen = by_all 2 400 1464 138 227 units_of_two
 
-pub two_amplitudes_are_seen_in_recording : TwoAmplitudesAreSeenInRecording
-two_amplitudes_are_seen_in_recording = in_recording 2 4 1024 two_amplitudes_are_seen
+pub two_amplitudes_are_seen_in_recording : AmplitudesAreSeenInRecording 2 400 1464
+two_amplitudes_are_seen_in_recording = all_in_recording 2 400 1464 two_amplitudes_are_seen
 
 -- of four: 4 * 97^2 is 194^2
-units_of_four : AreUnits 4 64 872 194 23
-unfolding AreErrors
-units_of_four = record {
-  some = omega arith;
-  sending = λ n s h. omega (arith, h);
-  errors = λ eps n q s h. let k : 2 ^ 43 * (16385 * 16385) * (64 * (eps * eps)) ≤ 2 ^ 43 * (16385 * 16385) * n = mul-le-mul_left (2 ^ 43 * (16385 * 16385)) q in omega (arith, h, k);
-  whole = λ n s h. omega (arith, h);
-}
+units_of_four : AreUnits 4 7 900 194 30
+units_of_four = record { some = omega arith; sending = λ n s h. omega (arith, h); errors = λ n s h. omega (arith, h); whole = λ n s h. omega (arith, h) }
 
-pub four_amplitudes_are_seen : FourAmplitudesAreSeen
-four_amplitudes_are_seen = amplitudes_are_seen 4 64 872 194 23 units_of_four
+pub four_amplitudes_are_seen : AmplitudesAreSeen 4 7 900
+four_amplitudes_are_seen = by_all 4 7 900 194 30 units_of_four
 
-pub four_amplitudes_are_seen_in_recording : FourAmplitudesAreSeenInRecording
-four_amplitudes_are_seen_in_recording = in_recording 4 64 872 four_amplitudes_are_seen
+pub four_amplitudes_are_seen_in_recording : AmplitudesAreSeenInRecording 4 7 900
+four_amplitudes_are_seen_in_recording = all_in_recording 4 7 900 four_amplitudes_are_seen

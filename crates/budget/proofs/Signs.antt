@@ -5,7 +5,7 @@ use Rattle.std.proofs.lemmas.Int.{ints}
 use Rattle.std.proofs.lemmas.Nat.{mul-le}
 use Rattle.std.proofs.lemmas.Bool.{cases_lt}
 use Rattle.std.proofs.lemmas.Bool.Decides.{nat_tests}
-use Rattle.std.proofs.Math.Nat.{div-lt_iff_lt-mul}
+use Rattle.std.proofs.Math.Nat.{div-lt_iff_lt-mul, le_of_mul-le-mul_left}
 use Rattle.finite.proofs.Ring.{var, lit, same}
 use Rattle.finite.proofs.Ring as ring
 use Rattle.cs_num.specs.Rounding.{clamped}
@@ -83,8 +83,26 @@ scaled s e f m n h = let k = mul-le (s * e + 6 * f) n (540 * m) n h (omega arith
 outweighs : (v : ℤ) (a b c d : ℕ) → a ≤ b → b + 6 * d ≤ 540 * c → nat_abs (v -ℤ pos c *ℤ pos 90) ≤ d → pos a ≤ℤ (pos 6 *ℤ v)
 outweighs v a b c d l h near = omega (arith, ints)
 
+-- so many times
+unscaled : (s a : ℕ) (v : ℤ) → 1 ≤ s → pos (s * a) ≤ℤ (pos s *ℤ v) → pos a ≤ℤ v
+unscaled s a (pos b) some h = let k : s * a ≤ s * b = omega (arith, ints) in let l : a ≤ b = le_of_mul-le-mul_left k some in omega (arith, ints, l)
+unscaled s a (negsuc b) some h = absurd (below s a b some h)
+  where
+    below : (s a b : ℕ) → 1 ≤ s → pos (s * a) ≤ℤ (pos s *ℤ negsuc b) → ⊥
+    below s a b some h = omega (arith, ints)
+
 pub near_component_speaks : NearComponentSpeaks
-near_component_speaks size main off most some below enough unit energy bit c heard few near =
+near_component_speaks size main off most some below enough scale unit energy bit c times heard few near =
     speaks size some below energy bit c heard
-    (outweighs (sign bit *ℤ c) (size * energy) (size * (most * unit)) (main * unit) (off * unit) (mul-le size energy size (most * unit) (omega arith) few)
-    (scaled size most off main unit enough) (turned_component bit c (main * unit) (off * unit) near))
+    (unscaled scale (size * energy) (pos 6 *ℤ (sign bit *ℤ c)) times
+    (subst (λ v. pos (scale * (size * energy)) ≤ℤ v) (turned_out (pos scale) (sign bit) c)
+    (outweighs (sign bit *ℤ (pos scale *ℤ c)) (scale * (size * energy)) (size * (most * unit)) (main * unit) (off * unit)
+    (let k = mul-le size (scale * energy) size (most * unit) (omega arith) few in omega (arith, k))
+    (scaled size most off main unit enough) (turned_component bit (pos scale *ℤ c) (main * unit) (off * unit) near))))
+  where
+    turned_out : (n s c : ℤ) → pos 6 *ℤ (s *ℤ (n *ℤ c)) ≡ n *ℤ (pos 6 *ℤ (s *ℤ c))
+    turned_out n s c =
+        let a = var n in
+        let b = var s in
+        let d = var c in
+        same (ring.times (lit 6) (ring.times b (ring.times a d))) (ring.times a (ring.times (lit 6) (ring.times b d))) (omega arith)

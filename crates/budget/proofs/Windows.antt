@@ -20,7 +20,7 @@ pub record Peaks (c e w : ℕ) : Type 0 where
   pub some : 0 < e
   pub high : 999 * (e * w) ≤ 1000 * c
 
-peaks : (n w q e c : ℕ) → 1 ≤ n → 1990000 ≤ w → q ≤ 1024 * n → 2 * (n * w) ≤ 3 * e + 6 * q → e * w ≤ c + w * q → Peaks c e w
+peaks : (n w q e c : ℕ) → 1 ≤ n → 1990000 ≤ w → q ≤ 1800 * n → 30 * (n * w) ≤ 31 * e + 930 * q → e * w ≤ c + w * q → Peaks c e w
 peaks n w q e c some power small low lacks =
     let nw : n * 1990000 ≤ n * w = mul-le-mul_left n power in
     let room : 1000 * q ≤ e = omega (arith, nw, low, small) in
@@ -28,33 +28,33 @@ peaks n w q e c some power small low lacks =
     record { some = omega (arith, nw, low, small, some); high = omega (arith, all, lacks) }
 
 -- its correlation is nearly the product of the energies
-pub true_place : (g : Cpx) (p e : ℕ → Cpx) → 1 ≤ square g → 1990000 ≤ energy_below 128 p → energy_below 128 e ≤ 1024 * square g →
+pub true_place : (g : Cpx) (p e : ℕ → Cpx) → 1 ≤ square g → 1990000 ≤ energy_below 128 p → energy_below 128 e ≤ 1800 * square g →
     Peaks (square (correlation_below 128 (with_errors g p e) p)) (energy_below 128 (with_errors g p e)) (energy_below 128 p)
 true_place g p e some power small =
     peaks (square g) (energy_below 128 p) (energy_below 128 e) (energy_below 128 (with_errors g p e)) (square (correlation_below 128 (with_errors g p e) p)) some power small
-    (low (energy_below 128 (λ k. times g (p k))) (square g * energy_below 128 p) (energy_below 128 (with_errors g p e)) (energy_below 128 e) (energy_gain 128 g p) (energy_weighted_term 2 128 (λ k. times g (p k)) e))
+    (low (energy_below 128 (λ k. times g (p k))) (square g * energy_below 128 p) (energy_below 128 (with_errors g p e)) (energy_below 128 e) (energy_gain 128 g p) (energy_weighted_term 30 128 (λ k. times g (p k)) e))
     (gram_le 128 g p e)
   where
-    low : (t nw e q : ℕ) → t ≡ nw → 2 * t ≤ (2 + 1) * e + 2 * (2 + 1) * q → 2 * nw ≤ 3 * e + 6 * q
+    low : (t nw e q : ℕ) → t ≡ nw → 30 * t ≤ (30 + 1) * e + 30 * (30 + 1) * q → 30 * nw ≤ 31 * e + 930 * q
     low t nw e q same h = omega (arith, same, h)
 
 -- ---- a window beside it
 
 -- the known part X of the correlation, whose square is x: |A|^2 = a, where A is the correlation of the signals that overlap, k the
 -- energy of the known part, and `share` quarters are wanted
-known_part : (n a w kept k x share : ℕ) → 112640 ≤ 10 * kept → 44 * (11 * a + 112640 * w) ≤ 10 * (share * (10 * kept - 112640)) →
-    10 * x ≤ 11 * (n * a) + 110 * (1024 * n * w) → 10 * (n * kept) ≤ 11 * k + 110 * (1024 * n) → 4 * x ≤ share * k
+known_part : (n a w kept k x share : ℕ) → 198000 ≤ 10 * kept → 44 * (11 * a + 198000 * w) ≤ 10 * (share * (10 * kept - 198000)) →
+    10 * x ≤ 11 * (n * a) + 110 * (1800 * n * w) → 10 * (n * kept) ≤ 11 * k + 110 * (1800 * n) → 4 * x ≤ share * k
 known_part n a w kept k x share much small high low =
-    let left : ℕ = 10 * kept - 112640 in
-    let whole : left + 112640 ≡ 10 * kept = omega (arith, much) in
+    let left : ℕ = 10 * kept - 198000 in
+    let whole : left + 198000 ≡ 10 * kept = omega (arith, much) in
     let fits : n * left ≤ 11 * k = fewer n left kept k whole low in
-    let scaled : n * (44 * (11 * a + 112640 * w)) ≤ n * (10 * (share * left)) = mul-le-mul_left n small in
+    let scaled : n * (44 * (11 * a + 198000 * w)) ≤ n * (10 * (share * left)) = mul-le-mul_left n small in
     let room : share * (n * left) ≤ share * (11 * k) = mul-le-mul_left share fits in
     omega (arith, scaled, room, high)
   where
-    fewer : (n left kept k : ℕ) → left + 112640 ≡ 10 * kept → 10 * (n * kept) ≤ 11 * k + 110 * (1024 * n) → n * left ≤ 11 * k
+    fewer : (n left kept k : ℕ) → left + 198000 ≡ 10 * kept → 10 * (n * kept) ≤ 11 * k + 110 * (1800 * n) → n * left ≤ 11 * k
     fewer n left kept k whole low =
-        let all : n * (left + 112640) ≡ n * (10 * kept) = ap (λ (j : ℕ). n * j) whole in
+        let all : n * (left + 198000) ≡ n * (10 * kept) = ap (λ (j : ℕ). n * j) whole in
         omega (arith, all, low)
 
 -- the known part X, and a part Y of which nothing but its energy u is known
@@ -79,7 +79,7 @@ both_parts x y k u share edges rest p q =
 
 -- Of the 128 samples of a window, a unknown ones, m known ones of the signal p with errors e, and s unknown ones, correlated with q:
 -- f, g and h are q there.
-pub beside : (a m s : ℕ) (gain : Cpx) (x p e z f g h : ℕ → Cpx) (w share : ℕ) → energy_below m g ≤ w → energy_below m e ≤ 1024 * square gain →
+pub beside : (a m s : ℕ) (gain : Cpx) (x p e z f g h : ℕ → Cpx) (w share : ℕ) → energy_below m g ≤ w → energy_below m e ≤ 1800 * square gain →
     IsFaint share w (square (correlation_below m p g)) (energy_below m p) (energy_below a f + energy_below s h) →
     4 * square (plus (correlation_below m (with_errors gain p e) g) (plus (correlation_below a x f) (correlation_below s z h)))
     ≤ share * (energy_below m (with_errors gain p e) + (energy_below a x + energy_below s z))
@@ -104,12 +104,12 @@ beside a m s gain x p e z f g h w share part small faint =
     c = correlation_below m e g
 
     high : (n w t d c x ee pp : ℕ) → x ≡ square (plus b (correlation_below m e g)) → t ≡ n * d → c ≤ ee * pp → 10 * square (plus b (correlation_below m e g)) ≤ (10 + 1) * t + 10 * (10 + 1) * c →
-        ee ≤ 1024 * n → pp ≤ w → 10 * x ≤ 11 * (n * d) + 110 * (1024 * n * w)
+        ee ≤ 1800 * n → pp ≤ w → 10 * x ≤ 11 * (n * d) + 110 * (1800 * n * w)
     high n w t d c x ee pp same size bound all small part =
-        let k : ee * pp ≤ 1024 * n * w = mul-le-mul small part in
+        let k : ee * pp ≤ 1800 * n * w = mul-le-mul small part in
         omega (arith, same, size, bound, all, k)
 
-    low : (n kept t k ee : ℕ) → t ≡ n * kept → ee ≤ 1024 * n → 10 * t ≤ (10 + 1) * k + 10 * (10 + 1) * ee → 10 * (n * kept) ≤ 11 * k + 110 * (1024 * n)
+    low : (n kept t k ee : ℕ) → t ≡ n * kept → ee ≤ 1800 * n → 10 * t ≤ (10 + 1) * k + 10 * (10 + 1) * ee → 10 * (n * kept) ≤ 11 * k + 110 * (1800 * n)
     low n kept t k ee same small all = omega (arith, same, small, all)
 
 -- ---- the two compared

@@ -5,10 +5,12 @@ use Rattle.cs_num.specs.declared.Sample.{Sample}
 use Rattle.cs_num.specs.Complex.{IsWithin, plus, times, square, minus, multiple}
 use Rattle.cs_num.specs.Rounding.{rounded}
 use Rattle.cs_num.specs.Sums.{complex_sum_below}
+use Rattle.sizes.specs.Sizes.{energy_below}
 use Rattle.fold128.specs.Symbol.{useful_term, useful_at}
 use Rattle.fold128.specs.Spectrum.{spectrum_at}
 use Rattle.observe.specs.Seen.{seen}
-use Rattle.budget.specs.Received.{AreAmplitudes, AreSum, IsReceived, IsReceivedBy, samples_from, IsSeenAs, IsSeenBy}
+use Rattle.budget.specs.Received.{AreAmplitudes, in_parts, off_by, IsReceived, IsReceivedBy, samples_from}
+use Rattle.budget.specs.Received.{IsSeenAs, IsSeenBy}
 
 -- what is seen of samples at subcarrier k
 abbrev pub seen_in : (ℕ → Cpx) → ℕ → Cpx
@@ -58,90 +60,96 @@ SendingIsLinear =
     sending_off (λ n. plus (times gain (sent n)) (others n)) (plus (times gain amplitude) other) k
     ≡ plus (times gain (sending_off sent amplitude k)) (sending_off others other k)
 
--- 2^29 times the deviation of what is seen, from 64 times an amplitude, has three causes: what sending is off by, the
--- errors of the samples, and the rounding of what is seen
-pub record HasThreeCauses (eps : ℕ) (sent samples : ℕ → Cpx) (amplitude : Cpx) (k : ℕ) : Type 0 where
+-- 2^29 times the deviation of what is seen, in parts, from 64 times an amplitude, has three causes: what sending is off
+-- by, the errors of the samples, and the rounding of what is seen
+pub record HasThreeCauses (sent samples : ℕ → Cpx) (amplitude : Cpx) (k : ℕ) : Type 0 where
   pub errors : Cpx
   pub rounding : Cpx
-  pub whole : multiple (2 ^ 29) (minus (seen_in samples k) (multiple 64 amplitude))
+  pub whole : multiple (2 ^ 29) (minus (in_parts (seen_in samples k)) (multiple 64 amplitude))
       ≡ plus (sending_off sent amplitude k) (plus errors rounding)
-  pub errors_is : errors ≡ multiple (2 ^ 17) (spectrum_at (λ n. minus (samples n) (sent n)) k)
-  pub rounding_is : rounding ≡ multiple (2 ^ 17) (minus (multiple (2 ^ 12) (seen_in samples k)) (spectrum_at samples k))
-  pub errors_small : square errors ≤ 2 ^ 49 * (eps * eps) * (16385 * 16385)
-  pub rounding_small : square rounding ≤ 2 ^ 57
+  pub errors_is : errors ≡ multiple (2 ^ 17) (spectrum_at (off_by samples sent) k)
+  pub rounding_is : rounding ≡ multiple (2 ^ 31) (minus (multiple (2 ^ 12) (seen_in samples k)) (spectrum_at samples k))
+  pub errors_small : square errors ≤ 2 ^ 41 * energy_below 128 (off_by samples sent) * (16385 * 16385)
+  pub rounding_small : square rounding ≤ 2 ^ 85
 
--- the deviation of what is seen has three causes, whatever was sent, gains included, where each component of a sample
--- is off by at most eps
+-- the deviation of what is seen has three causes, whatever was sent, gains included
 abbrev pub DeviationHasThreeCauses : Type 0
-DeviationHasThreeCauses =
-    (eps : ℕ) (sent samples : ℕ → Cpx) (amplitude : Cpx) (k : ℕ) →
-    ((n : ℕ) → n < 128 → IsWithin eps (minus (samples n) (sent n))) →
-    HasThreeCauses eps sent samples amplitude k
+DeviationHasThreeCauses = (sent samples : ℕ → Cpx) (amplitude : Cpx) (k : ℕ) → HasThreeCauses sent samples amplitude k
 
 -- two numbers, each times a gain
 abbrev pub with_gains : Cpx → Cpx → Cpx → Cpx → Cpx
 with_gains gain other a b = plus (times gain a) (times other b)
 
--- 2^29 times the deviation of what is seen of two symbols, each with a gain, has four causes: the leakage of each, the
--- rounding of each one's samples, the errors of the samples, and the rounding of what is seen
-pub record HasFourCauses (eps : ℕ) (gain other : Cpx) (grid second_grid samples : ℕ → Cpx) (k : ℕ) : Type 0 where
+-- 2^29 times the deviation of what is seen, in parts, of two symbols, each with a gain, has four causes: the leakage of
+-- each, the rounding of each one's samples, the errors of the samples, and the rounding of what is seen
+pub record HasFourCauses (gain other : Cpx) (grid second_grid samples : ℕ → Cpx) (k : ℕ) : Type 0 where
   pub errors : Cpx
   pub rounding : Cpx
   pub whole : multiple (2 ^ 29)
-      (minus (seen_in samples k) (multiple 64 (with_gains gain other (grid k) (second_grid k))))
+      (minus (in_parts (seen_in samples k)) (multiple 64 (with_gains gain other (grid k) (second_grid k))))
       ≡ plus (plus (with_gains gain other (leakage grid k) (leakage second_grid k))
       (with_gains gain other (rounding_sent grid k) (rounding_sent second_grid k))) (plus errors rounding)
-  pub errors_small : square errors ≤ 2 ^ 49 * (eps * eps) * (16385 * 16385)
-  pub rounding_small : square rounding ≤ 2 ^ 57
+  pub errors_small : square errors ≤
+      2 ^ 41 * energy_below 128 (off_by samples (λ n. with_gains gain other (useful_at grid n) (useful_at second_grid n)))
+      * (16385 * 16385)
+  pub rounding_small : square rounding ≤ 2 ^ 85
 
--- the deviation of what is seen has four causes where each component of a sample is off by at most eps; one gain is the
--- case where the other is 0
+-- the deviation of what is seen has four causes; one gain is the case where the other is 0
 abbrev pub DeviationHasFourCauses : Type 0
 DeviationHasFourCauses =
-    (eps : ℕ) (gain other : Cpx) (grid second_grid samples : ℕ → Cpx) (k : ℕ) → k < 72 →
-    AreSum eps gain other grid second_grid samples → HasFourCauses eps gain other grid second_grid samples k
+    (gain other : Cpx) (grid second_grid samples : ℕ → Cpx) (k : ℕ) → k < 72 →
+    HasFourCauses gain other grid second_grid samples k
 
--- each amplitude is seen, with one gain and errors of at most twice its size
-abbrev pub AmplitudeIsSeen : Type 0
-AmplitudeIsSeen =
-    (eps : ℕ) (gain : Cpx) (grid samples : ℕ → Cpx) (k : ℕ) → AreAmplitudes grid →
-    IsReceived eps gain grid samples → k < 72 → IsSeenAs gain (grid k) (seen_in samples k)
+-- each amplitude is seen, with one gain, off by at most `most` times its size, where the energy of errors is at most
+-- `quota` times its square
+abbrev pub AmplitudeIsSeen : ℕ → ℕ → Type 0
+AmplitudeIsSeen quota most =
+    (gain : Cpx) (grid samples : ℕ → Cpx) (k : ℕ) → AreAmplitudes grid →
+    IsReceived quota gain grid samples → k < 72 → IsSeenAs most gain (grid k) (seen_in samples k)
 
 -- the amplitudes of so many ports are seen together, off by at most `most` times the root of the sum of the gains'
--- squares, where errors are as `share` says
+-- squares, where the energy of errors is at most `quota` times that sum
 abbrev pub AmplitudesAreSeen : ℕ → ℕ → ℕ → Type 0
-AmplitudesAreSeen ports share most =
-    (eps : ℕ) (gains : ℕ → Cpx) (grids : ℕ → ℕ → Cpx) (samples : ℕ → Cpx) (k : ℕ) →
+AmplitudesAreSeen ports quota most =
+    (gains : ℕ → Cpx) (grids : ℕ → ℕ → Cpx) (samples : ℕ → Cpx) (k : ℕ) →
     ((port : ℕ) → port < ports → AreAmplitudes (grids port)) →
-    IsReceivedBy ports share eps gains grids samples → k < 72 →
+    IsReceivedBy ports quota gains grids samples → k < 72 →
     IsSeenBy ports most gains (λ port. grids port k) (seen_in samples k)
 
--- the amplitudes of two ports are seen, off by at most 16 units where errors are at most half the root of the sum of
--- the gains' squares
-abbrev pub TwoAmplitudesAreSeen : Type 0
-TwoAmplitudesAreSeen = AmplitudesAreSeen 2 4 1024
-
--- the amplitudes of four ports are seen, off by less than 14 units where errors are at most an eighth of that root
-abbrev pub FourAmplitudesAreSeen : Type 0
-FourAmplitudesAreSeen = AmplitudesAreSeen 4 64 872
-
 -- each amplitude is seen in a recording, by what `observe` tells of a symbol at a place
-abbrev pub AmplitudeIsSeenInRecording : Type 0
-AmplitudeIsSeenInRecording =
-    (eps : ℕ) (gain : Cpx) (grid : ℕ → Cpx) (recording : List Sample) (start k : ℕ) → AreAmplitudes grid →
-    IsReceived eps gain grid (samples_from recording start) → k < 72 →
-    IsSeenAs gain (grid k) (seen recording start k)
+abbrev pub AmplitudeIsSeenInRecording : ℕ → ℕ → Type 0
+AmplitudeIsSeenInRecording quota most =
+    (gain : Cpx) (grid : ℕ → Cpx) (recording : List Sample) (start k : ℕ) → AreAmplitudes grid →
+    IsReceived quota gain grid (samples_from recording start) → k < 72 →
+    IsSeenAs most gain (grid k) (seen recording start k)
 
 -- the amplitudes of so many ports are seen together in a recording
 abbrev pub AmplitudesAreSeenInRecording : ℕ → ℕ → ℕ → Type 0
-AmplitudesAreSeenInRecording ports share most =
-    (eps : ℕ) (gains : ℕ → Cpx) (grids : ℕ → ℕ → Cpx) (recording : List Sample) (start k : ℕ) →
+AmplitudesAreSeenInRecording ports quota most =
+    (gains : ℕ → Cpx) (grids : ℕ → ℕ → Cpx) (recording : List Sample) (start k : ℕ) →
     ((port : ℕ) → port < ports → AreAmplitudes (grids port)) →
-    IsReceivedBy ports share eps gains grids (samples_from recording start) → k < 72 →
+    IsReceivedBy ports quota gains grids (samples_from recording start) → k < 72 →
     IsSeenBy ports most gains (λ port. grids port k) (seen recording start k)
 
-abbrev pub TwoAmplitudesAreSeenInRecording : Type 0
-TwoAmplitudesAreSeenInRecording = AmplitudesAreSeenInRecording 2 4 1024
+-- ---- gains that are whole, and errors by component
 
-abbrev pub FourAmplitudesAreSeenInRecording : Type 0
-FourAmplitudesAreSeenInRecording = AmplitudesAreSeenInRecording 4 64 872
+-- where each component of 128 samples is off by at most eps from values, the energy of what they are off by in parts is
+-- at most 2^36 times the square of eps
+abbrev pub ErrorsHaveEnergy : Type 0
+ErrorsHaveEnergy =
+    (eps : ℕ) (values samples : ℕ → Cpx) → ((n : ℕ) → n < 128 → IsWithin eps (minus (samples n) (values n))) →
+    energy_below 128 (off_by samples (λ n. in_parts (values n))) ≤ 2 ^ 36 * (eps * eps)
+
+-- where each component is off by at most eps from a useful part times a whole gain that is not 0, and eps is at most
+-- twice the gain's size, the useful part is received with a quota of 1024
+abbrev pub WholeGainIsReceived : Type 0
+WholeGainIsReceived =
+    (eps : ℕ) (gain : Cpx) (grid samples : ℕ → Cpx) → 1 ≤ square gain → eps * eps ≤ 4 * square gain →
+    ((n : ℕ) → n < 128 → IsWithin eps (minus (samples n) (times gain (useful_at grid n)))) →
+    IsReceived 1024 (in_parts gain) grid samples
+
+-- what is received with a quota is received with each greater one
+abbrev pub IsReceivedByMore : Type 0
+IsReceivedByMore =
+    (quota more : ℕ) (gain : Cpx) (grid samples : ℕ → Cpx) → quota ≤ more → IsReceived quota gain grid samples →
+    IsReceived more gain grid samples

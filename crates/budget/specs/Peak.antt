@@ -8,13 +8,12 @@ use Rattle.pss_search.specs.Correlation.{pss_grid, peak, energy, wave_power}
 use Rattle.pss_search.specs.Hits.{IsAbove, IsHit, first_place, last_place, found, hits_of}
 use Rattle.budget.specs.Received.{IsReceived, samples_from}
 
--- the 128 samples from t on are the primary signal of n2 times a gain, with errors; what stands around them may be
--- anything
+-- the 128 samples from t on are the primary signal of n2 times a gain, with errors of at most 1800 times its square;
+-- what stands around them may be anything
 pub record IsPrimaryAt (recording : List Sample) (t n2 : ℕ) : Type 0 where
-  pub eps : ℕ
   pub gain : Cpx
   pub root : n2 ≤ 2
-  pub received : IsReceived eps gain (pss_grid n2) (samples_from recording t)
+  pub received : IsReceived 1800 gain (pss_grid n2) (samples_from recording t)
 
 -- the place t has energy, and its peak is at least 999 thousandths of its energy times the signal's power; its metric
 -- is greater than that of each place with energy at distance 1 to 9

@@ -1,12 +1,12 @@
 -- The score of a clean cell: that of the group and the half that were sent is the greatest. (own; the signals are those
 -- of TS 36.211 section 6.11)
-use Rattle.std.specs.Prelude.{◌≡◌, ℕ, ◌-◌, ◌<◌, ◌≤◌, List, pos, ◌*ℤ◌, ◌<ℤ◌}
+use Rattle.std.specs.Prelude.{◌≡◌, ℕ, ◌-◌, ◌<◌, ◌≤◌, List, pos, ◌*ℤ◌, ◌<ℤ◌, ◌^◌}
 use Rattle.cs_num.specs.declared.Cpx.{Cpx}
 use Rattle.cs_num.specs.declared.Sample.{Sample}
 use Rattle.cs_num.specs.Complex.{square}
 use Rattle.lte_types.specs.declared.frame.Half.{Half}
 use Rattle.lte_types.specs.declared.numerology.Prefix.{Prefix}
-use Rattle.lte_types.specs.Numerology.{normal, symbol_step}
+use Rattle.lte_types.specs.Numerology.{symbol_step}
 use Rattle.sync_seq.specs.Primary.{pss_at}
 use Rattle.sync_seq.specs.Middle.{in_middle, middle}
 use Rattle.sync_seq.specs.Secondary.{sss_amplitude, sss_at}
@@ -24,9 +24,9 @@ sss_grid n1 n2 half = in_middle (sss_amplitude n1 n2 half)
 pub record AreSeen (gain : Cpx) (n1 n2 : ℕ) (half : Half) (pss_seen sss_seen : ℕ → Cpx) : Type 0 where
   pub group : n1 ≤ 167
   pub root : n2 ≤ 2
-  pub sounds : 1 ≤ square gain
-  pub primary : (n : ℕ) → n < 62 → IsSeenAs gain (pss_at n2 n) (pss_seen (middle n))
-  pub secondary : (n : ℕ) → n < 62 → IsSeenAs gain (sss_amplitude n1 n2 half n) (sss_seen (middle n))
+  pub sounds : 2 ^ 28 ≤ square gain
+  pub primary : (n : ℕ) → n < 62 → IsSeenAs 2316 gain (pss_at n2 n) (pss_seen (middle n))
+  pub secondary : (n : ℕ) → n < 62 → IsSeenAs 2316 gain (sss_amplitude n1 n2 half n) (sss_seen (middle n))
 
 -- each term of the score of what was sent is above 0
 abbrev pub TermsArePositive : Type 0
@@ -53,15 +53,9 @@ SentPairIsBest =
 pub record AreSignals (prefix : Prefix) (recording : List Sample) (t n1 n2 : ℕ) (half : Half) : Type 0 where
   pub group : n1 ≤ 167
   pub root : n2 ≤ 2
-  pub eps : ℕ
   pub gain : Cpx
-  pub primary : IsReceived eps gain (pss_grid n2) (samples_from recording t)
-  pub secondary : IsReceived eps gain (sss_grid n1 n2 half) (samples_from recording (t - symbol_step prefix))
-
--- the primary signal of a cell is received from t on in a recording, and the secondary one from one symbol of the
--- normal prefix before it
-abbrev pub AreSynchronisation : List Sample → ℕ → ℕ → ℕ → Half → Type 0
-AreSynchronisation recording t n1 n2 half = AreSignals normal recording t n1 n2 half
+  pub primary : IsReceived 1800 gain (pss_grid n2) (samples_from recording t)
+  pub secondary : IsReceived 1800 gain (sss_grid n1 n2 half) (samples_from recording (t - symbol_step prefix))
 
 -- the group and the half that were sent are what is identified by a hit at the primary signal
 abbrev pub SentPairIsIdentified : Type 0

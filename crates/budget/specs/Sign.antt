@@ -15,10 +15,10 @@ abbrev pub LargeComponentSpeaks : Type 0
 LargeComponentSpeaks = (size energy : ℕ) (bit : Bool) (c : ℤ) → 1 ≤ size → size ≤ 127 → 1 ≤ energy →
     pos (size * energy) ≤ℤ (pos 6 *ℤ (sign bit *ℤ c)) → Supports size bit (soft_value c energy)
 
--- a value speaks for a bit where the component is a multiple of that of the bit, in any unit, up to a deviation that
--- leaves enough: of six times 90 times `main` units, six times `off` taken away, at least the size times `most`,
--- where the energy has at most `most` units
+-- a value speaks for a bit where the component, so many times, is a multiple of that of the bit, in any unit, up to a
+-- deviation that leaves enough: of six times 90 times `main` units, six times `off` taken away, at least the size times
+-- `most`, where the energy, as many times, has at most `most` units
 abbrev pub NearComponentSpeaks : Type 0
 NearComponentSpeaks = (size main off most : ℕ) → 1 ≤ size → size ≤ 127 → size * most + 6 * off ≤ 540 * main →
-    (unit energy : ℕ) (bit : Bool) (c : ℤ) → 1 ≤ energy → energy ≤ most * unit →
-    nat_abs (c -ℤ pos (main * unit) *ℤ component bit) ≤ off * unit → Supports size bit (soft_value c energy)
+    (scale unit energy : ℕ) (bit : Bool) (c : ℤ) → 1 ≤ scale → 1 ≤ energy → scale * energy ≤ most * unit →
+    nat_abs (pos scale *ℤ c -ℤ pos (main * unit) *ℤ component bit) ≤ off * unit → Supports size bit (soft_value c energy)

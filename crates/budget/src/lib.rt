@@ -8,9 +8,11 @@ mod peak;
 mod score;
 mod sign;
 mod table;
+mod whole;
 
 pub use amplitude::seen_amplitude_is_near;
 pub use peak::clean_primary_is_a_hit;
 pub use score::sent_pair_is_best;
 pub use sign::value_has_the_sign_of_the_bit;
 pub use table::table_is_nearly_multiplicative;
+pub use whole::whole_gain_is_received;

@@ -10,6 +10,7 @@ use Rattle.cs_num.proofs.Complex.{within_more}
 use Rattle.cs_num.specs.Rounding.{nearest_sample}
 use Rattle.cs_num.proofs.Samples.{nearest_sample-kept}
 use Rattle.sizes.proofs.Naturals.{root-le}
+use Rattle.fold128.specs.Symbol.{useful_at}
 use Rattle.lte_types.specs.declared.carrier.Carrier.TheVariants.{OnePort}
 use Rattle.lte_types.specs.Numerology.{primary_start}
 use Rattle.lte_types.specs.declared.frame.Half.TheVariants.{Zero}
@@ -20,12 +21,12 @@ use Rattle.cell_plan.specs.declared.cell.CellPlan.{CellPlan}
 use Rattle.cell_tx.specs.Grid.{element}
 use Rattle.cell_tx.specs.Sent.{Elements, sent}
 use Rattle.cell_tx.specs.Clean.{IsClean}
-use Rattle.budget.specs.Received.{IsReceived, samples_from}
+use Rattle.budget.specs.Received.{samples_from}
 use Rattle.budget.proofs.PeakSums.{wave_is_sharp}
 use Rattle.clean_air.specs.Load.{IsLoaded}
 use Rattle.clean_air.proofs.Carrying.{clean_is_loaded}
 use Rattle.clean_air.proofs.SentSymbols.{IsTruePlace}
-use Rattle.clean_air.proofs.Signals.{primary_received}
+use Rattle.clean_air.proofs.Signals.{primary_is}
 use Rattle.cell_plan.specs.Pair.{gain_of}
 use Rattle.cancel.specs.declared.subtracted.Subtracted.{Subtracted}
 use Rattle.cancel.specs.Gain.{IsCandidate, IsBest}
@@ -40,8 +41,12 @@ true_place : (offset : ℕ) → offset < 19200 → IsTruePlace offset (start_of 
 true_place offset within = record { frame = (start_of offset + offset) / 19200; place = omega (arith, within) }
 
 module _ (recording : List Sample) (plan : CellPlan) (grid : Elements) (sfn offset : ℕ) (gain : Cpx) (eps : ℕ) (clean : IsLoaded recording plan grid sfn offset gain eps) (long : 57600 ≤ length recording) where
-  primary : IsReceived eps gain (pss_grid (plan.identity % 3)) (samples_from recording (start_of offset + primary_start Zero))
-  primary = primary_received OnePort recording plan (λ port. grid) sfn offset (gain ∷ []) eps (start_of offset + primary_start Zero) clean (omega (arith, long)) Zero (true_place offset clean.within)
+  -- the samples of the primary signal
+  primary_near : (n : ℕ) → n < 128 → IsWithin eps (minus (samples_from recording (start_of offset + primary_start Zero) n) (times gain (useful_at (pss_grid (plan.identity % 3)) n)))
+  primary_near n l =
+      subst (λ (z : Cpx). IsWithin eps (minus (samples_from recording (start_of offset + primary_start Zero) n) z))
+      (primary_is OnePort plan (λ port. grid) clean.carries sfn offset (gain ∷ []) (start_of offset + primary_start Zero) Zero (true_place offset clean.within) n l)
+      (clean.near (start_of offset + primary_start Zero + n) (omega (arith, long, l)))
 
   seen : IsGainSeen eps gain (samples_from recording (start_of offset + primary_start Zero)) (wave (plan.identity % 3))
   unfolding wave
@@ -49,7 +54,7 @@ module _ (recording : List Sample) (plan : CellPlan) (grid : Elements) (sfn offs
     size = clean.gains_are;
     quiet = clean.bound;
     power = (wave_is_sharp (plan.identity % 3) (omega arith)).power;
-    near = λ n l. primary.near n l;
+    near = primary_near;
   }
 
   candidate : IsCandidate (estimate_at recording plan (start_of offset)) gain

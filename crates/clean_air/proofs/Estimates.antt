@@ -38,11 +38,11 @@ channel-near t n pattern gain slot k pilots =
 
 -- ---- with one gain alone
 
-pub clean_pilots : (pattern : Pattern) (gain : Cpx) (slot : SeenSlot) → ArePatternSeen pattern gain slot → ArePilots 1920 (square gain) pattern gain slot
-clean_pilots pattern gain slot seen = record {
+pub clean_pilots : (most : ℕ) (pattern : Pattern) (gain : Cpx) (slot : SeenSlot) → ArePatternSeen most pattern gain slot → ArePilots most (square gain) pattern gain slot
+clean_pilots most pattern gain slot seen = record {
   each = λ i l. record {
     full = sent-size pattern slot.identity slot.number i;
-    seen = deviation-sized gain (pattern_sent pattern slot.identity slot.number i) (pattern_seen pattern slot i) (seen.pilot i l);
+    seen = deviation-sized most gain (pattern_sent pattern slot.identity slot.number i) (pattern_seen pattern slot i) (seen.pilot i l);
   };
 }
 
@@ -57,13 +57,14 @@ in_gain n gain c t z near = record {
     wider : (s : ℕ) → s ≤ t * t * (16200 * n) → s ≤ 128 * t * (128 * t) * n
     wider s h = omega (arith, h)
 
-pub pilot-near : (pattern : Pattern) (gain : Cpx) (slot : SeenSlot) (i : ℕ) → i < 24 → ArePatternSeen pattern gain slot → IsNear (square gain) gain 1036800 245760 (pattern_pilot pattern slot i)
+pub pilot-near : (most : ℕ) (pattern : Pattern) (gain : Cpx) (slot : SeenSlot) (i : ℕ) → i < 24 → ArePatternSeen most pattern gain slot →
+    IsNear (square gain) gain 1036800 (128 * most) (pattern_pilot pattern slot i)
 unfolding pattern_pilot
-pilot-near pattern gain slot i l seen =
-    in_gain (square gain) gain 1036800 1920 (pattern_pilot pattern slot i)
-    (turned_pilot-near 1920 (square gain) gain (pattern_sent pattern slot.identity slot.number i) (pattern_seen pattern slot i) ((clean_pilots pattern gain slot seen).each i l))
+pilot-near most pattern gain slot i l seen =
+    in_gain (square gain) gain 1036800 most (pattern_pilot pattern slot i)
+    (turned_pilot-near most (square gain) gain (pattern_sent pattern slot.identity slot.number i) (pattern_seen pattern slot i) ((clean_pilots most pattern gain slot seen).each i l))
 
-pub clean_channel-near : (pattern : Pattern) (gain : Cpx) (slot : SeenSlot) (k : ℕ) → ArePatternSeen pattern gain slot →
-    IsNear (square gain) gain 3110400 737280 (pattern_channel pattern slot k)
-clean_channel-near pattern gain slot k seen =
-    in_gain (square gain) gain 3110400 5760 (pattern_channel pattern slot k) (channel-near 1920 (square gain) pattern gain slot k (clean_pilots pattern gain slot seen))
+pub clean_channel-near : (most : ℕ) (pattern : Pattern) (gain : Cpx) (slot : SeenSlot) (k : ℕ) → ArePatternSeen most pattern gain slot →
+    IsNear (square gain) gain 3110400 (128 * (3 * most)) (pattern_channel pattern slot k)
+clean_channel-near most pattern gain slot k seen =
+    in_gain (square gain) gain 3110400 (3 * most) (pattern_channel pattern slot k) (channel-near most (square gain) pattern gain slot k (clean_pilots most pattern gain slot seen))

@@ -1,6 +1,6 @@
 -- A list holds each cell that a recording shows to its receiver: whose signals stand at their places, and whose first frame tells
 -- a master block of its number, and its system information.
-use Rattle.std.proofs.Common.{◌≡◌, ℕ, ◌+◌, ◌*◌, ◌/◌, ◌%◌, ◌<◌, ◌≤◌, inl, inr, arith, refl, ap, sym, subst, ◌∙◌, append-nil, Bool, List, length, Ok, nat_eq, nat_le, true}
+use Rattle.std.proofs.Common.{◌≡◌, ℕ, ◌*◌, ◌/◌, ◌%◌, ◌<◌, ◌≤◌, inl, inr, arith, refl, ap, sym, subst, ◌∙◌, append-nil, Bool, List, length, map, Ok, nat_eq, nat_le, true}
 use Rattle.std.specs.Prelude.{◌&&◌, Result}
 use Rattle.std.specs.List.{Contains}
 use Rattle.std.proofs.lemmas.Bool.{cases_lt}
@@ -32,7 +32,6 @@ use Rattle.sss_detect.specs.Identity.{prefix_identity}
 use Rattle.grid_map.specs.Scrambling.{pbch_c_init}
 use Rattle.pbch.specs.declared.master.Master.{Master}
 use Rattle.pbch.specs.Values.{summed_values}
-use Rattle.explain.specs.Frame.{IsWhole}
 use Rattle.explain.specs.Receiver.{Receiver, Subframes, hits_by, sums_by}
 use Rattle.explain.specs.Entries.{place_of, frames_of, master_of, epoch, distance, is_same_cell, IsMasterFor, IsEntryFor, IsListFor}
 use Rattle.explain.specs.System.{even_frame, FrameAnswers, IsSystemWith, IsSystemFor}
@@ -42,20 +41,22 @@ use Rattle.explain.specs.Laws.{IsEntryOfSome}
 use Rattle.explain.proofs.Entries.{same_entry}
 use Rattle.explain.proofs.FirstEntries.{one_told_by}
 use Rattle.explain.proofs.Late.{are_taken}
-use Rattle.explain.proofs.Information.{first_tried, even_number, told_at_first, one_system}
+use Rattle.explain.proofs.Information.{told_at_first, one_system}
 use Rattle.explain.proofs.Listed.{sound_of, complete_of}
 use Rattle.cell_tx.specs.declared.antenna.Port.{Port}
 use Rattle.cell_plan.specs.declared.cell.CellPlan.{CellPlan}
 use Rattle.cell_tx.specs.Load.{sent_element}
 use Rattle.cell_plan.specs.Plan.{IsSendableBy}
 use Rattle.cell_tx.specs.Sent.{Elements}
+use Rattle.budget.specs.Received.{in_parts}
 use Rattle.budget.proofs.Peaks.{primary_is_listed, only_hit_near}
 use Rattle.budget.proofs.Scores.{sent_pair_is_identified}
 use Rattle.clean_air.specs.Broadcast.{TellsFreely}
 use Rattle.clean_air.specs.Carried.{SpeakOfWord}
-use Rattle.clean_air.specs.Clean.{told_of, IsKnownPlan, IsKnownBy, HoldsCellBy, IsListBy, HoldsCells}
-use Rattle.clean_air.specs.Load.{IsLoadedBy}
+use Rattle.clean_air.specs.Clean.{told_of, IsKnownPlan, IsKnownBy, HoldsCellBy, HoldsFaithfulBy, HoldsBy, HoldsCleanBy, IsListBy, HoldsCells}
+use Rattle.clean_air.specs.Faithful.{IsFaithfulBy}
 use Rattle.clean_air.proofs.Carrying.{sent_elements_carry}
+use Rattle.clean_air.proofs.LoadedErrors.{loaded_is_faithful}
 use Rattle.clean_air.proofs.Masters.{sent_word_is_told}
 use Rattle.clean_air.proofs.SentBlock.{IsBlockOf}
 use Rattle.clean_air.proofs.SentSymbols.{IsTruePlace, first_frame}
@@ -88,25 +89,22 @@ plan_known TwoPorts plan known = record { identity = known.identity; spare = kno
 plan_known LongPrefix plan known = known
 plan_known FourPorts plan known = known
 
--- a recording shows each cell of which it is clean
+-- a recording shows each cell to which it is faithful
 abbrev pub ShowsCells : Receiver → Type 0
 ShowsCells receiver =
-    (recording : List Sample) (plan : CellPlan) (grids : Port → Elements) (sfn offset : ℕ) (gains : List Cpx) (eps : ℕ) → 57600 ≤ length recording → (known : IsKnownBy receiver.carrier plan) →
-    IsLoadedBy receiver.carrier recording plan grids sfn offset gains eps →
+    (recording : List Sample) (plan : CellPlan) (grids : Port → Elements) (sfn offset : ℕ) (gains : List Cpx) → 57600 ≤ length recording → (known : IsKnownBy receiver.carrier plan) →
+    IsFaithfulBy receiver.carrier recording plan grids sfn offset gains →
     IsShown receiver recording plan offset (number_at_start sfn offset) (plan_known receiver.carrier plan known).spare
 
 -- the first whole frame has a number of 10 bits
 pub number_fits : (sfn offset : ℕ) → sfn ≤ 1023 → offset < 19200 → number_at_start sfn offset ≤ 1023
 number_fits sfn offset known within = let e = (first_frame sfn offset known within).number in omega (arith, e)
 
--- where each frame of even number answers with the same fields by values of subframe 5, these are what is told
+-- where the first frame of even number answers with fields by values of subframe 5, these are what is told
 pub told_by_frames : (carrier : Carrier) (values : Subframes) (recording : List Sample) (place : Place) (number : ℕ) (mib : Mib) (fields : Sib1) → 57600 ≤ length recording →
-    place.start < 19200 → mib.bandwidth ≡ N6 →
-    ((j : ℕ) → IsWhole recording place.start j → (number + j) % 1024 % 2 ≡ 0 → FrameAnswers values recording place mib j (Ok fields)) →
+    place.start < 19200 → mib.bandwidth ≡ N6 → FrameAnswers values recording place mib (even_frame number 0) (Ok fields) →
     IsSystemWith carrier (Ok values) recording place number (ports_of carrier) mib (Ok fields)
-told_by_frames carrier values recording place number mib fields long early six answers =
-    told_at_first carrier values recording place number mib fields long early six
-    (answers (even_frame number 0) (first_tried recording place.start number long early).whole (even_number number 0))
+told_by_frames = told_at_first
 
 -- what it says of two entries that they are of one cell
 record IsOneCell (m n gap : ℕ) : Type 0 where
@@ -126,8 +124,8 @@ step_fits TwoPorts = omega arith
 step_fits FourPorts = omega arith
 step_fits LongPrefix = omega arith
 
-module _ (receiver : Receiver) (recording : List Sample) (plan : CellPlan) (grids : Port → Elements) (sfn offset : ℕ) (gains : List Cpx) (eps : ℕ) (long : 57600 ≤ length recording) (known : IsKnownPlan plan)
-    (clean : IsLoadedBy receiver.carrier recording plan grids sfn offset gains eps) (shown : IsShown receiver recording plan offset (number_at_start sfn offset) known.spare) where
+module _ (receiver : Receiver) (recording : List Sample) (plan : CellPlan) (grids : Port → Elements) (sfn offset : ℕ) (gains : List Cpx) (long : 57600 ≤ length recording) (known : IsKnownPlan plan)
+    (faithful : IsFaithfulBy receiver.carrier recording plan grids sfn offset gains) (shown : IsShown receiver recording plan offset (number_at_start sfn offset) known.spare) where
   abbrev identity : ℕ
   identity = plan.identity
 
@@ -157,7 +155,7 @@ module _ (receiver : Receiver) (recording : List Sample) (plan : CellPlan) (grid
   IsOfSome entry = IsEntryOfSome (IsEntryFor receiver recording) (hits_by receiver.carrier recording) entry
 
   fits : number ≤ 1023
-  fits = number_fits sfn offset clean.number clean.within
+  fits = number_fits sfn offset faithful.number faithful.within
 
   -- it tells the word, and so this block
   word_told : TellsFreely (sums_by receiver recording place (frames_from 1 0 (number % 4))) shown.word count
@@ -204,20 +202,21 @@ module _ (receiver : Receiver) (recording : List Sample) (plan : CellPlan) (grid
   -- it is one of a listed hit
   is_entry : IsOfSome sent_entry
   is_entry =
-      let h = true_hit offset clean.within in
-      let inside : h.t + 128 ≤ length recording = omega (arith, long, h.is_hit.high) in
+      let h = true_hit offset faithful.within in
       let hit : Hit = found recording h.t (identity % 3) in
       let low = h.is_hit.low in
+      let high = h.is_hit.high in
       let room : symbol_step prefix ≤ h.t = (let step = step_fits receiver.carrier in omega (arith, step, low)) in
+      let primary = primary_at receiver.carrier recording plan grids sfn offset gains faithful h.t h.half h.is_hit.is (omega (arith, room)) (omega (arith, high)) in
       let pair : prefix_identity prefix recording hit ≡ (identity / 3, h.half) = sent_pair_is_identified prefix recording hit (identity / 3) h.half
-      (signals_at receiver.carrier recording plan grids sfn offset gains eps h.t clean inside h.half h.is_hit.is room known.identity) in
+      (signals_at receiver.carrier recording plan grids sfn offset gains faithful h.t h.half h.is_hit.is low high known.identity) in
       let cell : cell_of (identity / 3) (identity % 3) ≡ identity = omega arith in
       record {
         hit = hit;
-        listed = (are_taken receiver.carrier recording hit).1 (primary_is_listed recording h.t (identity % 3) (primary_at receiver.carrier recording plan grids sfn offset gains eps h.t clean inside h.half h.is_hit.is) (omega (arith, low)) h.is_hit.high, room);
+        listed = (are_taken receiver.carrier recording hit).1 (primary_is_listed recording h.t (identity % 3) primary (omega (arith, low)) high, room);
         is_of = record {
           id = sym (ap (λ (p : ℕ × Half). cell_of p.0 (identity % 3)) pair ∙ cell);
-          start = sym (ap (λ (p : ℕ × Half). start_of h.t p.1) pair ∙ true_start offset h.t h.half clean.within h.is_hit.is);
+          start = sym (ap (λ (p : ℕ × Half). start_of h.t p.1) pair ∙ true_start offset h.t h.half faithful.within h.is_hit.is);
           period = omega arith;
           frames = record {
             inside = record { some = omega arith; few = omega arith; known = omega arith; whole = λ m below. omega (arith, long, below) };
@@ -235,12 +234,13 @@ module _ (receiver : Receiver) (recording : List Sample) (plan : CellPlan) (grid
   start_is other is id near =
       let hit = is.hit in
       let half = (prefix_identity prefix recording hit).1 in
-      let right = (list_is_right recording hit).0 ((are_taken receiver.carrier recording hit).0 is.listed).0 in
-      let place = near_true offset hit.t half clean.within right.is_hit.from_first (subst (λ a. AreNear a (start_after offset)) is.is_of.start near) in
-      let inside : place.u + 128 ≤ length recording = omega (arith, long, place.above, right.is_hit.to_last) in
-      let primary = primary_at receiver.carrier recording plan grids sfn offset gains eps place.u clean inside half place.is in
+      let taken = (are_taken receiver.carrier recording hit).0 is.listed in
+      let room = taken.1 in
+      let right = (list_is_right recording hit).0 taken.0 in
+      let place = near_true offset hit.t half faithful.within right.is_hit.from_first (subst (λ a. AreNear a (start_after offset)) is.is_of.start near) in
+      let primary = primary_at receiver.carrier recording plan grids sfn offset gains faithful place.u half place.is (omega (arith, room, place.below)) (omega (arith, place.above, right.is_hit.to_last)) in
       let same = (only_hit_near recording place.u hit.t (identity % 3) hit.n2 primary (omega (arith, right.root)) place.below place.above right.is_hit).0 in
-      is.is_of.start ∙ true_start offset hit.t half clean.within (subst (λ t. IsTruePlace offset t half) (sym same) place.is)
+      is.is_of.start ∙ true_start offset hit.t half faithful.within (subst (λ t. IsTruePlace offset t half) (sym same) place.is)
 
   at_place : (other : Entry) → other.id ≡ identity → other.start ≡ start_after offset → place_of other ≡ place
   at_place other id start = ap (λ i. record (place_of other) { id = i }) id ∙ ap (λ s. record place { start = s }) start
@@ -320,26 +320,32 @@ module _ (receiver : Receiver) (recording : List Sample) (plan : CellPlan) (grid
 
 -- where each cell is shown, each is held
 pub shown_are_held : (receiver : Receiver) → ShowsCells receiver → HoldsCells receiver
-shown_are_held receiver shows recording list long listed plan grids sfn offset gains eps known clean =
-    shown_is_held receiver recording plan grids sfn offset gains eps long (plan_known receiver.carrier plan known) clean (shows recording plan grids sfn offset gains eps long known clean) list listed
+shown_are_held receiver shows recording list long listed plan grids sfn offset gains known faithful =
+    shown_is_held receiver recording plan grids sfn offset gains long (plan_known receiver.carrier plan known) faithful (shows recording plan grids sfn offset gains long known faithful) list listed
 
--- among them those that send nothing elsewhere, or load by a number
+-- among them those of which the recording is clean, whatever else they send
+pub loaded_are_held : (carrier : Carrier) (recording : List Sample) (list : List Entry) → 57600 ≤ length recording → HoldsFaithfulBy carrier recording list → HoldsBy carrier recording list
+loaded_are_held carrier recording list long holds plan grids sfn offset gains eps known clean =
+    holds plan grids sfn offset (map in_parts gains) known (loaded_is_faithful carrier recording plan grids sfn offset gains eps long clean)
+
+-- and those that send nothing elsewhere, or load by a number
+pub clean_are_held : (carrier : Carrier) (recording : List Sample) (list : List Entry) → HoldsBy carrier recording list → HoldsCleanBy carrier recording list
+clean_are_held carrier recording list holds load plan sfn offset gains eps known clean =
+    holds plan (λ port. sent_element load port plan) sfn offset gains eps known (record {
+      number = clean.number;
+      within = clean.within;
+      carries = λ port same. sent_elements_carry load port plan;
+      gains_are = clean.gains_are;
+      bound = clean.bound;
+      near = clean.near;
+    })
+
 pub is_list_by : (receiver : Receiver) → HoldsCells receiver → (recording : List Sample) (list : List Entry) → 57600 ≤ length recording → IsListFor receiver recording list →
     IsListBy receiver recording list
 is_list_by receiver holds recording list long listed =
-    let loaded = holds recording list long listed in
-    record {
-      explained = listed;
-      loaded = loaded;
-      holds = λ load plan sfn offset gains eps known clean. loaded plan (λ port. sent_element load port plan) sfn offset gains eps known (record {
-        number = clean.number;
-        within = clean.within;
-        carries = λ port same. sent_elements_carry load port plan;
-        gains_are = clean.gains_are;
-        bound = clean.bound;
-        near = clean.near;
-      });
-    }
+    let faithful = holds recording list long listed in
+    let loaded = loaded_are_held receiver.carrier recording list long faithful in
+    record { explained = listed; faithful = faithful; loaded = loaded; holds = clean_are_held receiver.carrier recording list loaded }
 
 -- what can be sent by a carrier can be told
 pub sendable_is_known : (carrier : Carrier) (plan : CellPlan) → IsSendableBy carrier plan → IsKnownBy carrier plan

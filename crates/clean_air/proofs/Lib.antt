@@ -16,26 +16,27 @@ pub mod Controls
 pub mod SharedBlocks
 -- And the broadcast channel of a slot tells the master block that was sent.
 pub mod Masters
--- The described cell. Equal amplitudes are received equally.
-pub mod Grids
--- What elements are at the places that a plan takes, which carry it.
+-- The described cell. What elements are at the places that a plan takes, which carry it.
 pub mod Carrying
 -- At each place that it takes a plan sends a point.
 pub mod Taken
--- Each symbol of a clean recording is received as it was sent, by any carrier, and the signals as from the first port alone.
+-- Each symbol is received from all ports of a carrier, and the signals as from the first alone.
 pub mod SentSymbols
+-- A clean recording is faithful, since its errors have little energy.
+pub mod LoadedErrors
 pub mod Signals
 -- The word that a cell broadcasts has its fields, and its check passes.
 pub mod SentBlock
 -- Where its primary signals stand, and what the epochs of its entries are.
 pub mod TruePlaces
--- Its broadcast slot is received and carries the word.
+-- Its slots that are looked at are heard, and that of the broadcast channel carries the word.
 pub mod SentSlots
--- Its frames of even number answer with its system information.
+-- Its block says its fields, so that its first frame of even number answers with them.
+pub mod SentFields
 pub mod SentSystem
 -- A list holds each cell that is heard.
 pub mod Held
--- All together: the list of a clean recording holds its cell.
+-- All together: the list of a faithful recording holds its cell.
 pub mod HeldCells
 -- The plan of an entry is that of the sent cell.
 pub mod Plans

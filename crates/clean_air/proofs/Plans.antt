@@ -1,4 +1,4 @@
--- The plan of an entry: there is only one, and in a clean recording that of the sent cell.
+-- The plan of an entry: there is only one, and in a recording that is faithful to a cell that by which the cell was sent.
 use Rattle.std.specs.Prelude.{IfOk}
 use Rattle.std.proofs.Common.{◌≡◌, ℕ, ◌+◌, ◌%◌, ◌<◌, ◌≤◌, arith, refl, ap, sym, subst, ◌∙◌, List, [], ◌∷◌, length, Option, Some, None, Result, Ok}
 use Rattle.cs_num.specs.declared.Cpx.{Cpx}
@@ -20,7 +20,7 @@ use Rattle.explain.specs.Entries.{place_of, IsInList}
 use Rattle.explain.specs.Grant.{IsFrameAttempt, IsReadBy, IsGrantOf}
 use Rattle.explain.specs.System.{even_frame}
 use Rattle.explain.proofs.Granted.{one_grant_of}
-use Rattle.explain.proofs.Information.{first_tried, even_number, system_is_valid}
+use Rattle.explain.proofs.Information.{first_tried, system_is_valid}
 use Rattle.explain.proofs.Listed.{is_sound}
 use Rattle.lte_types.specs.Ranges.{IsValid}
 use Rattle.lte_types.specs.Timing.{start_of, number_at_start}
@@ -29,10 +29,12 @@ use Rattle.cell_plan.specs.declared.cell.CellPlan.{CellPlan}
 use Rattle.cell_tx.specs.Control.{grant_of as sent_grant}
 use Rattle.cell_plan.specs.Plan.{IsSendable, plan_refusal}
 use Rattle.cell_tx.specs.Sent.{Elements}
-use Rattle.clean_air.specs.Load.{IsLoaded}
+use Rattle.budget.specs.Received.{in_parts}
+use Rattle.clean_air.specs.Faithful.{IsFaithful}
 use Rattle.cell_plan.proofs.Sendable.{accepted_is_sendable}
 use Rattle.clean_air.specs.Clean.{IsSentEntryOf}
-use Rattle.clean_air.specs.Planned.{plan_by, IsPlanned, IsPlanOf, IsSentPlan, SentEntryHasPlan, IsOnePlan}
+use Rattle.clean_air.specs.Planned.{plan_by, IsPlanned, IsPlanOf, IsFaithfulPlan, IsSentPlan, FaithfulEntryHasPlan, SentEntryHasPlan, IsOnePlan}
+use Rattle.clean_air.proofs.LoadedErrors.{loaded_is_faithful}
 use Rattle.clean_air.proofs.SentSystem.{grant_read, fields_read}
 use Rattle.clean_air.proofs.HeldCells.{holds_cells}
 
@@ -82,7 +84,7 @@ module _ (recording : List Sample) (entry : Entry) (indicator : ℕ) (grant : Gr
       both : ◌≡◌ {A = Option CellError} (Some cause) None → ⊥
       both e = absurd cc
 
--- ---- a clean recording
+-- ---- a faithful recording
 
 abbrev attempt_with : ℕ → Grant → Sib1 → Attempt
 attempt_with i g f = record { cfi = i; grant = Some g; answer = Ok f }
@@ -94,8 +96,8 @@ same_attempt attempt i g f x y z = built attempt.cfi attempt.grant attempt.answe
         ◌≡◌ {A = Attempt} (record { cfi = j; grant = h; answer = a }) (record { cfi = i; grant = Some g; answer = Ok f })
     built j h a x y z = rw (x, y, z) refl
 
-module _ (recording : List Sample) (entry : Entry) (plan : CellPlan) (grid : Elements) (sfn offset : ℕ) (gain : Cpx) (eps : ℕ) (long : 57600 ≤ length recording) (listed : IsInList recording entry)
-    (sendable : IsSendable plan) (clean : IsLoaded recording plan grid sfn offset gain eps) (id : entry.id ≡ plan.identity) (start : entry.start ≡ start_of offset)
+module _ (recording : List Sample) (entry : Entry) (plan : CellPlan) (grid : Elements) (sfn offset : ℕ) (gain : Cpx) (long : 57600 ≤ length recording) (listed : IsInList recording entry)
+    (sendable : IsSendable plan) (faithful : IsFaithful recording plan grid sfn offset gain) (id : entry.id ≡ plan.identity) (start : entry.start ≡ start_of offset)
     (number : entry.sfn ≡ number_at_start sfn offset) where
   abbrev sent_sfn : ℕ
   sent_sfn = number_at_start sfn offset
@@ -106,7 +108,7 @@ module _ (recording : List Sample) (entry : Entry) (plan : CellPlan) (grid : Ele
   -- the entry is the cell's
   is_sent : IsSentEntryOf OnePort plan sent_sfn entry
   is_sent =
-      let held = holds_cells recording listed.list long listed.explained plan (λ port. grid) sfn offset (gain ∷ []) eps sendable clean in
+      let held = holds_cells recording listed.list long listed.explained plan (λ port. grid) sfn offset (gain ∷ []) sendable faithful in
       subst (λ (e : Entry). IsSentEntryOf OnePort plan (number_at_start sfn offset) e) (sym (held.only entry listed.inside id start number)) held.sent
 
   -- the values of subframe 5 of a frame
@@ -124,10 +126,8 @@ module _ (recording : List Sample) (entry : Entry) (plan : CellPlan) (grid : Ele
   -- it is read with the plan's indicator and grant, by the places of the cell
   attempt_read : IsFrameAttempt (subframes_by OnePort placed_values) recording (place_of entry) entry.mib (even_frame entry.sfn 0) (attempt_with plan.cfi granted plan.sib1)
   attempt_read =
-      let whole = (first_tried recording (start_of offset) sent_sfn long early).whole in
-      let even = even_number sent_sfn 0 in
-      let reads = fields_read recording plan grid sfn offset gain eps sendable clean j whole even in
-      let has = (grant_read recording plan grid sfn offset gain eps sendable clean j whole even).attempt reads.attempt reads.is in
+      let reads = fields_read recording plan (λ port. grid) sfn offset (gain ∷ []) sendable faithful in
+      let has = (grant_read recording plan (λ port. grid) sfn offset (gain ∷ []) sendable faithful).attempt reads.attempt reads.is in
       let is = subst (λ (a : Attempt). IsAttempt (values_at plan.identity (start_of offset) j plan.duration plan.resource) a) (same_attempt reads.attempt plan.cfi granted plan.sib1 has.cfi has.granted reads.answers) reads.is in
       rw (id, start, number, is_sent.block.duration, is_sent.block.resource) is
 
@@ -155,11 +155,20 @@ module _ (recording : List Sample) (entry : Entry) (plan : CellPlan) (grid : Ele
     accepted = ((accepted_is_sendable plan).1 sendable).1;
   }
 
+pub faithful_entry_has_plan : FaithfulEntryHasPlan
+faithful_entry_has_plan recording entry plan grid sfn offset gain is listed sendable faithful id start number =
+    planned recording entry plan grid sfn offset gain is.least listed sendable faithful id start number
+
 pub sent_entry_has_plan : SentEntryHasPlan
 sent_entry_has_plan recording entry plan grid sfn offset gain eps is listed sendable clean id start number =
-    planned recording entry plan grid sfn offset gain eps is.least listed sendable clean id start number
+    faithful_entry_has_plan recording entry plan grid sfn offset (in_parts gain) is listed sendable
+    (loaded_is_faithful OnePort recording plan (λ port. grid) sfn offset (gain ∷ []) eps is.least clean) id start number
 
-pub sent_plan : (recording : List Sample) (entry : Entry) (answer : Option CellPlan) → 57600 ≤ length recording → IsInList recording entry →
-    IsPlanOf recording entry answer → IsSentPlan recording entry answer
-sent_plan recording entry answer long listed is plan grid sfn offset gain eps sendable clean id start number =
-    one_plan_of recording entry answer (Some plan) is (planned recording entry plan grid sfn offset gain eps long listed sendable clean id start number)
+pub faithful_plan : (recording : List Sample) (entry : Entry) (answer : Option CellPlan) → 57600 ≤ length recording → IsInList recording entry →
+    IsPlanOf recording entry answer → IsFaithfulPlan recording entry answer
+faithful_plan recording entry answer long listed is plan grid sfn offset gain sendable faithful id start number =
+    one_plan_of recording entry answer (Some plan) is (planned recording entry plan grid sfn offset gain long listed sendable faithful id start number)
+
+pub sent_plan : (recording : List Sample) (entry : Entry) (answer : Option CellPlan) → 57600 ≤ length recording → IsFaithfulPlan recording entry answer → IsSentPlan recording entry answer
+sent_plan recording entry answer long is plan grid sfn offset gain eps sendable clean id start number =
+    is plan grid sfn offset (in_parts gain) sendable (loaded_is_faithful OnePort recording plan (λ port. grid) sfn offset (gain ∷ []) eps long clean) id start number

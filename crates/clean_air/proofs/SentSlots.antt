@@ -1,9 +1,13 @@
--- The slots of a clean recording, whatever else its cell sends: each of a whole frame is received as it was sent, and the broadcast channel carries the cell's word.
-use Rattle.std.proofs.Common.{◌≡◌, ℕ, ◌+◌, ◌-◌, ◌*◌, ◌/◌, ◌%◌, ◌<◌, ◌≤◌, arith, refl, ap, sym, subst, ◌∙◌, List, [], ◌∷◌, length, nat_eq, Bool, true, false, None}
+-- The slots of a recording that is faithful to a cell of one port, whatever else the cell sends: each that is looked at is received as it was sent, and the
+-- broadcast channel carries the cell's word.
+use Rattle.std.proofs.Common.{◌≡◌, ℕ, ◌+◌, ◌-◌, ◌*◌, ◌/◌, ◌%◌, ◌^◌, ◌<◌, ◌≤◌, inl, inr, arith, refl, ap, sym, subst, ◌∙◌, List, [], ◌∷◌, nat_eq, Bool, true, false, None}
 use Rattle.std.specs.Prelude.{if◌then◌else◌, ◌&&◌}
 use Rattle.std.proofs.lemmas.Bool.Decides.{nat_tests}
 use Rattle.cs_num.specs.declared.Cpx.{Cpx}
 use Rattle.cs_num.specs.declared.Sample.{Sample}
+use Rattle.cs_num.specs.Complex.{times, minus, square, value_at}
+use Rattle.sizes.proofs.Cauchy.{energy_same}
+use Rattle.fold128.specs.Symbol.{useful_at}
 use Rattle.finite.proofs.Lists.{values_below_at}
 use Rattle.crs.specs.declared.upper.UpperPort.TheVariants.{Third, Fourth}
 use Rattle.cell_tx.specs.declared.antenna.PortOfFour.TheVariants.{Zero, One, Two, Three}
@@ -23,7 +27,8 @@ use Rattle.cell_tx.specs.Ports.{port_symbols, sent_point}
 use Rattle.cell_tx.specs.Block.{port_point, port_bit, broadcast_word}
 use Rattle.cell_tx.specs.Grid.{is_synchronised, is_broadcast, has_broadcast, broadcast_index, port_element, element}
 use Rattle.cell_tx.specs.Sent.{Elements}
-use Rattle.clean_air.specs.Load.{CarriesPlan, IsLoaded}
+use Rattle.clean_air.specs.Load.{CarriesPlan, IsLoaded, received_from}
+use Rattle.clean_air.specs.Faithful.{IsLookedAt, IsFaithfulBy, errors_from, first_frame_of}
 use Rattle.cell_tx.specs.Rows.{port_reference_if}
 use Rattle.cell_tx.proofs.Elements.{element_of_channel, channel_of_broadcast}
 use Rattle.clean_air.proofs.Carrying.{of_own_reference, of_broadcast}
@@ -31,11 +36,15 @@ use Rattle.lte_types.specs.declared.carrier.Carrier.TheVariants.{OnePort}
 use Rattle.lte_types.specs.Numerology.{normal, useful_start}
 use Rattle.lte_types.specs.Timing.{start_of, number_at_start}
 use Rattle.explain.specs.Frame.{IsWhole, frame_at, seen_slot, broadcast_slot}
-use Rattle.budget.specs.Received.{IsReceived, samples_from}
-use Rattle.clean_air.specs.Values.{ArePilotsSeen, IsSlotReceived}
-use Rattle.clean_air.proofs.SoftValues.{pattern_pilots_seen}
+use Rattle.explain.specs.System.{even_frame}
+use Rattle.budget.specs.Received.{in_parts, off_by, IsReceived, samples_from}
+use Rattle.budget.proofs.Parts.{square_in_parts}
+use Rattle.budget.proofs.Seen.{quiet_amplitude_is_seen_in_recording}
+use Rattle.clean_air.specs.Values.{ArePilotsSeen, IsPatternReceived, IsSlotReceived, IsSlotHeard}
 use Rattle.clean_air.specs.Carried.{CarryWord}
-use Rattle.clean_air.proofs.SentSymbols.{symbol_near, first_frame}
+use Rattle.clean_air.proofs.SoftValues.{pattern_pilots_seen, received_slot_is_heard}
+use Rattle.clean_air.proofs.LoadedErrors.{loaded_has_little_errors}
+use Rattle.clean_air.proofs.SentSymbols.{symbol_received, first_frame}
 
 -- the symbols of slot 0 to 19 of the frame with this number
 abbrev pub slot_grid : Elements → ℕ → ℕ → ℕ → ℕ → Cpx
@@ -168,51 +177,93 @@ pub record IsFrameOf (sfn offset j : ℕ) (n : ℕ) : Type 0 where
   pub place : frame_at (start_of offset) j + offset ≡ 19200 * n
   pub number : (sfn + n) % 1024 ≡ (number_at_start sfn offset + j) % 1024
 
-pub frame_is : (sfn offset j : ℕ) → sfn ≤ 1023 → offset < 19200 → IsFrameOf sfn offset j ((if nat_eq offset 0 then 0 else 1) + j)
+pub frame_is : (sfn offset j : ℕ) → sfn ≤ 1023 → offset < 19200 → IsFrameOf sfn offset j (first_frame_of offset + j)
 frame_is sfn offset j known within =
     let first = first_frame sfn offset known within in
     record { place = omega (arith, first.place); number = omega (arith, first.number) }
 
--- each slot of a whole frame is received
-pub each_slot_received : (recording : List Sample) (plan : CellPlan) (grid : Elements) (sfn offset : ℕ) (gain : Cpx) (eps : ℕ) → IsLoaded recording plan grid sfn offset gain eps →
-    (j slot : ℕ) → IsWhole recording (start_of offset) j → slot < 20 →
-    IsSlotReceived recording (useful_start normal (frame_at (start_of offset) j) slot) (slot_grid grid ((number_at_start sfn offset + j) % 1024) slot)
+-- a slot of which the errors of each symbol are at most this share is received
+pub slot_with_errors : (quota : ℕ) (recording : List Sample) (plan : CellPlan) (grids : Port → Elements) (sfn offset : ℕ) (gains : List Cpx) → sfn ≤ 1023 → offset < 19200 → CarriesPlan Only plan (grids Only) →
+    2 ^ 28 ≤ square (value_at gains 0) → (j slot : ℕ) → slot < 20 →
+    ((l : ℕ) → l < 7 → errors_from OnePort recording grids sfn offset gains (useful_start normal (frame_at (start_of offset) j) slot l) ≤ quota * square (value_at gains 0)) →
+    IsPatternReceived quota port_0 7 recording (useful_start normal (frame_at (start_of offset) j) slot) (slot_grid (grids Only) ((number_at_start sfn offset + j) % 1024) slot)
     (seen_slot recording (frame_at (start_of offset) j) slot plan.identity)
 unfolding seen_slot
-each_slot_received recording plan grid sfn offset gain eps clean j slot whole few =
+slot_with_errors quota recording plan grids sfn offset gains known within carries sounds j slot few quiet =
+    let grid : Elements = grids Only in
+    let gain : Cpx = value_at gains 0 in
     let number : ℕ = (number_at_start sfn offset + j) % 1024 in
     let start : ℕ → ℕ = useful_start normal (frame_at (start_of offset) j) slot in
-    let n : ℕ = (if nat_eq offset 0 then 0 else 1) + j in
-    let frame = frame_is sfn offset j clean.number clean.within in
-    let carries = clean.carries Only refl in
+    let n : ℕ = first_frame_of offset + j in
+    let frame = frame_is sfn offset j known within in
     record {
-      eps = eps;
       gain = gain;
       seen = λ l inside. values_below_at (λ symbol. seen_symbol recording (start symbol)) 7 l [] inside;
       amplitudes = λ l inside. carries.small number (slot / 2) (7 * (slot % 2) + l);
-      received = λ l inside. subst (λ m. IsReceived eps gain (slot_grid grid m slot l) (samples_from recording (start l))) frame.number (record {
-        sounds = clean.gains_are.least;
-        quiet = clean.bound;
-        near = λ k low. symbol_near OnePort recording plan (λ port. grid) sfn offset (gain ∷ []) eps clean (start l) n slot l k few inside low (omega (arith, whole, inside, few)) (omega (arith, frame.place));
+      received = λ l inside. subst (λ m. IsReceived quota gain (slot_grid grid m slot l) (samples_from recording (start l))) frame.number (record {
+        sounds = sounds;
+        quiet = subst (λ (energy : ℕ). energy ≤ quota * square gain)
+            (energy_same 128 (off_by (samples_from recording (start l)) (λ k. received_from OnePort grids sfn offset gains (start l + k)))
+            (off_by (samples_from recording (start l)) (λ k. times gain (useful_at (slot_grid grid ((sfn + n) % 1024) slot l) k)))
+            (λ k low. ap (minus (in_parts (samples_from recording (start l) k))) (symbol_received OnePort grids sfn offset gains n slot l (start l) few inside (omega (arith, frame.place)) k low)))
+            (quiet l inside);
       });
       references = λ i inside. references_stand plan grid carries number slot i;
     }
 
--- its pilots are seen with the gain
-pub pilots_received : (recording : List Sample) (plan : CellPlan) (grid : Elements) (sfn offset : ℕ) (gain : Cpx) (eps : ℕ) → IsLoaded recording plan grid sfn offset gain eps →
-    (j slot : ℕ) → IsWhole recording (start_of offset) j → slot < 20 → ArePilotsSeen gain (seen_slot recording (frame_at (start_of offset) j) slot plan.identity)
-unfolding each_slot_received
-pilots_received recording plan grid sfn offset gain eps clean j slot whole few =
-    pattern_pilots_seen port_0 7 recording (useful_start normal (frame_at (start_of offset) j) slot) (slot_grid grid ((number_at_start sfn offset + j) % 1024) slot)
-    (seen_slot recording (frame_at (start_of offset) j) slot plan.identity) (each_slot_received recording plan grid sfn offset gain eps clean j slot whole few) (omega arith)
+module _ (recording : List Sample) (plan : CellPlan) (grids : Port → Elements) (sfn offset : ℕ) (gains : List Cpx) (faithful : IsFaithfulBy OnePort recording plan grids sfn offset gains) where
+  -- a slot of which all symbols are looked at is received
+  pub each_slot_received : (j slot : ℕ) → slot < 20 →
+      ((l : ℕ) → l < 7 → IsLookedAt OnePort sfn offset (first_frame_of offset + j) slot l (useful_start normal (frame_at (start_of offset) j) slot l)) →
+      IsSlotReceived recording (useful_start normal (frame_at (start_of offset) j) slot) (slot_grid (grids Only) ((number_at_start sfn offset + j) % 1024) slot)
+      (seen_slot recording (frame_at (start_of offset) j) slot plan.identity)
+  each_slot_received j slot few looked =
+      slot_with_errors 1800 recording plan grids sfn offset gains faithful.number faithful.within (faithful.carries Only refl) faithful.gains_are.sounds j slot few
+      (λ l inside. let frame = frame_is sfn offset j faithful.number faithful.within in
+      faithful.near (first_frame_of offset + j) slot l (useful_start normal (frame_at (start_of offset) j) slot l) few inside (omega (arith, frame.place)) (looked l inside))
 
--- so that which carries the broadcast channel in the first frame is
-pub slot_received : (recording : List Sample) (plan : CellPlan) (grid : Elements) (sfn offset : ℕ) (gain : Cpx) (eps : ℕ) → IsLoaded recording plan grid sfn offset gain eps → 57600 ≤ length recording →
-    IsSlotReceived recording (useful_start normal (frame_at (start_of offset) 0) 1) (slot_grid grid (number_at_start sfn offset) 1) (broadcast_slot recording plan.identity (start_of offset) 0)
-slot_received recording plan grid sfn offset gain eps clean long =
-    let number : (number_at_start sfn offset + 0) % 1024 ≡ number_at_start sfn offset = first_number sfn offset clean.number in
-    subst (λ m. IsSlotReceived recording (useful_start normal (frame_at (start_of offset) 0) 1) (slot_grid grid m 1) (broadcast_slot recording plan.identity (start_of offset) 0)) number
-    (each_slot_received recording plan grid sfn offset gain eps clean 0 1 (omega (arith, long)) (omega arith))
+  each_slot_heard : (j slot : ℕ) → slot < 20 →
+      ((l : ℕ) → l < 7 → IsLookedAt OnePort sfn offset (first_frame_of offset + j) slot l (useful_start normal (frame_at (start_of offset) j) slot l)) →
+      IsSlotHeard (slot_grid (grids Only) ((number_at_start sfn offset + j) % 1024) slot) (seen_slot recording (frame_at (start_of offset) j) slot plan.identity)
+  each_slot_heard j slot few looked =
+      received_slot_is_heard recording (useful_start normal (frame_at (start_of offset) j) slot) (slot_grid (grids Only) ((number_at_start sfn offset + j) % 1024) slot)
+      (seen_slot recording (frame_at (start_of offset) j) slot plan.identity) (each_slot_received j slot few looked)
+
+  -- that of the first frame which carries the broadcast channel is heard
+  pub broadcast_heard : IsSlotHeard (slot_grid (grids Only) (number_at_start sfn offset) 1) (broadcast_slot recording plan.identity (start_of offset) 0)
+  broadcast_heard =
+      let number : (number_at_start sfn offset + 0) % 1024 ≡ number_at_start sfn offset = first_number sfn offset faithful.number in
+      subst (λ m. IsSlotHeard (slot_grid (grids Only) m 1) (broadcast_slot recording plan.identity (start_of offset) 0)) number
+      (each_slot_heard 0 1 (omega arith) (λ l inside. inl (omega arith, refl)))
+    where
+      first_number : (sfn offset : ℕ) → sfn ≤ 1023 → (number_at_start sfn offset + 0) % 1024 ≡ number_at_start sfn offset
+      first_number sfn offset known = grind (arith, nat_tests)
+
+  -- and so are the two of the first frame of even number that carry its system information
+  pub system_slot_heard : (slot : ℕ) → slot / 2 ≡ 5 →
+      IsSlotHeard (slot_grid (grids Only) ((number_at_start sfn offset + even_frame (number_at_start sfn offset) 0) % 1024) slot)
+      (seen_slot recording (frame_at (start_of offset) (even_frame (number_at_start sfn offset) 0)) slot plan.identity)
+  system_slot_heard slot five = each_slot_heard (even_frame (number_at_start sfn offset) 0) slot (omega (arith, five)) (λ l inside. inr (inl (omega arith, five)))
+
+-- of a recording that is clean of the cell the pilots of each whole slot are seen, off by less, since its errors have less energy
+pub loaded_pilots_seen : (recording : List Sample) (plan : CellPlan) (grid : Elements) (sfn offset : ℕ) (gain : Cpx) (eps : ℕ) → IsLoaded recording plan grid sfn offset gain eps →
+    (j slot : ℕ) → IsWhole recording (start_of offset) j → slot < 20 → ArePilotsSeen 1920 (in_parts gain) (seen_slot recording (frame_at (start_of offset) j) slot plan.identity)
+unfolding slot_with_errors
+loaded_pilots_seen recording plan grid sfn offset gain eps clean j slot whole few =
+    pattern_pilots_seen 1024 1920 quiet_amplitude_is_seen_in_recording port_0 7 recording start (slot_grid grid ((number_at_start sfn offset + j) % 1024) slot)
+    (seen_slot recording (frame_at (start_of offset) j) slot plan.identity) received (omega arith)
   where
-    first_number : (sfn offset : ℕ) → sfn ≤ 1023 → (number_at_start sfn offset + 0) % 1024 ≡ number_at_start sfn offset
-    first_number sfn offset known = grind (arith, nat_tests)
+    start : ℕ → ℕ
+    start = useful_start normal (frame_at (start_of offset) j) slot
+
+    some : (n p : ℕ) → p ≡ 268435456 * n → 1 ≤ n → 2 ^ 28 ≤ p
+    some n p same least = omega (arith, same, least)
+
+    quiet : (n p q energy : ℕ) → p ≡ 268435456 * n → q ≤ 4 * n → energy ≤ 2 ^ 36 * q → energy ≤ 1024 * p
+    quiet n p q energy same bound small = omega (arith, same, bound, small)
+
+    received : IsPatternReceived 1024 port_0 7 recording start (slot_grid grid ((number_at_start sfn offset + j) % 1024) slot) (seen_slot recording (frame_at (start_of offset) j) slot plan.identity)
+    received = slot_with_errors 1024 recording plan (λ port. grid) sfn offset (in_parts gain ∷ []) clean.number clean.within (clean.carries Only refl)
+        (some (square gain) (square (in_parts gain)) (square_in_parts gain) clean.gains_are.least) j slot few
+        (λ l inside. quiet (square gain) (square (in_parts gain)) (eps * eps) (errors_from OnePort recording (λ port. grid) sfn offset (in_parts gain ∷ []) (start l)) (square_in_parts gain) clean.bound
+        (loaded_has_little_errors OnePort recording plan (λ port. grid) sfn offset (gain ∷ []) eps (start l) clean (omega (arith, whole, few, inside))))

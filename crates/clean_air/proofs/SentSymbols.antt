@@ -1,11 +1,13 @@
--- The symbols of a recording that is clean of a cell of any carrier, whatever else its ports send: each is received from all of them.
-use Rattle.std.proofs.Common.{◌≡◌, ℕ, ◌+◌, ◌*◌, ◌/◌, ◌%◌, ◌<◌, ◌≤◌, arith, inl, inr, refl, ap, ap₂, sym, subst, ◌∙◌, List, length, nat_eq}
-use Rattle.std.specs.Prelude.{if◌then◌else◌}
+-- The symbols that a cell of any carrier sends: each is received from all its ports, and the errors of those that a list looks at are little.
+use Rattle.std.proofs.Common.{◌≡◌, ℕ, ◌+◌, ◌*◌, ◌/◌, ◌%◌, ◌<◌, ◌≤◌, arith, inl, inr, refl, ap, ap₂, sym, subst, ◌∙◌, List}
 use Rattle.std.proofs.lemmas.Bool.Decides.{nat_tests}
 use Rattle.cs_num.specs.declared.Cpx.{Cpx}
 use Rattle.cs_num.specs.declared.Sample.{Sample}
-use Rattle.cs_num.specs.Complex.{IsWithin, plus, times, sample_at, minus, value_at}
+use Rattle.cs_num.specs.Complex.{plus, times, minus, value_at}
+use Rattle.sizes.specs.Sizes.{energy_below}
+use Rattle.sizes.proofs.Cauchy.{energy_same}
 use Rattle.fold128.specs.Symbol.{useful_at}
+use Rattle.budget.specs.Received.{in_parts, off_by, samples_from}
 use Rattle.lte_types.specs.declared.carrier.Carrier.{Carrier}
 use Rattle.lte_types.specs.declared.carrier.Carrier.TheVariants.{OnePort, TwoPorts, LongPrefix, FourPorts}
 use Rattle.lte_types.specs.declared.frame.Half.{Half}
@@ -21,7 +23,8 @@ use Rattle.cell_tx.specs.Emission.{mixed}
 use Rattle.cell_tx.specs.Ports.{carrier_of, port_prefix}
 use Rattle.cell_tx.specs.Sent.{Elements, prefix_sent}
 use Rattle.cell_tx.proofs.Symbols.{frames_follow, useful_parts_stand, in_useful}
-use Rattle.clean_air.specs.Load.{IsLoadedBy}
+use Rattle.clean_air.specs.Load.{received_from}
+use Rattle.clean_air.specs.Faithful.{IsLittle, IsLookedAt, IsFaithfulBy, first_frame_of}
 
 -- ---- a symbol
 
@@ -48,30 +51,40 @@ prefix_known TwoPorts = inl refl
 prefix_known LongPrefix = inr refl
 prefix_known FourPorts = inl refl
 
-module _ (carrier : Carrier) (recording : List Sample) (plan : CellPlan) (grids : Port → Elements) (sfn offset : ℕ) (gains : List Cpx) (eps : ℕ)
-    (clean : IsLoadedBy carrier recording plan grids sfn offset gains eps) where
-  abbrev prefix : Prefix
-  prefix = prefix_of carrier
-
-  -- where a whole useful part stands in the recording, it is received from all ports
-  pub symbol_near : (t j slot l n : ℕ) → slot < 20 → l < symbols_of_slot prefix → n < 128 → t + 128 ≤ length recording → t + offset ≡ 19200 * j + useful_start prefix 0 slot l →
-      IsWithin eps (minus (sample_at recording (t + n)) (mixed carrier (λ port. useful_at (grids port ((sfn + j) % 1024) (slot / 2) (symbols_of_slot prefix * (slot % 2) + l)) n) gains))
-  symbol_near t j slot l n few row c inside place =
-      subst (λ (z : Cpx). IsWithin eps (minus (sample_at recording (t + n)) z))
-      (mixed_same carrier (λ port. prefix_sent (port_prefix port) (grids port) sfn (t + n + offset)) (λ port. useful_at (grids port ((sfn + j) % 1024) (slot / 2) (symbols_of_slot prefix * (slot % 2) + l)) n) gains each)
-      (clean.near (t + n) (omega (arith, inside, c)))
+module _ (carrier : Carrier) (grids : Port → Elements) (sfn offset : ℕ) (gains : List Cpx) (frame slot symbol start : ℕ) (few : slot < 20) (row : symbol < symbols_of_slot (prefix_of carrier))
+    (place : start + offset ≡ 19200 * frame + useful_start (prefix_of carrier) 0 slot symbol) where
+  -- from where its useful part begins, this is received
+  pub symbol_received : (n : ℕ) → n < 128 →
+      received_from carrier grids sfn offset gains (start + n) ≡ mixed carrier (λ port. useful_at (grids port ((sfn + frame) % 1024) (slot / 2) (symbols_of_slot (prefix_of carrier) * (slot % 2) + symbol)) n) gains
+  symbol_received n c =
+      mixed_same carrier (λ port. prefix_sent (port_prefix port) (grids port) sfn (start + n + offset))
+      (λ port. useful_at (grids port ((sfn + frame) % 1024) (slot / 2) (symbols_of_slot (prefix_of carrier) * (slot % 2) + symbol)) n) gains each
     where
-      there : t + n + offset ≡ 19200 * j + (useful_start prefix 0 slot l + n)
+      there : start + n + offset ≡ 19200 * frame + (useful_start (prefix_of carrier) 0 slot symbol + n)
       there = omega (arith, place)
 
-      own : (grid : Elements) → prefix_sent prefix grid sfn (t + n + offset) ≡ useful_at (grid ((sfn + j) % 1024) (slot / 2) (symbols_of_slot prefix * (slot % 2) + l)) n
-      own grid = ap (prefix_sent prefix grid sfn) there ∙ prefix_sent_symbol prefix grid sfn j slot l n (prefix_known carrier) few row c
+      own : (grid : Elements) →
+          prefix_sent (prefix_of carrier) grid sfn (start + n + offset) ≡ useful_at (grid ((sfn + frame) % 1024) (slot / 2) (symbols_of_slot (prefix_of carrier) * (slot % 2) + symbol)) n
+      own grid = ap (prefix_sent (prefix_of carrier) grid sfn) there ∙ prefix_sent_symbol (prefix_of carrier) grid sfn frame slot symbol n (prefix_known carrier) few row c
 
       each : (port : Port) → carrier_of port ≡ carrier →
-          prefix_sent (port_prefix port) (grids port) sfn (t + n + offset) ≡ useful_at (grids port ((sfn + j) % 1024) (slot / 2) (symbols_of_slot prefix * (slot % 2) + l)) n
+          prefix_sent (port_prefix port) (grids port) sfn (start + n + offset) ≡ useful_at (grids port ((sfn + frame) % 1024) (slot / 2) (symbols_of_slot (prefix_of carrier) * (slot % 2) + symbol)) n
       each port same =
-          subst (λ (c : Carrier). prefix_sent (prefix_of c) (grids port) sfn (t + n + offset) ≡ useful_at (grids port ((sfn + j) % 1024) (slot / 2) (symbols_of_slot prefix * (slot % 2) + l)) n)
+          subst (λ (c : Carrier). prefix_sent (prefix_of c) (grids port) sfn (start + n + offset) ≡ useful_at (grids port ((sfn + frame) % 1024) (slot / 2) (symbols_of_slot (prefix_of carrier) * (slot % 2) + symbol)) n)
           (sym same) (own (grids port))
+
+-- the errors of a symbol that is looked at are little
+pub symbol_off : (carrier : Carrier) (recording : List Sample) (plan : CellPlan) (grids : Port → Elements) (sfn offset : ℕ) (gains : List Cpx) → IsFaithfulBy carrier recording plan grids sfn offset gains →
+    (frame slot symbol start : ℕ) → slot < 20 → symbol < symbols_of_slot (prefix_of carrier) → start + offset ≡ 19200 * frame + useful_start (prefix_of carrier) 0 slot symbol →
+    IsLookedAt carrier sfn offset frame slot symbol start →
+    IsLittle carrier gains (energy_below 128 (off_by (samples_from recording start)
+    (λ n. mixed carrier (λ port. useful_at (grids port ((sfn + frame) % 1024) (slot / 2) (symbols_of_slot (prefix_of carrier) * (slot % 2) + symbol)) n) gains)))
+symbol_off carrier recording plan grids sfn offset gains faithful frame slot symbol start few row place looked =
+    let sent : ℕ → Cpx = λ n. mixed carrier (λ port. useful_at (grids port ((sfn + frame) % 1024) (slot / 2) (symbols_of_slot (prefix_of carrier) * (slot % 2) + symbol)) n) gains in
+    subst (λ (energy : ℕ). IsLittle carrier gains energy)
+    (energy_same 128 (off_by (samples_from recording start) (λ n. received_from carrier grids sfn offset gains (start + n))) (off_by (samples_from recording start) sent)
+    (λ n c. ap (minus (in_parts (samples_from recording start n))) (symbol_received carrier grids sfn offset gains frame slot symbol start few row place n c)))
+    (faithful.near frame slot symbol start few row place looked)
 
 -- ---- places
 
@@ -85,5 +98,5 @@ pub record IsFirstFrame (sfn offset j : ℕ) : Type 0 where
   pub place : start_of offset + offset ≡ 19200 * j
   pub number : (sfn + j) % 1024 ≡ number_at_start sfn offset
 
-pub first_frame : (sfn offset : ℕ) → sfn ≤ 1023 → offset < 19200 → IsFirstFrame sfn offset (if nat_eq offset 0 then 0 else 1)
+pub first_frame : (sfn offset : ℕ) → sfn ≤ 1023 → offset < 19200 → IsFirstFrame sfn offset (first_frame_of offset)
 first_frame sfn offset known within = record { place = grind (arith, nat_tests); number = grind (arith, nat_tests) }

@@ -1,14 +1,15 @@
--- The synchronisation signals of a recording that is clean of a cell of any carrier, whatever else its ports send: they are received as from the
--- first port alone.
-use Rattle.std.proofs.Common.{◌≡◌, ℕ, ◌+◌, ◌-◌, ◌*◌, ◌/◌, ◌%◌, ◌<◌, ◌≤◌, Bool, true, false, inl, inr, nat_eq, nat_le, nat_lt, arith, refl, ap, ap₂, subst, ◌∙◌, List, length}
+-- The synchronisation signals of a cell of any carrier, whatever else its ports send: they are received as from the first port alone, in a recording that
+-- is faithful to it with little errors.
+use Rattle.std.proofs.Common.{◌≡◌, ℕ, ◌+◌, ◌-◌, ◌*◌, ◌/◌, ◌%◌, ◌<◌, ◌≤◌, Bool, true, false, inl, inr, nat_eq, nat_le, nat_lt, arith, refl, ap, ap₂, subst, ◌∙◌, List}
 use Rattle.std.specs.Prelude.{if◌then◌else◌, ◌&&◌}
 use Rattle.std.proofs.lemmas.Bool.Decides.{nat_tests}
 use Rattle.cs_num.specs.declared.Cpx.{Cpx}
 use Rattle.cs_num.specs.declared.Sample.{Sample}
-use Rattle.cs_num.specs.Complex.{IsWithin, nothing, plus, times, minus, sample_at, square, value_at}
+use Rattle.cs_num.specs.Complex.{nothing, plus, times, minus, square, value_at}
 use Rattle.cs_num.specs.Rounding.{rounded}
 use Rattle.cs_num.proofs.Complex.{times-commutes}
 use Rattle.sizes.proofs.Algebra.{plus-nothing_right, times-nothing, sum_zero}
+use Rattle.sizes.proofs.Cauchy.{energy_same}
 use Rattle.fold128.specs.Tables.{w_at}
 use Rattle.fold128.specs.Symbol.{useful_at, useful_term, frequency}
 use Rattle.fold128.proofs.Samples.{useful_same}
@@ -31,17 +32,17 @@ use Rattle.cell_plan.specs.declared.cell.CellPlan.{CellPlan}
 use Rattle.cell_tx.specs.Ports.{carrier_of, port_symbols, sent_signal, is_own_reference, is_other_reference}
 use Rattle.cell_tx.specs.Grid.{port_element}
 use Rattle.cell_tx.specs.Sent.{Elements}
-use Rattle.cell_plan.specs.Gains.{AreGainsOf, IsAllowedBy}
 use Rattle.cell_tx.specs.Emission.{mixed}
 use Rattle.cell_tx.proofs.Elements.{no_reference, no_second_reference}
 use Rattle.cell_tx.proofs.SignalSymbols.{no_channel}
 use Rattle.cell_tx.proofs.Symbols.{with_prefix}
-use Rattle.budget.specs.Received.{IsReceived, samples_from}
+use Rattle.budget.specs.Received.{in_parts, off_by, IsReceived, samples_from}
 use Rattle.budget.specs.Score.{sss_grid, AreSignals}
 use Rattle.budget.specs.Peak.{IsPrimaryAt}
-use Rattle.clean_air.specs.Load.{IsLoadedBy}
+use Rattle.clean_air.specs.Load.{CarriesPlan, received_from}
+use Rattle.clean_air.specs.Faithful.{IsLittle, IsOfPrimary, IsOfSecondary, IsLookedAt, IsFaithfulBy, errors_from}
 use Rattle.clean_air.proofs.Carrying.{of_primary_symbol, of_secondary_symbol}
-use Rattle.clean_air.proofs.SentSymbols.{mixed_same, prefix_known, symbol_near, IsTruePlace}
+use Rattle.clean_air.proofs.SentSymbols.{mixed_same, prefix_known, symbol_received, IsTruePlace}
 
 -- ---- a signal is received from the first port alone
 
@@ -73,42 +74,23 @@ signal_sent (OfFour P1) signal n = nothing_sent n
 signal_sent (OfFour P2) signal n = nothing_sent n
 signal_sent (OfFour P3) signal n = nothing_sent n
 
--- the first port's gain is not 0, and errors are small beside it
-gain_sounds : (carrier : Carrier) (gains : List Cpx) → AreGainsOf carrier gains → 1 ≤ square (value_at gains 0)
-gain_sounds OnePort gains are = are.least
-gain_sounds TwoPorts gains are = are.least
-gain_sounds LongPrefix gains are = are.least
-gain_sounds FourPorts gains are = are.least
+-- where the ports send a signal in a symbol, it is received as from the first port alone
+signal_received : (carrier : Carrier) (grids : Port → Elements) (sfn offset : ℕ) (gains : List Cpx) (t j slot l : ℕ) (signal : ℕ → Cpx) → slot < 20 → l < symbols_of_slot (prefix_of carrier) →
+    t + offset ≡ 19200 * j + useful_start (prefix_of carrier) 0 slot l →
+    ((port : Port) → carrier_of port ≡ carrier → (k : ℕ) → grids port ((sfn + j) % 1024) (slot / 2) (symbols_of_slot (prefix_of carrier) * (slot % 2) + l) k ≡ sent_signal port (signal k)) →
+    (n : ℕ) → n < 128 → received_from carrier grids sfn offset gains (t + n) ≡ times (value_at gains 0) (useful_at signal n)
+signal_received carrier grids sfn offset gains t j slot l signal few row place sends n c =
+    symbol_received carrier grids sfn offset gains j slot l t few row place n c
+    ∙ mixed_same carrier (λ port. useful_at (grids port ((sfn + j) % 1024) (slot / 2) (symbols_of_slot (prefix_of carrier) * (slot % 2) + l)) n) (λ port. sent_signal port (useful_at signal n)) gains
+    (λ port same. useful_same (grids port ((sfn + j) % 1024) (slot / 2) (symbols_of_slot (prefix_of carrier) * (slot % 2) + l)) (λ k. sent_signal port (signal k)) n (λ k low. sends port same k) ∙ signal_sent port signal n)
+    ∙ mixed_signal carrier (useful_at signal n) gains
 
--- errors of 0 or 1 are small beside any gain
-small_beside : (a b c d e : ℕ) → 1 ≤ a → a + b + c + d ≤ 196 → 64 * e ≤ a + b + c + d → e ≤ 4 * a
-small_beside a b c d e some most h = omega (arith, some, most, h)
-
-errors_are_quiet : (carrier : Carrier) (gains : List Cpx) (eps : ℕ) → AreGainsOf carrier gains → IsAllowedBy carrier gains eps → eps * eps ≤ 4 * square (value_at gains 0)
-errors_are_quiet OnePort gains eps are bound = bound
-errors_are_quiet TwoPorts gains eps are bound = bound.one
-errors_are_quiet LongPrefix gains eps are bound = bound
-errors_are_quiet FourPorts gains eps are bound =
-    small_beside (square (value_at gains 0)) (square (value_at gains 1)) (square (value_at gains 2)) (square (value_at gains 3)) (eps * eps) are.least are.most bound.quiet
-
-module _ (carrier : Carrier) (recording : List Sample) (plan : CellPlan) (grids : Port → Elements) (sfn offset : ℕ) (gains : List Cpx) (eps : ℕ)
-    (clean : IsLoadedBy carrier recording plan grids sfn offset gains eps) where
-  abbrev prefix : Prefix
-  prefix = prefix_of carrier
-
-  -- where the ports send a signal in a symbol, it is received as from the first port alone
-  signal_received : (t j slot l : ℕ) (signal : ℕ → Cpx) → slot < 20 → l < symbols_of_slot prefix → t + 128 ≤ length recording → t + offset ≡ 19200 * j + useful_start prefix 0 slot l →
-      ((port : Port) → carrier_of port ≡ carrier → (k : ℕ) → grids port ((sfn + j) % 1024) (slot / 2) (symbols_of_slot prefix * (slot % 2) + l) k ≡ sent_signal port (signal k)) →
-      IsReceived eps (value_at gains 0) signal (samples_from recording t)
-  signal_received t j slot l signal few row inside place sends = record {
-    sounds = gain_sounds carrier gains clean.gains_are;
-    quiet = errors_are_quiet carrier gains eps clean.gains_are clean.bound;
-    near = λ n c. subst (λ (z : Cpx). IsWithin eps (minus (sample_at recording (t + n)) z))
-        (mixed_same carrier (λ port. useful_at (grids port ((sfn + j) % 1024) (slot / 2) (symbols_of_slot prefix * (slot % 2) + l)) n) (λ port. sent_signal port (useful_at signal n)) gains
-        (λ port same. useful_same (grids port ((sfn + j) % 1024) (slot / 2) (symbols_of_slot prefix * (slot % 2) + l)) (λ k. sent_signal port (signal k)) n (λ k low. sends port same k) ∙ signal_sent port signal n)
-        ∙ mixed_signal carrier (useful_at signal n) gains)
-        (symbol_near carrier recording plan grids sfn offset gains eps clean t j slot l n few row c inside place);
-  }
+-- little errors are so beside the first port's gain
+little_beside : (carrier : Carrier) (gains : List Cpx) (energy : ℕ) → IsLittle carrier gains energy → energy ≤ 1800 * square (value_at gains 0)
+little_beside OnePort gains energy little = little
+little_beside TwoPorts gains energy little = little.1
+little_beside LongPrefix gains energy little = little
+little_beside FourPorts gains energy little = little.1
 
 -- ---- what a port sends of the signals
 
@@ -183,6 +165,8 @@ secondary_symbol (OfFour p) plan sfn k Five = let none = none_in p plan.identity
 
 -- where the two symbols stand in a frame
 record AreSignalRows (prefix : Prefix) (half : Half) : Type 0 where
+  step : symbol_step prefix ≤ 160
+  many : 2 ≤ symbols_of_slot prefix
   last : symbols_of_slot prefix - 1 < symbols_of_slot prefix
   before : symbols_of_slot prefix - 2 < symbols_of_slot prefix
   primary : useful_start prefix 0 (2 * subframe_of half) (symbols_of_slot prefix - 1) ≡ primary_start half
@@ -191,8 +175,8 @@ record AreSignalRows (prefix : Prefix) (half : Half) : Type 0 where
 signal_rows : (half : Half) (prefix : Prefix) → IsPrefix prefix → AreSignalRows prefix half
 signal_rows half =
     with_prefix (λ p. AreSignalRows p half)
-    (record { last = omega arith; before = omega arith; primary = omega arith; secondary = omega arith })
-    (record { last = omega arith; before = omega arith; primary = omega arith; secondary = omega arith })
+    (record { step = omega arith; many = omega arith; last = omega arith; before = omega arith; primary = omega arith; secondary = omega arith })
+    (record { step = omega arith; many = omega arith; last = omega arith; before = omega arith; primary = omega arith; secondary = omega arith })
 
 slot_few : (half : Half) → 2 * subframe_of half < 20
 slot_few Zero = omega arith
@@ -204,45 +188,99 @@ whole_slot s = omega arith
 first_slot : (s m l : ℕ) → m * (2 * s % 2) + l ≡ l
 first_slot s m l = let even : 2 * s % 2 ≡ 0 = omega arith in rw even (omega arith)
 
-module _ (carrier : Carrier) (recording : List Sample) (plan : CellPlan) (grids : Port → Elements) (sfn offset : ℕ) (gains : List Cpx) (eps t : ℕ)
-    (clean : IsLoadedBy carrier recording plan grids sfn offset gains eps) (inside : t + 128 ≤ length recording) where
+module _ (carrier : Carrier) (plan : CellPlan) (grids : Port → Elements) (carries : (port : Port) → carrier_of port ≡ carrier → CarriesPlan port plan (grids port))
+    (sfn offset : ℕ) (gains : List Cpx) (t : ℕ) where
+  abbrev prefix : Prefix
+  prefix = prefix_of carrier
+
+  -- what is received where a primary signal begins
+  pub primary_is : (half : Half) → IsTruePlace offset t half → (n : ℕ) → n < 128 → received_from carrier grids sfn offset gains (t + n) ≡ times (value_at gains 0) (useful_at (pss_grid (plan.identity % 3)) n)
+  primary_is half at =
+      let rows = signal_rows half prefix (prefix_known carrier) in
+      let place = rows.primary in
+      signal_received carrier grids sfn offset gains t at.frame (2 * subframe_of half) (symbols_of_slot prefix - 1) (pss_grid (plan.identity % 3)) (slot_few half) rows.last
+      (omega (arith, at.place, place))
+      (λ port same k.
+      ap₂ (λ (subframe symbol : ℕ). grids port ((sfn + at.frame) % 1024) subframe symbol k) (whole_slot (subframe_of half)) (first_slot (subframe_of half) (symbols_of_slot prefix) (symbols_of_slot prefix - 1))
+      ∙ subst (λ (c : Carrier). grids port ((sfn + at.frame) % 1024) (subframe_of half) (symbols_of_slot (prefix_of c) - 1) k ≡ sent_signal port (pss_grid (plan.identity % 3) k)) same
+      (of_primary_symbol port plan (grids port) (carries port same) half ((sfn + at.frame) % 1024) k ∙ primary_symbol port plan ((sfn + at.frame) % 1024) k half))
+
+  -- and one symbol before it
+  pub secondary_is : (half : Half) → IsTruePlace offset t half → symbol_step prefix ≤ t → (n : ℕ) → n < 128 →
+      received_from carrier grids sfn offset gains (t - symbol_step prefix + n) ≡ times (value_at gains 0) (useful_at (sss_grid (plan.identity / 3) (plan.identity % 3) half) n)
+  secondary_is half at first =
+      let rows = signal_rows half prefix (prefix_known carrier) in
+      let place = rows.secondary in
+      signal_received carrier grids sfn offset gains (t - symbol_step prefix) at.frame (2 * subframe_of half) (symbols_of_slot prefix - 2)
+      (sss_grid (plan.identity / 3) (plan.identity % 3) half) (slot_few half) rows.before (omega (arith, at.place, place, first))
+      (λ port same k.
+      ap₂ (λ (subframe symbol : ℕ). grids port ((sfn + at.frame) % 1024) subframe symbol k) (whole_slot (subframe_of half)) (first_slot (subframe_of half) (symbols_of_slot prefix) (symbols_of_slot prefix - 2))
+      ∙ subst (λ (c : Carrier). grids port ((sfn + at.frame) % 1024) (subframe_of half) (symbols_of_slot (prefix_of c) - 2) k ≡ sent_signal port (sss_grid (plan.identity / 3) (plan.identity % 3) half k)) same
+      (of_secondary_symbol port plan (grids port) (carries port same) half ((sfn + at.frame) % 1024) k ∙ secondary_symbol port plan ((sfn + at.frame) % 1024) k half))
+
+module _ (carrier : Carrier) (recording : List Sample) (plan : CellPlan) (grids : Port → Elements) (sfn offset : ℕ) (gains : List Cpx)
+    (faithful : IsFaithfulBy carrier recording plan grids sfn offset gains) (t : ℕ) where
   abbrev own_prefix : Prefix
   own_prefix = prefix_of carrier
 
-  pub primary_received : (half : Half) → IsTruePlace offset t half → IsReceived eps (value_at gains 0) (pss_grid (plan.identity % 3)) (samples_from recording t)
-  primary_received half at =
+  -- what is received as of one symbol, with little errors
+  with_errors : (start : ℕ) (grid : ℕ → Cpx) → ((n : ℕ) → n < 128 → received_from carrier grids sfn offset gains (start + n) ≡ times (value_at gains 0) (useful_at grid n)) →
+      IsLittle carrier gains (errors_from carrier recording grids sfn offset gains start) → IsReceived 1800 (value_at gains 0) grid (samples_from recording start)
+  with_errors start grid is little = record {
+    sounds = faithful.gains_are.sounds;
+    quiet = subst (λ (energy : ℕ). energy ≤ 1800 * square (value_at gains 0))
+        (energy_same 128 (off_by (samples_from recording start) (λ n. received_from carrier grids sfn offset gains (start + n))) (off_by (samples_from recording start) (λ n. times (value_at gains 0) (useful_at grid n)))
+        (λ n c. ap (minus (in_parts (samples_from recording start n))) (is n c)))
+        (little_beside carrier gains (errors_from carrier recording grids sfn offset gains start) little);
+  }
+
+  -- the primary signal is looked at near the places of hits
+  primary_looked : (half : Half) (frame : ℕ) → symbol_step own_prefix ≤ t + 9 → t ≤ 19345 → IsLookedAt carrier sfn offset frame (2 * subframe_of half) (symbols_of_slot own_prefix - 1) t
+  primary_looked half frame low high =
+      let many = (signal_rows half own_prefix (prefix_known carrier)).many in
+      let is : IsOfPrimary carrier (2 * subframe_of half) (symbols_of_slot own_prefix - 1) t =
+      record { half = half; slot_is = refl; last = omega (arith, many); from_first = low; to_last = high } in
+      inr (inr (inl is))
+
+  pub primary_received : (half : Half) → IsTruePlace offset t half → symbol_step own_prefix ≤ t + 9 → t ≤ 19345 → IsReceived 1800 (value_at gains 0) (pss_grid (plan.identity % 3)) (samples_from recording t)
+  primary_received half at low high =
       let rows = signal_rows half own_prefix (prefix_known carrier) in
       let place = rows.primary in
-      signal_received carrier recording plan grids sfn offset gains eps clean t at.frame (2 * subframe_of half) (symbols_of_slot own_prefix - 1) (pss_grid (plan.identity % 3)) (slot_few half) rows.last inside
-      (omega (arith, at.place, place))
-      (λ port same k.
-      ap₂ (λ (subframe symbol : ℕ). grids port ((sfn + at.frame) % 1024) subframe symbol k) (whole_slot (subframe_of half)) (first_slot (subframe_of half) (symbols_of_slot own_prefix) (symbols_of_slot own_prefix - 1))
-      ∙ subst (λ (c : Carrier). grids port ((sfn + at.frame) % 1024) (subframe_of half) (symbols_of_slot (prefix_of c) - 1) k ≡ sent_signal port (pss_grid (plan.identity % 3) k)) same
-      (of_primary_symbol port plan (grids port) (clean.carries port same) half ((sfn + at.frame) % 1024) k ∙ primary_symbol port plan ((sfn + at.frame) % 1024) k half))
+      with_errors t (pss_grid (plan.identity % 3)) (primary_is carrier plan grids faithful.carries sfn offset gains t half at)
+      (faithful.near at.frame (2 * subframe_of half) (symbols_of_slot own_prefix - 1) t (slot_few half) rows.last (omega (arith, at.place, place)) (primary_looked half at.frame low high))
 
-  secondary_received : (half : Half) → IsTruePlace offset t half → symbol_step own_prefix ≤ t →
-      IsReceived eps (value_at gains 0) (sss_grid (plan.identity / 3) (plan.identity % 3) half) (samples_from recording (t - symbol_step own_prefix))
-  secondary_received half at first =
+  -- and the secondary one before those in their later half
+  secondary_looked : (half : Half) (frame : ℕ) → 9737 ≤ t → t ≤ 19336 → IsLookedAt carrier sfn offset frame (2 * subframe_of half) (symbols_of_slot own_prefix - 2) (t - symbol_step own_prefix)
+  secondary_looked half frame low high =
+      let rows = signal_rows half own_prefix (prefix_known carrier) in
+      let many = rows.many in
+      let step = rows.step in
+      let is : IsOfSecondary carrier (2 * subframe_of half) (symbols_of_slot own_prefix - 2) (t - symbol_step own_prefix) =
+      record { half = half; slot_is = refl; before = omega (arith, many); from_middle = omega (arith, low, step); to_last = omega (arith, low, high, step) } in
+      inr (inr (inr is))
+
+  secondary_received : (half : Half) → IsTruePlace offset t half → 9737 ≤ t → t ≤ 19336 →
+      IsReceived 1800 (value_at gains 0) (sss_grid (plan.identity / 3) (plan.identity % 3) half) (samples_from recording (t - symbol_step own_prefix))
+  secondary_received half at low high =
       let rows = signal_rows half own_prefix (prefix_known carrier) in
       let place = rows.secondary in
-      signal_received carrier recording plan grids sfn offset gains eps clean (t - symbol_step own_prefix) at.frame (2 * subframe_of half) (symbols_of_slot own_prefix - 2)
-      (sss_grid (plan.identity / 3) (plan.identity % 3) half) (slot_few half) rows.before (omega (arith, inside)) (omega (arith, at.place, place, first))
-      (λ port same k.
-      ap₂ (λ (subframe symbol : ℕ). grids port ((sfn + at.frame) % 1024) subframe symbol k) (whole_slot (subframe_of half)) (first_slot (subframe_of half) (symbols_of_slot own_prefix) (symbols_of_slot own_prefix - 2))
-      ∙ subst (λ (c : Carrier). grids port ((sfn + at.frame) % 1024) (subframe_of half) (symbols_of_slot (prefix_of c) - 2) k ≡ sent_signal port (sss_grid (plan.identity / 3) (plan.identity % 3) half k)) same
-      (of_secondary_symbol port plan (grids port) (clean.carries port same) half ((sfn + at.frame) % 1024) k ∙ secondary_symbol port plan ((sfn + at.frame) % 1024) k half))
+      let step = rows.step in
+      let first : symbol_step own_prefix ≤ t = omega (arith, low, step) in
+      with_errors (t - symbol_step own_prefix) (sss_grid (plan.identity / 3) (plan.identity % 3) half) (secondary_is carrier plan grids faithful.carries sfn offset gains t half at first)
+      (faithful.near at.frame (2 * subframe_of half) (symbols_of_slot own_prefix - 2) (t - symbol_step own_prefix) (slot_few half) rows.before (omega (arith, at.place, place, first)) (secondary_looked half at.frame low high))
 
   -- a primary signal stands there
-  pub primary_at : (half : Half) → IsTruePlace offset t half → IsPrimaryAt recording t (plan.identity % 3)
-  primary_at half at = record { eps = eps; gain = value_at gains 0; root = omega arith; received = primary_received half at }
+  pub primary_at : (half : Half) → IsTruePlace offset t half → symbol_step own_prefix ≤ t + 9 → t ≤ 19345 → IsPrimaryAt recording t (plan.identity % 3)
+  primary_at half at low high = record { gain = value_at gains 0; root = omega arith; received = primary_received half at low high }
 
   -- and with it the secondary one
-  pub signals_at : (half : Half) → IsTruePlace offset t half → symbol_step own_prefix ≤ t → plan.identity ≤ 503 → AreSignals own_prefix recording t (plan.identity / 3) (plan.identity % 3) half
-  signals_at half at first known = record {
-    group = omega (arith, known);
-    root = omega arith;
-    eps = eps;
-    gain = value_at gains 0;
-    primary = primary_received half at;
-    secondary = secondary_received half at first;
-  }
+  pub signals_at : (half : Half) → IsTruePlace offset t half → 9737 ≤ t → t ≤ 19336 → plan.identity ≤ 503 → AreSignals own_prefix recording t (plan.identity / 3) (plan.identity % 3) half
+  signals_at half at low high known =
+      let step = (signal_rows half own_prefix (prefix_known carrier)).step in
+      record {
+        group = omega (arith, known);
+        root = omega arith;
+        gain = value_at gains 0;
+        primary = primary_received half at (omega (arith, low, step)) (omega (arith, high));
+        secondary = secondary_received half at low high;
+      }

@@ -10,9 +10,9 @@ use Rattle.clean_air.proofs.SentSymbols.{IsTruePlace}
 
 -- ---- the true place of the span
 
--- a place in the span of one frame at which a primary signal of the cell begins, and the start that it tells
+-- a place in the later half of the places of hits at which a primary signal of the cell begins, and the start that it tells
 pub record IsTrueHit (offset t : ℕ) (half : Half) : Type 0 where
-  pub low : 832 ≤ t
+  pub low : 9737 ≤ t
   pub high : t ≤ 19336
   pub is : IsTruePlace offset t half
 
@@ -22,25 +22,36 @@ pub record HasTrueHit (offset : ℕ) : Type 0 where
   pub is_hit : IsTrueHit offset t half
 
 pub true_hit : (offset : ℕ) → offset < 19200 → HasTrueHit offset
-true_hit offset within = elim (cases_lt (start_after offset) 18505) [
+true_hit offset within = elim (cases_lt (start_after offset) 8905) [
   | inl low ↦ record {
-    t = start_after offset + 832;
-    half = Zero;
+    t = start_after offset + 10432;
+    half = Five;
     is_hit = record {
       low = omega arith;
       high = omega (arith, low);
       is = record { frame = (start_after offset + offset) / 19200; place = omega (arith, within) };
     };
   }
-  | inr high ↦ record {
-    t = start_after offset - 8768;
-    half = Five;
-    is_hit = record {
-      low = omega (arith, high);
-      high = omega arith;
-      is = record { frame = 0; place = omega (arith, within, high) };
-    };
-  }
+  | inr late ↦ elim (cases_lt (start_after offset) 18505) [
+    | inl low ↦ record {
+      t = start_after offset + 832;
+      half = Zero;
+      is_hit = record {
+        low = omega (arith, late);
+        high = omega (arith, low);
+        is = record { frame = (start_after offset + offset) / 19200; place = omega (arith, within) };
+      };
+    }
+    | inr high ↦ record {
+      t = start_after offset - 8768;
+      half = Five;
+      is_hit = record {
+        low = omega (arith, high);
+        high = omega arith;
+        is = record { frame = 0; place = omega (arith, within, high) };
+      };
+    }
+  ]
 ]
 
 -- a true place tells the start of the cell's frames

@@ -1,5 +1,5 @@
--- The list of a recording by any receiver: it holds each cell of the receiver's carrier of which the recording is
--- clean. (own)
+-- The list of a recording by any receiver: it holds each cell of the receiver's carrier to which the recording is
+-- faithful. (own)
 use Rattle.std.specs.Prelude.{◌≡◌, ℕ, ◌/◌, ◌≤◌, List, length, Option, Result, Ok, Err}
 use Rattle.std.specs.List.{Contains}
 use Rattle.cs_num.specs.declared.Cpx.{Cpx}
@@ -25,6 +25,7 @@ use Rattle.cell_plan.specs.Plan.{IsSendableBy}
 use Rattle.cell_tx.specs.Sent.{Elements}
 use Rattle.cell_tx.specs.Emission.{IsCleanBy}
 use Rattle.clean_air.specs.Load.{IsLoadedBy}
+use Rattle.clean_air.specs.Faithful.{IsFaithfulBy}
 
 -- ---- what is sent
 
@@ -86,6 +87,14 @@ HoldsCellBy carrier list plan first number =
 
 -- ---- the list
 
+-- the list holds each cell of a carrier to which the recording is faithful, whatever its plan is, what its ports send
+-- elsewhere, its first frame's number, the offset and the gains
+abbrev pub HoldsFaithfulBy : Carrier → List Sample → List Entry → Type 0
+HoldsFaithfulBy carrier recording list =
+    (plan : CellPlan) (grids : Port → Elements) (sfn offset : ℕ) (gains : List Cpx) →
+    IsKnownBy carrier plan → IsFaithfulBy carrier recording plan grids sfn offset gains →
+    HoldsCellBy carrier list plan (start_of offset) (number_at_start sfn offset)
+
 -- the list holds each cell of a carrier of which the recording is clean, whatever its plan is, what its ports send
 -- elsewhere, its first frame's number, the offset, the gains and the errors
 abbrev pub HoldsBy : Carrier → List Sample → List Entry → Type 0
@@ -102,19 +111,20 @@ HoldsCleanBy carrier recording list =
     IsKnownBy carrier plan → IsCleanBy carrier load recording plan sfn offset gains eps →
     HoldsCellBy carrier list plan (start_of offset) (number_at_start sfn offset)
 
--- the list of a recording by a receiver, which holds each cell of the receiver's carrier of which the recording is
--- clean, whatever else that cell sends
+-- the list of a recording by a receiver, which holds each cell of the receiver's carrier to which the recording is
+-- faithful or of which it is clean, whatever else that cell sends
 pub record IsListBy (receiver : Receiver) (recording : List Sample) (list : List Entry) : Type 0 where
   pub explained : IsListFor receiver recording list
+  pub faithful : HoldsFaithfulBy receiver.carrier recording list
   pub loaded : HoldsBy receiver.carrier recording list
   pub holds : HoldsCleanBy receiver.carrier recording list
 
--- the list by one antenna port, which holds each cell of which the recording is clean
+-- the list by one antenna port, which holds each cell to which the recording is faithful
 abbrev pub IsListOfCells : List Sample → List Entry → Type 0
 IsListOfCells = IsListBy one_port_receiver
 
--- a law of a receiver: the list of a recording by it holds each cell of its carrier of which the recording is clean
+-- a law of a receiver: the list of a recording by it holds each cell of its carrier to which the recording is faithful
 abbrev pub HoldsCells : Receiver → Type 0
 HoldsCells receiver =
     (recording : List Sample) (list : List Entry) → least_samples ≤ length recording →
-    IsListFor receiver recording list → HoldsBy receiver.carrier recording list
+    IsListFor receiver recording list → HoldsFaithfulBy receiver.carrier recording list

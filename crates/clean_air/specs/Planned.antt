@@ -14,6 +14,7 @@ use Rattle.cell_plan.specs.declared.cell.CellPlan.{CellPlan}
 use Rattle.cell_plan.specs.Plan.{IsSendable, plan_refusal}
 use Rattle.cell_tx.specs.Sent.{Elements}
 use Rattle.clean_air.specs.Load.{IsLoaded}
+use Rattle.clean_air.specs.Faithful.{IsFaithful}
 
 -- the plan of an entry's cell, which sends this block with this indicator and as this grant says
 abbrev pub plan_by : Entry → ℕ → Grant → Sib1 → CellPlan
@@ -46,9 +47,17 @@ abbrev pub IsPlanOf : List Sample → Entry → Option CellPlan → Type 0
 IsPlanOf recording entry (Some plan) = IsPlanned recording entry plan
 IsPlanOf recording entry None = (plan : CellPlan) → IsPlanned recording entry plan → ⊥
 
--- where the recording is clean of a cell that can be sent, whatever else that cell sends, and the entry is of its
+-- where the recording is faithful to a cell that can be sent, whatever else that cell sends, and the entry is of its
 -- identity, of the sample at which its first frame begins and of that frame's number, the plan is the one by which it
 -- was sent
+abbrev pub IsFaithfulPlan : List Sample → Entry → Option CellPlan → Type 0
+IsFaithfulPlan recording entry answer =
+    (plan : CellPlan) (grid : Elements) (sfn offset : ℕ) (gain : Cpx) → IsSendable plan →
+    IsFaithful recording plan grid sfn offset gain →
+    entry.id ≡ plan.identity → entry.start ≡ start_of offset → entry.sfn ≡ number_at_start sfn offset →
+    answer ≡ Some plan
+
+-- so where the recording is clean of it
 abbrev pub IsSentPlan : List Sample → Entry → Option CellPlan → Type 0
 IsSentPlan recording entry answer =
     (plan : CellPlan) (grid : Elements) (sfn offset : ℕ) (gain : Cpx) (eps : ℕ) → IsSendable plan →
@@ -56,8 +65,17 @@ IsSentPlan recording entry answer =
     entry.id ≡ plan.identity → entry.start ≡ start_of offset → entry.sfn ≡ number_at_start sfn offset →
     answer ≡ Some plan
 
--- a law: in a recording that is clean of a cell that can be sent, whatever else that cell sends, the entry of its
+-- a law: in a recording that is faithful to a cell that can be sent, whatever else that cell sends, the entry of its
 -- identity, of the sample at which its first frame begins and of that frame's number has the plan by which it was sent
+abbrev pub FaithfulEntryHasPlan : Type 0
+FaithfulEntryHasPlan =
+    (recording : List Sample) (entry : Entry) (plan : CellPlan) (grid : Elements) (sfn offset : ℕ) (gain : Cpx) →
+    IsRecording recording → IsInList recording entry → IsSendable plan →
+    IsFaithful recording plan grid sfn offset gain →
+    entry.id ≡ plan.identity → entry.start ≡ start_of offset → entry.sfn ≡ number_at_start sfn offset →
+    IsPlanned recording entry plan
+
+-- a law: so it has in a recording that is clean of it
 abbrev pub SentEntryHasPlan : Type 0
 SentEntryHasPlan =
     (recording : List Sample) (entry : Entry) (plan : CellPlan) (grid : Elements) (sfn offset : ℕ) (gain : Cpx)

@@ -1,5 +1,5 @@
 -- The soft values of a clean slot: each speaks for the bit that was sent, and is not small. (own)
-use Rattle.std.specs.Prelude.{◌≡◌, ℕ, ◌<◌, ◌≤◌, Bool, List, [], slice_index_or, ℤ, pos}
+use Rattle.std.specs.Prelude.{◌≡◌, ℕ, ◌^◌, ◌<◌, ◌≤◌, Bool, List, [], slice_index_or, ℤ, pos}
 use Rattle.cs_num.specs.declared.Cpx.{Cpx}
 use Rattle.cs_num.specs.declared.Sample.{Sample}
 use Rattle.cs_num.specs.Complex.{times, conjugate, square}
@@ -17,50 +17,49 @@ pub record SupportBoth (least : ℕ) (first second : Bool) (values : List ℤ) :
   pub re : Supports least first (slice_index_or values 0 (pos 0))
   pub im : Supports least second (slice_index_or values 1 (pos 0))
 
--- the 24 pilots of a slot by a pattern are seen with one gain that is not 0
-pub record ArePatternSeen (pattern : Pattern) (gain : Cpx) (slot : SeenSlot) : Type 0 where
-  pub sounds : 1 ≤ square gain
+-- the 24 pilots of a slot by a pattern are seen with one gain, in parts, of size 1 and more, each off by at most `most`
+-- times its size
+pub record ArePatternSeen (most : ℕ) (pattern : Pattern) (gain : Cpx) (slot : SeenSlot) : Type 0 where
+  pub sounds : 2 ^ 28 ≤ square gain
   pub pilot : (i : ℕ) → i < 24 →
-      IsSeenAs gain (pattern_sent pattern slot.identity slot.number i) (pattern_seen pattern slot i)
+      IsSeenAs most gain (pattern_sent pattern slot.identity slot.number i) (pattern_seen pattern slot i)
 
--- the 24 pilots of a slot of port 0 with the normal prefix are seen with one gain that is not 0
-abbrev pub ArePilotsSeen : Cpx → SeenSlot → Type 0
-ArePilotsSeen gain slot = ArePatternSeen port_0 gain slot
+-- the 24 pilots of a slot of port 0 with the normal prefix are seen with one gain
+abbrev pub ArePilotsSeen : ℕ → Cpx → SeenSlot → Type 0
+ArePilotsSeen most gain slot = ArePatternSeen most port_0 gain slot
 
 -- where what stands for two bits is seen at a subcarrier with the gain of a slot's pilots, its soft values by these
--- speak for the bits with size 8 and more
+-- speak for the bits
 abbrev pub SeenPairSupportsBits : Type 0
 SeenPairSupportsBits =
     (pattern : Pattern) (gain : Cpx) (slot : SeenSlot) (seen : Cpx) (k : ℕ) (first second : Bool) →
-    ArePatternSeen pattern gain slot →
-    IsSeenAs gain (point first second) seen →
-    SupportBoth 8 first second
+    ArePatternSeen 2316 pattern gain slot →
+    IsSeenAs 2316 gain (point first second) seen →
+    SupportBoth 1 first second
     (soft_pair (times seen (conjugate (pattern_channel pattern slot k))) (pattern_energy pattern slot))
 
--- where a place carries two bits and is seen with the gain of the slot's pilots, its soft values speak for them with
--- size 8 and more
+-- where a place carries two bits and is seen with the gain of the slot's pilots, its soft values speak for them
 abbrev pub ValuesSupportBits : Type 0
 ValuesSupportBits =
-    (gain : Cpx) (slot : SeenSlot) (symbol k : ℕ) (first second : Bool) → ArePilotsSeen gain slot →
-    IsSeenAs gain (point first second) (seen_at slot symbol k) →
-    SupportBoth 8 first second (soft_values slot symbol k)
+    (gain : Cpx) (slot : SeenSlot) (symbol k : ℕ) (first second : Bool) → ArePilotsSeen 2316 gain slot →
+    IsSeenAs 2316 gain (point first second) (seen_at slot symbol k) →
+    SupportBoth 1 first second (soft_values slot symbol k)
 
 -- the first symbols of a slot, as many as the count says, are received in a recording with one gain, each from its
 -- place on, and hold the reference signals of the slot's identity and number by a pattern
-pub record IsPatternReceived (pattern : Pattern) (count : ℕ) (recording : List Sample) (starts : ℕ → ℕ)
+pub record IsPatternReceived (quota : ℕ) (pattern : Pattern) (count : ℕ) (recording : List Sample) (starts : ℕ → ℕ)
     (grids : ℕ → ℕ → Cpx) (slot : SeenSlot) : Type 0 where
-  pub eps : ℕ
   pub gain : Cpx
   pub seen : (l : ℕ) → l < count → slice_index_or slot.symbols l [] ≡ seen_symbol recording (starts l)
   pub amplitudes : (l : ℕ) → l < count → AreAmplitudes (grids l)
-  pub received : (l : ℕ) → l < count → IsReceived eps gain (grids l) (samples_from recording (starts l))
+  pub received : (l : ℕ) → l < count → IsReceived quota gain (grids l) (samples_from recording (starts l))
   pub references : (i : ℕ) → i < 24 →
       grids (pattern_symbol pattern slot.identity i) (pilot_subcarrier slot.identity i)
       ≡ pattern_sent pattern slot.identity slot.number i
 
 -- the seven symbols of a slot with the normal prefix are received, with the reference signals of port 0
 abbrev pub IsSlotReceived : List Sample → (ℕ → ℕ) → (ℕ → ℕ → Cpx) → SeenSlot → Type 0
-IsSlotReceived recording starts grids slot = IsPatternReceived port_0 7 recording starts grids slot
+IsSlotReceived recording starts grids slot = IsPatternReceived 1800 port_0 7 recording starts grids slot
 
 -- the soft values of a slot speak for what a grid says: at each place that carries two bits, for these
 abbrev pub IsSlotHeard : (ℕ → ℕ → Cpx) → SeenSlot → Type 0

@@ -1,4 +1,4 @@
-//! The list of cells of a clean recording.
+//! The list of cells of a faithful recording.
 
 ghost use Rattle.std.specs.Prelude.{All, IfOk};
 ghost use Rattle.std.specs.List.{AllZip};
@@ -9,10 +9,11 @@ ghost use Rattle.clean_air.specs.Clean.{HoldsCells, IsListBy, IsListOfCells};
 use explain::{EntryList, FrameReader, OnePort, Workspace, explain_by};
 use sample_file::Recording;
 
-/// A way to read the cells of a recording whose list holds each cell of its carrier of which the recording is clean.
-/// (own)
+/// A way to read the cells of a recording whose list holds each cell of its carrier to which the recording is
+/// faithful. (own)
 pub trait CleanReader: FrameReader {
-    /// A law: the list of a recording by this receiver holds each cell of its carrier of which the recording is clean.
+    /// A law: the list of a recording by this receiver holds each cell of its carrier to which the recording is
+    /// faithful.
     fn holds_cells()
         ensures { HoldsCells Self.receiver };
 }
@@ -22,14 +23,23 @@ impl CleanReader for OnePort {
 }
 
 /// Afterwards the list is that of the recording by a receiver, as `explain::explain_by` makes it, whatever it held
-/// before. Wherever the recording is what the antenna ports of a cell send by the receiver's carrier, by a plan that it
-/// can send (`IsKnownBy`), each times its own whole-number gain, up to errors, all within the carrier's bounds
-/// (`cell_plan/specs/Gains.antt`), the list has an entry with this cell's identity, the sample at which its first frame begins, that frame's number, the carrier's
-/// count of antenna ports, its master block, read at no cost from that frame alone, and what is told of its system
-/// information, and no other with this identity, sample and number. It does so whatever else the cell sends where its
-/// plan sends nothing, beside the synchronisation signals nothing, in elements of size at most 256 (`loaded`), and so
-/// where it sends nothing else, or load by a number (`holds`). The workspace then has how each entry was read. It takes
-/// no memory. (own)
+/// before. Wherever the recording is faithful to a cell of the receiver's carrier, by a plan that it can send
+/// (`IsKnownBy`), the list has an entry with this cell's identity, the sample at which its first frame begins, that
+/// frame's number, the carrier's count of antenna ports, its master block, read at no cost from that frame alone, and
+/// what is told of its system information, and no other with this identity, sample and number (`faithful`).
+///
+/// It is faithful where each symbol that the list looks at is what the cell's antenna ports send, each times its own
+/// gain in parts of 2^-14, that of the first of size 1 and more, up to errors of little energy beside the gains
+/// (`specs/Faithful.antt`). These symbols are those of the primary signal near the places of hits, one of the
+/// secondary signal, the slot of the broadcast channel in the first whole frame, and with the normal prefix, of one or
+/// two ports, subframe 5 of the first whole frame of even number; what else is received may be anything. The cell may
+/// send anything where its plan sends nothing, beside the synchronisation signals nothing, in elements of size at most
+/// 256.
+///
+/// So it is where the recording is clean of the cell: each component of each sample is within the carrier's bounds of
+/// what the ports send, each times a whole-number gain (`cell_plan/specs/Gains.antt`), whatever else they send
+/// (`loaded`), and so with nothing else, or load by a number (`holds`). The workspace then has how each entry was
+/// read. It takes no memory. (own)
 pub fn explain_clean_by<F: CleanReader>(
     reader: &F,
     recording: &Recording,
@@ -46,9 +56,11 @@ pub fn explain_clean_by<F: CleanReader>(
     prove!(57_600 <= count);
 }
 
-/// The list of the cells with one antenna port, as `explain::explain` makes it. It holds each of which the recording is
-/// clean (`explain_clean_by`): by a plan that can be sent, times a gain of size 1 to 28, each component off by at most
-/// twice the gain's size, with the fields of its SystemInformationBlockType1. (own)
+/// The list of the cells with one antenna port, as `explain::explain` makes it. It holds each to which the recording
+/// is faithful (`explain_clean_by`): by a plan that can be sent, times a gain of size 1 and more in parts of 2^-14,
+/// where the errors of each symbol that is looked at have an energy of at most 1800 times the gain's square; and so
+/// where each component is off by at most twice the size of a whole-number gain. It does so with the fields of its
+/// SystemInformationBlockType1. (own)
 pub fn explain_clean(recording: &Recording, work: &mut Workspace, list: &mut EntryList)
     ensures list { IsListOfCells recording.now list.new }
     ensures readings { AllZip (IsReading recording.now) list.new work.new }

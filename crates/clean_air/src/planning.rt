@@ -4,8 +4,8 @@ ghost use Rattle.std.specs.Prelude.{◌≡◌, ◌↔◌, IsTrue};
 ghost use Rattle.lte_types.specs.declared.bandwidth.Bandwidth.TheVariants.{N6};
 ghost use Rattle.explain.specs.Entries.{IsInList};
 ghost use Rattle.explain.specs.Grant.{IsGrantOf};
-ghost use Rattle.clean_air.specs.Planned.{plan_by as plan_made_by, IsPlanOf, IsSentPlan};
-ghost use Rattle.clean_air.specs.Planned.{SentEntryHasPlan, IsOnePlan};
+ghost use Rattle.clean_air.specs.Planned.{plan_by as plan_made_by, IsPlanOf, IsFaithfulPlan, IsSentPlan};
+ghost use Rattle.clean_air.specs.Planned.{FaithfulEntryHasPlan, SentEntryHasPlan, IsOnePlan};
 
 use cell_plan::{Cell, CellPlan};
 use dci::Grant;
@@ -16,12 +16,13 @@ use sample_file::Recording;
 /// The cell of an entry, by its plan: identity, PHICH and spare bits are the entry's, indicator, resource blocks,
 /// modulation and coding scheme and column those by which its SystemInformationBlockType1 was read (`grant_of`), which
 /// is the block. `None` exactly where `grant_of` gives none, the entry has another count of antenna ports than one or
-/// another bandwidth than n6, or `Cell::new` refuses the plan. Where the recording is what a cell sends, as for
-/// `explain_clean`, and the entry is that cell's, it is the plan by which it was sent. The entry is in the
+/// another bandwidth than n6, or `Cell::new` refuses the plan. Where the recording is faithful to a cell, or clean of
+/// it, as for `explain_clean`, and the entry is that cell's, it is the plan by which it was sent. The entry is in the
 /// recording's list; its frames are read again. (own)
 pub fn plan_of(recording: &Recording, entry: &Entry, work: &mut Workspace) -> Option<Cell>
     requires { IsInList recording.now entry.now }
     ensures plan { IsPlanOf recording.now entry.now result }
+    ensures faithful { IsFaithfulPlan recording.now entry.now result }
     ensures sent { IsSentPlan recording.now entry.now result }
     ensures readings { work.new ≡ work.old }
 {
@@ -38,6 +39,7 @@ pub fn plan_granted(
     requires listed { IsInList recording.now entry.now }
     requires granted { IsGrantOf recording.now entry.now granted }
     ensures plan { IsPlanOf recording.now entry.now result }
+    ensures faithful { IsFaithfulPlan recording.now entry.now result }
     ensures sent { IsSentPlan recording.now entry.now result }
 {
     let count = recording.len();
@@ -45,7 +47,7 @@ pub fn plan_granted(
     told_plan(recording, entry, granted)
 }
 
-// `plan_granted` without its promise on clean recordings, which follows from this clause in `plan_granted`.
+// `plan_granted` without its promises on faithful and clean recordings, which follow from this clause there.
 fn told_plan(recording: &Recording, entry: &Entry, granted: Option<(Cfi, Grant)>) -> Option<Cell>
     requires listed { IsInList recording.now entry.now }
     requires granted { IsGrantOf recording.now entry.now granted }
@@ -96,8 +98,13 @@ pub fn one_plan()
     ensures { IsOnePlan }
 {}
 
-/// In a clean recording the entry of a cell that can be sent has the plan by which it was sent, whatever else the cell
-/// sends.
+/// In a recording that is faithful to a cell that can be sent, whatever else the cell sends, its entry has the plan by
+/// which it was sent.
+pub fn faithful_entry_has_plan()
+    ensures { FaithfulEntryHasPlan }
+{}
+
+/// So it has in a recording that is clean of it.
 pub fn sent_entry_has_plan()
     ensures { SentEntryHasPlan }
 {}

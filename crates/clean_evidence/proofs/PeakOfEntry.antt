@@ -1,5 +1,5 @@
--- The hit that tells the entry of a clean cell: at least 999 thousandths of its energy are the primary signal's.
-use Rattle.std.proofs.Common.{◌≡◌, ℕ, ◌+◌, ◌*◌, ◌/◌, ◌%◌, ◌<◌, ◌≤◌, arith, sym, subst, ◌∙◌, List, length, [], ◌∷◌}
+-- The hit that tells the entry of a cell to which a recording is faithful: at least 999 thousandths of its energy are the primary signal's.
+use Rattle.std.proofs.Common.{◌≡◌, ℕ, ◌+◌, ◌*◌, ◌/◌, ◌%◌, ◌<◌, ◌≤◌, arith, sym, subst, ◌∙◌, List, [], ◌∷◌}
 use Rattle.std.proofs.lemmas.Nat.{le-div}
 use Rattle.cs_num.specs.declared.Cpx.{Cpx}
 use Rattle.cs_num.specs.declared.Sample.{Sample}
@@ -19,7 +19,7 @@ use Rattle.budget.specs.Peak.{StandsOut}
 use Rattle.budget.proofs.Peaks.{primary_stands_out}
 use Rattle.evidence.specs.Evidence.{IsToldBy, thousandths}
 use Rattle.evidence.proofs.Fractions.{some_product}
-use Rattle.clean_air.specs.Load.{IsLoaded}
+use Rattle.clean_air.specs.Faithful.{IsFaithful}
 use Rattle.clean_air.proofs.SentSymbols.{IsTruePlace}
 use Rattle.clean_air.proofs.Signals.{primary_at}
 
@@ -32,15 +32,15 @@ fraction : (c e w : ℕ) → 0 < e → 0 < w → 999 * (e * w) ≤ 1000 * c → 
 fraction c e w some power h = le-div 999 (1000 * c) (e * w) (some_product e w some power) h
 
 -- at such a place the fraction is high
-pub peak_is_high : (recording : List Sample) (plan : CellPlan) (grid : Elements) (sfn offset : ℕ) (gain : Cpx) (eps : ℕ) (entry : Entry) (t : ℕ) → 57600 ≤ length recording →
-    IsLoaded recording plan grid sfn offset gain eps → entry.id ≡ plan.identity → entry.start ≡ start_after offset → IsToldBy OnePort recording entry t → 999 ≤ thousandths recording (entry.id % 3) t
-peak_is_high recording plan grid sfn offset gain eps entry t long clean id start told =
+pub peak_is_high : (recording : List Sample) (plan : CellPlan) (grid : Elements) (sfn offset : ℕ) (gain : Cpx) (entry : Entry) (t : ℕ) →
+    IsFaithful recording plan grid sfn offset gain → entry.id ≡ plan.identity → entry.start ≡ start_after offset → IsToldBy OnePort recording entry t → 999 ≤ thousandths recording (entry.id % 3) t
+peak_is_high recording plan grid sfn offset gain entry t faithful id start told =
     let is = (list_is_right recording told.hit).0 told.listed in
+    let first : 137 ≤ told.hit.t = is.is_hit.from_first in
     let last : told.hit.t ≤ 19336 = is.is_hit.to_last in
-    let place : t ≤ 19336 = subst (λ n. n ≤ 19336) told.place last in
     let half = (identity_of recording told.hit).1 in
-    let at = told_place offset told.hit.t half clean.within (told.start ∙ start) in
-    let primary = primary_at OnePort recording plan (λ port. grid) sfn offset (gain ∷ []) eps told.hit.t clean (omega (arith, long, last)) half at in
+    let at = told_place offset told.hit.t half faithful.within (told.start ∙ start) in
+    let primary = primary_at OnePort recording plan (λ port. grid) sfn offset (gain ∷ []) faithful told.hit.t half at (omega (arith, first)) (omega (arith, last)) in
     let stands : StandsOut recording told.hit.t (plan.identity % 3) = primary_stands_out recording told.hit.t (plan.identity % 3) primary in
     subst (λ n. 999 ≤ thousandths recording (n % 3) t) (sym id)
     (subst (λ n. 999 ≤ thousandths recording (plan.identity % 3) n) told.place

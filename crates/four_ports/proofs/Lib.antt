@@ -1,5 +1,3 @@
--- Lists of the values of pairs.
-pub mod Paired
 -- The reason of each entry.
 pub mod Reasons
 -- The values of a pair speak for its bits.

@@ -1,5 +1,5 @@
 -- Four ports of a cell as ports by their numbers.
-use Rattle.std.proofs.Common.{◌≡◌, ℕ, zero, suc, ◌+◌, ◌*◌, ◌/◌, ◌%◌, ◌<◌, ◌≤◌, List, Some, nat_eq, arith, refl, ap, sym, ◌∙◌}
+use Rattle.std.proofs.Common.{◌≡◌, ℕ, zero, suc, ◌+◌, ◌*◌, ◌^◌, ◌/◌, ◌%◌, ◌<◌, ◌≤◌, List, Some, arith, refl, ap, sym, ◌∙◌}
 use Rattle.finite.specs.Sums.{sum_below}
 use Rattle.cs_num.specs.declared.Cpx.{Cpx}
 use Rattle.cs_num.specs.Complex.{nothing, plus, times, square, value_at}
@@ -15,12 +15,11 @@ use Rattle.cell_tx.specs.declared.antenna.Port.TheVariants.{OfFour}
 use Rattle.cell_tx.specs.declared.antenna.PortOfFour.{PortOfFour}
 use Rattle.cell_tx.specs.declared.antenna.PortOfFour.TheVariants.{Zero, One, Two, Three}
 use Rattle.cell_tx.specs.Block.{port_point, port_bit}
-use Rattle.cell_plan.specs.Gains.{AreGainsOfFour, IsAllowedOfFour}
 use Rattle.cell_tx.specs.Emission.{mixed}
-use Rattle.cell_tx.specs.Ports.{sent_point, is_even_pair}
+use Rattle.cell_tx.specs.Ports.{crossed_point, sent_point}
 use Rattle.cell_tx.specs.Rows.{port_reference_if}
-use Rattle.two_ports.specs.Received.{only, first_sent, second_sent}
-use Rattle.two_ports.proofs.Heard.{second_even, second_odd}
+use Rattle.clean_air.specs.Faithful.{ArePartGains, IsLittle}
+use Rattle.two_ports.specs.Received.{only, over}
 use Rattle.two_ports.proofs.References.{zero_pilot, one_pilot, two_pilot, three_pilot, zero_value, one_value, upper_value}
 use Rattle.two_ports.proofs.Sending.{ArePorts}
 use Rattle.four_ports.specs.Pairs.{over_four}
@@ -36,44 +35,21 @@ port_of (suc (suc (suc n))) = Three
 abbrev pub sender : ℕ → Port
 sender p = OfFour (port_of p)
 
--- ---- the points of pairs
-
-even_of : (i : ℕ) → is_even_pair (2 * i) ≡ nat_eq (i % 2) 0
-even_of i = ap (λ n. nat_eq (n % 2) 0) (let e : 2 * i / 2 ≡ i = omega arith in e)
-
-odd_of : (i : ℕ) → is_even_pair (2 * i + 1) ≡ nat_eq (i % 2) 0
-odd_of i = ap (λ n. nat_eq (n % 2) 0) (let e : (2 * i + 1) / 2 ≡ i = omega arith in e)
-
 -- pairs of even number go over ports 0 and 2, those of odd number over ports 1 and 3
-first_point : (p : ℕ) (points : ℕ → Cpx) (i : ℕ) → p < 4 → sent_point (sender p) points (2 * i) ≡ first_sent over_four i (points (2 * i)) (points (2 * i + 1)) p
-first_point p points i l = by p (i % 2) l (omega arith) refl
+pairs : (p : ℕ) (points : ℕ → Cpx) (i n : ℕ) → p < 4 → n / 2 ≡ i → sent_point (sender p) points n ≡ over (over_four.lower i) (over_four.upper i) (points n) (crossed_point points n) p
+pairs p points i n l e = by p (i % 2) l (omega arith) refl
   where
-    by : (p odd : ℕ) → p < 4 → odd < 2 → i % 2 ≡ odd → sent_point (sender p) points (2 * i) ≡ first_sent over_four i (points (2 * i)) (points (2 * i + 1)) p
-    by zero zero l few e = rw (even_of i, e) refl
-    by zero (suc zero) l few e = rw (even_of i, e) refl
-    by (suc zero) zero l few e = rw (even_of i, e) refl
-    by (suc zero) (suc zero) l few e = rw (even_of i, e) refl
-    by (suc (suc zero)) zero l few e = rw (even_of i, second_even points i, e) refl
-    by (suc (suc zero)) (suc zero) l few e = rw (even_of i, second_even points i, e) refl
-    by (suc (suc (suc zero))) zero l few e = rw (even_of i, second_even points i, e) refl
-    by (suc (suc (suc zero))) (suc zero) l few e = rw (even_of i, second_even points i, e) refl
-    by (suc (suc (suc (suc n)))) odd l few e = absurd (omega (arith, l))
-    by p (suc (suc n)) l few e = absurd (omega (arith, few))
-
-second_point : (p : ℕ) (points : ℕ → Cpx) (i : ℕ) → p < 4 → sent_point (sender p) points (2 * i + 1) ≡ second_sent over_four i (points (2 * i)) (points (2 * i + 1)) p
-second_point p points i l = by p (i % 2) l (omega arith) refl
-  where
-    by : (p odd : ℕ) → p < 4 → odd < 2 → i % 2 ≡ odd → sent_point (sender p) points (2 * i + 1) ≡ second_sent over_four i (points (2 * i)) (points (2 * i + 1)) p
-    by zero zero l few e = rw (odd_of i, e) refl
-    by zero (suc zero) l few e = rw (odd_of i, e) refl
-    by (suc zero) zero l few e = rw (odd_of i, e) refl
-    by (suc zero) (suc zero) l few e = rw (odd_of i, e) refl
-    by (suc (suc zero)) zero l few e = rw (odd_of i, second_odd points i, e) refl
-    by (suc (suc zero)) (suc zero) l few e = rw (odd_of i, second_odd points i, e) refl
-    by (suc (suc (suc zero))) zero l few e = rw (odd_of i, second_odd points i, e) refl
-    by (suc (suc (suc zero))) (suc zero) l few e = rw (odd_of i, second_odd points i, e) refl
-    by (suc (suc (suc (suc n)))) odd l few e = absurd (omega (arith, l))
-    by p (suc (suc n)) l few e = absurd (omega (arith, few))
+    by : (p odd : ℕ) → p < 4 → odd < 2 → i % 2 ≡ odd → sent_point (sender p) points n ≡ over (over_four.lower i) (over_four.upper i) (points n) (crossed_point points n) p
+    by zero zero l few o = rw (e, o) refl
+    by zero (suc zero) l few o = rw (e, o) refl
+    by (suc zero) zero l few o = rw (e, o) refl
+    by (suc zero) (suc zero) l few o = rw (e, o) refl
+    by (suc (suc zero)) zero l few o = rw (e, o) refl
+    by (suc (suc zero)) (suc zero) l few o = rw (e, o) refl
+    by (suc (suc (suc zero))) zero l few o = rw (e, o) refl
+    by (suc (suc (suc zero))) (suc zero) l few o = rw (e, o) refl
+    by (suc (suc (suc (suc m)))) odd l few o = absurd (omega (arith, l))
+    by p (suc (suc m)) l few o = absurd (omega (arith, few))
 
 -- ---- all that they send
 
@@ -87,7 +63,7 @@ all values gains =
     in_turn : (a b c d : Cpx) → plus (plus a b) (plus c d) ≡ plus (plus (plus (plus nothing a) b) c) d
     in_turn a b c d = sym (plus-associates (plus a b) c d) ∙ ap (λ (z : Cpx). plus (plus (plus z b) c) d) (sym (plus-nothing a))
 
-pub four_ports_send : ArePorts over_four 64 FourPorts sender
+pub four_ports_send : ArePorts over_four 7 FourPorts sender
 unfolding port_point port_bit
 four_ports_send = record {
   own = λ p. refl;
@@ -96,19 +72,18 @@ four_ports_send = record {
   sounds = sounds;
   quiet = quiet;
   points = λ p plan number i. refl;
-  first = first_point;
-  second = second_point;
+  pairs = pairs;
   reference = λ slot p q i l m few. reference slot p q i l m;
 }
   where
-    sounds : (gains : List Cpx) → AreGainsOfFour gains → 1 ≤ energy_below 4 (value_at gains)
+    sounds : (gains : List Cpx) → ArePartGains FourPorts gains → 2 ^ 28 ≤ energy_below 4 (value_at gains)
     sounds gains are =
-        let least = are.least in
+        let least = are.sounds in
         let same : energy_below 4 (value_at gains) ≡ square (value_at gains 0) + square (value_at gains 1) + square (value_at gains 2) + square (value_at gains 3) = squares (value_at gains) in
         omega (arith, least, same)
 
-    quiet : (gains : List Cpx) (eps : ℕ) → IsAllowedOfFour gains eps → 64 * (eps * eps) ≤ energy_below 4 (value_at gains)
-    quiet gains eps bound = let small = bound.quiet in let same = squares (value_at gains) in omega (arith, small, same)
+    quiet : (gains : List Cpx) (energy : ℕ) → IsLittle FourPorts gains energy → energy ≤ 7 * energy_below 4 (value_at gains)
+    quiet gains energy (little, one) = let same = squares (value_at gains) in omega (arith, little, same)
 
     reference : (slot : SeenSlot) (p q i : ℕ) → p < 4 → q < 4 →
         port_reference_if (sender q) slot.identity slot.number ((line_of p slot).symbol i) (line_place (line_of p slot) i) ≡ Some (only p ((line_of p slot).sent i) q)
@@ -129,7 +104,4 @@ four_ports_send = record {
     reference slot (suc (suc (suc zero))) (suc (suc zero)) i l m = let at = three_pilot slot.identity slot.number i in rw (at.of_zero, at.of_one, at.of_two, at.of_three) refl
     reference slot (suc (suc (suc zero))) (suc (suc (suc zero))) i l m = let at = three_pilot slot.identity slot.number i in rw (at.of_three, upper_value Fourth slot.identity slot.number i) refl
     reference slot (suc (suc (suc (suc n)))) q i l m = absurd (omega (arith, l))
-    reference slot zero (suc (suc (suc (suc n)))) i l m = absurd (omega (arith, m))
-    reference slot (suc zero) (suc (suc (suc (suc n)))) i l m = absurd (omega (arith, m))
-    reference slot (suc (suc zero)) (suc (suc (suc (suc n)))) i l m = absurd (omega (arith, m))
-    reference slot (suc (suc (suc zero))) (suc (suc (suc (suc n)))) i l m = absurd (omega (arith, m))
+    reference slot p (suc (suc (suc (suc n)))) i l m = absurd (omega (arith, m))

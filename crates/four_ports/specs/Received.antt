@@ -5,9 +5,10 @@ use Rattle.sizes.specs.Sizes.{ArePaired}
 use Rattle.two_ports.specs.Received.{SpeakWith, SpeakReceivedWith}
 use Rattle.four_ports.specs.Pairs.{over_four}
 
--- the values of pairs speak with size 1 and more where each pair of ports has three eighths of the gains' squares
+-- the values of pairs speak where each pair of ports has three eighths of the gains' squares, and what is seen is off
+-- by little more than 14 units
 abbrev pub PairValuesSpeak : Type 0
-PairValuesSpeak = (gains : ℕ → Cpx) → ArePaired gains → SpeakWith gains over_four 872 1
+PairValuesSpeak = (gains : ℕ → Cpx) → ArePaired gains → SpeakWith gains over_four 900
 
 abbrev pub ReceivedPairSpeaks : Type 0
-ReceivedPairSpeaks = (gains : ℕ → Cpx) → ArePaired gains → SpeakReceivedWith gains over_four 64 1
+ReceivedPairSpeaks = (gains : ℕ → Cpx) → ArePaired gains → SpeakReceivedWith gains over_four 7

@@ -22,10 +22,13 @@ impl CleanReader for FourPorts {
 /// frame is read by the values of pairs, and only master blocks that tell four antenna ports are taken. Subframe 5 is
 /// not read: the reason of an entry is `NotOnePort(4)`.
 ///
-/// It holds each cell of which the recording is clean (`clean_air::explain_clean_by`), by a plan whose identity is at
-/// most 503 and whose spare bits are at most 1,023. The squares of the gains' sizes are together at most 196 and that
-/// of the first is at least 1; ports 0 and 2 have at least three eighths of the sum, and so have ports 1 and 3; each
-/// component is exact, or off by 1 at most where the sum is at least 64. (own)
+/// It holds each cell to which the recording is faithful (`clean_air::explain_clean_by`), by a plan whose identity is
+/// at most 503 and whose spare bits are at most 1,023. Gains are in parts of 2^-14, and that of the first port is of
+/// size 1 and more; ports 0 and 2 have at least three eighths of the sum of the squares of all gains' sizes, and so
+/// have ports 1 and 3; the energy of the errors of each symbol that the list looks at is at most 7 times that sum and
+/// 1,800 times the square of the first. So it holds each cell of which the recording is clean: with whole gains, the
+/// squares of their sizes together at most 196, and each component exact, or off by 1 at most where that sum is at
+/// least 64. (own)
 pub fn explain_clean(recording: &Recording, work: &mut Workspace4, list: &mut EntryList)
     ensures list { IsListBy four_ports_receiver recording.now list.new }
     ensures readings { AllZip (IsReadingOfFour recording.now) list.new work.new }

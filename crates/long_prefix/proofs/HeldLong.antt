@@ -1,4 +1,4 @@
--- A recording that is clean of a cell shows it to a receiver of the extended prefix, whatever else the cell sends.
+-- A recording that is faithful to a cell shows it to a receiver of the extended prefix.
 use Rattle.std.proofs.Common.{◌≡◌, ℕ, ◌*◌, ◌%◌, arith, refl, sym, subst, List, [], ◌∷◌, get_or, None, Err}
 use Rattle.std.specs.Prelude.{All}
 use Rattle.std.proofs.lemmas.List.Elements.{Contains-get_or}
@@ -30,19 +30,19 @@ use Rattle.long_prefix.proofs.Told.{values_heard}
 
 shows_cells : ShowsCells long_prefix_receiver
 unfolding long_slot port_point port_bit
-shows_cells recording plan grids sfn offset gains eps long known clean =
+shows_cells recording plan grids sfn offset gains long known faithful =
     let number : ℕ = number_at_start sfn offset in
     -- the slot of the cell's first frame that carries the broadcast channel
     let slot : SeenSlot = long_slot recording plan.identity (start_of offset) 0 in
-    let block = is_block Long plan number known.spare (number_fits sfn offset clean.number clean.within) in
+    let block = is_block Long plan number known.spare (number_fits sfn offset faithful.number faithful.within) in
     let size = block.size in
-    let received = slot_received recording plan grids sfn offset gains eps clean long in
+    let received = slot_received recording plan grids sfn offset gains faithful in
     record {
       word = port_word Long plan number;
       block = block;
-      speaks = heard_bits_speak 8 432 (pbch_c_init plan.identity) (432 * (number % 4)) (port_word Long plan number) (long_values slot) (omega arith) (omega (arith, size))
+      speaks = heard_bits_speak 1 432 (pbch_c_init plan.identity) (432 * (number % 4)) (port_word Long plan number) (long_values slot) (omega arith) (omega (arith, size))
           (values_heard recording (useful_start extended (frame_at (start_of offset) 0) 1) (slot_row (grids Long) number) slot received (port_bit Long plan number)
-          (points_stand plan (grids Long) (clean.carries Long refl) number));
+          (points_stand plan (grids Long) (faithful.carries Long refl) number));
       single = omega arith;
       taken = refl;
       system = refl;

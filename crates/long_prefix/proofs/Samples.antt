@@ -10,7 +10,7 @@ use Rattle.capture_make.specs.Made.{samples_by}
 use Rattle.capture_make.proofs.Samples.{NumbersAreClean}
 use Rattle.long_prefix.specs.declared.plan.LongPlan.{LongPlan}
 use Rattle.long_prefix.specs.declared.made.LongMade.{LongMade}
-use Rattle.long_prefix.specs.Sent.{long_sent, HasPlan}
+use Rattle.long_prefix.specs.Sent.{HasPlan}
 use Rattle.long_prefix.specs.Clean.{IsCleanOfLong}
 use Rattle.long_prefix.specs.Made.{IsPlanOf, IsMadeLong, IsCleanlyMade}
 use Rattle.long_prefix.proofs.SentPlan.{same_sent}

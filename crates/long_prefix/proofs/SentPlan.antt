@@ -14,7 +14,7 @@ use Rattle.cell_tx.specs.Emission.{sent_by}
 use Rattle.cell_plan.specs.Plan.{IsSendable, refusal_of}
 use Rattle.cell_plan.proofs.Sendable.{accepted_is_sendable_by}
 use Rattle.cell_plan.proofs.WholeBlocks.{whole_is_resolvable}
-use Rattle.capture_make.specs.Recipe.{plan as plan_of_number, information}
+use Rattle.capture_make.specs.Recipe.{plan as plan_of_number}
 use Rattle.capture_make.proofs.Plans.{is_sendable}
 use Rattle.long_prefix.specs.declared.plan.LongPlan.{LongPlan}
 use Rattle.long_prefix.specs.Sent.{long_element, long_sent, HasPlan, IsKnownLong}

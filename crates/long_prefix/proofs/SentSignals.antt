@@ -1,5 +1,5 @@
--- A recording that is clean of a cell, whatever else the cell sends: its symbols are received as they were sent.
-use Rattle.std.proofs.Common.{◌≡◌, ℕ, ◌+◌, ◌-◌, ◌*◌, ◌/◌, ◌%◌, ◌<◌, ◌≤◌, None, Bool, true, false, ◌&&◌, nat_eq, nat_lt, arith, refl, ap, subst, ◌∙◌, List, [], length, slice_index_or}
+-- A recording that is faithful to a cell: its symbols are received as they were sent.
+use Rattle.std.proofs.Common.{◌≡◌, ℕ, ◌+◌, ◌*◌, ◌/◌, ◌%◌, ◌<◌, None, Bool, true, false, ◌&&◌, nat_eq, nat_lt, arith, inl, refl, ap, subst, ◌∙◌, List, [], length, slice_index_or}
 use Rattle.std.specs.Prelude.{if◌then◌else◌}
 use Rattle.std.proofs.lemmas.Bool.{lt-ltb}
 use Rattle.std.proofs.lemmas.Bool.Decides.{nat_tests}
@@ -27,9 +27,10 @@ use Rattle.cell_tx.proofs.Elements.{element_of_channel, channel_of_broadcast}
 use Rattle.explain.specs.Frame.{frame_at}
 use Rattle.budget.specs.Received.{IsReceived, samples_from}
 use Rattle.clean_air.specs.Values.{IsPatternReceived}
-use Rattle.clean_air.specs.Load.{CarriesPlan, IsLoadedBy}
+use Rattle.clean_air.specs.Load.{CarriesPlan}
+use Rattle.clean_air.specs.Faithful.{first_frame_of, IsFaithfulBy}
 use Rattle.clean_air.proofs.Carrying.{of_own_reference, of_broadcast}
-use Rattle.clean_air.proofs.SentSymbols.{symbol_near, first_frame}
+use Rattle.clean_air.proofs.SentSymbols.{symbol_off, first_frame}
 use Rattle.grid_map.specs.LongBroadcast.{is_kept, long_places}
 use Rattle.long_prefix.specs.Entries.{long_slot}
 use Rattle.grid_map.proofs.LongOrder.{length-long_places, long_place_is}
@@ -103,26 +104,23 @@ points_stand plan grid carries number i inside =
     ∙ ap (λ (n : ℕ). port_point Long plan number (index_in (long_places plan.identity) (place n p.k))) symbol ∙ ap (port_point Long plan number) at.index
 
 -- the slot of the first frame is received
-pub slot_received : (recording : List Sample) (plan : CellPlan) (grids : Port → Elements) (sfn offset : ℕ) (gains : List Cpx) (eps : ℕ) → IsLoadedBy LongPrefix recording plan grids sfn offset gains eps → 57600 ≤ length recording →
-    IsPatternReceived long_prefix 6 recording (useful_start extended (frame_at (start_of offset) 0) 1) (slot_row (grids Long) (number_at_start sfn offset)) (long_slot recording plan.identity (start_of offset) 0)
+pub slot_received : (recording : List Sample) (plan : CellPlan) (grids : Port → Elements) (sfn offset : ℕ) (gains : List Cpx) → IsFaithfulBy LongPrefix recording plan grids sfn offset gains →
+    IsPatternReceived 1800 long_prefix 6 recording (useful_start extended (frame_at (start_of offset) 0) 1) (slot_row (grids Long) (number_at_start sfn offset)) (long_slot recording plan.identity (start_of offset) 0)
 unfolding long_slot
-slot_received recording plan grids sfn offset gains eps clean long =
+slot_received recording plan grids sfn offset gains faithful =
     let grid = grids Long in
     let gain = value_at gains 0 in
-    let carries = clean.carries Long refl in
     let number : ℕ = number_at_start sfn offset in
     let start : ℕ → ℕ = useful_start extended (frame_at (start_of offset) 0) 1 in
-    let n : ℕ = if nat_eq offset 0 then 0 else 1 in
-    let first = first_frame sfn offset clean.number clean.within in
+    let n : ℕ = first_frame_of offset in
+    let first = first_frame sfn offset faithful.number faithful.within in
     record {
-      eps = eps;
       gain = gain;
       seen = λ l inside. values_below_at (λ symbol. seen_symbol recording (start symbol)) 6 l [] inside;
-      amplitudes = λ l inside. carries.small number 0 (6 + l);
-      received = λ l inside. subst (λ m. IsReceived eps gain (slot_row grid m l) (samples_from recording (start l))) first.number (record {
-        sounds = clean.gains_are.least;
-        quiet = clean.bound;
-        near = λ k low. symbol_near LongPrefix recording plan grids sfn offset gains eps clean (start l) n 1 l k (omega arith) inside low (omega (arith, long, inside)) (omega (arith, first.place));
+      amplitudes = λ l inside. (faithful.carries Long refl).small number 0 (6 + l);
+      received = λ l inside. subst (λ m. IsReceived 1800 gain (slot_row grid m l) (samples_from recording (start l))) first.number (record {
+        sounds = faithful.gains_are.sounds;
+        quiet = symbol_off LongPrefix recording plan grids sfn offset gains faithful n 1 l (start l) (omega arith) inside (omega (arith, first.place)) (inl (refl, refl));
       });
-      references = λ i inside. references_stand plan grid carries number i;
+      references = λ i inside. references_stand plan grid (faithful.carries Long refl) number i;
     }

@@ -9,6 +9,7 @@ use Rattle.grid_map.specs.declared.Place.{Place}
 use Rattle.grid_map.specs.Place.{place}
 use Rattle.soft_bits.specs.Soft.{SeenSlot, seen_at}
 use Rattle.budget.specs.Received.{IsSeenAs}
+use Rattle.budget.proofs.Seen.{amplitude_is_seen_in_recording}
 use Rattle.cell_tx.specs.Points.{point_of}
 use Rattle.clean_air.specs.Values.{SupportBoth, IsPatternReceived}
 use Rattle.clean_air.specs.Carried.{AreHeard}
@@ -18,25 +19,25 @@ use Rattle.grid_map.specs.LongBroadcast.{long_places}
 use Rattle.long_prefix.specs.Entries.{long_pair, long_value, long_values}
 use Rattle.grid_map.proofs.LongOrder.{long_place_is}
 
-module _ (recording : List Sample) (starts : ℕ → ℕ) (rows : ℕ → ℕ → Cpx) (slot : SeenSlot) (received : IsPatternReceived long_prefix 6 recording starts rows slot)
+module _ (recording : List Sample) (starts : ℕ → ℕ) (rows : ℕ → ℕ → Cpx) (slot : SeenSlot) (received : IsPatternReceived 1800 long_prefix 6 recording starts rows slot)
     (bits : ℕ → Bool) (carry : (i : ℕ) → i < 216 → let p = slice_index_or (long_places slot.identity) i (place 0 0) in rows p.symbol p.k ≡ point_of bits i) where
   -- both values of a place speak for the bits that it carries
-  both : (i : ℕ) → i < 216 → SupportBoth 8 (bits (2 * i)) (bits (2 * i + 1)) (long_pair slot (slice_index_or (long_places slot.identity) i (place 0 0)))
+  both : (i : ℕ) → i < 216 → SupportBoth 1 (bits (2 * i)) (bits (2 * i + 1)) (long_pair slot (slice_index_or (long_places slot.identity) i (place 0 0)))
   unfolding long_pair
   both i inside =
       let p : Place = slice_index_or (long_places slot.identity) i (place 0 0) in
       let at = long_place_is slot.identity i inside in
       let few = at.symbol in
       seen_pair_supports_bits long_prefix received.gain slot (seen_at slot p.symbol p.k) p.k (bits (2 * i)) (bits (2 * i + 1))
-      (pattern_pilots_seen long_prefix 6 recording starts rows slot received (omega arith))
-      (subst (λ (z : Cpx). IsSeenAs received.gain z (seen_at slot p.symbol p.k)) (carry i inside)
-      (pattern_place_seen long_prefix 6 recording starts rows slot received p.symbol p.k (omega (arith, few)) at.k))
+      (pattern_pilots_seen 1800 2316 amplitude_is_seen_in_recording long_prefix 6 recording starts rows slot received (omega arith))
+      (subst (λ (z : Cpx). IsSeenAs 2316 received.gain z (seen_at slot p.symbol p.k)) (carry i inside)
+      (pattern_place_seen 1800 2316 amplitude_is_seen_in_recording long_prefix 6 recording starts rows slot received p.symbol p.k (omega (arith, few)) at.k))
 
   -- so all values do
-  pub values_heard : AreHeard 8 432 bits (long_values slot)
+  pub values_heard : AreHeard 1 432 bits (long_values slot)
   unfolding long_values
   values_heard = record {
     size = values_below-length 432 (long_value slot);
-    value = λ i inside. subst (Supports 8 (bits i)) (sym (values_below_at (long_value slot) 432 i (pos 0) inside))
+    value = λ i inside. subst (Supports 1 (bits i)) (sym (values_below_at (long_value slot) 432 i (pos 0) inside))
         (one_value (long_pair slot (slice_index_or (long_places slot.identity) (i / 2) (place 0 0))) i bits (both (i / 2) (omega (arith, inside))));
   }

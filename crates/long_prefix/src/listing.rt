@@ -25,9 +25,11 @@ impl CleanReader for ExtendedPrefix {
 /// entry is dropped where a kept one before it has the same identity and an epoch at most 9 samples away, modulo
 /// 1,024 frames; the list is in order of start, identity and frame number.
 ///
-/// It holds each cell of which the recording is clean (`clean_air::explain_clean_by`), by a plan whose identity is at
-/// most 503 and whose spare bits are at most 1,023, times a gain of size 1 to 28, each component off by at most twice
-/// the gain's size; of a plan with the extended prefix alone `holds` says the same. (own)
+/// It holds each cell to which the recording is faithful (`clean_air::explain_clean_by`), by a plan whose identity is
+/// at most 503 and whose spare bits are at most 1,023, times a gain in parts of 2^-14 of size 1 and more, where the
+/// energy of the errors in each symbol that it looks at is at most 1,800 times the gain's square. So it holds each of
+/// which the recording is clean, times a whole gain of size 1 to 28, each component off by at most twice the gain's
+/// size; of a plan with the extended prefix alone `holds` says the same. (own)
 pub fn explain_clean(recording: &Recording, work: &mut Workspace3, list: &mut EntryList)
     ensures list { IsListBy long_prefix_receiver recording.now list.new }
     ensures readings { AllZip (IsReadingOfLong recording.now) list.new work.new }

@@ -32,7 +32,7 @@ holds_cells TwoPorts = holds_of_two
 holds_cells LongPrefix = holds_of_long
 holds_cells FourPorts = holds_of_four
 
--- the list by it holds what the recording is clean of
+-- the list by it holds what the recording is faithful to, and what it is clean of
 pub list_holds : (carrier : Carrier) (samples : List Sample) (list : List Entry) → IsRecording samples → IsListFor (receiver_of carrier) samples list → IsListOf carrier samples list
 list_holds carrier samples list valid explained = is_list_by (receiver_of carrier) (holds_cells carrier) samples list valid.least explained
 

@@ -16,21 +16,16 @@ use Rattle.explain.specs.Frame.{broadcast_slot}
 use Rattle.explain.specs.Readings.{IsReadingFor}
 use Rattle.explain.specs.Receiver.{Receiver}
 use Rattle.explain.specs.declared.readings.Reading.{Reading}
-use Rattle.two_ports.specs.Pairs.{paired_values}
-use Rattle.two_ports.proofs.Paired.{length-paired, paired-small}
-use Rattle.four_ports.specs.Pairs.{paired_values as four_values}
-use Rattle.four_ports.proofs.Paired.{length-paired as length-four, paired-small as four-small}
+use Rattle.two_ports.specs.Pairs.{Pairing, over_two, paired_by}
+use Rattle.two_ports.proofs.Paired.{length-paired_by, paired_by-small}
+use Rattle.four_ports.specs.Pairs.{over_four}
 use Rattle.long_prefix.specs.Entries.{long_slot, long_value, long_values}
 use Rattle.long_prefix.proofs.Pairs.{long_values-small}
 use Rattle.lte_top.specs.Searching.{receiver_of, IsListOf}
 
-length-pairs : (slot : SeenSlot) → length (paired_values (λ p. slot) (pbch_places slot.identity)) ≡ 480
-length-pairs slot =
-    let all = length-paired (λ p. slot) (pbch_places slot.identity) in omega (arith, all, length-pbch_places slot.identity)
-
-length-fours : (slot : SeenSlot) → length (four_values (λ p. slot) (pbch_places slot.identity)) ≡ 480
-length-fours slot =
-    let all = length-four (λ p. slot) (pbch_places slot.identity) in omega (arith, all, length-pbch_places slot.identity)
+length-pairs : (pairing : Pairing) (slot : SeenSlot) → length (paired_by pairing (λ p. slot) (pbch_places slot.identity)) ≡ 480
+length-pairs pairing slot =
+    let all = length-paired_by pairing (λ p. slot) (pbch_places slot.identity) in omega (arith, all, length-pbch_places slot.identity)
 
 length-long : (slot : SeenSlot) → length (long_values slot) ≡ 432
 unfolding long_values
@@ -42,16 +37,16 @@ small_values OnePort = record {
   small = λ recording place j. received_values-small (broadcast_slot recording place.id place.start j);
 }
 small_values TwoPorts = record {
-  few = λ recording place j. let size = length-pairs (broadcast_slot recording place.id place.start j) in omega (arith, size);
-  small = λ recording place j. let slot = broadcast_slot recording place.id place.start j in paired-small (λ p. slot) (pbch_places slot.identity);
+  few = λ recording place j. let size = length-pairs over_two (broadcast_slot recording place.id place.start j) in omega (arith, size);
+  small = λ recording place j. let slot = broadcast_slot recording place.id place.start j in paired_by-small over_two (λ p. slot) (pbch_places slot.identity);
 }
 small_values LongPrefix = record {
   few = λ recording place j. let size = length-long (long_slot recording place.id place.start j) in omega (arith, size);
   small = λ recording place j. long_values-small (long_slot recording place.id place.start j);
 }
 small_values FourPorts = record {
-  few = λ recording place j. let size = length-fours (broadcast_slot recording place.id place.start j) in omega (arith, size);
-  small = λ recording place j. let slot = broadcast_slot recording place.id place.start j in four-small (λ p. slot) (pbch_places slot.identity);
+  few = λ recording place j. let size = length-pairs over_four (broadcast_slot recording place.id place.start j) in omega (arith, size);
+  small = λ recording place j. let slot = broadcast_slot recording place.id place.start j in paired_by-small over_four (λ p. slot) (pbch_places slot.identity);
 }
 
 -- a list of a carrier, and how its entries were read, can be certified by the receiver for it

@@ -1,6 +1,6 @@
 -- Combinations of two received numbers by two channels: they add up, Cauchy's inequality holds of them, and with the gains
 -- themselves they separate the two amplitudes of a pair.
-use Rattle.std.proofs.Common.{◌≡◌, ℕ, ◌+◌, ◌*◌, ◌≤◌, ℤ, pos, ◌+ℤ◌, ◌-ℤ◌, ◌*ℤ◌, neg_ℤ, nat_abs, refl, ap, ap₂, sym, ◌∙◌, arith}
+use Rattle.std.proofs.Common.{◌≡◌, ℕ, ◌+◌, ◌*◌, ◌≤◌, ℤ, pos, negsuc, ◌+ℤ◌, ◌-ℤ◌, ◌*ℤ◌, neg_ℤ, nat_abs, refl, ap, ap₂, sym, ◌∙◌, arith}
 use Rattle.std.proofs.lemmas.Int.{ints}
 use Rattle.finite.proofs.Ring.{Is, var, lit, same}
 use Rattle.finite.proofs.Ring as ring
@@ -8,7 +8,7 @@ use Rattle.cs_num.specs.declared.Cpx.{Cpx}
 use Rattle.cs_num.specs.Complex.{nothing, plus, times, conjugate, negated, minus, multiple, square}
 use Rattle.cs_num.proofs.Complex.{pair, plus-commutes, times-plus, times-commutes, times-plus_left}
 use Rattle.sizes.specs.Sizes.{inner, real}
-use Rattle.sizes.proofs.Algebra.{plus-nothing_right, plus-exchanges, times-associates, conjugate-times, conjugate-plus, conjugate_twice, conjugate-multiple, multiple-plus, times-multiple, multiple-times, multiple_sum, times_real}
+use Rattle.sizes.proofs.Algebra.{plus-nothing_right, plus-exchanges, times-associates, times-minus, conjugate-times, conjugate-plus, conjugate_twice, conjugate-multiple, multiple-plus, times-multiple, multiple-times, multiple_sum, times_real}
 use Rattle.sizes.proofs.Squares.{times_conjugate, square-times, square-conjugate, square-plus}
 use Rattle.sizes.proofs.TwoTerms.{two_term_cauchy}
 use Rattle.sizes.proofs.Products.{turned_back}
@@ -51,26 +51,24 @@ combined_cauchy h k a b =
     (same_le _ _ (square-times (conjugate h) a ∙ ap (λ s. s * square a) (square-conjugate h)))
     (same_le _ _ (square-times k (conjugate b) ∙ ap (λ s. square k * s) (square-conjugate b)))
 
--- ---- negatives
+-- ---- negatives: -1 times a number
 
-times-negated_re : (a b c d : ℤ) → a *ℤ neg_ℤ c -ℤ b *ℤ neg_ℤ d ≡ neg_ℤ (a *ℤ c -ℤ b *ℤ d)
-times-negated_re a b c d =
-    let p = var a in
-    let q = var b in
-    let r = var c in
-    let s = var d in
-    same (ring.minus (ring.times p (ring.minus_one r)) (ring.times q (ring.minus_one s))) (ring.minus_one (ring.minus (ring.times p r) (ring.times q s))) (omega arith)
+abbrev one_less : Cpx
+one_less = record { re = negsuc 0; im = pos 0 }
 
-times-negated_im : (a b c d : ℤ) → a *ℤ neg_ℤ d +ℤ b *ℤ neg_ℤ c ≡ neg_ℤ (a *ℤ d +ℤ b *ℤ c)
-times-negated_im a b c d =
-    let p = var a in
-    let q = var b in
-    let r = var c in
-    let s = var d in
-    same (ring.plus (ring.times p (ring.minus_one s)) (ring.times q (ring.minus_one r))) (ring.minus_one (ring.plus (ring.times p s) (ring.times q r))) (omega arith)
+negative_part : (a b : ℤ) → (neg_ℤ a ≡ negsuc 0 *ℤ a -ℤ pos 0 *ℤ b) × (neg_ℤ b ≡ negsuc 0 *ℤ b +ℤ pos 0 *ℤ a)
+negative_part a b = (omega (arith, ints), omega (arith, ints))
+
+negated_is : (a : Cpx) → negated a ≡ times one_less a
+negated_is a = let parts = negative_part a.re a.im in pair parts.0 parts.1
 
 pub times-negated : (a b : Cpx) → times a (negated b) ≡ negated (times a b)
-times-negated a b = pair (times-negated_re a.re a.im b.re b.im) (times-negated_im a.re a.im b.re b.im)
+times-negated a b =
+    ap (times a) (negated_is b) ∙ sym (times-associates a one_less b) ∙ ap (λ (z : Cpx). times z b) (times-commutes a one_less)
+    ∙ times-associates one_less a b ∙ sym (negated_is (times a b))
+
+pub multiple-negated : (n : ℕ) (a : Cpx) → multiple n (negated a) ≡ negated (multiple n a)
+multiple-negated n a = ap (multiple n) (negated_is a) ∙ sym (times-multiple n one_less a) ∙ sym (negated_is (multiple n a))
 
 none_left : (a : ℤ) → neg_ℤ a +ℤ a ≡ pos 0
 none_left a = omega (arith, ints)
@@ -92,6 +90,9 @@ plus-negated a b = pair (minus_part a.re b.re) (minus_part a.im b.im)
 
 twice_part : (a : ℤ) → neg_ℤ (neg_ℤ a) ≡ a
 twice_part a = omega (arith, ints)
+
+negated_twice : (a : Cpx) → negated (negated a) ≡ a
+negated_twice a = pair (twice_part a.re) (twice_part a.im)
 
 -- the negative of the conjugate of the negative
 pub turned_twice : (a : Cpx) → negated (conjugate (negated a)) ≡ conjugate a
@@ -141,35 +142,22 @@ combined_gains g k x y =
     c : Cpx
     c = times k (conjugate (times g y))
 
-inner_moves : (g p e : Cpx) → inner (times g p) e ≡ inner g (times e (conjugate p))
-inner_moves g p e =
-    let a = var g.re in
-    let b = var g.im in
-    let c = var p.re in
-    let d = var p.im in
-    let x = var e.re in
-    let y = var e.im in
-    same (ring.plus (ring.times (ring.minus (ring.times a c) (ring.times b d)) x) (ring.times (ring.plus (ring.times a d) (ring.times b c)) y))
-    (ring.plus (ring.times a (ring.minus (ring.times x c) (ring.times y (ring.minus_one d)))) (ring.times b (ring.plus (ring.times x (ring.minus_one d)) (ring.times y c)))) (omega arith)
-
-inner-negated : (g z : Cpx) → inner g (negated z) ≡ neg_ℤ (inner g z)
-inner-negated g z =
-    let a = var g.re in
-    let b = var g.im in
-    let c = var z.re in
-    let d = var z.im in
-    same (ring.plus (ring.times a (ring.minus_one c)) (ring.times b (ring.minus_one d))) (ring.minus_one (ring.plus (ring.times a c) (ring.times b d))) (omega arith)
-
+-- what crosses at one place is taken back at the other
 inners : (g k x y : Cpx) → inner (times g x) (times k (negated (conjugate y))) ≡ neg_ℤ (inner (times g y) (times k (conjugate x)))
 inners g k x y =
-    inner_moves g x (times k (negated (conjugate y))) ∙ ap (inner g) turned ∙ inner-negated g (times (times k (conjugate x)) (conjugate y))
-    ∙ ap neg_ℤ (sym (inner_moves g y (times k (conjugate x))))
-  where
-    turned : times (times k (negated (conjugate y))) (conjugate x) ≡ negated (times (times k (conjugate x)) (conjugate y))
-    turned =
-        times-associates k (negated (conjugate y)) (conjugate x)
-        ∙ ap (times k) (times-commutes (negated (conjugate y)) (conjugate x) ∙ times-negated (conjugate x) (conjugate y))
-        ∙ times-negated k (times (conjugate x) (conjugate y)) ∙ ap negated (sym (times-associates k (conjugate x) (conjugate y)))
+    let a = var g.re in
+    let b = var g.im in
+    let c = var k.re in
+    let d = var k.im in
+    let p = var x.re in
+    let q = var x.im in
+    let r = var y.re in
+    let s = var y.im in
+    let t = ring.minus_one (ring.minus_one s) in
+    same
+    (ring.plus (ring.times (ring.minus (ring.times a p) (ring.times b q)) (ring.minus (ring.times c (ring.minus_one r)) (ring.times d t))) (ring.times (ring.plus (ring.times a q) (ring.times b p)) (ring.plus (ring.times c t) (ring.times d (ring.minus_one r)))))
+    (ring.minus_one (ring.plus (ring.times (ring.minus (ring.times a r) (ring.times b s)) (ring.minus (ring.times c p) (ring.times d (ring.minus_one q)))) (ring.times (ring.plus (ring.times a s) (ring.times b r)) (ring.plus (ring.times c (ring.minus_one q)) (ring.times d p)))))
+    (omega arith)
 
 -- what is received of a pair has the energy of the pair times the sum of the gains' squares
 pub pair_energy : (g k x y : Cpx) → square (at_first g k x y) + square (at_second g k x y) ≡ (square g + square k) * (square x + square y)
@@ -188,21 +176,9 @@ pair_energy g k x y =
     products g k x y a b c d p q r s = omega (arith, p, q, r, s)
 
 -- what is off of the negatives is the negative
-minus-negated_re : (g h k l x y c d a : ℤ) → neg_ℤ a -ℤ pos 64 *ℤ ((g *ℤ neg_ℤ x -ℤ h *ℤ neg_ℤ y) +ℤ (k *ℤ c -ℤ l *ℤ d))
-    ≡ neg_ℤ (a -ℤ pos 64 *ℤ ((g *ℤ x -ℤ h *ℤ y) +ℤ (k *ℤ neg_ℤ c -ℤ l *ℤ neg_ℤ d)))
-minus-negated_re g h k l x y c d a =
-    same
-    (ring.minus (ring.minus_one (var a)) (ring.times (lit 64) (ring.plus (ring.minus (ring.times (var g) (ring.minus_one (var x))) (ring.times (var h) (ring.minus_one (var y)))) (ring.minus (ring.times (var k) (var c)) (ring.times (var l) (var d))))))
-    (ring.minus_one (ring.minus (var a) (ring.times (lit 64) (ring.plus (ring.minus (ring.times (var g) (var x)) (ring.times (var h) (var y)))
-    (ring.minus (ring.times (var k) (ring.minus_one (var c))) (ring.times (var l) (ring.minus_one (var d)))))))) (omega arith)
-
-minus-negated_im : (g h k l x y c d a : ℤ) → neg_ℤ a -ℤ pos 64 *ℤ ((g *ℤ neg_ℤ y +ℤ h *ℤ neg_ℤ x) +ℤ (k *ℤ d +ℤ l *ℤ c))
-    ≡ neg_ℤ (a -ℤ pos 64 *ℤ ((g *ℤ y +ℤ h *ℤ x) +ℤ (k *ℤ neg_ℤ d +ℤ l *ℤ neg_ℤ c)))
-minus-negated_im g h k l x y c d a =
-    same
-    (ring.minus (ring.minus_one (var a)) (ring.times (lit 64) (ring.plus (ring.plus (ring.times (var g) (ring.minus_one (var y))) (ring.times (var h) (ring.minus_one (var x)))) (ring.plus (ring.times (var k) (var d)) (ring.times (var l) (var c))))))
-    (ring.minus_one (ring.minus (var a) (ring.times (lit 64) (ring.plus (ring.plus (ring.times (var g) (var y)) (ring.times (var h) (var x)))
-    (ring.plus (ring.times (var k) (ring.minus_one (var d))) (ring.times (var l) (ring.minus_one (var c)))))))) (omega arith)
-
 pub minus-negated : (g k x c a : Cpx) → minus (negated a) (multiple 64 (plus (times g (negated x)) (times k c))) ≡ negated (minus a (multiple 64 (plus (times g x) (times k (negated c)))))
-minus-negated g k x c a = pair (minus-negated_re g.re g.im k.re k.im x.re x.im c.re c.im a.re) (minus-negated_im g.re g.im k.re k.im x.re x.im c.re c.im a.im)
+minus-negated g k x c a =
+    ap₂ (λ (u v : Cpx). minus u (multiple 64 v)) (negated_is a)
+    (ap₂ plus (times-negated g x ∙ negated_is (times g x)) (ap (times k) (sym (negated_twice c)) ∙ times-negated k (negated c) ∙ negated_is (times k (negated c))) ∙ sym (times-plus one_less (times g x) (times k (negated c))))
+    ∙ ap (minus (times one_less a)) (sym (times-multiple 64 one_less (plus (times g x) (times k (negated c)))))
+    ∙ sym (times-minus one_less a (multiple 64 (plus (times g x) (times k (negated c))))) ∙ sym (negated_is (minus a (multiple 64 (plus (times g x) (times k (negated c))))))

@@ -13,7 +13,7 @@ use Rattle.crs.proofs.Values.{reference-IsPoint}
 use Rattle.soft_bits.specs.Lines.{line_of, line_pilot, line_seen, line_channel, port_channel}
 use Rattle.soft_bits.specs.Soft.{SeenSlot}
 use Rattle.soft_bits.proofs.Lines.{is_line}
-use Rattle.budget.specs.Received.{received_of}
+use Rattle.budget.specs.Received.{in_parts, received_of}
 use Rattle.budget.proofs.Deviations.{deviation}
 use Rattle.budget.proofs.Near.{IsNear, near-multiple, line-near}
 use Rattle.budget.proofs.Pilots.{IsPilot, turned_pilot-near}
@@ -63,7 +63,7 @@ pilots_alone ports most gains slot seen port l = record {
   each = λ i few. record {
     full = reference-size port slot i;
     seen = record {
-      sized = subst (λ (z : Cpx). square (minus (line_seen (line_of port slot) slot i) (multiple 64 z)) ≤ most * most * energy_below ports gains)
+      sized = subst (λ (z : Cpx). square (minus (in_parts (line_seen (line_of port slot) slot i)) (multiple 64 z)) ≤ most * most * energy_below ports gains)
           (received_of_one ports port gains ((line_of port slot).sent i) l) (seen.pilots port i l few).off;
     };
   };

@@ -1,15 +1,11 @@
--- A recording that is clean of both ports of a cell shows it to a receiver of two, whatever else they send.
-use Rattle.std.proofs.Common.{◌≡◌, ℕ, ◌+◌, ◌*◌, ◌%◌, ◌≤◌, arith, refl, subst}
+-- A recording that is faithful to both ports of a cell shows it to a receiver of two, whatever else they send.
+use Rattle.std.proofs.Common.{ℕ, ◌≤◌, arith, refl}
 use Rattle.cs_num.specs.Complex.{value_at}
 use Rattle.lte_types.specs.declared.carrier.Carrier.TheVariants.{TwoPorts}
-use Rattle.lte_types.specs.Timing.{start_of as start_after, number_at_start}
-use Rattle.grid_map.specs.Scrambling.{pbch_c_init}
-use Rattle.pbch.specs.Values.{received_values_by}
+use Rattle.lte_types.specs.Timing.{number_at_start}
 use Rattle.cell_tx.specs.declared.antenna.Port.TheVariants.{First}
 use Rattle.cell_tx.specs.Block.{port_word}
-use Rattle.explain.specs.Frame.{broadcast_slot}
 use Rattle.explain.specs.Receiver.{subframes_by}
-use Rattle.clean_air.specs.Carried.{SpeakOfWord}
 use Rattle.clean_air.specs.Clean.{HoldsCells}
 use Rattle.clean_air.proofs.Held.{sent_place, sent_mib, ShowsCells, number_fits, told_by_frames, shown_are_held}
 use Rattle.clean_air.proofs.SentBlock.{is_block}
@@ -21,20 +17,17 @@ use Rattle.two_ports.proofs.Senders.{port_of, two_ports_send}
 use Rattle.two_ports.proofs.SentSystem.{fields_read}
 
 shows_cells : ShowsCells two_ports_receiver
-shows_cells recording plan grids sfn offset gains eps long sendable clean =
+shows_cells recording plan grids sfn offset gains long sendable faithful =
     let number : ℕ = number_at_start sfn offset in
-    let fits : number ≤ 1023 = number_fits sfn offset clean.number clean.within in
-    let same : (number + 0) % 1024 ≡ number = omega (arith, fits) in
+    let fits : number ≤ 1023 = number_fits sfn offset faithful.number faithful.within in
     record {
       word = port_word First plan number;
       block = is_block First plan number sendable.spare fits;
-      speaks = subst (λ n. SpeakOfWord (pbch_c_init plan.identity) (480 * (n % 4)) (port_word First plan n) (received_values_by paired_values (broadcast_slot recording plan.identity (start_after offset) 0))) same
-          (word_speaks over_two 4 16 TwoPorts port_of two_ports_send (omega arith) recording plan grids sfn offset gains eps (received_pair_speaks (value_at gains)) clean 0 (omega (arith, long)) sendable.spare);
+      speaks = word_speaks over_two 400 TwoPorts port_of two_ports_send recording plan grids sfn offset gains (received_pair_speaks (value_at gains)) faithful fits sendable.spare;
       single = omega arith;
       taken = refl;
       system = told_by_frames TwoPorts (subframes_by TwoPorts paired_values) recording (sent_place plan.identity offset) number
-          (sent_mib plan sendable.spare number) plan.sib1 long (omega arith) refl
-          (λ j whole even. fields_read recording plan grids sfn offset gains eps sendable clean j whole even);
+          (sent_mib plan sendable.spare number) plan.sib1 long (omega arith) refl (fields_read recording plan grids sfn offset gains sendable faithful);
     }
 
 -- so the list holds it

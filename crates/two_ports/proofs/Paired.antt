@@ -15,7 +15,7 @@ use Rattle.grid_map.specs.declared.Place.{Place}
 use Rattle.soft_bits.specs.Lines.{port_channel, ports_energy}
 use Rattle.soft_bits.specs.Soft.{SeenSlot, seen_at, soft_pair, soft_value}
 use Rattle.soft_bits.proofs.Channel.{soft_value-small}
-use Rattle.two_ports.specs.Pairs.{Pairing, over_two, first_of, second_of, point_values, pair_values, pair_at, paired_by, paired_values}
+use Rattle.two_ports.specs.Pairs.{Pairing, first_of, second_of, point_values, pair_values, pair_at, paired_by}
 
 -- ---- lists of four after four
 
@@ -93,11 +93,3 @@ module _ (pairing : Pairing) (slot : Place → SeenSlot) (places : List Place) w
   pub length-paired_by : length (paired_by pairing slot places) ≡ 4 * (length places / 2)
   unfolding paired_by
   length-paired_by = length-fours (length places / 2) (pair_at pairing slot places) length-pair_at
-
--- ---- two ports
-
-pub paired-small : (slot : Place → SeenSlot) (places : List Place) → AllWithin 127 (paired_values slot places)
-paired-small = paired_by-small over_two
-
-pub length-paired : (slot : Place → SeenSlot) (places : List Place) → length (paired_values slot places) ≡ 4 * (length places / 2)
-length-paired = length-paired_by over_two

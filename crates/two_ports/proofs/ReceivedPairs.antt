@@ -10,24 +10,24 @@ use Rattle.soft_bits.specs.Lines.{line_of, line_place}
 use Rattle.soft_bits.specs.Soft.{SeenSlot, seen_at}
 use Rattle.soft_bits.proofs.Lines.{is_line}
 use Rattle.budget.specs.Budget.{AmplitudesAreSeenInRecording}
-use Rattle.budget.specs.Received.{IsSeenBy}
+use Rattle.budget.specs.Received.{in_parts, IsSeenBy}
 use Rattle.budget.proofs.Seen.{two_amplitudes_are_seen_in_recording}
 use Rattle.clean_air.proofs.SoftValues.{read_symbol}
 use Rattle.two_ports.specs.Pairs.{Pairing, over_two, pair_values}
 use Rattle.two_ports.specs.Received.{ArePortsSeen, IsSlotReceived, SpeakWith, SpeakReceivedWith, ReceivedPairSpeaks, first_sent, second_sent}
 use Rattle.two_ports.proofs.Values.{pair_values_speak}
 
-module _ (ports share most : ℕ) (are_seen : AmplitudesAreSeenInRecording ports share most) (gains : ℕ → Cpx) (recording : List Sample) (starts : ℕ → ℕ) (grids : ℕ → ℕ → ℕ → Cpx) (slot : SeenSlot)
-    (is : IsSlotReceived ports share gains recording starts grids slot) where
+module _ (ports quota most : ℕ) (are_seen : AmplitudesAreSeenInRecording ports quota most) (gains : ℕ → Cpx) (recording : List Sample) (starts : ℕ → ℕ) (grids : ℕ → ℕ → ℕ → Cpx) (slot : SeenSlot)
+    (is : IsSlotReceived ports quota gains recording starts grids slot) where
   place_seen : (symbol k : ℕ) → symbol < 7 → k < 72 → IsSeenBy ports most gains (λ port. grids port symbol k) (seen_at slot symbol k)
   place_seen symbol k few inside =
       subst (λ (z : Cpx). IsSeenBy ports most gains (λ port. grids port symbol k) z)
       (sym (ap (λ (xs : List Cpx). value_at xs k) (is.seen symbol few) ∙ read_symbol recording (starts symbol) k inside))
-      (are_seen is.eps gains (λ port. grids port symbol) recording (starts symbol) k (λ port l. is.amplitudes port symbol l few) (is.received symbol few) inside)
+      (are_seen gains (λ port. grids port symbol) recording (starts symbol) k (λ port l. is.amplitudes port symbol l few) (is.received symbol few) inside)
 
   place_holds : (symbol k : ℕ) (these : ℕ → Cpx) → symbol < 7 → k < 72 → ((port : ℕ) → port < ports → grids port symbol k ≡ these port) → IsSeenBy ports most gains these (seen_at slot symbol k)
   place_holds symbol k these few inside send = record {
-    off = subst (λ (z : Cpx). square (minus (seen_at slot symbol k) (multiple 64 z)) ≤ most * most * energy_below ports gains)
+    off = subst (λ (z : Cpx). square (minus (in_parts (seen_at slot symbol k)) (multiple 64 z)) ≤ most * most * energy_below ports gains)
         (complex_sum_below_same ports (λ port. times (gains port) (grids port symbol k)) (λ port. times (gains port) (these port)) (λ port l. ap (times (gains port)) (send port l)))
         (place_seen symbol k few inside).off;
   }
@@ -41,16 +41,16 @@ module _ (ports share most : ℕ) (are_seen : AmplitudesAreSeenInRecording ports
         place_holds (line.symbol i) (line_place line i) _ (omega (arith, row)) ((is_line port slot).inside i few) (λ other m. is.pilots port i other l few m);
   }
 
-pub received_pair_speaks_by : (pairing : Pairing) (share most least : ℕ) → AmplitudesAreSeenInRecording pairing.ports share most → (gains : ℕ → Cpx) → SpeakWith gains pairing most least →
-    SpeakReceivedWith gains pairing share least
+pub received_pair_speaks_by : (pairing : Pairing) (quota most : ℕ) → AmplitudesAreSeenInRecording pairing.ports quota most → (gains : ℕ → Cpx) → SpeakWith gains pairing most →
+    SpeakReceivedWith gains pairing quota
 unfolding pair_values
-received_pair_speaks_by pairing share most least are_seen gains speak recording starts grids slot i p q b c d e is l m carry =
+received_pair_speaks_by pairing quota most are_seen gains speak recording starts grids slot i p q b c d e is l m carry =
     speak slot i p.k b c d e (seen_at slot (p.symbol % 7) p.k) (seen_at slot (q.symbol % 7) q.k)
-    (ports_seen pairing.ports share most are_seen gains recording starts grids slot is)
+    (ports_seen pairing.ports quota most are_seen gains recording starts grids slot is)
     (record {
-      first = place_holds pairing.ports share most are_seen gains recording starts grids slot is (p.symbol % 7) p.k (first_sent pairing i (point b c) (point d e)) (omega arith) l carry.first;
-      second = place_holds pairing.ports share most are_seen gains recording starts grids slot is (q.symbol % 7) q.k (second_sent pairing i (point b c) (point d e)) (omega arith) m carry.second;
+      first = place_holds pairing.ports quota most are_seen gains recording starts grids slot is (p.symbol % 7) p.k (first_sent pairing i (point b c) (point d e)) (omega arith) l carry.first;
+      second = place_holds pairing.ports quota most are_seen gains recording starts grids slot is (q.symbol % 7) q.k (second_sent pairing i (point b c) (point d e)) (omega arith) m carry.second;
     })
 
 pub received_pair_speaks : ReceivedPairSpeaks
-received_pair_speaks gains = received_pair_speaks_by over_two 4 1024 16 two_amplitudes_are_seen_in_recording gains (pair_values_speak gains)
+received_pair_speaks gains = received_pair_speaks_by over_two 400 1464 two_amplitudes_are_seen_in_recording gains (pair_values_speak gains)

@@ -1,5 +1,5 @@
 -- Both ports of a cell as ports by their numbers.
-use Rattle.std.proofs.Common.{◌≡◌, ℕ, zero, suc, ◌+◌, ◌*◌, ◌<◌, ◌≤◌, List, Some, arith, refl, ap, sym}
+use Rattle.std.proofs.Common.{◌≡◌, ℕ, zero, suc, ◌*◌, ◌^◌, ◌/◌, ◌<◌, ◌≤◌, List, Some, arith, refl, ap, sym}
 use Rattle.finite.specs.Sums.{sum_below}
 use Rattle.cs_num.specs.declared.Cpx.{Cpx}
 use Rattle.cs_num.specs.Complex.{plus, times, value_at}
@@ -13,14 +13,13 @@ use Rattle.cell_tx.specs.declared.antenna.Port.{Port}
 use Rattle.cell_tx.specs.declared.antenna.Port.TheVariants.{First, Second}
 use Rattle.cell_plan.specs.declared.cell.CellPlan.{CellPlan}
 use Rattle.cell_tx.specs.Block.{port_point, port_bit}
-use Rattle.cell_plan.specs.Gains.{AreGains, IsAllowed}
 use Rattle.cell_tx.specs.Emission.{mixed}
 use Rattle.cell_tx.specs.Points.{point_of}
-use Rattle.cell_tx.specs.Ports.{carrier_of, sent_point}
+use Rattle.cell_tx.specs.Ports.{carrier_of, crossed_point, sent_point}
 use Rattle.cell_tx.specs.Rows.{port_reference_if}
+use Rattle.clean_air.specs.Faithful.{ArePartGains, IsLittle}
 use Rattle.two_ports.specs.Pairs.{over_two}
-use Rattle.two_ports.specs.Received.{only, first_sent, second_sent}
-use Rattle.two_ports.proofs.Heard.{second_even, second_odd}
+use Rattle.two_ports.specs.Received.{only, over}
 use Rattle.two_ports.proofs.References.{zero_pilot, one_pilot, zero_value, one_value}
 use Rattle.two_ports.proofs.Sending.{sent_bits, ArePorts}
 use Rattle.two_ports.proofs.Values.{squares}
@@ -35,7 +34,7 @@ all : (values : Port → Cpx) (gains : List Cpx) → mixed TwoPorts values gains
 unfolding sum_below
 all values gains = ap (λ (z : Cpx). plus z (times (value_at gains 1) (values Second))) (sym (plus-nothing (times (value_at gains 0) (values First))))
 
-pub two_ports_send : ArePorts over_two 4 TwoPorts port_of
+pub two_ports_send : ArePorts over_two 400 TwoPorts port_of
 unfolding port_point port_bit
 two_ports_send = record {
   own = own;
@@ -44,8 +43,7 @@ two_ports_send = record {
   sounds = sounds;
   quiet = quiet;
   points = same;
-  first = first;
-  second = second;
+  pairs = pairs;
   reference = λ slot p q i l m few. reference slot p q i l m;
 }
   where
@@ -53,25 +51,20 @@ two_ports_send = record {
     own zero = refl
     own (suc n) = refl
 
-    sounds : (gains : List Cpx) → AreGains (value_at gains 0) (value_at gains 1) → 1 ≤ energy_below 2 (value_at gains)
-    sounds gains are = let least = are.least in let same = squares (value_at gains) in omega (arith, least, same)
+    sounds : (gains : List Cpx) → ArePartGains TwoPorts gains → 2 ^ 28 ≤ energy_below 2 (value_at gains)
+    sounds gains are = let least = are.sounds in let same = squares (value_at gains) in omega (arith, least, same)
 
-    quiet : (gains : List Cpx) (eps : ℕ) → IsAllowed (value_at gains 0) (value_at gains 1) eps → 4 * (eps * eps) ≤ energy_below 2 (value_at gains)
-    quiet gains eps bound = let both = bound.both in let same = squares (value_at gains) in omega (arith, both, same)
+    quiet : (gains : List Cpx) (energy : ℕ) → IsLittle TwoPorts gains energy → energy ≤ 400 * energy_below 2 (value_at gains)
+    quiet gains energy (both, one) = let same = squares (value_at gains) in omega (arith, both, same)
 
     same : (p : ℕ) (plan : CellPlan) (number i : ℕ) → port_point (port_of p) plan number i ≡ point_of (sent_bits First plan number) i
     same zero plan number i = refl
     same (suc n) plan number i = refl
 
-    first : (p : ℕ) (points : ℕ → Cpx) (i : ℕ) → p < 2 → sent_point (port_of p) points (2 * i) ≡ first_sent over_two i (points (2 * i)) (points (2 * i + 1)) p
-    first zero points i l = refl
-    first (suc zero) points i l = second_even points i
-    first (suc (suc n)) points i l = absurd (omega (arith, l))
-
-    second : (p : ℕ) (points : ℕ → Cpx) (i : ℕ) → p < 2 → sent_point (port_of p) points (2 * i + 1) ≡ second_sent over_two i (points (2 * i)) (points (2 * i + 1)) p
-    second zero points i l = refl
-    second (suc zero) points i l = second_odd points i
-    second (suc (suc n)) points i l = absurd (omega (arith, l))
+    pairs : (p : ℕ) (points : ℕ → Cpx) (i n : ℕ) → p < 2 → n / 2 ≡ i → sent_point (port_of p) points n ≡ over (over_two.lower i) (over_two.upper i) (points n) (crossed_point points n) p
+    pairs zero points i n l e = refl
+    pairs (suc zero) points i n l e = refl
+    pairs (suc (suc m)) points i n l e = absurd (omega (arith, l))
 
     reference : (slot : SeenSlot) (p q i : ℕ) → p < 2 → q < 2 →
         port_reference_if (port_of q) slot.identity slot.number ((line_of p slot).symbol i) (line_place (line_of p slot) i) ≡ Some (only p ((line_of p slot).sent i) q)
@@ -80,5 +73,4 @@ two_ports_send = record {
     reference slot (suc zero) zero i l m = let at = one_pilot slot.identity slot.number i in rw (at.of_zero, at.of_one) refl
     reference slot (suc zero) (suc zero) i l m = let at = one_pilot slot.identity slot.number i in rw (at.of_one, one_value slot.identity slot.number i) refl
     reference slot (suc (suc n)) q i l m = absurd (omega (arith, l))
-    reference slot zero (suc (suc n)) i l m = absurd (omega (arith, m))
-    reference slot (suc zero) (suc (suc n)) i l m = absurd (omega (arith, m))
+    reference slot p (suc (suc n)) i l m = absurd (omega (arith, m))

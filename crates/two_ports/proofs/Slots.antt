@@ -1,10 +1,12 @@
--- The slots of a recording that is clean of the ports of a cell, whatever else they send: each of a whole frame is received as it was sent.
-use Rattle.std.proofs.Common.{◌≡◌, ℕ, ◌+◌, ◌*◌, ◌/◌, ◌%◌, ◌<◌, ◌≤◌, Bool, true, false, None, Some, nat_eq, inl, inr, arith, refl, sym, subst, ◌∙◌, List, [], length}
+-- The slots of a recording that is faithful to the ports of a cell, whatever else they send: each that the list looks at is received as it was sent.
+use Rattle.std.proofs.Common.{◌≡◌, ℕ, ◌+◌, ◌*◌, ◌/◌, ◌%◌, ◌<◌, Bool, true, false, None, Some, inl, inr, arith, refl, sym, subst, ◌∙◌, List, []}
 use Rattle.std.specs.Prelude.{if◌then◌else◌, ◌⊎◌}
+use Rattle.std.proofs.Math.Path.{fun_ext}
 use Rattle.finite.proofs.Lists.{values_below_at}
 use Rattle.cs_num.specs.declared.Cpx.{Cpx}
 use Rattle.cs_num.specs.declared.Sample.{Sample}
-use Rattle.cs_num.specs.Complex.{IsWithin, nothing, minus, sample_at, value_at}
+use Rattle.cs_num.specs.Complex.{nothing, value_at}
+use Rattle.sizes.specs.Sizes.{energy_below}
 use Rattle.fold128.specs.Symbol.{useful_at}
 use Rattle.observe.specs.Seen.{seen_symbol}
 use Rattle.soft_bits.specs.Lines.{line_of, line_place}
@@ -18,16 +20,17 @@ use Rattle.cell_tx.specs.Ports.{port_symbols, is_own_reference, is_other_referen
 use Rattle.cell_tx.specs.Rows.{port_reference_if}
 use Rattle.cell_tx.specs.Sent.{Elements}
 use Rattle.cell_tx.proofs.Elements.{element_of_reference}
-use Rattle.clean_air.specs.Load.{CarriesPlan, IsLoadedBy}
+use Rattle.clean_air.specs.Faithful.{IsFaithfulBy, IsLittle, IsLookedAt, first_frame_of}
+use Rattle.clean_air.specs.Load.{CarriesPlan}
 use Rattle.clean_air.proofs.Carrying.{of_own_reference, of_other_reference}
 use Rattle.clean_air.proofs.SentSlots.{slot_grid, frame_is}
-use Rattle.clean_air.proofs.SentSymbols.{symbol_near}
+use Rattle.clean_air.proofs.SentSymbols.{symbol_off}
 use Rattle.lte_types.specs.declared.carrier.Carrier.{Carrier}
 use Rattle.lte_types.specs.declared.numerology.Prefix.{Prefix}
 use Rattle.lte_types.specs.Numerology.{normal, symbols_of_slot, useful_start}
 use Rattle.lte_types.specs.Timing.{start_of, number_at_start}
-use Rattle.explain.specs.Frame.{IsWhole, frame_at, seen_slot}
-use Rattle.budget.specs.Received.{IsReceivedBy, samples_from}
+use Rattle.explain.specs.Frame.{frame_at, seen_slot}
+use Rattle.budget.specs.Received.{off_by, IsReceivedBy, samples_from}
 use Rattle.two_ports.specs.Pairs.{Pairing}
 use Rattle.two_ports.specs.Received.{IsSlotReceived}
 use Rattle.two_ports.proofs.Sending.{ArePorts, seven}
@@ -67,40 +70,39 @@ carried port plan grid seven carries number slot l k value inside is = same ∙ 
 
 -- ---- the slots
 
-module _ (pairing : Pairing) (share : ℕ) (carrier : Carrier) (port : ℕ → Port) (are : ArePorts pairing share carrier port)
-    (recording : List Sample) (plan : CellPlan) (grids : Port → Elements) (sfn offset : ℕ) (gains : List Cpx) (eps : ℕ) (clean : IsLoadedBy carrier recording plan grids sfn offset gains eps) where
-  -- where a whole useful part stands in the recording, it is received from all ports
-  received_at : (t j slot l : ℕ) → slot < 20 → l < 7 → t + 128 ≤ length recording → t + offset ≡ 19200 * j + useful_start normal 0 slot l →
-      IsReceivedBy pairing.ports share eps (value_at gains) (λ p. slot_grid (grids (port p)) ((sfn + j) % 1024) slot l) (samples_from recording t)
-  received_at t j slot l few row inside place = record {
-    sounds = are.sounds gains clean.gains_are;
-    quiet = are.quiet gains eps clean.bound;
-    near = λ n c. subst (λ (z : Cpx). IsWithin eps (minus (sample_at recording (t + n)) z))
-        (are.all (λ p. useful_at (slot_grid (grids p) ((sfn + j) % 1024) slot l) n) gains)
-        (subst (λ (prefix : Prefix). l < symbols_of_slot prefix → t + offset ≡ 19200 * j + useful_start prefix 0 slot l →
-        IsWithin eps (minus (sample_at recording (t + n)) (mixed carrier (λ p. useful_at (grids p ((sfn + j) % 1024) (slot / 2) (symbols_of_slot prefix * (slot % 2) + l)) n) gains))) are.prefix
-        (λ low at. symbol_near carrier recording plan grids sfn offset gains eps clean t j slot l n few low c inside at) row place);
+module _ (pairing : Pairing) (quota : ℕ) (carrier : Carrier) (port : ℕ → Port) (are : ArePorts pairing quota carrier port)
+    (recording : List Sample) (plan : CellPlan) (grids : Port → Elements) (sfn offset : ℕ) (gains : List Cpx) (faithful : IsFaithfulBy carrier recording plan grids sfn offset gains) where
+  -- a symbol that the list looks at is received from all ports
+  received_at : (t frame slot l : ℕ) → slot < 20 → l < 7 → t + offset ≡ 19200 * frame + useful_start normal 0 slot l → IsLookedAt carrier sfn offset frame slot l t →
+      IsReceivedBy pairing.ports quota (value_at gains) (λ p. slot_grid (grids (port p)) ((sfn + frame) % 1024) slot l) (samples_from recording t)
+  received_at t frame slot l few row place looked = record {
+    sounds = are.sounds gains faithful.gains_are;
+    quiet = are.quiet gains _ (subst Little (fun_ext (λ n. are.all (λ p. useful_at (slot_grid (grids p) ((sfn + frame) % 1024) slot l) n) gains))
+        (subst (λ (prefix : Prefix). l < symbols_of_slot prefix → t + offset ≡ 19200 * frame + useful_start prefix 0 slot l →
+        Little (λ n. mixed carrier (λ p. useful_at (grids p ((sfn + frame) % 1024) (slot / 2) (symbols_of_slot prefix * (slot % 2) + l)) n) gains)) are.prefix
+        (λ low at. symbol_off carrier recording plan grids sfn offset gains faithful frame slot l t few low at looked) row place));
   }
+    where
+      Little : (ℕ → Cpx) → Type 0
+      Little values = IsLittle carrier gains (energy_below 128 (off_by (samples_from recording t) values))
 
-  -- each slot of a whole frame is received
-  pub each_slot_received : (j slot : ℕ) → IsWhole recording (start_of offset) j → slot < 20 →
-      IsSlotReceived pairing.ports share (value_at gains) recording (useful_start normal (frame_at (start_of offset) j) slot) (λ p. slot_grid (grids (port p)) ((number_at_start sfn offset + j) % 1024) slot)
+  -- a slot that the list looks at is received
+  pub each_slot_received : (j slot : ℕ) → slot < 20 → ((l start : ℕ) → IsLookedAt carrier sfn offset (first_frame_of offset + j) slot l start) →
+      IsSlotReceived pairing.ports quota (value_at gains) recording (useful_start normal (frame_at (start_of offset) j) slot) (λ p. slot_grid (grids (port p)) ((number_at_start sfn offset + j) % 1024) slot)
       (seen_slot recording (frame_at (start_of offset) j) slot plan.identity)
   unfolding seen_slot
-  each_slot_received j slot whole few =
+  each_slot_received j slot few looked =
       let number : ℕ = (number_at_start sfn offset + j) % 1024 in
       let start : ℕ → ℕ = useful_start normal (frame_at (start_of offset) j) slot in
-      let n : ℕ = (if nat_eq offset 0 then 0 else 1) + j in
-      let frame = frame_is sfn offset j clean.number clean.within in
+      let frame = frame_is sfn offset j faithful.number faithful.within in
       let seen : SeenSlot = seen_slot recording (frame_at (start_of offset) j) slot plan.identity in
       record {
-        eps = eps;
         seen = λ l inside. values_below_at (λ symbol. seen_symbol recording (start symbol)) 7 l [] inside;
-        amplitudes = λ p l below inside. (clean.carries (port p) (are.own p)).small number (slot / 2) (7 * (slot % 2) + l);
-        received = λ l inside. subst (λ m. IsReceivedBy pairing.ports share eps (value_at gains) (λ p. slot_grid (grids (port p)) m slot l) (samples_from recording (start l))) frame.number
-            (received_at (start l) n slot l few inside (omega (arith, whole, inside, few)) (omega (arith, frame.place)));
+        amplitudes = λ p l below inside. (faithful.carries (port p) (are.own p)).small number (slot / 2) (7 * (slot % 2) + l);
+        received = λ l inside. subst (λ m. IsReceivedBy pairing.ports quota (value_at gains) (λ p. slot_grid (grids (port p)) m slot l) (samples_from recording (start l))) frame.number
+            (received_at (start l) (first_frame_of offset + j) slot l few inside (omega (arith, frame.place)) (looked l (start l)));
         pilots = λ p i q below last other.
             let row = (is_line p seen).row i in
-            carried (port q) plan (grids (port q)) (seven pairing share carrier port are q) (clean.carries (port q) (are.own q)) number slot ((line_of p seen).symbol i) (line_place (line_of p seen) i) _ (omega (arith, row))
+            carried (port q) plan (grids (port q)) (seven pairing quota carrier port are q) (faithful.carries (port q) (are.own q)) number slot ((line_of p seen).symbol i) (line_place (line_of p seen) i) _ (omega (arith, row))
             (are.reference seen p q i below other last);
       }

@@ -1,6 +1,6 @@
 -- What is seen and received of several antenna ports, and that the values of pairs then speak for the bits that were
 -- sent. (own)
-use Rattle.std.specs.Prelude.{◌≡◌, ℕ, ◌%◌, ◌<◌, ◌≤◌, Bool, nat_eq, if◌then◌else◌, List, [], slice_index_or, ℤ, pos}
+use Rattle.std.specs.Prelude.{◌≡◌, ℕ, ◌%◌, ◌^◌, ◌<◌, ◌≤◌, Bool, nat_eq, if◌then◌else◌, List, [], slice_index_or, ℤ, pos}
 use Rattle.cs_num.specs.declared.Cpx.{Cpx}
 use Rattle.cs_num.specs.declared.Sample.{Sample}
 use Rattle.cs_num.specs.Complex.{nothing, conjugate, negated}
@@ -34,10 +34,10 @@ second_sent pairing i x y = over (pairing.lower i) (pairing.upper i) y (conjugat
 
 -- ---- seen
 
--- the pilots of so many ports of a slot are seen, each port's with its gain and nothing of the others; not all gains
--- are 0
+-- the pilots of so many ports of a slot are seen, each port's with its gain, in parts, and nothing of the others; the
+-- sum of the gains' squares is at least that of 1
 pub record ArePortsSeen (ports most : ℕ) (gains : ℕ → Cpx) (slot : SeenSlot) : Type 0 where
-  pub sounds : 1 ≤ energy_below ports gains
+  pub sounds : 2 ^ 28 ≤ energy_below ports gains
   pub pilots : (port i : ℕ) → port < ports → i ≤ (line_of port slot).last →
       IsSeenBy ports most gains (only port ((line_of port slot).sent i)) (line_seen (line_of port slot) slot i)
 
@@ -47,32 +47,31 @@ pub record IsPairSeen (pairing : Pairing) (most : ℕ) (gains : ℕ → Cpx) (i 
   pub second : IsSeenBy pairing.ports most gains (second_sent pairing i x y) b
 
 -- four values speak for four bits
-pub record SupportFour (least : ℕ) (b c d e : Bool) (values : List ℤ) : Type 0 where
-  pub first : Supports least b (slice_index_or values 0 (pos 0))
-  pub second : Supports least c (slice_index_or values 1 (pos 0))
-  pub third : Supports least d (slice_index_or values 2 (pos 0))
-  pub fourth : Supports least e (slice_index_or values 3 (pos 0))
+pub record SupportFour (b c d e : Bool) (values : List ℤ) : Type 0 where
+  pub first : Supports 1 b (slice_index_or values 0 (pos 0))
+  pub second : Supports 1 c (slice_index_or values 1 (pos 0))
+  pub third : Supports 1 d (slice_index_or values 2 (pos 0))
+  pub fourth : Supports 1 e (slice_index_or values 3 (pos 0))
 
--- the four values of a pair of points that is seen with these gains speak for its bits with size `least` and more,
--- whatever subcarrier the channels are taken at
-abbrev pub SpeakWith : (ℕ → Cpx) → Pairing → ℕ → ℕ → Type 0
-SpeakWith gains pairing most least =
+-- the four values of a pair of points that is seen with these gains speak for its bits, whatever subcarrier the
+-- channels are taken at
+abbrev pub SpeakWith : (ℕ → Cpx) → Pairing → ℕ → Type 0
+SpeakWith gains pairing most =
     (slot : SeenSlot) (i k : ℕ) (b c d e : Bool) (at_first at_second : Cpx) →
     ArePortsSeen pairing.ports most gains slot →
     IsPairSeen pairing most gains i (point b c) (point d e) at_first at_second →
-    SupportFour least b c d e (seen_by pairing i slot k at_first at_second)
+    SupportFour b c d e (seen_by pairing i slot k at_first at_second)
 
 -- ---- slots of a recording
 
 -- the seven symbols of a slot are received from so many ports with these gains, each from its place on, and hold the
 -- reference signals of all ports; each port sends nothing at those of the others
-pub record IsSlotReceived (ports share : ℕ) (gains : ℕ → Cpx) (recording : List Sample) (starts : ℕ → ℕ)
+pub record IsSlotReceived (ports quota : ℕ) (gains : ℕ → Cpx) (recording : List Sample) (starts : ℕ → ℕ)
     (grids : ℕ → ℕ → ℕ → Cpx) (slot : SeenSlot) : Type 0 where
-  pub eps : ℕ
   pub seen : (l : ℕ) → l < 7 → slice_index_or slot.symbols l [] ≡ seen_symbol recording (starts l)
   pub amplitudes : (port l : ℕ) → port < ports → l < 7 → AreAmplitudes (grids port l)
   pub received : (l : ℕ) → l < 7 →
-      IsReceivedBy ports share eps gains (λ port. grids port l) (samples_from recording (starts l))
+      IsReceivedBy ports quota gains (λ port. grids port l) (samples_from recording (starts l))
   pub pilots : (port i other : ℕ) → port < ports → i ≤ (line_of port slot).last → other < ports →
       grids other ((line_of port slot).symbol i) (line_place (line_of port slot) i)
       ≡ only port ((line_of port slot).sent i) other
@@ -84,19 +83,19 @@ pub record CarryPair (pairing : Pairing) (grids : ℕ → ℕ → ℕ → Cpx) (
 
 -- where a slot is received with these gains, the four values of two places that carry a pair of points speak for their
 -- bits
-abbrev pub SpeakReceivedWith : (ℕ → Cpx) → Pairing → ℕ → ℕ → Type 0
-SpeakReceivedWith gains pairing share least =
+abbrev pub SpeakReceivedWith : (ℕ → Cpx) → Pairing → ℕ → Type 0
+SpeakReceivedWith gains pairing quota =
     (recording : List Sample) (starts : ℕ → ℕ) (grids : ℕ → ℕ → ℕ → Cpx) (slot : SeenSlot) (i : ℕ) (p q : Place)
     (b c d e : Bool) →
-    IsSlotReceived pairing.ports share gains recording starts grids slot → p.k < 72 → q.k < 72 →
+    IsSlotReceived pairing.ports quota gains recording starts grids slot → p.k < 72 → q.k < 72 →
     CarryPair pairing grids i p q (point b c) (point d e) →
-    SupportFour least b c d e (pair_values pairing i slot p q)
+    SupportFour b c d e (pair_values pairing i slot p q)
 
 -- ---- two ports
 
--- the values of pairs speak with size 16 and more, whatever the gains are
+-- the values of pairs speak whatever the gains are, where what is seen is off by less than 23 units
 abbrev pub PairValuesSpeak : Type 0
-PairValuesSpeak = (gains : ℕ → Cpx) → SpeakWith gains over_two 1024 16
+PairValuesSpeak = (gains : ℕ → Cpx) → SpeakWith gains over_two 1464
 
 abbrev pub ReceivedPairSpeaks : Type 0
-ReceivedPairSpeaks = (gains : ℕ → Cpx) → SpeakReceivedWith gains over_two 4 16
+ReceivedPairSpeaks = (gains : ℕ → Cpx) → SpeakReceivedWith gains over_two 400

@@ -22,9 +22,12 @@ impl CleanReader for TwoPorts {
 /// the first fields of SystemInformationBlockType1 that one of its first eight whole frames of even number tells,
 /// or a `Sib1Reason` where none does; the fields are in their ranges.
 ///
-/// It holds each cell of which the recording is clean (`clean_air::explain_clean_by`): by a plan that can be sent, with
-/// the squares of both gains' sizes together at most 392 and that of the first at least 1, each component off by at
-/// most as much as its square is a quarter of that sum and four times that of the first. (own)
+/// It holds each cell to which the recording is faithful (`clean_air::explain_clean_by`): by a plan that can be sent,
+/// with gains in parts of 2^-14, that of the first port of size 1 and more, and with errors in each symbol that the
+/// list looks at whose energy is at most 400 times the sum of the squares of both gains' sizes and 1,800 times that of
+/// the first. So it holds each cell of which the recording is clean: with whole gains, the squares of their sizes
+/// together at most 392, and each component off by at most as much as its square is a quarter of that sum and four
+/// times that of the first. (own)
 pub fn explain_clean(recording: &Recording, work: &mut Workspace2, list: &mut EntryList)
     ensures list { IsListBy two_ports_receiver recording.now list.new }
     ensures readings { AllZip (IsReadingOfTwo recording.now) list.new work.new }

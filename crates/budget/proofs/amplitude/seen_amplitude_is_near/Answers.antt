@@ -1,6 +1,7 @@
 use Rattle.budget.proofs.Causes.{sending_has_two_causes, leakage_is_small, rounding_sent_is_small, sending_is_small, sending_is_linear}
 use Rattle.budget.proofs.Causes.{three_causes, four_causes}
-use Rattle.budget.proofs.Seen.{amplitude_is_seen, two_amplitudes_are_seen, four_amplitudes_are_seen, amplitude_is_seen_in_recording, two_amplitudes_are_seen_in_recording, four_amplitudes_are_seen_in_recording}
+use Rattle.budget.proofs.Seen.{amplitude_is_seen, quiet_amplitude_is_seen, two_amplitudes_are_seen, four_amplitudes_are_seen}
+use Rattle.budget.proofs.Seen.{amplitude_is_seen_in_recording, quiet_amplitude_is_seen_in_recording, two_amplitudes_are_seen_in_recording, four_amplitudes_are_seen_in_recording}
 use Rattle.budget.proofs.amplitude.seen_amplitude_is_near.Goals as goal
 
 pub returns-clause-two_causes : goal.returns-clause-two_causes
@@ -27,6 +28,9 @@ returns-clause-four_causes c = four_causes
 pub returns-clause-one_gain : goal.returns-clause-one_gain
 returns-clause-one_gain c = amplitude_is_seen
 
+pub returns-clause-quiet_gain : goal.returns-clause-quiet_gain
+returns-clause-quiet_gain c = quiet_amplitude_is_seen
+
 pub returns-clause-two_gains : goal.returns-clause-two_gains
 returns-clause-two_gains c = two_amplitudes_are_seen
 
@@ -35,6 +39,9 @@ returns-clause-four_gains c = four_amplitudes_are_seen
 
 pub returns-clause-recording : goal.returns-clause-recording
 returns-clause-recording c = amplitude_is_seen_in_recording
+
+pub returns-clause-quiet_recording : goal.returns-clause-quiet_recording
+returns-clause-quiet_recording c = quiet_amplitude_is_seen_in_recording
 
 pub returns-clause-recording_of_two : goal.returns-clause-recording_of_two
 returns-clause-recording_of_two c = two_amplitudes_are_seen_in_recording

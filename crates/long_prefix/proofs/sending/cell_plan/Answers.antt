@@ -1,4 +1,3 @@
-use Rattle.std.proofs.Common.{◌≤◌, refl}
 use Rattle.long_prefix.specs.Sent.{IsKnownLong}
 use Rattle.long_prefix.proofs.SentPlan.{sendable, none_fails}
 use Rattle.long_prefix.proofs.sending.cell_plan.Goals as goal

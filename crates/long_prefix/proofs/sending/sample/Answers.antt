@@ -1,4 +1,4 @@
-use Rattle.std.proofs.Common.{◌≡◌, ℕ, ◌*◌, ◌≤◌, ap, subst, ◌∙◌}
+use Rattle.std.proofs.Common.{ℕ, ◌*◌, ◌≤◌, ap, subst, ◌∙◌}
 use Rattle.cs_num.specs.declared.Cpx.{Cpx}
 use Rattle.cs_num.specs.Complex.{square, sample_of}
 use Rattle.long_prefix.proofs.SentPlan.{same_sent}

@@ -1,0 +1,82 @@
+-- Values in parts: their laws, and errors by component.
+use Rattle.std.proofs.Common.{◌≡◌, ℕ, zero, suc, ◌+◌, ◌*◌, ◌^◌, ◌≤◌, arith, refl, ap, sym, ◌∙◌, ℤ, pos, ◌-ℤ◌, ◌*ℤ◌, mul-le-mul_right}
+use Rattle.finite.specs.Sums.{total_below}
+use Rattle.cs_num.specs.declared.Cpx.{Cpx}
+use Rattle.cs_num.specs.Complex.{times, conjugate, square, minus, multiple}
+use Rattle.cs_num.proofs.Complex.{pair, square-within}
+use Rattle.finite.proofs.Ring.{var, same}
+use Rattle.finite.proofs.Ring as ring
+use Rattle.finite.proofs.Sums.{total_below-within}
+use Rattle.sizes.specs.Sizes.{energy_below}
+use Rattle.sizes.proofs.Algebra.{conjugate-multiple, times-multiple, multiple-times, multiple_twice}
+use Rattle.sizes.proofs.Squares.{square-multiple}
+use Rattle.sizes.proofs.Cauchy.{energy_same}
+use Rattle.fold128.specs.Symbol.{useful_at}
+use Rattle.budget.specs.Received.{in_parts, off_by}
+use Rattle.budget.specs.Budget.{ErrorsHaveEnergy, WholeGainIsReceived, IsReceivedByMore}
+
+-- ---- products, and sums of squares
+
+pub multiple-swaps : (m n : ℕ) (z : Cpx) → multiple m (multiple n z) ≡ multiple n (multiple m z)
+multiple-swaps m n z = multiple_twice m n z ∙ ap (λ (k : ℕ). multiple k z) (let e : m * n ≡ n * m = omega arith in e) ∙ sym (multiple_twice n m z)
+
+-- 16384 is 2^14, and its square 2^28
+pub product_in_parts : (x y : Cpx) → times (in_parts x) (conjugate (in_parts y)) ≡ multiple 268435456 (times x (conjugate y))
+product_in_parts x y =
+    ap (times (in_parts x)) (conjugate-multiple 16384 y) ∙ times-multiple 16384 (in_parts x) (conjugate y)
+    ∙ ap (multiple 16384) (multiple-times 16384 x (conjugate y)) ∙ multiple_twice 16384 16384 (times x (conjugate y))
+
+pub square_in_parts : (z : Cpx) → square (in_parts z) ≡ 268435456 * square z
+square_in_parts z = square-multiple 16384 z
+
+pub energy_in_parts : (n : ℕ) (f : ℕ → Cpx) → energy_below n (λ k. in_parts (f k)) ≡ 268435456 * energy_below n f
+unfolding total_below
+energy_in_parts zero f = refl
+energy_in_parts (suc n) f =
+    more (energy_below n (λ k. in_parts (f k))) (energy_below n f) (square (in_parts (f n))) (square (f n)) (energy_in_parts n f) (square_in_parts (f n))
+  where
+    more : (s e x y : ℕ) → s ≡ 268435456 * e → x ≡ 268435456 * y → s + x ≡ 268435456 * (e + y)
+    more s e x y h k = omega (arith, h, k)
+
+-- ---- errors by component
+
+less_part : (n a b : ℤ) → n *ℤ a -ℤ n *ℤ b ≡ n *ℤ (a -ℤ b)
+less_part n a b = same (ring.minus (ring.times (var n) (var a)) (ring.times (var n) (var b))) (ring.times (var n) (ring.minus (var a) (var b))) (omega arith)
+
+pub minus_in_parts : (x y : Cpx) → minus (in_parts x) (in_parts y) ≡ in_parts (minus x y)
+minus_in_parts x y = pair (less_part (pos 16384) x.re y.re) (less_part (pos 16384) x.im y.im)
+
+pub errors_have_energy : ErrorsHaveEnergy
+errors_have_energy eps values samples near =
+    sums eps (energy_below 128 (λ n. minus (samples n) (values n))) (energy_below 128 (off_by samples (λ n. in_parts (values n))))
+    (energy_same 128 (off_by samples (λ n. in_parts (values n))) (λ n. in_parts (minus (samples n) (values n))) (λ n l. minus_in_parts (samples n) (values n))
+    ∙ energy_in_parts 128 (λ n. minus (samples n) (values n)))
+    (total_below-within 128 (2 * (eps * eps)) (λ n. square (minus (samples n) (values n))) (λ n l. square-within (minus (samples n) (values n)) eps (near n l)))
+  where
+    sums : (eps e s : ℕ) → s ≡ 268435456 * e → e ≤ 128 * (2 * (eps * eps)) → s ≤ 2 ^ 36 * (eps * eps)
+    sums eps e s same h = omega (arith, same, h)
+
+pub whole_gain_is_received : WholeGainIsReceived
+whole_gain_is_received eps gain grid samples some quiet near = record {
+  sounds = sounds (square gain) (square (in_parts gain)) (square_in_parts gain) some;
+  quiet = few eps (square gain) (square (in_parts gain)) (energy_below 128 (off_by samples (λ n. times (in_parts gain) (useful_at grid n))))
+      (energy_below 128 (off_by samples (λ n. in_parts (times gain (useful_at grid n))))) (square_in_parts gain)
+      (energy_same 128 (off_by samples (λ n. times (in_parts gain) (useful_at grid n))) (off_by samples (λ n. in_parts (times gain (useful_at grid n))))
+      (λ n l. ap (minus (in_parts (samples n))) (multiple-times 16384 gain (useful_at grid n))))
+      (errors_have_energy eps (λ n. times gain (useful_at grid n)) samples near) quiet;
+}
+  where
+    sounds : (n m : ℕ) → m ≡ 268435456 * n → 1 ≤ n → 2 ^ 28 ≤ m
+    sounds n m same some = omega (arith, same, some)
+
+    few : (eps n m s e : ℕ) → m ≡ 268435456 * n → s ≡ e → e ≤ 2 ^ 36 * (eps * eps) → eps * eps ≤ 4 * n → s ≤ 1024 * m
+    few eps n m s e same all h quiet = omega (arith, same, all, h, quiet)
+
+pub is_received_by_more : IsReceivedByMore
+is_received_by_more quota more gain grid samples l received = record {
+  sounds = received.sounds;
+  quiet = wider (square gain) (energy_below 128 (off_by samples (λ n. times gain (useful_at grid n)))) received.quiet;
+}
+  where
+    wider : (n e : ℕ) → e ≤ quota * n → e ≤ more * n
+    wider n e h = let k : quota * n ≤ more * n = mul-le-mul_right n l in omega (arith, h, k)

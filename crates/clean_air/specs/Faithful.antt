@@ -1,0 +1,132 @@
+-- A recording is faithful to a cell: in each symbol at which the list of the cell's carrier looks, it is what the
+-- cell's antenna ports send, each times a gain in parts of 2^-14, up to errors of little energy. Of all else that the
+-- recording holds nothing is asked. (own; frames, slots and symbols are those of TS 36.211 sections 4.1 and 6.2)
+use Rattle.std.specs.Prelude.{◌≡◌, ℕ, ◌+◌, ◌*◌, ◌^◌, ◌/◌, ◌%◌, ◌<◌, ◌≤◌, ◌⊎◌, nat_eq, if◌then◌else◌}
+use Rattle.std.specs.Prelude.{List, [], ◌∷◌, length, map}
+use Rattle.cs_num.specs.declared.Cpx.{Cpx}
+use Rattle.cs_num.specs.declared.Sample.{Sample}
+use Rattle.cs_num.specs.Complex.{square, value_at}
+use Rattle.sizes.specs.Sizes.{squares_of_four, energy_below}
+use Rattle.lte_types.specs.declared.carrier.Carrier.{Carrier}
+use Rattle.lte_types.specs.declared.carrier.Carrier.TheVariants.{OnePort, TwoPorts, LongPrefix, FourPorts}
+use Rattle.lte_types.specs.declared.frame.Half.{Half}
+use Rattle.lte_types.specs.Carrier.{prefix_of}
+use Rattle.lte_types.specs.Numerology.{frame_length, half_frame_length, least_samples, subframe_of}
+use Rattle.lte_types.specs.Numerology.{symbols_of_slot, symbol_step, useful_start}
+use Rattle.lte_types.specs.Timing.{IsOffset, number_at_start}
+use Rattle.pss_search.specs.Hits.{last_place}
+use Rattle.budget.specs.Received.{in_parts, off_by, samples_from}
+use Rattle.cell_tx.specs.declared.antenna.Port.{Port}
+use Rattle.cell_tx.specs.Ports.{carrier_of}
+use Rattle.cell_plan.specs.declared.cell.CellPlan.{CellPlan}
+use Rattle.cell_plan.specs.Gains.{ArePairedBy}
+use Rattle.cell_tx.specs.Sent.{Elements}
+use Rattle.clean_air.specs.Load.{CarriesPlan, IsLoadedBy, received_from}
+
+-- ---- gains and errors
+
+-- gains of a carrier's ports, in parts: that of the first is of size 1 and more, and no pair of four ports is weak
+pub record ArePartGains (carrier : Carrier) (gains : List Cpx) : Type 0 where
+  pub sounds : 2 ^ 28 ≤ square (value_at gains 0)
+  pub paired : ArePairedBy carrier gains
+
+-- errors of this energy in a symbol are little beside these gains
+abbrev pub IsLittle : Carrier → List Cpx → ℕ → Type 0
+IsLittle OnePort gains energy = energy ≤ 1800 * square (value_at gains 0)
+IsLittle TwoPorts gains energy =
+    (energy ≤ 400 * (square (value_at gains 0) + square (value_at gains 1)))
+    × (energy ≤ 1800 * square (value_at gains 0))
+IsLittle LongPrefix gains energy = energy ≤ 1800 * square (value_at gains 0)
+IsLittle FourPorts gains energy =
+    (energy ≤ 7 * squares_of_four (value_at gains)) × (energy ≤ 1800 * square (value_at gains 0))
+
+-- ---- what a list looks at
+
+-- which frame of those that are sent is the first that begins in the recording, and the first of these of even number
+abbrev pub first_frame_of : ℕ → ℕ
+first_frame_of offset = if nat_eq offset 0 then 0 else 1
+
+abbrev pub even_frame_of : ℕ → ℕ → ℕ
+even_frame_of sfn offset = first_frame_of offset + number_at_start sfn offset % 2
+
+-- a symbol of slot 1 of the first frame, which holds the broadcast channel (TS 36.211 section 6.6)
+abbrev pub IsOfMaster : ℕ → ℕ → ℕ → Type 0
+IsOfMaster offset frame slot = (frame ≡ first_frame_of offset) × (slot ≡ 1)
+
+-- a symbol of subframe 5 of the first frame of even number, which holds SIB1 (TS 36.331 section 5.2.1.2); it is read
+-- with the normal prefix, of one or two ports
+abbrev pub IsOfSystem : Carrier → ℕ → ℕ → ℕ → ℕ → Type 0
+IsOfSystem OnePort sfn offset frame slot = (frame ≡ even_frame_of sfn offset) × (slot / 2 ≡ 5)
+IsOfSystem TwoPorts sfn offset frame slot = (frame ≡ even_frame_of sfn offset) × (slot / 2 ≡ 5)
+IsOfSystem LongPrefix sfn offset frame slot = ⊥
+IsOfSystem FourPorts sfn offset frame slot = ⊥
+
+-- the last symbol of slot 0 or 10, which holds the primary signal, where it begins within 9 samples of a place of hits
+-- that has room before it for the secondary one (TS 36.211 section 6.11.1)
+pub record IsOfPrimary (carrier : Carrier) (slot symbol start : ℕ) : Type 0 where
+  pub half : Half
+  pub slot_is : slot ≡ 2 * subframe_of half
+  pub last : symbol + 1 ≡ symbols_of_slot (prefix_of carrier)
+  pub from_first : symbol_step (prefix_of carrier) ≤ start + 9
+  pub to_last : start ≤ last_place + 9
+
+-- the symbol before it, which holds the secondary signal, where the primary one begins in the later half of the places
+-- of hits: one of the two in these places is enough (TS 36.211 section 6.11.2)
+pub record IsOfSecondary (carrier : Carrier) (slot symbol start : ℕ) : Type 0 where
+  pub half : Half
+  pub slot_is : slot ≡ 2 * subframe_of half
+  pub before : symbol + 2 ≡ symbols_of_slot (prefix_of carrier)
+  pub from_middle : last_place < start + symbol_step (prefix_of carrier) + half_frame_length
+  pub to_last : start + symbol_step (prefix_of carrier) ≤ last_place
+
+-- the list of a carrier looks at this symbol of a cell, whose useful part begins at this sample
+abbrev pub IsLookedAt : Carrier → ℕ → ℕ → ℕ → ℕ → ℕ → ℕ → Type 0
+IsLookedAt carrier sfn offset frame slot symbol start =
+    IsOfMaster offset frame slot ⊎ (IsOfSystem carrier sfn offset frame slot
+    ⊎ (IsOfPrimary carrier slot symbol start ⊎ IsOfSecondary carrier slot symbol start))
+
+-- ---- recordings
+
+-- the energy of what the 128 samples from `start` on are off by from what is received of elements of all ports, with
+-- gains in parts
+abbrev pub errors_from : Carrier → List Sample → (Port → Elements) → ℕ → ℕ → List Cpx → ℕ → ℕ
+errors_from carrier recording grids sfn offset gains start =
+    energy_below 128
+    (off_by (samples_from recording start) (λ n. received_from carrier grids sfn offset gains (start + n)))
+
+-- a recording is faithful to elements of each port of a carrier that carry the plan, from the frame numbered sfn on:
+-- in each symbol that the list looks at, whose useful part begins at the sample `start`, the errors are little
+pub record IsFaithfulBy (carrier : Carrier) (recording : List Sample) (plan : CellPlan) (grids : Port → Elements)
+    (sfn offset : ℕ) (gains : List Cpx) : Type 0 where
+  pub number : sfn ≤ 1023
+  pub within : IsOffset offset
+  pub carries : (port : Port) → carrier_of port ≡ carrier → CarriesPlan port plan (grids port)
+  pub gains_are : ArePartGains carrier gains
+  pub near : (frame slot symbol start : ℕ) → slot < 20 → symbol < symbols_of_slot (prefix_of carrier) →
+      start + offset ≡ frame_length * frame + useful_start (prefix_of carrier) 0 slot symbol →
+      IsLookedAt carrier sfn offset frame slot symbol start →
+      IsLittle carrier gains (errors_from carrier recording grids sfn offset gains start)
+
+-- a recording is faithful to elements of a cell's only port that carry the plan
+abbrev pub IsFaithful : List Sample → CellPlan → Elements → ℕ → ℕ → Cpx → Type 0
+IsFaithful recording plan grid sfn offset gain =
+    IsFaithfulBy OnePort recording plan (λ port. grid) sfn offset (gain ∷ [])
+
+-- ---- clean recordings
+
+-- a law: of a recording that is clean of a cell, with components off by at most eps, the errors of 128 samples have
+-- little energy, with each gain in parts
+abbrev pub LoadedHasLittleErrors : Type 0
+LoadedHasLittleErrors =
+    (carrier : Carrier) (recording : List Sample) (plan : CellPlan) (grids : Port → Elements) (sfn offset : ℕ)
+    (gains : List Cpx) (eps start : ℕ) → IsLoadedBy carrier recording plan grids sfn offset gains eps →
+    start + 128 ≤ length recording →
+    errors_from carrier recording grids sfn offset (map in_parts gains) start ≤ 2 ^ 36 * (eps * eps)
+
+-- a law: so it is faithful to the cell, whatever else the cell sends
+abbrev pub LoadedIsFaithful : Type 0
+LoadedIsFaithful =
+    (carrier : Carrier) (recording : List Sample) (plan : CellPlan) (grids : Port → Elements) (sfn offset : ℕ)
+    (gains : List Cpx) (eps : ℕ) → least_samples ≤ length recording →
+    IsLoadedBy carrier recording plan grids sfn offset gains eps →
+    IsFaithfulBy carrier recording plan grids sfn offset (map in_parts gains)
