@@ -6,7 +6,7 @@ use Rattle.cs_num.proofs.Complex.{times-plus_left}
 use Rattle.sizes.specs.Sizes.{IsSized}
 use Rattle.sizes.proofs.Algebra.{plus-minus, times-associates, times-multiple, multiple-times, times_real, multiple_twice}
 use Rattle.sizes.proofs.Squares.{times_conjugate}
-use Rattle.budget.specs.Received.{in_parts, IsSeenAs}
+use Rattle.budget.specs.Received.{in_parts, IsSeenNear}
 
 unfoldable pub deviation : Cpx → Cpx → Cpx → Cpx
 deviation gain amplitude seen = minus (in_parts seen) (multiple 64 (times gain amplitude))
@@ -17,9 +17,9 @@ seen_is gain amplitude seen =
     sym (plus-minus (in_parts seen) (multiple 64 (times gain amplitude)))
     ∙ ap (λ (z : Cpx). plus z (minus (in_parts seen) (multiple 64 (times gain amplitude)))) (sym (times-multiple 64 gain amplitude))
 
-pub deviation-sized : (most : ℕ) (gain amplitude seen : Cpx) → IsSeenAs most gain amplitude seen → IsSized most (square gain) (deviation gain amplitude seen)
+pub deviation-sized : (most n : ℕ) (gain amplitude seen : Cpx) → IsSeenNear most n (times gain amplitude) seen → IsSized most n (deviation gain amplitude seen)
 unfolding deviation
-deviation-sized most gain amplitude seen is = record { sized = is.off }
+deviation-sized most n gain amplitude seen is = record { sized = is.off }
 
 -- what is seen of a known amplitude d, turned back by it, is in parts 64 |d|^2 times the gain up to a deviation
 pub channel_is : (g d p : Cpx) → in_parts (times p (conjugate d)) ≡ plus (multiple (64 * square d) g) (times (deviation g d p) (conjugate d))

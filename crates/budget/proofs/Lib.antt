@@ -25,3 +25,5 @@ pub mod Near
 pub mod Pilots
 -- The sign and size of a soft value, by its component and the energy of the pilots.
 pub mod Signs
+-- The values of a place that is seen through a channel; one gain is a case.
+pub mod Through

@@ -1,4 +1,5 @@
--- Channel estimates: numbers that are, in parts, a multiple of a gain, up to a deviation in any unit.
+-- Lines through pilots: numbers that are, in parts, some centre up to a deviation in any unit; and where the centre is a multiple of
+-- a gain.
 use Rattle.std.proofs.Common.{◌≡◌, ℕ, ◌+◌, ◌-◌, ◌*◌, ◌/◌, ◌%◌, ◌<◌, ◌≤◌, arith, refl, ap, ap₂, sym, ◌∙◌, subst, Bool, true, false, nat_lt}
 use Rattle.std.specs.Prelude.{if◌then◌else◌}
 use Rattle.std.proofs.lemmas.Bool.{ltb-true, ltb-false}
@@ -14,53 +15,42 @@ use Rattle.budget.specs.Received.{in_parts}
 use Rattle.budget.proofs.Parts.{multiple-swaps}
 use Rattle.soft_bits.specs.Estimate.{place_by, between_by, line_by, estimate}
 
--- z in parts is c times the gain, up to t times the root of n
-pub record IsNear (n : ℕ) (gain : Cpx) (c t : ℕ) (z : Cpx) : Type 0 where
+-- z in parts is a centre, up to t times the root of n
+pub record IsOff (n t : ℕ) (centre z : Cpx) : Type 0 where
   pub off : Cpx
-  pub is : in_parts z ≡ plus (multiple c gain) off
+  pub is : in_parts z ≡ plus centre off
   pub small : IsSized t n off
 
-pub near-multiple : (n : ℕ) (gain z : Cpx) (m c t : ℕ) → IsNear n gain c t z → IsNear n gain (m * c) (m * t) (multiple m z)
-near-multiple n gain z m c t near = record {
+pub off-multiple : (n t m : ℕ) (centre z : Cpx) → IsOff n t centre z → IsOff n (m * t) (multiple m centre) (multiple m z)
+off-multiple n t m centre z near = record {
   off = multiple m near.off;
-  is = multiple-swaps 16384 m z ∙ ap (multiple m) near.is ∙ multiple-plus m (multiple c gain) near.off ∙ ap (λ (x : Cpx). plus x (multiple m near.off)) (multiple_twice m c gain);
+  is = multiple-swaps 16384 m z ∙ ap (multiple m) near.is ∙ multiple-plus m centre near.off;
   small = sized-multiple m near.off t n near.small;
 }
 
-pub near-plus : (n : ℕ) (gain x y : Cpx) (a b s t : ℕ) → IsNear n gain a s x → IsNear n gain b t y → IsNear n gain (a + b) (s + t) (plus x y)
-near-plus n gain x y a b s t p q = record {
+pub off-plus : (n s t : ℕ) (a b x y : Cpx) → IsOff n s a x → IsOff n t b y → IsOff n (s + t) (plus a b) (plus x y)
+off-plus n s t a b x y p q = record {
   off = plus p.off q.off;
-  is = multiple-plus 16384 x y ∙ ap₂ plus p.is q.is ∙ plus-exchanges (multiple a gain) p.off (multiple b gain) q.off ∙ ap (λ (z : Cpx). plus z (plus p.off q.off)) (sym (multiple_sum a b gain));
+  is = multiple-plus 16384 x y ∙ ap₂ plus p.is q.is ∙ plus-exchanges a p.off b q.off;
   small = sized-plus p.off q.off s t n p.small q.small;
 }
 
-pub near-off : (n : ℕ) (gain z : Cpx) (c t : ℕ) → IsNear n gain c t z → square (minus (in_parts z) (multiple c gain)) ≤ t * t * n
-near-off n gain z c t near =
-    subst (λ (x : Cpx). square x ≤ t * t * n) (sym (ap (λ (x : Cpx). minus x (multiple c gain)) near.is ∙ minus-plus (multiple c gain) near.off)) near.small.sized
+pub off-size : (n t : ℕ) (centre z : Cpx) → IsOff n t centre z → square (minus (in_parts z) centre) ≤ t * t * n
+off-size n t centre z near = subst (λ (x : Cpx). square x ≤ t * t * n) (sym (ap (λ (x : Cpx). minus x centre) near.is ∙ minus-plus centre near.off)) near.small.sized
 
--- ---- between pilots that are all near one multiple of a gain
+-- ---- lines
 
-module _ (n : ℕ) (gain : Cpx) (c t : ℕ) (pilots : ℕ → Cpx) (step last : ℕ) (some : 1 ≤ step) (near : (i : ℕ) → i ≤ last → IsNear n gain c t (pilots i)) where
-  outer : (i : ℕ) → i ≤ last → IsNear n gain (step * c) (step * t) (multiple step (pilots i))
-  outer i l = near-multiple n gain (pilots i) step c t (near i l)
+distributes : (a b c : ℕ) → (a + b) * c ≡ a * c + b * c
+distributes a b c = omega arith
 
-  shares : (r c : ℕ) → r < step → (step - r) * c + r * c ≡ step * c
-  shares r c few = sym (distributes (step - r) r c) ∙ ap (λ m. m * c) (let e : step - r + r ≡ step = omega (arith, few) in e)
-    where
-      distributes : (a b c : ℕ) → (a + b) * c ≡ a * c + b * c
-      distributes a b c = omega arith
+shares : (step r t : ℕ) → r < step → (step - r) * t + r * t ≡ step * t
+shares step r t few = sym (distributes (step - r) r t) ∙ ap (λ m. m * t) (let e : step - r + r ≡ step = omega (arith, few) in e)
 
-  inner : (i r : ℕ) → i + 1 ≤ last → r < step → IsNear n gain (step * c) (step * t) (between_by step pilots i r)
-  inner i r l few =
-      subst (λ (m : ℕ). IsNear n gain m (step * t) (between_by step pilots i r)) (shares r c few)
-      (subst (λ (m : ℕ). IsNear n gain ((step - r) * c + r * c) m (between_by step pilots i r)) (shares r t few)
-      (near-plus n gain (multiple (step - r) (pilots i)) (multiple r (pilots (i + 1))) ((step - r) * c) (r * c) ((step - r) * t) (r * t)
-      (near-multiple n gain (pilots i) (step - r) c t (near i (omega (arith, l))))
-      (near-multiple n gain (pilots (i + 1)) r c t (near (i + 1) l))))
-
-  -- the line at every subcarrier is near a step times that multiple
-  pub line-near : (shift k : ℕ) → IsNear n gain (step * c) (step * t) (line_by step last pilots shift k)
-  line-near shift k = first (nat_lt k (place_by step shift 0)) refl
+-- two lines through pilots are related where their pilots are, outside and between
+module _ (R : Cpx → Cpx → Type 0) (step last : ℕ) (f g : ℕ → Cpx) (some : 1 ≤ step) (outer : (i : ℕ) → i ≤ last → R (multiple step (f i)) (multiple step (g i)))
+    (inner : (i r : ℕ) → i + 1 ≤ last → r < step → R (between_by step f i r) (between_by step g i r)) where
+  line_related : (shift k : ℕ) → R (line_by step last f shift k) (line_by step last g shift k)
+  line_related shift k = first (nat_lt k (place_by step shift 0)) refl
     where
       pilot-below : place_by step shift 0 ≤ k → k < place_by step shift last → (k - shift) / step < last
       pilot-below from below = (div-lt_iff_lt-mul some).1 (offset (step * 0) (step * last) (last * step) (omega arith) (omega arith) from below)
@@ -69,17 +59,65 @@ module _ (n : ℕ) (gain : Cpx) (c t : ℕ) (pilots : ℕ → Cpx) (step last : 
           offset a b c e f h l = omega (arith, e, f, h, l)
 
       second : (b : Bool) → nat_lt k (place_by step shift last) ≡ b → place_by step shift 0 ≤ k →
-          IsNear n gain (step * c) (step * t) (if b then between_by step pilots ((k - shift) / step) ((k - shift) % step) else multiple step (pilots last))
+          R (if b then between_by step f ((k - shift) / step) ((k - shift) % step) else multiple step (f last)) (if b then between_by step g ((k - shift) / step) ((k - shift) % step) else multiple step (g last))
       second true e from =
           let below = pilot-below from (ltb-true k (place_by step shift last) e) in
           inner ((k - shift) / step) ((k - shift) % step) (omega (arith, below)) (mod_below (k - shift) step some)
       second false e from = outer last (omega arith)
 
       first : (b : Bool) → nat_lt k (place_by step shift 0) ≡ b →
-          IsNear n gain (step * c) (step * t) (if b then multiple step (pilots 0)
-          else (if nat_lt k (place_by step shift last) then between_by step pilots ((k - shift) / step) ((k - shift) % step) else multiple step (pilots last)))
+          R (if b then multiple step (f 0) else (if nat_lt k (place_by step shift last) then between_by step f ((k - shift) / step) ((k - shift) % step) else multiple step (f last)))
+          (if b then multiple step (g 0) else (if nat_lt k (place_by step shift last) then between_by step g ((k - shift) / step) ((k - shift) % step) else multiple step (g last)))
       first true e = outer 0 (omega arith)
       first false e = second (nat_lt k (place_by step shift last)) refl (ltb-false k (place_by step shift 0) e)
+
+-- the line through pilots that are off their centres is as much off the line through the centres, as many times as there are
+-- subcarriers from pilot to pilot
+pub line-off : (n t : ℕ) (centres pilots : ℕ → Cpx) (step last : ℕ) → 1 ≤ step → ((i : ℕ) → i ≤ last → IsOff n t (centres i) (pilots i)) → (shift k : ℕ) →
+    IsOff n (step * t) (line_by step last centres shift k) (line_by step last pilots shift k)
+line-off n t centres pilots step last some near =
+    line_related (λ c z. IsOff n (step * t) c z) step last centres pilots some
+    (λ i l. off-multiple n t step (centres i) (pilots i) (near i l))
+    (λ i r l few. subst (λ (m : ℕ). IsOff n m (between_by step centres i r) (between_by step pilots i r)) (shares step r t few)
+    (off-plus n ((step - r) * t) (r * t) (multiple (step - r) (centres i)) (multiple r (centres (i + 1))) (multiple (step - r) (pilots i)) (multiple r (pilots (i + 1)))
+    (off-multiple n t (step - r) (centres i) (pilots i) (near i (omega (arith, l))))
+    (off-multiple n t r (centres (i + 1)) (pilots (i + 1)) (near (i + 1) l))))
+
+-- the line through multiples
+pub line-multiple : (m step last : ℕ) (f : ℕ → Cpx) → 1 ≤ step → (shift k : ℕ) → line_by step last (λ i. multiple m (f i)) shift k ≡ multiple m (line_by step last f shift k)
+line-multiple m step last f some =
+    line_related (λ x y. x ≡ multiple m y) step last (λ i. multiple m (f i)) f some
+    (λ i l. multiple-swaps step m (f i))
+    (λ i r l few. ap₂ plus (multiple-swaps (step - r) m (f i)) (multiple-swaps r m (f (i + 1))) ∙ sym (multiple-plus m (multiple (step - r) (f i)) (multiple r (f (i + 1)))))
+
+-- the line through one number
+pub line-level : (step last : ℕ) (z : Cpx) → 1 ≤ step → (shift k : ℕ) → line_by step last (λ i. z) shift k ≡ multiple step z
+line-level step last z some =
+    line_related (λ x y. x ≡ multiple step z) step last (λ i. z) (λ i. z) some
+    (λ i l. refl)
+    (λ i r l few. sym (multiple_sum (step - r) r z) ∙ ap (λ (m : ℕ). multiple m z) (let e : step - r + r ≡ step = omega (arith, few) in e))
+
+-- ---- near a multiple of a gain
+
+-- z in parts is c times the gain, up to t times the root of n
+abbrev pub IsNear : ℕ → Cpx → ℕ → ℕ → Cpx → Type 0
+IsNear n gain c t z = IsOff n t (multiple c gain) z
+
+pub near-multiple : (n : ℕ) (gain z : Cpx) (m c t : ℕ) → IsNear n gain c t z → IsNear n gain (m * c) (m * t) (multiple m z)
+near-multiple n gain z m c t near = subst (λ (x : Cpx). IsOff n (m * t) x (multiple m z)) (multiple_twice m c gain) (off-multiple n t m (multiple c gain) z near)
+
+pub near-plus : (n : ℕ) (gain x y : Cpx) (a b s t : ℕ) → IsNear n gain a s x → IsNear n gain b t y → IsNear n gain (a + b) (s + t) (plus x y)
+near-plus n gain x y a b s t p q = subst (λ (z : Cpx). IsOff n (s + t) z (plus x y)) (sym (multiple_sum a b gain)) (off-plus n s t (multiple a gain) (multiple b gain) x y p q)
+
+pub near-off : (n : ℕ) (gain z : Cpx) (c t : ℕ) → IsNear n gain c t z → square (minus (in_parts z) (multiple c gain)) ≤ t * t * n
+near-off n gain z c t near = off-size n t (multiple c gain) z near
+
+-- the line through pilots that are all near one multiple
+pub line-near : (n : ℕ) (gain : Cpx) (c t : ℕ) (pilots : ℕ → Cpx) (step last : ℕ) → 1 ≤ step → ((i : ℕ) → i ≤ last → IsNear n gain c t (pilots i)) → (shift k : ℕ) →
+    IsNear n gain (step * c) (step * t) (line_by step last pilots shift k)
+line-near n gain c t pilots step last some near shift k =
+    subst (λ (x : Cpx). IsOff n (step * t) x (line_by step last pilots shift k)) (line-level step last (multiple c gain) some shift k ∙ multiple_twice step c gain)
+    (line-off n t (λ i. multiple c gain) pilots step last some near shift k)
 
 -- of 24 pilots, three times that multiple
 pub estimate-near : (n : ℕ) (gain : Cpx) (c t : ℕ) (pilots : ℕ → Cpx) → ((i : ℕ) → i < 24 → IsNear n gain c t (pilots i)) → (shift k : ℕ) →

@@ -20,11 +20,14 @@ use Rattle.budget.specs.Budget.{ErrorsHaveEnergy, WholeGainIsReceived, IsReceive
 pub multiple-swaps : (m n : ℕ) (z : Cpx) → multiple m (multiple n z) ≡ multiple n (multiple m z)
 multiple-swaps m n z = multiple_twice m n z ∙ ap (λ (k : ℕ). multiple k z) (let e : m * n ≡ n * m = omega arith in e) ∙ sym (multiple_twice n m z)
 
+pub product-multiples : (m n : ℕ) (x y : Cpx) → times (multiple m x) (conjugate (multiple n y)) ≡ multiple (m * n) (times x (conjugate y))
+product-multiples m n x y =
+    ap (times (multiple m x)) (conjugate-multiple n y) ∙ times-multiple n (multiple m x) (conjugate y) ∙ ap (multiple n) (multiple-times m x (conjugate y))
+    ∙ multiple-swaps n m (times x (conjugate y)) ∙ multiple_twice m n (times x (conjugate y))
+
 -- 16384 is 2^14, and its square 2^28
 pub product_in_parts : (x y : Cpx) → times (in_parts x) (conjugate (in_parts y)) ≡ multiple 268435456 (times x (conjugate y))
-product_in_parts x y =
-    ap (times (in_parts x)) (conjugate-multiple 16384 y) ∙ times-multiple 16384 (in_parts x) (conjugate y)
-    ∙ ap (multiple 16384) (multiple-times 16384 x (conjugate y)) ∙ multiple_twice 16384 16384 (times x (conjugate y))
+product_in_parts x y = product-multiples 16384 16384 x y
 
 pub square_in_parts : (z : Cpx) → square (in_parts z) ≡ 268435456 * square z
 square_in_parts z = square-multiple 16384 z

@@ -1,13 +1,29 @@
 -- Pilots: what is seen of an amplitude of known size, as the square of what is seen and as a channel.
-use Rattle.std.proofs.Common.{◌≡◌, ℕ, ◌+◌, ◌*◌, ◌^◌, ◌≤◌, arith, ap, sym, ◌∙◌, subst, mul-le-mul_left}
+use Rattle.std.proofs.Common.{◌≡◌, ℕ, ◌+◌, ◌*◌, ◌/◌, ◌^◌, ◌≤◌, arith, refl, ap, ap₂, sym, ◌∙◌, subst, inl, inr, ℤ, mul-le-mul_left}
+use Rattle.std.specs.Prelude.{nat_abs}
 use Rattle.cs_num.specs.declared.Cpx.{Cpx}
 use Rattle.cs_num.specs.Complex.{plus, times, conjugate, square, multiple}
+use Rattle.crs.specs.Qpsk.{IsFull, IsPoint}
+use Rattle.crs.specs.declared.pattern.Pattern.{Pattern}
+use Rattle.crs.proofs.Values.{pattern_reference-IsPoint}
+use Rattle.soft_bits.specs.Soft.{pilot_subcarrier, pattern_symbol, pattern_sent}
 use Rattle.sizes.specs.Sizes.{IsSized}
 use Rattle.sizes.proofs.Squares.{square-times, square-conjugate, square-multiple}
 use Rattle.sizes.proofs.TwoTerms.{weighted, weighted_term}
 use Rattle.budget.proofs.Parts.{square_in_parts}
 use Rattle.budget.proofs.Deviations.{deviation, seen_is, channel_is}
 use Rattle.budget.proofs.Near.{IsNear}
+
+full_square : (z : ℤ) → IsFull z → nat_abs z * nat_abs z ≡ 8100
+full_square z (inl e) = rw e refl
+full_square z (inr e) = rw e refl
+
+pub full-size : (a : Cpx) → IsPoint a → square a ≡ 16200
+full-size a full = ap₂ (λ m n. m + n) (full_square a.re full.re) (full_square a.im full.im)
+
+pub sent-size : (pattern : Pattern) (identity number i : ℕ) → square (pattern_sent pattern identity number i) ≡ 16200
+unfolding pattern_sent
+sent-size pattern identity number i = full-size _ (pattern_reference-IsPoint pattern identity number (pattern_symbol pattern identity i) (pilot_subcarrier identity i / 6))
 
 -- what is seen of an amplitude d with the gain g is off by at most t times the root of n, and the square of d is 16200
 pub record IsPilot (t n : ℕ) (g d p : Cpx) : Type 0 where

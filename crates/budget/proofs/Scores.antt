@@ -110,13 +110,13 @@ one_term g d p q s some size unit primary secondary =
     once n = omega arith
 
     e_sized : IsSized 296448 (square g) e
-    e_sized = subst (λ (n : ℕ). IsSized 296448 n e) (once (square g)) (sized-times (deviation g d p) (conjugate d) 2316 128 (square g) 1 (deviation-sized 2316 g d p primary)
+    e_sized = subst (λ (n : ℕ). IsSized 296448 n e) (once (square g)) (sized-times (deviation g d p) (conjugate d) 2316 128 (square g) 1 (deviation-sized 2316 (square g) g d p primary)
         (sized_plain (conjugate d) 128 (subst (λ (n : ℕ). n ≤ 128 * 128) (sym (square-conjugate d)) size.most)))
 
     near : IsWithin ((8128 * 296448 + 2316 * (64 * square d + 296448)) * square g) (minus (multiple 268435456 (times q (conjugate (times p (conjugate d))))) (multiple (64 * square d * square g) (multiple 64 a)))
     near = subst (λ (z : Cpx). IsWithin ((8128 * 296448 + 2316 * (64 * square d + 296448)) * square g) (minus z (multiple (64 * square d * square g) (multiple 64 a))))
         (ap₂ (λ (x y : Cpx). times x (conjugate y)) (sym (seen_is g a q)) (sym (channel_is g d p)) ∙ product_in_parts q (times p (conjugate d)))
-        (product_near g (multiple 64 a) (deviation g a q) e (64 * square d) 8128 2316 296448 (unit_square s unit) (deviation-sized 2316 g a q secondary) e_sized)
+        (product_near g (multiple 64 a) (deviation g a q) e (64 * square d) 8128 2316 296448 (unit_square s unit) (deviation-sized 2316 (square g) g a q secondary) e_sized)
 
 pub terms_are_positive : TermsArePositive
 terms_are_positive gain n1 n2 half primary secondary seen n l =

@@ -1,5 +1,5 @@
 -- What is seen of amplitudes, from the three causes: sizes in units of 2^31 times the gain.
-use Rattle.std.proofs.Common.{◌≡◌, ℕ, zero, suc, ◌+◌, ◌*◌, ◌^◌, ◌<◌, ◌≤◌, arith, ap, sym, subst, mul-le-mul_left}
+use Rattle.std.proofs.Common.{◌≡◌, ℕ, zero, suc, ◌+◌, ◌*◌, ◌^◌, ◌<◌, ◌≤◌, arith, ap, sym, subst, mul-le-mul, mul-le-mul_left, mul-le-mul_right}
 use Rattle.std.proofs.Math.Path.{fun_ext}
 use Rattle.finite.specs.Sums.{sum_below, total_below}
 use Rattle.cs_num.specs.declared.Cpx.{Cpx}
@@ -11,7 +11,7 @@ use Rattle.sizes.proofs.Sized.{sized-plus}
 use Rattle.fold128.specs.Symbol.{useful_at}
 use Rattle.observe.specs.Seen.{seen}
 use Rattle.budget.specs.Received.{AreAmplitudes, in_parts, off_by, received_of, samples_from}
-use Rattle.budget.specs.Budget.{AmplitudeIsSeen, AmplitudesAreSeen, AmplitudeIsSeenInRecording, AmplitudesAreSeenInRecording, seen_in, sending_off}
+use Rattle.budget.specs.Budget.{AmplitudeIsSeen, AmplitudesAreSeen, AmplitudeIsSeenInRecording, AmplitudesAreSeenInRecording, AreUnitsOf, UnitsAreSeen, seen_in, sending_off}
 use Rattle.budget.proofs.Causes.{three_causes, IsSent, sent_by_one, sent-plus}
 
 -- three sizes in units of 2^31 times the gain, of what is 2^29 times the deviation
@@ -69,6 +69,35 @@ by_one quota most b units gain grid samples k small received l = record {
 in_recording : (quota most : ℕ) → AmplitudeIsSeen quota most → AmplitudeIsSeenInRecording quota most
 unfolding seen
 in_recording quota most is gain grid recording start k small received l = is gain grid (samples_from recording start) k small received l
+
+units_of_share : (quota most : ℕ) (units : AreUnitsOf quota most) → AreUnits 1 quota most 97 units.errors
+units_of_share quota most units = record {
+  some = omega arith;
+  sending = λ n s h. omega (arith, h);
+  errors = λ n s h. erring units.errors units.enough n s h;
+  whole = λ n s h. fitting (4 * (97 + (units.errors + 1))) (placed units.errors units.fits) (16 * ((97 + (units.errors + 1)) * (97 + (units.errors + 1)))) (sixteen (97 + (units.errors + 1))) n s h;
+}
+  where
+    erring : (b : ℕ) → 2 ^ 41 * quota * (16385 * 16385) ≤ (b * 2 ^ 31) * (b * 2 ^ 31) → (n s : ℕ) → s ≤ 2 ^ 41 * (quota * n) * (16385 * 16385) → s ≤ (b * 2 ^ 31) * (b * 2 ^ 31) * n
+    erring b enough n s h = let all : 2 ^ 41 * quota * (16385 * 16385) * n ≤ (b * 2 ^ 31) * (b * 2 ^ 31) * n = mul-le-mul_right n enough in omega (arith, h, all)
+
+    placed : (b : ℕ) → 4 * (97 + b + 1) ≤ most → 4 * (97 + (b + 1)) ≤ most
+    placed b fits = omega (arith, fits)
+
+    sixteen : (u : ℕ) → 16 * (u * u) ≡ 4 * u * (4 * u)
+    sixteen u = omega arith
+
+    fitting : (c : ℕ) → c ≤ most → (w : ℕ) → w ≡ c * c → (n s : ℕ) → s ≤ w * n → s ≤ most * most * n
+    fitting c fits w same n s h =
+        let square : c * c ≤ most * most = mul-le-mul fits fits in
+        let all : w * n ≤ most * most * n = mul-le-mul_right n (let l : w ≤ most * most = omega (arith, same, square) in l) in
+        omega (arith, h, all)
+
+pub units_are_seen : UnitsAreSeen
+units_are_seen quota most units = (seen_with, in_recording quota most seen_with)
+  where
+    seen_with : AmplitudeIsSeen quota most
+    seen_with = by_one quota most units.errors (units_of_share quota most units)
 
 -- errors of 1800 times the gain's square: 481 units
 units_of_one : AreUnits 1 1800 2316 97 481

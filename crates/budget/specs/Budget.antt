@@ -1,5 +1,5 @@
 -- How far what is seen of a symbol is from 64 times what was sent times the gain. (own)
-use Rattle.std.specs.Prelude.{◌≡◌, ℕ, ◌*◌, ◌^◌, ◌<◌, ◌≤◌, List}
+use Rattle.std.specs.Prelude.{◌≡◌, ℕ, ◌+◌, ◌*◌, ◌^◌, ◌<◌, ◌≤◌, List}
 use Rattle.cs_num.specs.declared.Cpx.{Cpx}
 use Rattle.cs_num.specs.declared.Sample.{Sample}
 use Rattle.cs_num.specs.Complex.{IsWithin, plus, times, square, minus, multiple}
@@ -90,7 +90,8 @@ pub record HasFourCauses (gain other : Cpx) (grid second_grid samples : ℕ → 
       ≡ plus (plus (with_gains gain other (leakage grid k) (leakage second_grid k))
       (with_gains gain other (rounding_sent grid k) (rounding_sent second_grid k))) (plus errors rounding)
   pub errors_small : square errors ≤
-      2 ^ 41 * energy_below 128 (off_by samples (λ n. with_gains gain other (useful_at grid n) (useful_at second_grid n)))
+      2 ^ 41
+      * energy_below 128 (off_by samples (λ n. with_gains gain other (useful_at grid n) (useful_at second_grid n)))
       * (16385 * 16385)
   pub rounding_small : square rounding ≤ 2 ^ 85
 
@@ -122,6 +123,18 @@ AmplitudeIsSeenInRecording quota most =
     (gain : Cpx) (grid : ℕ → Cpx) (recording : List Sample) (start k : ℕ) → AreAmplitudes grid →
     IsReceived quota gain grid (samples_from recording start) → k < 72 →
     IsSeenAs most gain (grid k) (seen recording start k)
+
+-- errors of at most `quota` times the gain's square make an amplitude be seen off by at most `most` times its size: 97
+-- units of 2^31 for sending, so many for the errors, and 1 for rounding, where 4 are a unit of that
+pub record AreUnitsOf (quota most : ℕ) : Type 0 where
+  pub errors : ℕ
+  pub enough : 2 ^ 41 * quota * (16385 * 16385) ≤ (errors * 2 ^ 31) * (errors * 2 ^ 31)
+  pub fits : 4 * (97 + errors + 1) ≤ most
+
+-- so it is with each share that has such units, in a recording too
+abbrev pub UnitsAreSeen : Type 0
+UnitsAreSeen =
+    (quota most : ℕ) → AreUnitsOf quota most → AmplitudeIsSeen quota most × AmplitudeIsSeenInRecording quota most
 
 -- the amplitudes of so many ports are seen together in a recording
 abbrev pub AmplitudesAreSeenInRecording : ℕ → ℕ → ℕ → Type 0

@@ -4,3 +4,4 @@ pub mod Budget
 pub mod Peak
 pub mod Score
 pub mod Sign
+pub mod Through

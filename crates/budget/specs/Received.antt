@@ -1,5 +1,5 @@
--- What is received of a sent symbol, and what is then seen of it: a gain times what was sent, up to errors. Gains are in
--- parts, of which 16384 are one. (own; the useful part is that of TS 36.211 section 6.12)
+-- What is received of a sent symbol, and what is then seen of it: a gain times what was sent, up to errors. Gains are
+-- in parts, of which 16384 are one. (own; the useful part is that of TS 36.211 section 6.12)
 use Rattle.std.specs.Prelude.{ℕ, ◌+◌, ◌*◌, ◌^◌, ◌<◌, ◌≤◌, List}
 use Rattle.cs_num.specs.declared.Cpx.{Cpx}
 use Rattle.cs_num.specs.declared.Sample.{Sample}
@@ -41,13 +41,17 @@ pub record IsReceivedBy (ports quota : ℕ) (gains : ℕ → Cpx) (grids : ℕ �
 abbrev pub samples_from : List Sample → ℕ → ℕ → Cpx
 samples_from recording start n = sample_at recording (start + n)
 
+-- what is seen of a value in parts is 64 times the value, off by at most `most` times a size whose square is n
+pub record IsSeenNear (most n : ℕ) (value seen : Cpx) : Type 0 where
+  pub off : square (minus (in_parts seen) (multiple 64 value)) ≤ most * most * n
+
 -- what is seen of an amplitude is 64 times the gain, in parts, times the amplitude, off by at most `most` times the
 -- gain's size: most / 64 units of amplitude
-pub record IsSeenAs (most : ℕ) (gain amplitude seen : Cpx) : Type 0 where
-  pub off : square (minus (in_parts seen) (multiple 64 (times gain amplitude))) ≤ most * most * square gain
+abbrev pub IsSeenAs : ℕ → Cpx → Cpx → Cpx → Type 0
+IsSeenAs most gain amplitude seen = IsSeenNear most (square gain) (times gain amplitude) seen
 
 -- what is seen of the amplitudes of so many ports is 64 times what is received of them, off by at most `most` times the
 -- root of the sum of the gains' squares
-pub record IsSeenBy (ports most : ℕ) (gains amplitudes : ℕ → Cpx) (seen : Cpx) : Type 0 where
-  pub off : square (minus (in_parts seen) (multiple 64 (received_of ports gains amplitudes))) ≤
-      most * most * energy_below ports gains
+abbrev pub IsSeenBy : ℕ → ℕ → (ℕ → Cpx) → (ℕ → Cpx) → Cpx → Type 0
+IsSeenBy ports most gains amplitudes seen =
+    IsSeenNear most (energy_below ports gains) (received_of ports gains amplitudes) seen

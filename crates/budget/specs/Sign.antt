@@ -21,4 +21,5 @@ LargeComponentSpeaks = (size energy : ℕ) (bit : Bool) (c : ℤ) → 1 ≤ size
 abbrev pub NearComponentSpeaks : Type 0
 NearComponentSpeaks = (size main off most : ℕ) → 1 ≤ size → size ≤ 127 → size * most + 6 * off ≤ 540 * main →
     (scale unit energy : ℕ) (bit : Bool) (c : ℤ) → 1 ≤ scale → 1 ≤ energy → scale * energy ≤ most * unit →
-    nat_abs (pos scale *ℤ c -ℤ pos (main * unit) *ℤ component bit) ≤ off * unit → Supports size bit (soft_value c energy)
+    nat_abs (pos scale *ℤ c -ℤ pos (main * unit) *ℤ component bit) ≤ off * unit →
+    Supports size bit (soft_value c energy)

@@ -3,7 +3,7 @@
 ghost use Rattle.budget.specs.Budget.{SendingHasTwoCauses, LeakageIsSmall, RoundingSentIsSmall, SendingIsSmall};
 ghost use Rattle.budget.specs.Budget.{SendingIsLinear, DeviationHasThreeCauses, DeviationHasFourCauses};
 ghost use Rattle.budget.specs.Budget.{AmplitudeIsSeen, AmplitudeIsSeenInRecording};
-ghost use Rattle.budget.specs.Budget.{AmplitudesAreSeen, AmplitudesAreSeenInRecording};
+ghost use Rattle.budget.specs.Budget.{AmplitudesAreSeen, AmplitudesAreSeenInRecording, UnitsAreSeen};
 
 /// What is seen of an amplitude is 64 times the amplitude times the gain, of size 1 and more in parts of 2^-14, off by
 /// less than 37 units of amplitude, where the energy of the errors of a symbol's 128 samples is at most 1800 times the
@@ -13,7 +13,7 @@ ghost use Rattle.budget.specs.Budget.{AmplitudesAreSeen, AmplitudesAreSeenInReco
 /// off by little more than 14 such units, where it is at most 7 times that. What it is off by has four causes, each
 /// with a bound: the leakage of the tables and the rounding of the sent samples, of which each port adds its own times
 /// its gain, the errors of the samples, and the rounding of what is seen. The first two together are what sending is
-/// off by, whatever is sent.
+/// off by, whatever is sent. With one gain it is so for each share of errors, by the units that it has.
 pub fn seen_amplitude_is_near()
     ensures two_causes { SendingHasTwoCauses }
     ensures leakage { LeakageIsSmall }
@@ -30,4 +30,5 @@ pub fn seen_amplitude_is_near()
     ensures quiet_recording { AmplitudeIsSeenInRecording 1024 1920 }
     ensures recording_of_two { AmplitudesAreSeenInRecording 2 400 1464 }
     ensures recording_of_four { AmplitudesAreSeenInRecording 4 7 900 }
+    ensures by_units { UnitsAreSeen }
 {}

@@ -4,6 +4,7 @@
 #![tactic(auto)]
 
 mod amplitude;
+mod channel;
 mod peak;
 mod score;
 mod sign;
@@ -11,6 +12,7 @@ mod table;
 mod whole;
 
 pub use amplitude::seen_amplitude_is_near;
+pub use channel::values_speak_through_a_channel;
 pub use peak::clean_primary_is_a_hit;
 pub use score::sent_pair_is_best;
 pub use sign::value_has_the_sign_of_the_bit;

@@ -3,10 +3,10 @@
 ghost use Rattle.budget.specs.Peak.{PrimaryStandsOut, PrimaryIsHit, PrimaryIsListed, OnlyHitNear};
 
 /// Where 128 samples are the primary signal of a root times a gain of size 1 and more, with errors whose energy is at
-/// most 1800 times the gain's square, at least 999 thousandths of their energy are the signal's, and the metric of their
-/// place is above that of each place with energy at distance 1 to 9, whatever stands before and after them. So the place
-/// is a hit where it lies in the span of one frame, and is listed. Of the places within 9, and of all three roots, it is
-/// the only hit.
+/// most 1800 times the gain's square, at least 999 thousandths of their energy are the signal's, and the metric of
+/// their place is above that of each place with energy at distance 1 to 9, whatever stands before and after them. So
+/// the place is a hit where it lies in the span of one frame, and is listed. Of the places within 9, and of all three
+/// roots, it is the only hit.
 pub fn clean_primary_is_a_hit()
     ensures stands_out { PrimaryStandsOut }
     ensures hit { PrimaryIsHit }

@@ -1,6 +1,6 @@
 -- A list holds each cell that a recording shows to its receiver: whose signals stand at their places, and whose first frame tells
 -- a master block of its number, and its system information.
-use Rattle.std.proofs.Common.{◌≡◌, ℕ, ◌*◌, ◌/◌, ◌%◌, ◌<◌, ◌≤◌, inl, inr, arith, refl, ap, sym, subst, ◌∙◌, append-nil, Bool, List, length, map, Ok, nat_eq, nat_le, true}
+use Rattle.std.proofs.Common.{◌≡◌, ℕ, ◌*◌, ◌/◌, ◌%◌, ◌<◌, ◌≤◌, inl, inr, arith, refl, ap, sym, subst, ◌∙◌, append-nil, Bool, List, [], length, map, Ok, nat_eq, nat_le, true}
 use Rattle.std.specs.Prelude.{◌&&◌, Result}
 use Rattle.std.specs.List.{Contains}
 use Rattle.std.proofs.lemmas.Bool.{cases_lt}
@@ -44,6 +44,7 @@ use Rattle.explain.proofs.Late.{are_taken}
 use Rattle.explain.proofs.Information.{told_at_first, one_system}
 use Rattle.explain.proofs.Listed.{sound_of, complete_of}
 use Rattle.cell_tx.specs.declared.antenna.Port.{Port}
+use Rattle.cell_tx.specs.declared.antenna.Port.TheVariants.{Only}
 use Rattle.cell_plan.specs.declared.cell.CellPlan.{CellPlan}
 use Rattle.cell_tx.specs.Load.{sent_element}
 use Rattle.cell_plan.specs.Plan.{IsSendableBy}
@@ -55,12 +56,14 @@ use Rattle.clean_air.specs.Broadcast.{TellsFreely}
 use Rattle.clean_air.specs.Carried.{SpeakOfWord}
 use Rattle.clean_air.specs.Clean.{told_of, IsKnownPlan, IsKnownBy, HoldsCellBy, HoldsFaithfulBy, HoldsBy, HoldsCleanBy, IsListBy, HoldsCells}
 use Rattle.clean_air.specs.Faithful.{IsFaithfulBy}
+use Rattle.clean_air.specs.Through.{ShowsSignals, IsCellThrough, IsSeenThroughBy}
 use Rattle.clean_air.proofs.Carrying.{sent_elements_carry}
 use Rattle.clean_air.proofs.LoadedErrors.{loaded_is_faithful}
 use Rattle.clean_air.proofs.Masters.{sent_word_is_told}
 use Rattle.clean_air.proofs.SentBlock.{IsBlockOf}
 use Rattle.clean_air.proofs.SentSymbols.{IsTruePlace, first_frame}
-use Rattle.clean_air.proofs.Signals.{primary_at, signals_at}
+use Rattle.clean_air.proofs.Signals.{signals_shown}
+use Rattle.clean_air.proofs.FaithfulCells.{faithful_is_through}
 use Rattle.clean_air.proofs.TruePlaces.{AreNear, true_hit, true_start, near_true, near_starts, same_numbers}
 
 -- the place of a cell that begins at this offset
@@ -89,11 +92,24 @@ plan_known TwoPorts plan known = record { identity = known.identity; spare = kno
 plan_known LongPrefix plan known = known
 plan_known FourPorts plan known = known
 
--- a recording shows each cell to which it is faithful
+-- where the frames of a cell begin and which numbers they have is in range, and its signals stand in the recording
+pub record IsPlaced (carrier : Carrier) (recording : List Sample) (identity sfn offset : ℕ) : Type 0 where
+  pub number : sfn ≤ 1023
+  pub within : offset < 19200
+  pub signals : ShowsSignals carrier recording identity offset
+
+-- a recording is faithful to a cell, or the cell is seen in it through channels, which is more where a law of these is known
+abbrev pub IsSentIn : Carrier → List Sample → CellPlan → (Port → Elements) → ℕ → ℕ → List Cpx → Type 0
+IsSentIn OnePort recording plan grids sfn offset gains = IsCellThrough recording plan (grids Only) sfn offset
+IsSentIn TwoPorts recording plan grids sfn offset gains = IsFaithfulBy TwoPorts recording plan grids sfn offset gains
+IsSentIn LongPrefix recording plan grids sfn offset gains = IsFaithfulBy LongPrefix recording plan grids sfn offset gains
+IsSentIn FourPorts recording plan grids sfn offset gains = IsFaithfulBy FourPorts recording plan grids sfn offset gains
+
+-- a recording shows each such cell
 abbrev pub ShowsCells : Receiver → Type 0
 ShowsCells receiver =
     (recording : List Sample) (plan : CellPlan) (grids : Port → Elements) (sfn offset : ℕ) (gains : List Cpx) → 57600 ≤ length recording → (known : IsKnownBy receiver.carrier plan) →
-    IsFaithfulBy receiver.carrier recording plan grids sfn offset gains →
+    IsSentIn receiver.carrier recording plan grids sfn offset gains →
     IsShown receiver recording plan offset (number_at_start sfn offset) (plan_known receiver.carrier plan known).spare
 
 -- the first whole frame has a number of 10 bits
@@ -124,8 +140,8 @@ step_fits TwoPorts = omega arith
 step_fits FourPorts = omega arith
 step_fits LongPrefix = omega arith
 
-module _ (receiver : Receiver) (recording : List Sample) (plan : CellPlan) (grids : Port → Elements) (sfn offset : ℕ) (gains : List Cpx) (long : 57600 ≤ length recording) (known : IsKnownPlan plan)
-    (faithful : IsFaithfulBy receiver.carrier recording plan grids sfn offset gains) (shown : IsShown receiver recording plan offset (number_at_start sfn offset) known.spare) where
+module _ (receiver : Receiver) (recording : List Sample) (plan : CellPlan) (sfn offset : ℕ) (long : 57600 ≤ length recording) (known : IsKnownPlan plan)
+    (placed : IsPlaced receiver.carrier recording plan.identity sfn offset) (shown : IsShown receiver recording plan offset (number_at_start sfn offset) known.spare) where
   abbrev identity : ℕ
   identity = plan.identity
 
@@ -155,7 +171,7 @@ module _ (receiver : Receiver) (recording : List Sample) (plan : CellPlan) (grid
   IsOfSome entry = IsEntryOfSome (IsEntryFor receiver recording) (hits_by receiver.carrier recording) entry
 
   fits : number ≤ 1023
-  fits = number_fits sfn offset faithful.number faithful.within
+  fits = number_fits sfn offset placed.number placed.within
 
   -- it tells the word, and so this block
   word_told : TellsFreely (sums_by receiver recording place (frames_from 1 0 (number % 4))) shown.word count
@@ -202,21 +218,21 @@ module _ (receiver : Receiver) (recording : List Sample) (plan : CellPlan) (grid
   -- it is one of a listed hit
   is_entry : IsOfSome sent_entry
   is_entry =
-      let h = true_hit offset faithful.within in
+      let h = true_hit offset placed.within in
       let hit : Hit = found recording h.t (identity % 3) in
       let low = h.is_hit.low in
       let high = h.is_hit.high in
       let room : symbol_step prefix ≤ h.t = (let step = step_fits receiver.carrier in omega (arith, step, low)) in
-      let primary = primary_at receiver.carrier recording plan grids sfn offset gains faithful h.t h.half h.is_hit.is (omega (arith, room)) (omega (arith, high)) in
+      let primary = placed.signals.primary h.t h.half h.is_hit.is (omega (arith, room)) (omega (arith, high)) in
       let pair : prefix_identity prefix recording hit ≡ (identity / 3, h.half) = sent_pair_is_identified prefix recording hit (identity / 3) h.half
-      (signals_at receiver.carrier recording plan grids sfn offset gains faithful h.t h.half h.is_hit.is low high known.identity) in
+      (placed.signals.both h.t h.half h.is_hit.is (omega (arith, low)) high) in
       let cell : cell_of (identity / 3) (identity % 3) ≡ identity = omega arith in
       record {
         hit = hit;
         listed = (are_taken receiver.carrier recording hit).1 (primary_is_listed recording h.t (identity % 3) primary (omega (arith, low)) high, room);
         is_of = record {
           id = sym (ap (λ (p : ℕ × Half). cell_of p.0 (identity % 3)) pair ∙ cell);
-          start = sym (ap (λ (p : ℕ × Half). start_of h.t p.1) pair ∙ true_start offset h.t h.half faithful.within h.is_hit.is);
+          start = sym (ap (λ (p : ℕ × Half). start_of h.t p.1) pair ∙ true_start offset h.t h.half placed.within h.is_hit.is);
           period = omega arith;
           frames = record {
             inside = record { some = omega arith; few = omega arith; known = omega arith; whole = λ m below. omega (arith, long, below) };
@@ -237,10 +253,10 @@ module _ (receiver : Receiver) (recording : List Sample) (plan : CellPlan) (grid
       let taken = (are_taken receiver.carrier recording hit).0 is.listed in
       let room = taken.1 in
       let right = (list_is_right recording hit).0 taken.0 in
-      let place = near_true offset hit.t half faithful.within right.is_hit.from_first (subst (λ a. AreNear a (start_after offset)) is.is_of.start near) in
-      let primary = primary_at receiver.carrier recording plan grids sfn offset gains faithful place.u half place.is (omega (arith, room, place.below)) (omega (arith, place.above, right.is_hit.to_last)) in
+      let place = near_true offset hit.t half placed.within right.is_hit.from_first (subst (λ a. AreNear a (start_after offset)) is.is_of.start near) in
+      let primary = placed.signals.primary place.u half place.is (omega (arith, room, place.below)) (omega (arith, place.above, right.is_hit.to_last)) in
       let same = (only_hit_near recording place.u hit.t (identity % 3) hit.n2 primary (omega (arith, right.root)) place.below place.above right.is_hit).0 in
-      is.is_of.start ∙ true_start offset hit.t half faithful.within (subst (λ t. IsTruePlace offset t half) (sym same) place.is)
+      is.is_of.start ∙ true_start offset hit.t half placed.within (subst (λ t. IsTruePlace offset t half) (sym same) place.is)
 
   at_place : (other : Entry) → other.id ≡ identity → other.start ≡ start_after offset → place_of other ≡ place
   at_place other id start = ap (λ i. record (place_of other) { id = i }) id ∙ ap (λ s. record place { start = s }) start
@@ -318,10 +334,40 @@ module _ (receiver : Receiver) (recording : List Sample) (plan : CellPlan) (grid
 
 -- ---- the list
 
+faithful_is_sent : (carrier : Carrier) (recording : List Sample) (plan : CellPlan) (grids : Port → Elements) (sfn offset : ℕ) (gains : List Cpx) → plan.identity ≤ 503 →
+    IsFaithfulBy carrier recording plan grids sfn offset gains → IsSentIn carrier recording plan grids sfn offset gains
+faithful_is_sent OnePort recording plan grids sfn offset gains known faithful = faithful_is_through recording plan grids sfn offset gains known faithful
+faithful_is_sent TwoPorts recording plan grids sfn offset gains known faithful = faithful
+faithful_is_sent LongPrefix recording plan grids sfn offset gains known faithful = faithful
+faithful_is_sent FourPorts recording plan grids sfn offset gains known faithful = faithful
+
+-- with any gains, since there it has none
+through_is_sent : (carrier : Carrier) (recording : List Sample) (plan : CellPlan) (grids : Port → Elements) (sfn offset : ℕ) (gains : List Cpx) →
+    IsSeenThroughBy carrier recording plan grids sfn offset → IsSentIn carrier recording plan grids sfn offset gains
+through_is_sent OnePort recording plan grids sfn offset gains through = through
+through_is_sent TwoPorts recording plan grids sfn offset gains through = absurd through
+through_is_sent LongPrefix recording plan grids sfn offset gains through = absurd through
+through_is_sent FourPorts recording plan grids sfn offset gains through = absurd through
+
+through_is_placed : (carrier : Carrier) (recording : List Sample) (plan : CellPlan) (grids : Port → Elements) (sfn offset : ℕ) → IsSeenThroughBy carrier recording plan grids sfn offset →
+    IsPlaced carrier recording plan.identity sfn offset
+through_is_placed OnePort recording plan grids sfn offset through = record { number = through.number; within = through.within; signals = through.signals }
+through_is_placed TwoPorts recording plan grids sfn offset through = absurd through
+through_is_placed LongPrefix recording plan grids sfn offset through = absurd through
+through_is_placed FourPorts recording plan grids sfn offset through = absurd through
+
 -- where each cell is shown, each is held
 pub shown_are_held : (receiver : Receiver) → ShowsCells receiver → HoldsCells receiver
-shown_are_held receiver shows recording list long listed plan grids sfn offset gains known faithful =
-    shown_is_held receiver recording plan grids sfn offset gains long (plan_known receiver.carrier plan known) faithful (shows recording plan grids sfn offset gains long known faithful) list listed
+shown_are_held receiver shows recording list long listed = record {
+  through = λ plan grids sfn offset known through.
+      shown_is_held receiver recording plan sfn offset long (plan_known receiver.carrier plan known) (through_is_placed receiver.carrier recording plan grids sfn offset through)
+      (shows recording plan grids sfn offset [] long known (through_is_sent receiver.carrier recording plan grids sfn offset [] through)) list listed;
+  faithful = λ plan grids sfn offset gains known faithful.
+      let ranges = plan_known receiver.carrier plan known in
+      shown_is_held receiver recording plan sfn offset long ranges
+      (record { number = faithful.number; within = faithful.within; signals = signals_shown receiver.carrier recording plan grids sfn offset gains faithful ranges.identity })
+      (shows recording plan grids sfn offset gains long known (faithful_is_sent receiver.carrier recording plan grids sfn offset gains ranges.identity faithful)) list listed;
+}
 
 -- among them those of which the recording is clean, whatever else they send
 pub loaded_are_held : (carrier : Carrier) (recording : List Sample) (list : List Entry) → 57600 ≤ length recording → HoldsFaithfulBy carrier recording list → HoldsBy carrier recording list
@@ -343,9 +389,9 @@ clean_are_held carrier recording list holds load plan sfn offset gains eps known
 pub is_list_by : (receiver : Receiver) → HoldsCells receiver → (recording : List Sample) (list : List Entry) → 57600 ≤ length recording → IsListFor receiver recording list →
     IsListBy receiver recording list
 is_list_by receiver holds recording list long listed =
-    let faithful = holds recording list long listed in
-    let loaded = loaded_are_held receiver.carrier recording list long faithful in
-    record { explained = listed; faithful = faithful; loaded = loaded; holds = clean_are_held receiver.carrier recording list loaded }
+    let seen = holds recording list long listed in
+    let loaded = loaded_are_held receiver.carrier recording list long seen.faithful in
+    record { explained = listed; through = seen.through; faithful = seen.faithful; loaded = loaded; holds = clean_are_held receiver.carrier recording list loaded }
 
 -- what can be sent by a carrier can be told
 pub sendable_is_known : (carrier : Carrier) (plan : CellPlan) → IsSendableBy carrier plan → IsKnownBy carrier plan

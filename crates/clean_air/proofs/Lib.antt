@@ -2,6 +2,8 @@
 pub mod Estimates
 -- So each soft value has the sign of the sent bit.
 pub mod SoftValues
+-- Slots whose symbols have gains of their own, which turn and fade slowly, are seen through these.
+pub mod SlowGains
 -- Words. Where all values speak for one word, it alone costs nothing.
 pub mod SpokenWords
 -- The values of places that carry bits speak for them; where these are a word's, they tell it.
@@ -31,12 +33,18 @@ pub mod SentBlock
 pub mod TruePlaces
 -- Its slots that are looked at are heard, and that of the broadcast channel carries the word.
 pub mod SentSlots
+-- A cell to which a recording is faithful is seen through one gain.
+pub mod FaithfulCells
+-- What is heard of a cell that is seen through channels.
+pub mod HeardCells
+-- A cell whose gain turns and fades slowly is.
+pub mod FadingCells
 -- Its block says its fields, so that its first frame of even number answers with them.
 pub mod SentFields
 pub mod SentSystem
--- A list holds each cell that is heard.
+-- A list holds each cell that is shown to its receiver.
 pub mod Held
--- All together: the list of a faithful recording holds its cell.
+-- All together: the list holds each cell of one port that is seen through channels, so each of a faithful recording.
 pub mod HeldCells
 -- The plan of an entry is that of the sent cell.
 pub mod Plans

@@ -35,6 +35,8 @@ use Rattle.cell_plan.proofs.Sendable.{accepted_is_sendable}
 use Rattle.clean_air.specs.Clean.{IsSentEntryOf}
 use Rattle.clean_air.specs.Planned.{plan_by, IsPlanned, IsPlanOf, IsFaithfulPlan, IsSentPlan, FaithfulEntryHasPlan, SentEntryHasPlan, IsOnePlan}
 use Rattle.clean_air.proofs.LoadedErrors.{loaded_is_faithful}
+use Rattle.clean_air.proofs.FaithfulCells.{faithful_is_through}
+use Rattle.clean_air.proofs.HeardCells.{through_is_heard}
 use Rattle.clean_air.proofs.SentSystem.{grant_read, fields_read}
 use Rattle.clean_air.proofs.HeldCells.{holds_cells}
 
@@ -108,7 +110,7 @@ module _ (recording : List Sample) (entry : Entry) (plan : CellPlan) (grid : Ele
   -- the entry is the cell's
   is_sent : IsSentEntryOf OnePort plan sent_sfn entry
   is_sent =
-      let held = holds_cells recording listed.list long listed.explained plan (λ port. grid) sfn offset (gain ∷ []) sendable faithful in
+      let held = (holds_cells recording listed.list long listed.explained).faithful plan (λ port. grid) sfn offset (gain ∷ []) sendable faithful in
       subst (λ (e : Entry). IsSentEntryOf OnePort plan (number_at_start sfn offset) e) (sym (held.only entry listed.inside id start number)) held.sent
 
   -- the values of subframe 5 of a frame
@@ -126,8 +128,9 @@ module _ (recording : List Sample) (entry : Entry) (plan : CellPlan) (grid : Ele
   -- it is read with the plan's indicator and grant, by the places of the cell
   attempt_read : IsFrameAttempt (subframes_by OnePort placed_values) recording (place_of entry) entry.mib (even_frame entry.sfn 0) (attempt_with plan.cfi granted plan.sib1)
   attempt_read =
-      let reads = fields_read recording plan (λ port. grid) sfn offset (gain ∷ []) sendable faithful in
-      let has = (grant_read recording plan (λ port. grid) sfn offset (gain ∷ []) sendable faithful).attempt reads.attempt reads.is in
+      let heard = through_is_heard recording plan grid sfn offset (faithful_is_through recording plan (λ port. grid) sfn offset (gain ∷ []) sendable.identity faithful) in
+      let reads = fields_read recording plan grid sfn offset sendable heard in
+      let has = (grant_read recording plan grid sfn offset sendable heard).attempt reads.attempt reads.is in
       let is = subst (λ (a : Attempt). IsAttempt (values_at plan.identity (start_of offset) j plan.duration plan.resource) a) (same_attempt reads.attempt plan.cfi granted plan.sib1 has.cfi has.granted reads.answers) reads.is in
       rw (id, start, number, is_sent.block.duration, is_sent.block.resource) is
 

@@ -1,7 +1,7 @@
 -- The slots of a recording that is faithful to a cell of one port, whatever else the cell sends: each that is looked at is received as it was sent, and the
 -- broadcast channel carries the cell's word.
-use Rattle.std.proofs.Common.{◌≡◌, ℕ, ◌+◌, ◌-◌, ◌*◌, ◌/◌, ◌%◌, ◌^◌, ◌<◌, ◌≤◌, inl, inr, arith, refl, ap, sym, subst, ◌∙◌, List, [], ◌∷◌, nat_eq, Bool, true, false, None}
-use Rattle.std.specs.Prelude.{if◌then◌else◌, ◌&&◌}
+use Rattle.std.proofs.Common.{◌≡◌, ℕ, ◌+◌, ◌-◌, ◌*◌, ◌/◌, ◌%◌, ◌^◌, ◌<◌, ◌≤◌, arith, refl, ap, sym, subst, ◌∙◌, List, [], ◌∷◌, nat_eq, Bool, true, false, None}
+use Rattle.std.specs.Prelude.{if◌then◌else◌, ◌&&◌, slice_index_or}
 use Rattle.std.proofs.lemmas.Bool.Decides.{nat_tests}
 use Rattle.cs_num.specs.declared.Cpx.{Cpx}
 use Rattle.cs_num.specs.declared.Sample.{Sample}
@@ -29,26 +29,26 @@ use Rattle.cell_tx.specs.Grid.{is_synchronised, is_broadcast, has_broadcast, bro
 use Rattle.cell_tx.specs.Sent.{Elements}
 use Rattle.clean_air.specs.Load.{CarriesPlan, IsLoaded, received_from}
 use Rattle.clean_air.specs.Faithful.{IsLookedAt, IsFaithfulBy, errors_from, first_frame_of}
+use Rattle.clean_air.specs.Through.{slot_elements}
 use Rattle.cell_tx.specs.Rows.{port_reference_if}
 use Rattle.cell_tx.proofs.Elements.{element_of_channel, channel_of_broadcast}
 use Rattle.clean_air.proofs.Carrying.{of_own_reference, of_broadcast}
 use Rattle.lte_types.specs.declared.carrier.Carrier.TheVariants.{OnePort}
 use Rattle.lte_types.specs.Numerology.{normal, useful_start}
 use Rattle.lte_types.specs.Timing.{start_of, number_at_start}
-use Rattle.explain.specs.Frame.{IsWhole, frame_at, seen_slot, broadcast_slot}
-use Rattle.explain.specs.System.{even_frame}
+use Rattle.explain.specs.Frame.{IsWhole, frame_at, seen_slot}
 use Rattle.budget.specs.Received.{in_parts, off_by, IsReceived, samples_from}
 use Rattle.budget.proofs.Parts.{square_in_parts}
 use Rattle.budget.proofs.Seen.{quiet_amplitude_is_seen_in_recording}
-use Rattle.clean_air.specs.Values.{ArePilotsSeen, IsPatternReceived, IsSlotReceived, IsSlotHeard}
+use Rattle.clean_air.specs.Values.{ArePilotsSeen, IsPatternReceived, IsSlotReceived}
 use Rattle.clean_air.specs.Carried.{CarryWord}
-use Rattle.clean_air.proofs.SoftValues.{pattern_pilots_seen, received_slot_is_heard}
+use Rattle.clean_air.proofs.SoftValues.{pattern_pilots_seen}
 use Rattle.clean_air.proofs.LoadedErrors.{loaded_has_little_errors}
 use Rattle.clean_air.proofs.SentSymbols.{symbol_received, first_frame}
 
 -- the symbols of slot 0 to 19 of the frame with this number
 abbrev pub slot_grid : Elements → ℕ → ℕ → ℕ → ℕ → Cpx
-slot_grid grid number slot l = grid number (slot / 2) (7 * (slot % 2) + l)
+slot_grid = slot_elements
 
 -- ---- the reference signals
 
@@ -182,6 +182,35 @@ frame_is sfn offset j known within =
     let first = first_frame sfn offset known within in
     record { place = omega (arith, first.place); number = omega (arith, first.number) }
 
+pub first_number : (sfn offset : ℕ) → sfn ≤ 1023 → (number_at_start sfn offset + 0) % 1024 ≡ number_at_start sfn offset
+first_number sfn offset known = grind (arith, nat_tests)
+
+-- a symbol of which the errors are at most this share is received
+pub symbol_with_errors : (quota : ℕ) (recording : List Sample) (grids : Port → Elements) (sfn offset : ℕ) (gains : List Cpx) → sfn ≤ 1023 → offset < 19200 → 2 ^ 28 ≤ square (value_at gains 0) →
+    (j slot l : ℕ) → slot < 20 → l < 7 →
+    errors_from OnePort recording grids sfn offset gains (useful_start normal (frame_at (start_of offset) j) slot l) ≤ quota * square (value_at gains 0) →
+    IsReceived quota (value_at gains 0) (slot_grid (grids Only) ((number_at_start sfn offset + j) % 1024) slot l)
+    (samples_from recording (useful_start normal (frame_at (start_of offset) j) slot l))
+symbol_with_errors quota recording grids sfn offset gains known within sounds j slot l few inside quiet =
+    let grid : Elements = grids Only in
+    let gain : Cpx = value_at gains 0 in
+    let start : ℕ = useful_start normal (frame_at (start_of offset) j) slot l in
+    let n : ℕ = first_frame_of offset + j in
+    let frame = frame_is sfn offset j known within in
+    subst (λ m. IsReceived quota gain (slot_grid grid m slot l) (samples_from recording start)) frame.number (record {
+      sounds = sounds;
+      quiet = subst (λ (energy : ℕ). energy ≤ quota * square gain)
+          (energy_same 128 (off_by (samples_from recording start) (λ k. received_from OnePort grids sfn offset gains (start + k)))
+          (off_by (samples_from recording start) (λ k. times gain (useful_at (slot_grid grid ((sfn + n) % 1024) slot l) k)))
+          (λ k low. ap (minus (in_parts (samples_from recording start k))) (symbol_received OnePort grids sfn offset gains n slot l start few inside (omega (arith, frame.place)) k low)))
+          quiet;
+    })
+
+-- what is seen of a symbol of a slot
+pub symbol_shown : (recording : List Sample) (identity f slot l : ℕ) → l < 7 → slice_index_or (seen_slot recording f slot identity).symbols l [] ≡ seen_symbol recording (useful_start normal f slot l)
+unfolding seen_slot
+symbol_shown recording identity f slot l inside = values_below_at (λ symbol. seen_symbol recording (useful_start normal f slot symbol)) 7 l [] inside
+
 -- a slot of which the errors of each symbol are at most this share is received
 pub slot_with_errors : (quota : ℕ) (recording : List Sample) (plan : CellPlan) (grids : Port → Elements) (sfn offset : ℕ) (gains : List Cpx) → sfn ≤ 1023 → offset < 19200 → CarriesPlan Only plan (grids Only) →
     2 ^ 28 ≤ square (value_at gains 0) → (j slot : ℕ) → slot < 20 →
@@ -190,25 +219,13 @@ pub slot_with_errors : (quota : ℕ) (recording : List Sample) (plan : CellPlan)
     (seen_slot recording (frame_at (start_of offset) j) slot plan.identity)
 unfolding seen_slot
 slot_with_errors quota recording plan grids sfn offset gains known within carries sounds j slot few quiet =
-    let grid : Elements = grids Only in
-    let gain : Cpx = value_at gains 0 in
     let number : ℕ = (number_at_start sfn offset + j) % 1024 in
-    let start : ℕ → ℕ = useful_start normal (frame_at (start_of offset) j) slot in
-    let n : ℕ = first_frame_of offset + j in
-    let frame = frame_is sfn offset j known within in
     record {
-      gain = gain;
-      seen = λ l inside. values_below_at (λ symbol. seen_symbol recording (start symbol)) 7 l [] inside;
+      gain = value_at gains 0;
+      seen = λ l inside. symbol_shown recording plan.identity (frame_at (start_of offset) j) slot l inside;
       amplitudes = λ l inside. carries.small number (slot / 2) (7 * (slot % 2) + l);
-      received = λ l inside. subst (λ m. IsReceived quota gain (slot_grid grid m slot l) (samples_from recording (start l))) frame.number (record {
-        sounds = sounds;
-        quiet = subst (λ (energy : ℕ). energy ≤ quota * square gain)
-            (energy_same 128 (off_by (samples_from recording (start l)) (λ k. received_from OnePort grids sfn offset gains (start l + k)))
-            (off_by (samples_from recording (start l)) (λ k. times gain (useful_at (slot_grid grid ((sfn + n) % 1024) slot l) k)))
-            (λ k low. ap (minus (in_parts (samples_from recording (start l) k))) (symbol_received OnePort grids sfn offset gains n slot l (start l) few inside (omega (arith, frame.place)) k low)))
-            (quiet l inside);
-      });
-      references = λ i inside. references_stand plan grid carries number slot i;
+      received = λ l inside. symbol_with_errors quota recording grids sfn offset gains known within sounds j slot l few inside (quiet l inside);
+      references = λ i inside. references_stand plan (grids Only) carries number slot i;
     }
 
 module _ (recording : List Sample) (plan : CellPlan) (grids : Port → Elements) (sfn offset : ℕ) (gains : List Cpx) (faithful : IsFaithfulBy OnePort recording plan grids sfn offset gains) where
@@ -221,29 +238,6 @@ module _ (recording : List Sample) (plan : CellPlan) (grids : Port → Elements)
       slot_with_errors 1800 recording plan grids sfn offset gains faithful.number faithful.within (faithful.carries Only refl) faithful.gains_are.sounds j slot few
       (λ l inside. let frame = frame_is sfn offset j faithful.number faithful.within in
       faithful.near (first_frame_of offset + j) slot l (useful_start normal (frame_at (start_of offset) j) slot l) few inside (omega (arith, frame.place)) (looked l inside))
-
-  each_slot_heard : (j slot : ℕ) → slot < 20 →
-      ((l : ℕ) → l < 7 → IsLookedAt OnePort sfn offset (first_frame_of offset + j) slot l (useful_start normal (frame_at (start_of offset) j) slot l)) →
-      IsSlotHeard (slot_grid (grids Only) ((number_at_start sfn offset + j) % 1024) slot) (seen_slot recording (frame_at (start_of offset) j) slot plan.identity)
-  each_slot_heard j slot few looked =
-      received_slot_is_heard recording (useful_start normal (frame_at (start_of offset) j) slot) (slot_grid (grids Only) ((number_at_start sfn offset + j) % 1024) slot)
-      (seen_slot recording (frame_at (start_of offset) j) slot plan.identity) (each_slot_received j slot few looked)
-
-  -- that of the first frame which carries the broadcast channel is heard
-  pub broadcast_heard : IsSlotHeard (slot_grid (grids Only) (number_at_start sfn offset) 1) (broadcast_slot recording plan.identity (start_of offset) 0)
-  broadcast_heard =
-      let number : (number_at_start sfn offset + 0) % 1024 ≡ number_at_start sfn offset = first_number sfn offset faithful.number in
-      subst (λ m. IsSlotHeard (slot_grid (grids Only) m 1) (broadcast_slot recording plan.identity (start_of offset) 0)) number
-      (each_slot_heard 0 1 (omega arith) (λ l inside. inl (omega arith, refl)))
-    where
-      first_number : (sfn offset : ℕ) → sfn ≤ 1023 → (number_at_start sfn offset + 0) % 1024 ≡ number_at_start sfn offset
-      first_number sfn offset known = grind (arith, nat_tests)
-
-  -- and so are the two of the first frame of even number that carry its system information
-  pub system_slot_heard : (slot : ℕ) → slot / 2 ≡ 5 →
-      IsSlotHeard (slot_grid (grids Only) ((number_at_start sfn offset + even_frame (number_at_start sfn offset) 0) % 1024) slot)
-      (seen_slot recording (frame_at (start_of offset) (even_frame (number_at_start sfn offset) 0)) slot plan.identity)
-  system_slot_heard slot five = each_slot_heard (even_frame (number_at_start sfn offset) 0) slot (omega (arith, five)) (λ l inside. inr (inl (omega arith, five)))
 
 -- of a recording that is clean of the cell the pilots of each whole slot are seen, off by less, since its errors have less energy
 pub loaded_pilots_seen : (recording : List Sample) (plan : CellPlan) (grid : Elements) (sfn offset : ℕ) (gain : Cpx) (eps : ℕ) → IsLoaded recording plan grid sfn offset gain eps →

@@ -13,7 +13,7 @@ use Rattle.lte_types.specs.declared.carrier.Carrier.TheVariants.{OnePort, TwoPor
 use Rattle.lte_types.specs.declared.frame.Half.{Half}
 use Rattle.lte_types.specs.declared.numerology.Prefix.{Prefix}
 use Rattle.lte_types.specs.Carrier.{prefix_of}
-use Rattle.lte_types.specs.Numerology.{IsPrefix, symbols_of_slot, useful_start, primary_start}
+use Rattle.lte_types.specs.Numerology.{IsPrefix, symbols_of_slot, useful_start}
 use Rattle.lte_types.specs.Timing.{start_of, number_at_start}
 use Rattle.cell_tx.specs.declared.antenna.Port.{Port}
 use Rattle.cell_tx.specs.declared.antenna.Port.TheVariants.{Only, First, Second, Long, OfFour}
@@ -25,6 +25,7 @@ use Rattle.cell_tx.specs.Sent.{Elements, prefix_sent}
 use Rattle.cell_tx.proofs.Symbols.{frames_follow, useful_parts_stand, in_useful}
 use Rattle.clean_air.specs.Load.{received_from}
 use Rattle.clean_air.specs.Faithful.{IsLittle, IsLookedAt, IsFaithfulBy, first_frame_of}
+use Rattle.clean_air.specs.Through.{IsPrimaryPlace}
 
 -- ---- a symbol
 
@@ -89,9 +90,8 @@ symbol_off carrier recording plan grids sfn offset gains faithful frame slot sym
 -- ---- places
 
 -- a place of the recording is one at which a primary signal of the cell begins
-pub record IsTruePlace (offset t : ℕ) (half : Half) : Type 0 where
-  pub frame : ℕ
-  pub place : t + offset ≡ 19200 * frame + primary_start half
+abbrev pub IsTruePlace : ℕ → ℕ → Half → Type 0
+IsTruePlace = IsPrimaryPlace
 
 -- the first frame that begins in the recording
 pub record IsFirstFrame (sfn offset j : ℕ) : Type 0 where

@@ -1,9 +1,7 @@
--- The system information of a recording that is faithful to a cell of one port, whatever else the cell sends: the first frame of even number answers with the plan's.
+-- The system information of a cell of one port that is heard, whatever else the cell sends: the first frame of even number answers with the plan's.
 use Rattle.std.proofs.Common.{◌≡◌, ℕ, ◌+◌, ◌*◌, ◌%◌, List, length, Ok, refl, ap, sym, subst, arith}
 use Rattle.std.proofs.Math.Path.{fun_ext}
-use Rattle.cs_num.specs.declared.Cpx.{Cpx}
 use Rattle.cs_num.specs.declared.Sample.{Sample}
-use Rattle.lte_types.specs.declared.carrier.Carrier.TheVariants.{OnePort}
 use Rattle.lte_types.specs.Timing.{start_of, number_at_start}
 use Rattle.soft_bits.specs.Soft.{SeenSlot}
 use Rattle.grid_map.specs.Control.{pcfich_places}
@@ -11,15 +9,12 @@ use Rattle.system_block.specs.Subframe.{one_port}
 use Rattle.system_block.specs.Block.{BlockSays}
 use Rattle.system_block.specs.Attempt.{Reads}
 use Rattle.pdsch.specs.Values.{shared_values}
-use Rattle.cell_tx.specs.declared.antenna.Port.{Port}
 use Rattle.cell_tx.specs.declared.antenna.Port.TheVariants.{Only}
 use Rattle.cell_plan.specs.declared.cell.CellPlan.{CellPlan}
 use Rattle.cell_plan.specs.Plan.{IsSendable}
 use Rattle.cell_tx.specs.Control.{version_of, grant_of, control_word, indicator_point, control_point}
 use Rattle.cell_tx.specs.Shared.{shared_places, shared_bit, shared_point}
 use Rattle.cell_tx.specs.Sent.{Elements}
-use Rattle.clean_air.specs.Load.{CarriesPlan}
-use Rattle.clean_air.specs.Faithful.{IsFaithfulBy}
 use Rattle.cell_tx.proofs.SystemPlaces.{indicator_indexed, control_indexed, assigned_bits_are}
 use Rattle.clean_air.proofs.Carrying.{indicator_carried, control_carried, shared_carried}
 use Rattle.cell_plan.proofs.WholeBlocks.{resolvable_at}
@@ -35,10 +30,10 @@ use Rattle.clean_air.specs.Attempt.{IsReadWith}
 use Rattle.clean_air.proofs.Controls.{carried_grant_is_read}
 use Rattle.clean_air.proofs.Subframes.{carried_blocks_are_heard}
 use Rattle.clean_air.proofs.SentFields.{fields_said}
-use Rattle.clean_air.proofs.SentSlots.{slot_grid, system_slot_heard}
+use Rattle.clean_air.proofs.SentSlots.{slot_grid}
+use Rattle.clean_air.proofs.HeardCells.{IsCellHeard}
 
-module _ (recording : List Sample) (plan : CellPlan) (grids : Port → Elements) (sfn offset : ℕ) (gains : List Cpx) (sendable : IsSendable plan)
-    (faithful : IsFaithfulBy OnePort recording plan grids sfn offset gains) where
+module _ (recording : List Sample) (plan : CellPlan) (grid : Elements) (sfn offset : ℕ) (sendable : IsSendable plan) (heard : IsCellHeard recording plan grid sfn offset) where
   -- the first whole frame of even number, and its number
   abbrev j : ℕ
   j = even_frame (number_at_start sfn offset) 0
@@ -49,12 +44,6 @@ module _ (recording : List Sample) (plan : CellPlan) (grids : Port → Elements)
   even : number % 2 ≡ 0
   even = even_number (number_at_start sfn offset) 0
 
-  abbrev grid : Elements
-  grid = grids Only
-
-  carries : CarriesPlan Only plan grid
-  carries = faithful.carries Only refl
-
   -- the slot of subframe 5 with this number, 10 or 11
   abbrev slot : ℕ → SeenSlot
   slot s = seen_slot recording (frame_at (start_of offset) j) s plan.identity
@@ -64,23 +53,23 @@ module _ (recording : List Sample) (plan : CellPlan) (grids : Port → Elements)
   both_heard = record {
     first_slot =
         let same : slot_grid grid number 10 ≡ grid number 5 = fun_ext (λ l. ap (grid number 5) (omega arith)) in
-        subst (λ g. IsSlotHeard g (slot 10)) same (system_slot_heard recording plan grids sfn offset gains faithful 10 refl);
-    second_slot = system_slot_heard recording plan grids sfn offset gains faithful 11 refl;
+        subst (λ g. IsSlotHeard g (slot 10)) same (heard.system 10 refl);
+    second_slot = heard.system 11 refl;
   }
 
   -- they carry the indicator and the grant
   carries_indicator : CarryInSubframe (grid number 5) (pcfich_places (slot 10).identity) (indicator_scrambled (slot 10) plan.cfi)
   unfolding seen_slot indicator_point
-  carries_indicator i inside = indicator_carried Only plan grid carries sendable refl number even i (let size = (indicator_indexed Only plan sendable).size in omega (arith, size, inside))
+  carries_indicator i inside = indicator_carried Only plan grid heard.carries sendable refl number even i (let size = (indicator_indexed Only plan sendable).size in omega (arith, size, inside))
 
   carries_grant : CarryInSubframe (grid number 5) (grant_places (slot 10) plan.cfi plan.duration plan.resource) (grant_scrambled (slot 10) (grant_of plan number))
   unfolding seen_slot control_point control_word
-  carries_grant i inside = control_carried Only plan grid carries sendable refl number even i (let size = (control_indexed Only plan sendable).size in omega (arith, size, inside))
+  carries_grant i inside = control_carried Only plan grid heard.carries sendable refl number even i (let size = (control_indexed Only plan sendable).size in omega (arith, size, inside))
 
   -- and the block
   carries_block : CarryInSubframe (grid number 5) (shared_places plan) (shared_scrambled (slot 10) (shared_bit plan number))
   unfolding seen_slot shared_point
-  carries_block i inside = shared_carried Only plan grid carries sendable refl number even i inside
+  carries_block i inside = shared_carried Only plan grid heard.carries sendable refl number even i inside
 
   -- the values of its resource blocks say the fields
   says_fields : BlockSays (shared_values (slot 10) (slot 11) plan.cfi plan.start plan.blocks) (grant_of plan number) (Ok plan.sib1)

@@ -1,6 +1,6 @@
 -- The synchronisation signals of a cell of any carrier, whatever else its ports send: they are received as from the first port alone, in a recording that
 -- is faithful to it with little errors.
-use Rattle.std.proofs.Common.{◌≡◌, ℕ, ◌+◌, ◌-◌, ◌*◌, ◌/◌, ◌%◌, ◌<◌, ◌≤◌, Bool, true, false, inl, inr, nat_eq, nat_le, nat_lt, arith, refl, ap, ap₂, subst, ◌∙◌, List}
+use Rattle.std.proofs.Common.{◌≡◌, ℕ, ◌+◌, ◌-◌, ◌*◌, ◌^◌, ◌/◌, ◌%◌, ◌<◌, ◌≤◌, Bool, true, false, inl, inr, nat_eq, nat_le, nat_lt, arith, refl, ap, ap₂, subst, ◌∙◌, List}
 use Rattle.std.specs.Prelude.{if◌then◌else◌, ◌&&◌}
 use Rattle.std.proofs.lemmas.Bool.Decides.{nat_tests}
 use Rattle.cs_num.specs.declared.Cpx.{Cpx}
@@ -41,6 +41,7 @@ use Rattle.budget.specs.Score.{sss_grid, AreSignals}
 use Rattle.budget.specs.Peak.{IsPrimaryAt}
 use Rattle.clean_air.specs.Load.{CarriesPlan, received_from}
 use Rattle.clean_air.specs.Faithful.{IsLittle, IsOfPrimary, IsOfSecondary, IsLookedAt, IsFaithfulBy, errors_from}
+use Rattle.clean_air.specs.Through.{ShowsSignals}
 use Rattle.clean_air.proofs.Carrying.{of_primary_symbol, of_secondary_symbol}
 use Rattle.clean_air.proofs.SentSymbols.{mixed_same, prefix_known, symbol_received, IsTruePlace}
 
@@ -164,21 +165,21 @@ secondary_symbol (OfFour p) plan sfn k Five = let none = none_in p plan.identity
 -- ---- the synchronisation signals
 
 -- where the two symbols stand in a frame
-record AreSignalRows (prefix : Prefix) (half : Half) : Type 0 where
-  step : symbol_step prefix ≤ 160
-  many : 2 ≤ symbols_of_slot prefix
-  last : symbols_of_slot prefix - 1 < symbols_of_slot prefix
-  before : symbols_of_slot prefix - 2 < symbols_of_slot prefix
-  primary : useful_start prefix 0 (2 * subframe_of half) (symbols_of_slot prefix - 1) ≡ primary_start half
-  secondary : useful_start prefix 0 (2 * subframe_of half) (symbols_of_slot prefix - 2) + symbol_step prefix ≡ primary_start half
+pub record AreSignalRows (prefix : Prefix) (half : Half) : Type 0 where
+  pub step : symbol_step prefix ≤ 160
+  pub many : 2 ≤ symbols_of_slot prefix
+  pub last : symbols_of_slot prefix - 1 < symbols_of_slot prefix
+  pub before : symbols_of_slot prefix - 2 < symbols_of_slot prefix
+  pub primary : useful_start prefix 0 (2 * subframe_of half) (symbols_of_slot prefix - 1) ≡ primary_start half
+  pub secondary : useful_start prefix 0 (2 * subframe_of half) (symbols_of_slot prefix - 2) + symbol_step prefix ≡ primary_start half
 
-signal_rows : (half : Half) (prefix : Prefix) → IsPrefix prefix → AreSignalRows prefix half
+pub signal_rows : (half : Half) (prefix : Prefix) → IsPrefix prefix → AreSignalRows prefix half
 signal_rows half =
     with_prefix (λ p. AreSignalRows p half)
     (record { step = omega arith; many = omega arith; last = omega arith; before = omega arith; primary = omega arith; secondary = omega arith })
     (record { step = omega arith; many = omega arith; last = omega arith; before = omega arith; primary = omega arith; secondary = omega arith })
 
-slot_few : (half : Half) → 2 * subframe_of half < 20
+pub slot_few : (half : Half) → 2 * subframe_of half < 20
 slot_few Zero = omega arith
 slot_few Five = omega arith
 
@@ -218,6 +219,34 @@ module _ (carrier : Carrier) (plan : CellPlan) (grids : Port → Elements) (carr
       ∙ subst (λ (c : Carrier). grids port ((sfn + at.frame) % 1024) (subframe_of half) (symbols_of_slot (prefix_of c) - 2) k ≡ sent_signal port (sss_grid (plan.identity / 3) (plan.identity % 3) half k)) same
       (of_secondary_symbol port plan (grids port) (carries port same) half ((sfn + at.frame) % 1024) k ∙ secondary_symbol port plan ((sfn + at.frame) % 1024) k half))
 
+-- what is received as of one symbol, with errors of this share
+pub received_with : (carrier : Carrier) (recording : List Sample) (grids : Port → Elements) (sfn offset : ℕ) (gains : List Cpx) (start : ℕ) (grid : ℕ → Cpx) → 2 ^ 28 ≤ square (value_at gains 0) →
+    ((n : ℕ) → n < 128 → received_from carrier grids sfn offset gains (start + n) ≡ times (value_at gains 0) (useful_at grid n)) →
+    errors_from carrier recording grids sfn offset gains start ≤ 1800 * square (value_at gains 0) → IsReceived 1800 (value_at gains 0) grid (samples_from recording start)
+received_with carrier recording grids sfn offset gains start grid sounds is quiet = record {
+  sounds = sounds;
+  quiet = subst (λ (energy : ℕ). energy ≤ 1800 * square (value_at gains 0))
+      (energy_same 128 (off_by (samples_from recording start) (λ n. received_from carrier grids sfn offset gains (start + n))) (off_by (samples_from recording start) (λ n. times (value_at gains 0) (useful_at grid n)))
+      (λ n c. ap (minus (in_parts (samples_from recording start n))) (is n c)))
+      quiet;
+}
+
+-- the primary signal is looked at near the places of hits
+pub is_primary : (carrier : Carrier) (half : Half) (t : ℕ) → symbol_step (prefix_of carrier) ≤ t + 9 → t ≤ 19345 →
+    IsOfPrimary carrier (2 * subframe_of half) (symbols_of_slot (prefix_of carrier) - 1) t
+is_primary carrier half t low high =
+    let many = (signal_rows half (prefix_of carrier) (prefix_known carrier)).many in
+    record { half = half; slot_is = refl; last = omega (arith, many); from_first = low; to_last = high }
+
+-- and the secondary one before those in their later half
+pub is_secondary : (carrier : Carrier) (half : Half) (t : ℕ) → 9737 ≤ t → t ≤ 19336 →
+    IsOfSecondary carrier (2 * subframe_of half) (symbols_of_slot (prefix_of carrier) - 2) (t - symbol_step (prefix_of carrier))
+is_secondary carrier half t low high =
+    let rows = signal_rows half (prefix_of carrier) (prefix_known carrier) in
+    let many = rows.many in
+    let step = rows.step in
+    record { half = half; slot_is = refl; before = omega (arith, many); from_middle = omega (arith, low, step); to_last = omega (arith, low, high, step) }
+
 module _ (carrier : Carrier) (recording : List Sample) (plan : CellPlan) (grids : Port → Elements) (sfn offset : ℕ) (gains : List Cpx)
     (faithful : IsFaithfulBy carrier recording plan grids sfn offset gains) (t : ℕ) where
   abbrev own_prefix : Prefix
@@ -226,21 +255,12 @@ module _ (carrier : Carrier) (recording : List Sample) (plan : CellPlan) (grids 
   -- what is received as of one symbol, with little errors
   with_errors : (start : ℕ) (grid : ℕ → Cpx) → ((n : ℕ) → n < 128 → received_from carrier grids sfn offset gains (start + n) ≡ times (value_at gains 0) (useful_at grid n)) →
       IsLittle carrier gains (errors_from carrier recording grids sfn offset gains start) → IsReceived 1800 (value_at gains 0) grid (samples_from recording start)
-  with_errors start grid is little = record {
-    sounds = faithful.gains_are.sounds;
-    quiet = subst (λ (energy : ℕ). energy ≤ 1800 * square (value_at gains 0))
-        (energy_same 128 (off_by (samples_from recording start) (λ n. received_from carrier grids sfn offset gains (start + n))) (off_by (samples_from recording start) (λ n. times (value_at gains 0) (useful_at grid n)))
-        (λ n c. ap (minus (in_parts (samples_from recording start n))) (is n c)))
-        (little_beside carrier gains (errors_from carrier recording grids sfn offset gains start) little);
-  }
+  with_errors start grid is little =
+      received_with carrier recording grids sfn offset gains start grid faithful.gains_are.sounds is
+      (little_beside carrier gains (errors_from carrier recording grids sfn offset gains start) little)
 
-  -- the primary signal is looked at near the places of hits
   primary_looked : (half : Half) (frame : ℕ) → symbol_step own_prefix ≤ t + 9 → t ≤ 19345 → IsLookedAt carrier sfn offset frame (2 * subframe_of half) (symbols_of_slot own_prefix - 1) t
-  primary_looked half frame low high =
-      let many = (signal_rows half own_prefix (prefix_known carrier)).many in
-      let is : IsOfPrimary carrier (2 * subframe_of half) (symbols_of_slot own_prefix - 1) t =
-      record { half = half; slot_is = refl; last = omega (arith, many); from_first = low; to_last = high } in
-      inr (inr (inl is))
+  primary_looked half frame low high = inr (inr (inl (is_primary carrier half t low high)))
 
   pub primary_received : (half : Half) → IsTruePlace offset t half → symbol_step own_prefix ≤ t + 9 → t ≤ 19345 → IsReceived 1800 (value_at gains 0) (pss_grid (plan.identity % 3)) (samples_from recording t)
   primary_received half at low high =
@@ -249,15 +269,8 @@ module _ (carrier : Carrier) (recording : List Sample) (plan : CellPlan) (grids 
       with_errors t (pss_grid (plan.identity % 3)) (primary_is carrier plan grids faithful.carries sfn offset gains t half at)
       (faithful.near at.frame (2 * subframe_of half) (symbols_of_slot own_prefix - 1) t (slot_few half) rows.last (omega (arith, at.place, place)) (primary_looked half at.frame low high))
 
-  -- and the secondary one before those in their later half
   secondary_looked : (half : Half) (frame : ℕ) → 9737 ≤ t → t ≤ 19336 → IsLookedAt carrier sfn offset frame (2 * subframe_of half) (symbols_of_slot own_prefix - 2) (t - symbol_step own_prefix)
-  secondary_looked half frame low high =
-      let rows = signal_rows half own_prefix (prefix_known carrier) in
-      let many = rows.many in
-      let step = rows.step in
-      let is : IsOfSecondary carrier (2 * subframe_of half) (symbols_of_slot own_prefix - 2) (t - symbol_step own_prefix) =
-      record { half = half; slot_is = refl; before = omega (arith, many); from_middle = omega (arith, low, step); to_last = omega (arith, low, high, step) } in
-      inr (inr (inr is))
+  secondary_looked half frame low high = inr (inr (inr (is_secondary carrier half t low high)))
 
   secondary_received : (half : Half) → IsTruePlace offset t half → 9737 ≤ t → t ≤ 19336 →
       IsReceived 1800 (value_at gains 0) (sss_grid (plan.identity / 3) (plan.identity % 3) half) (samples_from recording (t - symbol_step own_prefix))
@@ -284,3 +297,11 @@ module _ (carrier : Carrier) (recording : List Sample) (plan : CellPlan) (grids 
         primary = primary_received half at (omega (arith, low, step)) (omega (arith, high));
         secondary = secondary_received half at low high;
       }
+
+-- so they stand where they are looked at
+pub signals_shown : (carrier : Carrier) (recording : List Sample) (plan : CellPlan) (grids : Port → Elements) (sfn offset : ℕ) (gains : List Cpx) → IsFaithfulBy carrier recording plan grids sfn offset gains →
+    plan.identity ≤ 503 → ShowsSignals carrier recording plan.identity offset
+signals_shown carrier recording plan grids sfn offset gains faithful known = record {
+  primary = λ t half at low high. primary_at carrier recording plan grids sfn offset gains faithful t half at low high;
+  both = λ t half at middle high. signals_at carrier recording plan grids sfn offset gains faithful t half at (omega (arith, middle)) high known;
+}

@@ -21,7 +21,7 @@ use Rattle.cell_tx.proofs.Bounds.{pick, broadcast_full, indicator_full, control_
 use Rattle.cell_tx.proofs.Elements.{reference_at_is}
 use Rattle.cell_tx.specs.Load.{is_any_reference, has_channel, is_taken}
 use Rattle.clean_air.specs.Load.{is_of_others, TakenPlacesAreSent}
-use Rattle.clean_air.proofs.Estimates.{full-size}
+use Rattle.budget.proofs.Pilots.{full-size}
 use Rattle.clean_air.proofs.Carrying.{no_signal}
 
 clash : (b : Bool) → b ≡ false → not b ≡ false → ⊥

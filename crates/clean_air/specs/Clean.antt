@@ -26,6 +26,7 @@ use Rattle.cell_tx.specs.Sent.{Elements}
 use Rattle.cell_tx.specs.Emission.{IsCleanBy}
 use Rattle.clean_air.specs.Load.{IsLoadedBy}
 use Rattle.clean_air.specs.Faithful.{IsFaithfulBy}
+use Rattle.clean_air.specs.Through.{IsSeenThroughBy}
 
 -- ---- what is sent
 
@@ -95,6 +96,14 @@ HoldsFaithfulBy carrier recording list =
     IsKnownBy carrier plan → IsFaithfulBy carrier recording plan grids sfn offset gains →
     HoldsCellBy carrier list plan (start_of offset) (number_at_start sfn offset)
 
+-- the list holds each cell of a carrier that is seen in the recording through channels, whatever its plan is, what its
+-- ports send elsewhere, its first frame's number, the offset and the channels
+abbrev pub HoldsThroughBy : Carrier → List Sample → List Entry → Type 0
+HoldsThroughBy carrier recording list =
+    (plan : CellPlan) (grids : Port → Elements) (sfn offset : ℕ) →
+    IsKnownBy carrier plan → IsSeenThroughBy carrier recording plan grids sfn offset →
+    HoldsCellBy carrier list plan (start_of offset) (number_at_start sfn offset)
+
 -- the list holds each cell of a carrier of which the recording is clean, whatever its plan is, what its ports send
 -- elsewhere, its first frame's number, the offset, the gains and the errors
 abbrev pub HoldsBy : Carrier → List Sample → List Entry → Type 0
@@ -111,10 +120,11 @@ HoldsCleanBy carrier recording list =
     IsKnownBy carrier plan → IsCleanBy carrier load recording plan sfn offset gains eps →
     HoldsCellBy carrier list plan (start_of offset) (number_at_start sfn offset)
 
--- the list of a recording by a receiver, which holds each cell of the receiver's carrier to which the recording is
--- faithful or of which it is clean, whatever else that cell sends
+-- the list of a recording by a receiver, which holds each cell of the receiver's carrier that is seen through
+-- channels, to which the recording is faithful, or of which it is clean, whatever else that cell sends
 pub record IsListBy (receiver : Receiver) (recording : List Sample) (list : List Entry) : Type 0 where
   pub explained : IsListFor receiver recording list
+  pub through : HoldsThroughBy receiver.carrier recording list
   pub faithful : HoldsFaithfulBy receiver.carrier recording list
   pub loaded : HoldsBy receiver.carrier recording list
   pub holds : HoldsCleanBy receiver.carrier recording list
@@ -123,8 +133,13 @@ pub record IsListBy (receiver : Receiver) (recording : List Sample) (list : List
 abbrev pub IsListOfCells : List Sample → List Entry → Type 0
 IsListOfCells = IsListBy one_port_receiver
 
--- a law of a receiver: the list of a recording by it holds each cell of its carrier to which the recording is faithful
+-- a list holds the cells of a carrier that are seen through channels, and those to which the recording is faithful
+pub record HoldsSeenBy (carrier : Carrier) (recording : List Sample) (list : List Entry) : Type 0 where
+  pub through : HoldsThroughBy carrier recording list
+  pub faithful : HoldsFaithfulBy carrier recording list
+
+-- a law of a receiver: so does the list of a recording by it, of its carrier
 abbrev pub HoldsCells : Receiver → Type 0
 HoldsCells receiver =
     (recording : List Sample) (list : List Entry) → least_samples ≤ length recording →
-    IsListFor receiver recording list → HoldsFaithfulBy receiver.carrier recording list
+    IsListFor receiver recording list → HoldsSeenBy receiver.carrier recording list

@@ -13,7 +13,7 @@ use sample_file::Recording;
 /// faithful. (own)
 pub trait CleanReader: FrameReader {
     /// A law: the list of a recording by this receiver holds each cell of its carrier to which the recording is
-    /// faithful.
+    /// faithful, and each that is seen in it through channels.
     fn holds_cells()
         ensures { HoldsCells Self.receiver };
 }
@@ -36,9 +36,14 @@ impl CleanReader for OnePort {
 /// send anything where its plan sends nothing, beside the synchronisation signals nothing, in elements of size at most
 /// 256.
 ///
-/// So it is where the recording is clean of the cell: each component of each sample is within the carrier's bounds of
-/// what the ports send, each times a whole-number gain (`cell_plan/specs/Gains.antt`), whatever else they send
-/// (`loaded`), and so with nothing else, or load by a number (`holds`). The workspace then has how each entry was
+/// With one port it is enough that the cell is seen through channels (`through`): that its synchronisation signals
+/// stand, each time with a gain of its own, and that each slot which is read is seen through a gain for each place,
+/// which leaves room for its values (`specs/Through.antt`), as where the gain turns and fades slowly
+/// (`specs/Fading.antt`).
+///
+/// And it is faithful where the recording is clean of the cell: each component of each sample is within the carrier's
+/// bounds of what the ports send, each times a whole-number gain (`cell_plan/specs/Gains.antt`), whatever else they
+/// send (`loaded`), and so with nothing else, or load by a number (`holds`). The workspace then has how each entry was
 /// read. It takes no memory. (own)
 pub fn explain_clean_by<F: CleanReader>(
     reader: &F,
@@ -60,7 +65,7 @@ pub fn explain_clean_by<F: CleanReader>(
 /// is faithful (`explain_clean_by`): by a plan that can be sent, times a gain of size 1 and more in parts of 2^-14,
 /// where the errors of each symbol that is looked at have an energy of at most 1800 times the gain's square; and so
 /// where each component is off by at most twice the size of a whole-number gain. It does so with the fields of its
-/// SystemInformationBlockType1. (own)
+/// SystemInformationBlockType1. And it holds each that is seen through channels. (own)
 pub fn explain_clean(recording: &Recording, work: &mut Workspace, list: &mut EntryList)
     ensures list { IsListOfCells recording.now list.new }
     ensures readings { AllZip (IsReading recording.now) list.new work.new }

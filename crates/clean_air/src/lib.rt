@@ -1,7 +1,7 @@
 //! Clean reception: what is sent of a cell, received with one gain for each antenna port and small errors, is found
-//! by the receiver of its carrier. The list of cells of a recording holds each cell to which it is faithful. Each law
-//! on the way is the contract of a function without a body, whole, with its premises; it speaks of the receiver's
-//! definitions alone.
+//! by the receiver of its carrier. The list of cells of a recording holds each cell to which it is faithful, and with
+//! one port each that is seen through a channel. Each law on the way is the contract of a function without a body,
+//! whole, with its premises; it speaks of the receiver's definitions alone.
 #![tactic(auto)]
 
 mod block;
@@ -12,6 +12,7 @@ mod control;
 mod load;
 mod planning;
 mod subframe;
+mod through;
 mod values;
 mod words;
 
@@ -23,5 +24,8 @@ pub use control::{sent_grant_is_read, sent_grant_is_told, sent_indicator_is_told
 pub use load::{loaded_is_faithful, open_places_are_silent};
 pub use planning::{faithful_entry_has_plan, one_plan, plan_granted, plan_of, sent_entry_has_plan};
 pub use subframe::carried_blocks_are_heard;
+pub use through::{
+    faithful_is_seen_through, fading_is_seen_through, fading_slot_is_seen_through, slot_through_is_heard,
+};
 pub use values::values_support_the_sent_bits;
 pub use words::spoken_word_is_the_least;

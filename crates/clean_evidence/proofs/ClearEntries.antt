@@ -35,7 +35,7 @@ module _ (recording : List Sample) (entry : Entry) (told : Evidence) (plan : Cel
   -- the entry is the cell's
   is_sent : IsSentEntryOf OnePort plan (number_at_start sfn offset) entry
   is_sent =
-      let held = holds_cells recording listed.list long listed.explained plan (λ port. grid) sfn offset (gain ∷ []) sendable faithful in
+      let held = (holds_cells recording listed.list long listed.explained).faithful plan (λ port. grid) sfn offset (gain ∷ []) sendable faithful in
       subst (λ (e : Entry). IsSentEntryOf OnePort plan (number_at_start sfn offset) e) (sym (held.only entry listed.inside id start number)) held.sent
 
   certain : IsCertain told

@@ -23,8 +23,8 @@ is_over_four = record { lower = λ i. omega arith; upper = λ i. omega arith; ap
     steps (suc (suc (suc n))) slot l = refl
 
 -- 36 * 900^2 * 16200 * 8 / 3 of the channels, where the pair's gains have three eighths, and 900^2 * 8 / 3 of what is seen; the energy's
--- 6340239360, and six times 34517463575, are less than 540 * 398131200. With 912 in place of 900 they are
--- more, so that no quota of 8 follows
+-- 6340239360, and six times 34517463575, are less than 540 * 398131200. With 912 in place of 900 they are more, so that no quota of 8
+-- follows
 margins_of_four : AreMargins over_four 900 5 3 8 1259712000000 2160000 2079 285708484 3299077399 6340239360
 margins_of_four = record {
   roots = record { seen = omega arith; estimates = omega arith; both = omega arith };

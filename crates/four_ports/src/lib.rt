@@ -1,6 +1,6 @@
 //! Cells with four antenna ports, which send by transmit diversity (TS 36.211 section 6.3.4.3): the soft values of
-//! pairs of places, the list of the cells of a recording, to the master block, and that a clean recording's list holds
-//! its cell.
+//! pairs of places, the list of the cells of a recording, to the master block, and that a faithful recording's list
+//! holds its cell.
 #![tactic(auto)]
 
 mod clean;

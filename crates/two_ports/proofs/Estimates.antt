@@ -16,8 +16,7 @@ use Rattle.soft_bits.proofs.Lines.{is_line}
 use Rattle.budget.specs.Received.{in_parts, received_of}
 use Rattle.budget.proofs.Deviations.{deviation}
 use Rattle.budget.proofs.Near.{IsNear, near-multiple, line-near}
-use Rattle.budget.proofs.Pilots.{IsPilot, turned_pilot-near}
-use Rattle.clean_air.proofs.Estimates.{full-size, sent-size}
+use Rattle.budget.proofs.Pilots.{IsPilot, full-size, sent-size, turned_pilot-near}
 use Rattle.two_ports.specs.Received.{only, over, ArePortsSeen}
 
 -- ---- what is received where one port sends, and where two send

@@ -27,8 +27,8 @@ abbrev pub sent_bits : Port → CellPlan → ℕ → ℕ → Bool
 sent_bits first plan number i = scrambled_bit (pbch_c_init plan.identity) (port_word first plan number) (480 * (number % 4) + i)
 
 -- the ports with these numbers are those of a carrier with the normal prefix: all of them are received, and errors that are little
--- beside their gains have at most the quota; they have one master block, and send the points of pairs and the reference signals so: at a pilot
--- of one port the others send nothing
+-- beside their gains have at most the quota; they have one master block, and send the points of pairs and the reference signals so:
+-- at a pilot of one port the others send nothing
 pub record ArePorts (pairing : Pairing) (quota : ℕ) (carrier : Carrier) (port : ℕ → Port) : Type 0 where
   pub own : (p : ℕ) → carrier_of (port p) ≡ carrier
   pub prefix : prefix_of carrier ≡ normal

@@ -1,4 +1,4 @@
-//! The list of cells with two antenna ports of a clean recording.
+//! The list of cells with two antenna ports of a faithful recording.
 
 ghost use Rattle.std.specs.Prelude.{All, IfOk};
 ghost use Rattle.std.specs.List.{AllZip};

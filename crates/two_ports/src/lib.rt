@@ -1,6 +1,6 @@
 //! Cells with two antenna ports, which send by transmit diversity (TS 36.211 section 6.3.4.3): the soft values of
-//! pairs of places, for any pairing of ports, the list of the cells of a recording, and that a clean recording's list
-//! holds its cell.
+//! pairs of places, for any pairing of ports, the list of the cells of a recording, and that a faithful recording's
+//! list holds its cell.
 #![tactic(auto)]
 
 mod clean;

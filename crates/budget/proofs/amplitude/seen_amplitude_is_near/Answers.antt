@@ -1,6 +1,6 @@
 use Rattle.budget.proofs.Causes.{sending_has_two_causes, leakage_is_small, rounding_sent_is_small, sending_is_small, sending_is_linear}
 use Rattle.budget.proofs.Causes.{three_causes, four_causes}
-use Rattle.budget.proofs.Seen.{amplitude_is_seen, quiet_amplitude_is_seen, two_amplitudes_are_seen, four_amplitudes_are_seen}
+use Rattle.budget.proofs.Seen.{amplitude_is_seen, quiet_amplitude_is_seen, two_amplitudes_are_seen, four_amplitudes_are_seen, units_are_seen}
 use Rattle.budget.proofs.Seen.{amplitude_is_seen_in_recording, quiet_amplitude_is_seen_in_recording, two_amplitudes_are_seen_in_recording, four_amplitudes_are_seen_in_recording}
 use Rattle.budget.proofs.amplitude.seen_amplitude_is_near.Goals as goal
 
@@ -48,3 +48,6 @@ returns-clause-recording_of_two c = two_amplitudes_are_seen_in_recording
 
 pub returns-clause-recording_of_four : goal.returns-clause-recording_of_four
 returns-clause-recording_of_four c = four_amplitudes_are_seen_in_recording
+
+pub returns-clause-by_units : goal.returns-clause-by_units
+returns-clause-by_units c = units_are_seen

@@ -1,0 +1,121 @@
+-- What is seen of a slot through a channel that need not be one gain, and what its soft values then say. (own; the
+-- reference places are those of TS 36.211 section 6.10.1)
+use Rattle.std.specs.Prelude.{ℕ, ◌+◌, ◌*◌, ◌%◌, ◌<◌, ◌≤◌, Bool}
+use Rattle.cs_num.specs.declared.Cpx.{Cpx}
+use Rattle.cs_num.specs.Complex.{times, conjugate, square, minus, multiple}
+use Rattle.sizes.specs.Sizes.{energy_below}
+use Rattle.cs_bits.specs.Signs.{Supports}
+use Rattle.crs.specs.Qpsk.{point}
+use Rattle.crs.specs.declared.pattern.Pattern.{Pattern}
+use Rattle.soft_bits.specs.Estimate.{estimate}
+use Rattle.soft_bits.specs.Soft.{SeenSlot, pilot_subcarrier, pattern_symbol, pattern_seen, pattern_sent}
+use Rattle.soft_bits.specs.Soft.{pattern_channel, pattern_energy, soft_value}
+use Rattle.budget.specs.Received.{IsSeenAs, IsSeenNear}
+
+-- ---- a channel
+
+-- a gain in parts for each symbol and subcarrier of a slot
+abbrev pub Channel : Type 0
+Channel = ℕ → ℕ → Cpx
+
+-- the channel at pilot i of a slot by a pattern
+abbrev pub at_pilot : Pattern → SeenSlot → Channel → ℕ → Cpx
+at_pilot pattern slot channel i = channel (pattern_symbol pattern slot.identity i) (pilot_subcarrier slot.identity i)
+
+-- Bounds beside one size. What is seen is off by at most `most` times the size. In thousandths of it, the channel is at
+-- least `least` where values are read, and the root of its mean square over the pilots at most `mean`; and in
+-- thousandths of the channel there, the line through the channel at the pilots is off it by at most `bend`.
+pub record Bounds : Type 0 where
+  pub most : ℕ
+  pub least : ℕ
+  pub mean : ℕ
+  pub bend : ℕ
+
+-- the 24 pilots of a slot by a pattern are seen through a channel, beside a size whose square is n
+pub record ArePilotsThrough (bounds : Bounds) (n : ℕ) (pattern : Pattern) (channel : Channel) (slot : SeenSlot) :
+    Type 0 where
+  pub sounds : 1 ≤ n
+  pub pilot : (i : ℕ) → i < 24 →
+      IsSeenNear bounds.most n
+      (times (at_pilot pattern slot channel i) (pattern_sent pattern slot.identity slot.number i))
+      (pattern_seen pattern slot i)
+  pub mean : 1000000 * energy_below 24 (at_pilot pattern slot channel) ≤ bounds.mean * bounds.mean * (24 * n)
+
+-- a place can be read: the channel is not small there, and the line, here three times, is near
+pub record IsReadThrough (bounds : Bounds) (n : ℕ) (pattern : Pattern) (channel : Channel) (slot : SeenSlot)
+    (symbol k : ℕ) : Type 0 where
+  pub least : bounds.least * bounds.least * n ≤ 1000000 * square (channel symbol k)
+  pub straight :
+      1000000 * square (minus (estimate (at_pilot pattern slot channel) (slot.identity % 3) k)
+      (multiple 3 (channel symbol k))) ≤
+      9 * (bounds.bend * bounds.bend) * square (channel symbol k)
+
+-- ---- what the bounds leave
+
+-- All is in units of the channel where it is read. So that numbers are whole, what is seen there is taken `least` times,
+-- and the estimate, which is three times 64 * 16200 times the channel, 1000 * `least` times.
+
+-- the estimate is off by the bend of the line, and by what the pilots are off
+abbrev pub estimate_off : Bounds → ℕ
+estimate_off bounds = 3110400 * (bounds.bend * bounds.least) + 384000000 * bounds.most
+
+-- what is seen, times the estimate, is off by so much
+abbrev pub product_off : Bounds → ℕ
+product_off bounds =
+    8192 * bounds.least * estimate_off bounds
+    + 1000 * bounds.most * (3110400000 * bounds.least + estimate_off bounds)
+
+-- the energy of the pilots, as many times, is at most so much
+abbrev pub energy_most : Bounds → ℕ
+energy_most bounds = 24000 * ((8192 * bounds.mean + 1000 * bounds.most) * (8192 * bounds.mean + 1000 * bounds.most))
+
+-- the main part of a component outweighs both, for values of this size
+pub record LeaveRoom (size : ℕ) (bounds : Bounds) : Type 0 where
+  pub some : 1 ≤ size
+  pub high : size ≤ 127
+  pub reads : 1 ≤ bounds.least
+  pub room : size * energy_most bounds + 6 * product_off bounds < 540 * (199065600000 * (bounds.least * bounds.least))
+
+-- both soft values of a place at a subcarrier speak for two bits with this size, by what is seen there
+pub record BothSpeak (size : ℕ) (pattern : Pattern) (slot : SeenSlot) (k : ℕ) (first second : Bool) (seen : Cpx) :
+    Type 0 where
+  pub re : Supports size first
+      (soft_value (times seen (conjugate (pattern_channel pattern slot k))).re (pattern_energy pattern slot))
+  pub im : Supports size second
+      (soft_value (times seen (conjugate (pattern_channel pattern slot k))).im (pattern_energy pattern slot))
+
+-- where a place that carries two bits is seen through a channel and can be read, its soft values speak for them with
+-- each size for which the bounds leave room
+abbrev pub ValuesSpeakThrough : Type 0
+ValuesSpeakThrough =
+    (size n : ℕ) (bounds : Bounds) (pattern : Pattern) (channel : Channel) (slot : SeenSlot) (symbol k : ℕ)
+    (first second : Bool) (seen : Cpx) → LeaveRoom size bounds →
+    ArePilotsThrough bounds n pattern channel slot → IsReadThrough bounds n pattern channel slot symbol k →
+    IsSeenNear bounds.most n (times (channel symbol k) (point first second)) seen →
+    BothSpeak size pattern slot k first second seen
+
+-- ---- one gain
+
+-- one gain for all places
+abbrev pub level : Cpx → Channel
+level gain symbol k = gain
+
+abbrev pub level_bounds : Bounds
+level_bounds = record { most = 2316; least = 1000; mean = 1000; bend = 0 }
+
+-- it leaves room for values of size 1 and more
+abbrev pub OneGainLeavesRoom : Type 0
+OneGainLeavesRoom = LeaveRoom 1 level_bounds
+
+-- pilots that are seen with one gain are seen through it, and each place can be read
+abbrev pub OneGainIsThrough : Type 0
+OneGainIsThrough =
+    (pattern : Pattern) (gain : Cpx) (slot : SeenSlot) → 1 ≤ square gain →
+    ((i : ℕ) → i < 24 →
+    IsSeenAs 2316 gain (pattern_sent pattern slot.identity slot.number i) (pattern_seen pattern slot i)) →
+    ArePilotsThrough level_bounds (square gain) pattern (level gain) slot
+
+abbrev pub OneGainIsRead : Type 0
+OneGainIsRead =
+    (pattern : Pattern) (gain : Cpx) (slot : SeenSlot) (symbol k : ℕ) →
+    IsReadThrough level_bounds (square gain) pattern (level gain) slot symbol k

@@ -1,0 +1,14 @@
+//! Soft values of a slot that is seen through a channel.
+
+ghost use Rattle.budget.specs.Through.{ValuesSpeakThrough, OneGainLeavesRoom, OneGainIsThrough, OneGainIsRead};
+
+/// A channel is a gain for each symbol and subcarrier. Where the 24 pilots of a slot are seen through it, and so is a
+/// place that carries two bits, both soft values of the place speak for their bits, with each size for which bounds of
+/// four kinds leave room: how far what is seen is off, how small the channel is at the place, how great at the pilots,
+/// and how far off it at the place the line through the pilots is. With one gain they leave room for size 1.
+pub fn values_speak_through_a_channel()
+    ensures speak { ValuesSpeakThrough }
+    ensures room { OneGainLeavesRoom }
+    ensures through { OneGainIsThrough }
+    ensures read { OneGainIsRead }
+{}

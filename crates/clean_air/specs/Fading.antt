@@ -1,0 +1,106 @@
+-- Cells of one port whose gain turns and fades slowly: each symbol of a slot that is read is received with a gain of
+-- its own. (own)
+use Rattle.std.specs.Prelude.{◌≡◌, ℕ, ◌+◌, ◌*◌, ◌^◌, ◌<◌, ◌≤◌, ◌⊎◌, List, [], ◌∷◌, slice_index_or}
+use Rattle.cs_num.specs.declared.Cpx.{Cpx}
+use Rattle.cs_num.specs.declared.Sample.{Sample}
+use Rattle.cs_num.specs.Complex.{square, minus}
+use Rattle.crs.specs.Reference.{port_0}
+use Rattle.lte_types.specs.declared.carrier.Carrier.TheVariants.{OnePort}
+use Rattle.lte_types.specs.Numerology.{frame_length, normal, useful_start}
+use Rattle.lte_types.specs.Timing.{IsOffset}
+use Rattle.observe.specs.Seen.{seen_symbol}
+use Rattle.soft_bits.specs.Soft.{SeenSlot, pilot_subcarrier, pattern_symbol, pattern_sent}
+use Rattle.budget.specs.Received.{AreAmplitudes, IsReceived, samples_from}
+use Rattle.budget.specs.Budget.{AreUnitsOf}
+use Rattle.budget.specs.Through.{Channel, Bounds, LeaveRoom}
+use Rattle.cell_tx.specs.declared.antenna.Port.{Port}
+use Rattle.cell_tx.specs.Ports.{carrier_of}
+use Rattle.cell_plan.specs.declared.cell.CellPlan.{CellPlan}
+use Rattle.cell_tx.specs.Sent.{Elements}
+use Rattle.clean_air.specs.Load.{CarriesPlan}
+use Rattle.clean_air.specs.Faithful.{IsOfMaster, IsOfSystem, IsOfPrimary, IsOfSecondary, errors_from}
+use Rattle.clean_air.specs.Through.{IsSlotThrough, IsSeenThroughBy}
+
+-- ---- a slot
+
+-- each two gains of a slot's seven symbols differ, in thousandths of the size of either, by at most `bend`
+abbrev pub AreSlow : ℕ → (ℕ → Cpx) → Type 0
+AreSlow bend gains = (l m : ℕ) → l < 7 → m < 7 →
+    1000000 * square (minus (gains l) (gains m)) ≤ bend * bend * square (gains m)
+
+-- the seven symbols of a slot are received in a recording, each from its place on with its gain, and hold the
+-- reference signals of the slot's identity and number; the gains are slow
+pub record IsSlotFading (quota bend : ℕ) (recording : List Sample) (starts : ℕ → ℕ) (gains : ℕ → Cpx)
+    (grids : ℕ → ℕ → Cpx) (slot : SeenSlot) : Type 0 where
+  pub shown : (l : ℕ) → l < 7 → slice_index_or slot.symbols l [] ≡ seen_symbol recording (starts l)
+  pub amplitudes : (l : ℕ) → l < 7 → AreAmplitudes (grids l)
+  pub received : (l : ℕ) → l < 7 → IsReceived quota (gains l) (grids l) (samples_from recording (starts l))
+  pub references : (i : ℕ) → i < 24 →
+      grids (pattern_symbol port_0 slot.identity i) (pilot_subcarrier slot.identity i)
+      ≡ pattern_sent port_0 slot.identity slot.number i
+  pub slow : AreSlow bend gains
+
+-- the gain of each symbol, at all subcarriers
+abbrev pub by_symbol : (ℕ → Cpx) → Channel
+by_symbol gains symbol k = gains symbol
+
+-- bounds of slow gains, beside the least of them
+abbrev pub fading_bounds : ℕ → ℕ → Bounds
+fading_bounds most bend = record { most = most; least = 1000; mean = 1000 + bend; bend = bend }
+
+-- numbers that leave room: an amplitude is seen off by at most `own` times the size of its symbol's gain, and so by at
+-- most `most` times that of the least
+pub record LeaveFadingRoom (quota bend : ℕ) : Type 0 where
+  pub own : ℕ
+  pub most : ℕ
+  pub units : AreUnitsOf quota own
+  pub wider : own * (1000 + bend) ≤ 1000 * most
+  pub room : LeaveRoom 1 (fading_bounds most bend)
+
+-- a slot is seen through the gains of its symbols, beside the least of them
+pub record IsThroughGains (bounds : Bounds) (gains : ℕ → Cpx) (grids : ℕ → ℕ → Cpx) (slot : SeenSlot) : Type 0 where
+  pub weakest : ℕ
+  pub few : weakest < 7
+  pub through : IsSlotThrough bounds (square (gains weakest)) (by_symbol gains) grids slot
+
+-- a law: so is a slot whose gains are slow, where the numbers leave room
+abbrev pub FadingSlotIsThrough : Type 0
+FadingSlotIsThrough =
+    (quota bend : ℕ) (leave : LeaveFadingRoom quota bend) (recording : List Sample) (starts : ℕ → ℕ) (gains : ℕ → Cpx)
+    (grids : ℕ → ℕ → Cpx) (slot : SeenSlot) → IsSlotFading quota bend recording starts gains grids slot →
+    IsThroughGains (fading_bounds leave.most bend) gains grids slot
+
+-- ---- cells
+
+-- a symbol of a slot that is read: of slot 1 of the first frame, or of subframe 5 of the first frame of even number
+abbrev pub IsRead : ℕ → ℕ → ℕ → ℕ → Type 0
+IsRead sfn offset frame slot = IsOfMaster offset frame slot ⊎ IsOfSystem OnePort sfn offset frame slot
+
+-- a recording is faithful to elements of a cell's only port that carry the plan, but for its gain: each symbol that
+-- is read has its own, by frame, slot and symbol, and those of a slot are slow; the synchronisation signals of a slot
+-- have one for both, by frame and slot
+pub record IsFadingBy (quota bend : ℕ) (recording : List Sample) (plan : CellPlan) (grids : Port → Elements)
+    (sfn offset : ℕ) (gains : ℕ → ℕ → ℕ → Cpx) (signal_gains : ℕ → ℕ → Cpx) : Type 0 where
+  pub number : sfn ≤ 1023
+  pub within : IsOffset offset
+  pub carries : (port : Port) → carrier_of port ≡ OnePort → CarriesPlan port plan (grids port)
+  pub sounds : (frame slot symbol : ℕ) → 2 ^ 28 ≤ square (gains frame slot symbol)
+  pub signals_sound : (frame slot : ℕ) → 2 ^ 28 ≤ square (signal_gains frame slot)
+  pub slow : (frame slot : ℕ) → IsRead sfn offset frame slot → AreSlow bend (gains frame slot)
+  pub near : (frame slot symbol start : ℕ) → slot < 20 → symbol < 7 →
+      start + offset ≡ frame_length * frame + useful_start normal 0 slot symbol → IsRead sfn offset frame slot →
+      errors_from OnePort recording grids sfn offset (gains frame slot symbol ∷ []) start
+      ≤ quota * square (gains frame slot symbol)
+  pub signals_near : (frame slot symbol start : ℕ) → slot < 20 → symbol < 7 →
+      start + offset ≡ frame_length * frame + useful_start normal 0 slot symbol →
+      IsOfPrimary OnePort slot symbol start ⊎ IsOfSecondary OnePort slot symbol start →
+      errors_from OnePort recording grids sfn offset (signal_gains frame slot ∷ []) start
+      ≤ 1800 * square (signal_gains frame slot)
+
+-- a law: such a cell is seen through channels, where the numbers leave room
+abbrev pub FadingIsThrough : Type 0
+FadingIsThrough =
+    (quota bend : ℕ) (recording : List Sample) (plan : CellPlan) (grids : Port → Elements) (sfn offset : ℕ)
+    (gains : ℕ → ℕ → ℕ → Cpx) (signal_gains : ℕ → ℕ → Cpx) → LeaveFadingRoom quota bend → plan.identity ≤ 503 →
+    IsFadingBy quota bend recording plan grids sfn offset gains signal_gains →
+    IsSeenThroughBy OnePort recording plan grids sfn offset

@@ -1,0 +1,119 @@
+-- Cells that are seen through channels: each slot that is read through one of its own, which may be another gain at
+-- each place, and the synchronisation signals with gains of their own. (own; frames, slots and symbols are those of
+-- TS 36.211 sections 4.1 and 6.2)
+use Rattle.std.specs.Prelude.{◌≡◌, ℕ, ◌+◌, ◌*◌, ◌/◌, ◌%◌, ◌<◌, ◌≤◌, Bool, List}
+use Rattle.cs_num.specs.declared.Cpx.{Cpx}
+use Rattle.cs_num.specs.declared.Sample.{Sample}
+use Rattle.cs_num.specs.Complex.{times, square}
+use Rattle.crs.specs.Qpsk.{point}
+use Rattle.crs.specs.Reference.{port_0}
+use Rattle.lte_types.specs.declared.carrier.Carrier.{Carrier}
+use Rattle.lte_types.specs.declared.carrier.Carrier.TheVariants.{OnePort, TwoPorts, LongPrefix, FourPorts}
+use Rattle.lte_types.specs.declared.frame.Half.{Half}
+use Rattle.lte_types.specs.Carrier.{prefix_of}
+use Rattle.lte_types.specs.Numerology.{frame_length, half_frame_length, symbol_step, primary_start}
+use Rattle.lte_types.specs.Timing.{IsOffset, start_of, number_at_start}
+use Rattle.pss_search.specs.Hits.{last_place}
+use Rattle.soft_bits.specs.Soft.{SeenSlot, seen_at}
+use Rattle.explain.specs.Frame.{frame_at, seen_slot}
+use Rattle.explain.specs.System.{even_frame}
+use Rattle.budget.specs.Received.{IsSeenNear}
+use Rattle.budget.specs.Peak.{IsPrimaryAt}
+use Rattle.budget.specs.Score.{AreSignals}
+use Rattle.budget.specs.Through.{Channel, Bounds, ArePilotsThrough, IsReadThrough, LeaveRoom}
+use Rattle.budget.specs.Through.{level, level_bounds}
+use Rattle.cell_tx.specs.declared.antenna.Port.{Port}
+use Rattle.cell_tx.specs.declared.antenna.Port.TheVariants.{Only}
+use Rattle.cell_plan.specs.declared.cell.CellPlan.{CellPlan}
+use Rattle.cell_tx.specs.Sent.{Elements}
+use Rattle.clean_air.specs.Load.{CarriesPlan}
+use Rattle.clean_air.specs.Values.{IsSlotReceived, IsSlotHeard}
+use Rattle.clean_air.specs.Faithful.{IsFaithfulBy}
+
+-- ---- the synchronisation signals
+
+-- a primary signal of a cell begins at the sample t of a recording that begins at this offset (TS 36.211 section
+-- 6.11.1)
+pub record IsPrimaryPlace (offset t : ℕ) (half : Half) : Type 0 where
+  pub frame : ℕ
+  pub place : t + offset ≡ frame_length * frame + primary_start half
+
+-- the signals of a cell stand in a recording: each primary one near the places of hits, and where it begins in their
+-- later half the secondary one before it too (TS 36.211 section 6.11.2); each time with one gain, which may be another
+pub record ShowsSignals (carrier : Carrier) (recording : List Sample) (identity offset : ℕ) : Type 0 where
+  pub primary : (t : ℕ) (half : Half) → IsPrimaryPlace offset t half → symbol_step (prefix_of carrier) ≤ t + 9 →
+      t ≤ last_place + 9 → IsPrimaryAt recording t (identity % 3)
+  pub both : (t : ℕ) (half : Half) → IsPrimaryPlace offset t half → last_place < t + half_frame_length →
+      t ≤ last_place → AreSignals (prefix_of carrier) recording t (identity / 3) (identity % 3) half
+
+-- ---- slots
+
+-- the elements of a slot of a frame, by symbol and subcarrier
+abbrev pub slot_elements : Elements → ℕ → ℕ → ℕ → ℕ → Cpx
+slot_elements grid number slot l = grid number (slot / 2) (7 * (slot % 2) + l)
+
+-- a slot of port 0 is seen through a channel, beside a size whose square is n: so are its pilots, and so is each place
+-- that carries two bits, which can be read; and the bounds leave room
+pub record IsSlotThrough (bounds : Bounds) (n : ℕ) (channel : Channel) (grids : ℕ → ℕ → Cpx) (slot : SeenSlot) :
+    Type 0 where
+  pub room : LeaveRoom 1 bounds
+  pub pilots : ArePilotsThrough bounds n port_0 channel slot
+  pub read : (symbol k : ℕ) (first second : Bool) → symbol < 7 → k < 72 → grids symbol k ≡ point first second →
+      IsReadThrough bounds n port_0 channel slot symbol k
+  pub seen : (symbol k : ℕ) (first second : Bool) → symbol < 7 → k < 72 → grids symbol k ≡ point first second →
+      IsSeenNear bounds.most n (times (channel symbol k) (point first second)) (seen_at slot symbol k)
+
+-- a law: the soft values of such a slot speak for what it carries
+abbrev pub SlotThroughIsHeard : Type 0
+SlotThroughIsHeard =
+    (bounds : Bounds) (n : ℕ) (channel : Channel) (grids : ℕ → ℕ → Cpx) (slot : SeenSlot) →
+    IsSlotThrough bounds n channel grids slot → IsSlotHeard grids slot
+
+-- a law: a slot that is received with one gain is seen through it
+abbrev pub ReceivedSlotIsThrough : Type 0
+ReceivedSlotIsThrough =
+    (recording : List Sample) (starts : ℕ → ℕ) (grids : ℕ → ℕ → Cpx) (slot : SeenSlot)
+    (received : IsSlotReceived recording starts grids slot) →
+    IsSlotThrough level_bounds (square received.gain) (level received.gain) grids slot
+
+-- it is seen through some channel
+pub record IsThrough (grids : ℕ → ℕ → Cpx) (slot : SeenSlot) : Type 0 where
+  pub bounds : Bounds
+  pub size : ℕ
+  pub channel : Channel
+  pub through : IsSlotThrough bounds size channel grids slot
+
+-- ---- cells
+
+-- a slot of frame j of a recording, with the elements that a cell's only port sends in it, is seen through a channel
+abbrev pub IsFrameSlotThrough : List Sample → ℕ → Elements → ℕ → ℕ → ℕ → ℕ → Type 0
+IsFrameSlotThrough recording identity grid sfn offset j slot =
+    IsThrough (slot_elements grid ((number_at_start sfn offset + j) % 1024) slot)
+    (seen_slot recording (frame_at (start_of offset) j) slot identity)
+
+-- a recording shows a cell of one port with elements that carry the plan, from the frame numbered sfn on: its signals
+-- stand, and through a channel each are seen slot 1 of the first frame, which holds the broadcast channel (TS 36.211
+-- section 6.6), and both slots of subframe 5 of the first frame of even number, which holds SIB1 (TS 36.331 section
+-- 5.2.1.2)
+pub record IsCellThrough (recording : List Sample) (plan : CellPlan) (grid : Elements) (sfn offset : ℕ) : Type 0 where
+  pub number : sfn ≤ 1023
+  pub within : IsOffset offset
+  pub carries : CarriesPlan Only plan grid
+  pub signals : ShowsSignals OnePort recording plan.identity offset
+  pub master : IsFrameSlotThrough recording plan.identity grid sfn offset 0 1
+  pub system : (slot : ℕ) → slot / 2 ≡ 5 →
+      IsFrameSlotThrough recording plan.identity grid sfn offset (even_frame (number_at_start sfn offset) 0) slot
+
+-- a cell of a carrier is seen through channels; of one port with the normal prefix, since of others no law is known
+abbrev pub IsSeenThroughBy : Carrier → List Sample → CellPlan → (Port → Elements) → ℕ → ℕ → Type 0
+IsSeenThroughBy OnePort recording plan grids sfn offset = IsCellThrough recording plan (grids Only) sfn offset
+IsSeenThroughBy TwoPorts recording plan grids sfn offset = ⊥
+IsSeenThroughBy LongPrefix recording plan grids sfn offset = ⊥
+IsSeenThroughBy FourPorts recording plan grids sfn offset = ⊥
+
+-- a law: so is each cell of one port to which the recording is faithful
+abbrev pub FaithfulIsThrough : Type 0
+FaithfulIsThrough =
+    (recording : List Sample) (plan : CellPlan) (grids : Port → Elements) (sfn offset : ℕ) (gains : List Cpx) →
+    plan.identity ≤ 503 → IsFaithfulBy OnePort recording plan grids sfn offset gains →
+    IsSeenThroughBy OnePort recording plan grids sfn offset
