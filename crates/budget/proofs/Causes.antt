@@ -178,7 +178,7 @@ three_causes sent samples amplitude k =
 gain_in : (g x a : Cpx) → times g (minus (multiple 131072 x) (multiple 34359738368 a)) ≡ minus (multiple 131072 (times g x)) (multiple 34359738368 (times g a))
 gain_in g x a = times-minus g (multiple 131072 x) (multiple 34359738368 a) ∙ ap₂ minus (times-multiple 131072 g x) (times-multiple 34359738368 g a)
 
-joined_part : (m n x y a b : ℤ) → m *ℤ (x +ℤ y) -ℤ n *ℤ (a +ℤ b) ≡ m *ℤ x -ℤ n *ℤ a +ℤ (m *ℤ y -ℤ n *ℤ b)
+pub joined_part : (m n x y a b : ℤ) → m *ℤ (x +ℤ y) -ℤ n *ℤ (a +ℤ b) ≡ m *ℤ x -ℤ n *ℤ a +ℤ (m *ℤ y -ℤ n *ℤ b)
 joined_part m n x y a b =
     let p = var m in
     let q = var n in

@@ -17,8 +17,6 @@ pub mod Windows
 pub mod Peaks
 -- A product of two seen numbers, by what both are off.
 pub mod Deviations
--- So each term of the sent pair's score is above 0, and its score is the only greatest.
-pub mod Scores
 -- Channel estimates: a multiple of a gain up to a deviation, at every subcarrier as at the pilots.
 pub mod Near
 -- What is seen of an amplitude of known size: its square, and the channel by it.
@@ -27,3 +25,9 @@ pub mod Pilots
 pub mod Signs
 -- The values of a place that is seen through a channel; one gain is a case.
 pub mod Through
+-- What is seen of a symbol that is received over several paths.
+pub mod SeenOver
+-- How far their channel is from the first path's, and the line through 24 of its values from it.
+pub mod BendsOver
+-- Each term of the sent pair's score is above 0 through a channel that leaves room, and so its score is the only greatest.
+pub mod Scores

@@ -1,4 +1,4 @@
--- A clean primary signal stands out, so that its place is a hit and no place near it is.
+-- A primary signal stands out, so that its place is a hit and no place near it is.
 use Rattle.std.proofs.Common.{◌≡◌, ◌≢◌, ℕ, ◌+◌, ◌-◌, ◌*◌, ◌^◌, ◌<◌, ◌≤◌, ◌⊎◌, inl, inr, arith, refl, ap, sym, ◌∙◌, subst, List}
 use Rattle.cs_num.specs.declared.Cpx.{Cpx}
 use Rattle.cs_num.specs.declared.Sample.{Sample}
@@ -12,10 +12,10 @@ use Rattle.pss_search.specs.Hits.{IsAbove, IsLevel, IsHit, found}
 use Rattle.pss_search.proofs.Symmetry.{power_high}
 use Rattle.pss_search.proofs.Listed.{list_is_right}
 use Rattle.budget.specs.Received.{in_parts, IsReceived, samples_from}
-use Rattle.budget.specs.Peak.{PrimaryStandsOut, PrimaryIsHit, PrimaryIsListed, OnlyHitNear, IsPrimaryAt}
-use Rattle.budget.proofs.Parts.{square_in_parts, energy_in_parts}
+use Rattle.budget.specs.Peak.{IsPrimaryWithin, PrimaryStandsOutBy, PrimaryIsHitWithin, PrimaryIsListedWithin, OnlyHitOfRootWithin, PrimaryStandsOut, PrimaryIsHit, PrimaryIsListed, OnlyHitNear, IsPrimaryAt}
+use Rattle.budget.proofs.Parts.{square_in_parts, energy_in_parts, is_received_by_more}
 use Rattle.budget.proofs.PeakSums.{IsSharp, IsFaintAt, AreApart, before, skipped, common, wave_is_sharp, waves_are_apart}
-use Rattle.budget.proofs.Windows.{Peaks, with_errors, true_place, beside, above}
+use Rattle.budget.proofs.Windows.{Peaks, AreFew, with_errors, true_place, beside, above}
 
 -- the errors of a window
 error : Cpx → (ℕ → Cpx) → (ℕ → Cpx) → ℕ → Cpx
@@ -28,28 +28,28 @@ received_is g p r n = sym (plus-minus (r n) (times g (p n)))
 middle_first : (a b c : Cpx) → plus (plus a b) c ≡ plus b (plus a c)
 middle_first a b c = ap (λ (z : Cpx). plus z c) (plus-commutes a b) ∙ plus-associates b a c
 
--- 128 numbers are a gain in parts times the signal p, and errors whose energy is at most 1800 times the gain's square
-record HasSmallErrors (g : Cpx) (p r : ℕ → Cpx) : Type 0 where
+-- 128 numbers are a gain in parts times the signal p, and errors whose energy is at most `quota` times the gain's square
+record HasSmallErrors (quota : ℕ) (g : Cpx) (p r : ℕ → Cpx) : Type 0 where
   pub some : 1 ≤ square g
-  pub small : energy_below 128 (error g p r) ≤ 1800 * square g
+  pub small : energy_below 128 (error g p r) ≤ quota * square g
 
 -- the energy of a part of the errors
-errors_small : (g : Cpx) (p r : ℕ → Cpx) → HasSmallErrors g p r → (a m : ℕ) → a + m ≤ 128 → energy_below m (λ k. error g p r (a + k)) ≤ 1800 * square g
-errors_small g p r clean a m l =
+errors_small : (quota : ℕ) (g : Cpx) (p r : ℕ → Cpx) → HasSmallErrors quota g p r → (a m : ℕ) → a + m ≤ 128 → energy_below m (λ k. error g p r (a + k)) ≤ quota * square g
+errors_small quota g p r clean a m l =
     part (energy_below (a + m) (error g p r)) (energy_below a (error g p r)) (energy_below m (λ k. error g p r (a + k))) (energy_below 128 (error g p r)) (square g)
     (energy_split a m (error g p r)) (energy_part (a + m) 128 (error g p r) l) clean.small
   where
-    part : (e i j w n : ℕ) → e ≡ i + j → e ≤ w → w ≤ 1800 * n → j ≤ 1800 * n
+    part : (e i j w n : ℕ) → e ≡ i + j → e ≤ w → w ≤ quota * n → j ≤ quota * n
     part e i j w n same h k = omega (arith, same, h, k)
 
 -- a window x that begins at most 9 places before or after 128 numbers r of a signal p with errors, correlated with a signal q
-near : (g : Cpx) (p q r x : ℕ → Cpx) (d share : ℕ) → d < 19 → HasSmallErrors g p r → ((n : ℕ) → x (before d + n) ≡ r (skipped d + n)) → IsFaintAt share p q d →
+near : (quota : ℕ) (g : Cpx) (p q r x : ℕ → Cpx) (d share : ℕ) → d < 19 → HasSmallErrors quota g p r → ((n : ℕ) → x (before d + n) ≡ r (skipped d + n)) → IsFaintAt quota share p q d →
     4 * square (correlation_below 128 x q) ≤ share * energy_below 128 x
-near g p q r x d share l clean known faint =
+near quota g p q r x d share l clean known faint =
     subst (λ (z : Cpx). 4 * square z ≤ share * energy_below 128 x) (sym whole)
     (subst (λ (n : ℕ). 4 * square (plus (correlation_below m (with_errors g v e) f) (plus (correlation_below a x q) (correlation_below s y o))) ≤ share * n) (sym energies)
-    (beside a m s g x v e y q f o (energy_below 128 q) share (part_le (energy_below a q) (energy_below m f) (energy_below s o) (energy_below 128 q) (split q))
-    (errors_small g p r clean s m (omega (arith, l))) faint))
+    (beside quota a m s g x v e y q f o (energy_below 128 q) share (part_le (energy_below a q) (energy_below m f) (energy_below s o) (energy_below 128 q) (split q))
+    (errors_small quota g p r clean s m (omega (arith, l))) faint))
   where
     a : ℕ
     a = before d
@@ -107,9 +107,9 @@ near g p q r x d share l clean known faint =
 parts_from : List Sample → ℕ → ℕ → Cpx
 parts_from recording t n = in_parts (sample_at recording (t + n))
 
-clean_from : (n2 t : ℕ) (g : Cpx) (recording : List Sample) → IsReceived 1800 g (pss_grid n2) (samples_from recording t) → HasSmallErrors g (wave n2) (parts_from recording t)
+clean_from : (quota n2 t : ℕ) (g : Cpx) (recording : List Sample) → IsReceived quota g (pss_grid n2) (samples_from recording t) → HasSmallErrors quota g (wave n2) (parts_from recording t)
 unfolding error wave parts_from
-clean_from n2 t g recording received = record { some = some (square g) received.sounds; small = received.quiet }
+clean_from quota n2 t g recording received = record { some = some (square g) received.sounds; small = received.quiet }
   where
     some : (n : ℕ) → 2 ^ 28 ≤ n → 1 ≤ n
     some n h = omega (arith, h)
@@ -132,9 +132,9 @@ low_in_parts c e c' e' share parts h =
     let k : share * e' ≡ share * (268435456 * e) = ap (λ (n : ℕ). share * n) parts.energies in
     omega (arith, parts.peaks, k, h)
 
-peaks_in_parts : (c e c' e' w : ℕ) → AreInParts c e c' e' → Peaks c' e' w → Peaks c e w
-peaks_in_parts c e c' e' w parts high =
-    let k : e' * w ≡ 268435456 * e * w = ap (λ (n : ℕ). n * w) parts.energies in
+peaks_in_parts : (least c e c' e' w : ℕ) → AreInParts c e c' e' → Peaks least c' e' w → Peaks least c e w
+peaks_in_parts least c e c' e' w parts high =
+    let k : least * (e' * w) ≡ least * (268435456 * e * w) = ap (λ (n : ℕ). least * (n * w)) parts.energies in
     record { some = omega (arith, parts.energies, high.some); high = omega (arith, parts.peaks, k, high.high) }
 
 same_sample : (recording : List Sample) (t u : ℕ) → u ≤ t + 9 → t ≤ u + 9 → (n : ℕ) → parts_from recording u (before (u + 9 - t) + n) ≡ parts_from recording t (skipped (u + 9 - t) + n)
@@ -143,37 +143,37 @@ same_sample recording t u a b n =
     ap (λ (i : ℕ). in_parts (sample_at recording i)) (let e : u + (before (u + 9 - t) + n) ≡ t + (skipped (u + 9 - t) + n) = omega (arith, a, b) in e)
 
 -- at a place within 9, the metric of another signal, or of the same one beside its place, is small
-near_low : (recording : List Sample) (t u n2 m2 share : ℕ) (g : Cpx) → HasSmallErrors g (wave n2) (parts_from recording t) → u ≤ t + 9 → t ≤ u + 9 →
-    IsFaintAt share (wave n2) (wave m2) (u + 9 - t) → 4 * peak recording m2 u ≤ share * energy recording u
-near_low recording t u n2 m2 share g clean a b faint =
+near_low : (quota : ℕ) (recording : List Sample) (t u n2 m2 share : ℕ) (g : Cpx) → HasSmallErrors quota g (wave n2) (parts_from recording t) → u ≤ t + 9 → t ≤ u + 9 →
+    IsFaintAt quota share (wave n2) (wave m2) (u + 9 - t) → 4 * peak recording m2 u ≤ share * energy recording u
+near_low quota recording t u n2 m2 share g clean a b faint =
     low_in_parts (peak recording m2 u) (energy recording u) (square (correlation_below 128 (parts_from recording u) (wave m2))) (energy_below 128 (parts_from recording u)) share
     (in_parts_from recording m2 u)
-    (near g (wave n2) (wave m2) (parts_from recording t) (parts_from recording u) (u + 9 - t) share (omega (arith, a)) clean (same_sample recording t u a b) faint)
+    (near quota g (wave n2) (wave m2) (parts_from recording t) (parts_from recording u) (u + 9 - t) share (omega (arith, a)) clean (same_sample recording t u a b) faint)
 
-beside_low : (recording : List Sample) (t u n2 : ℕ) (g : Cpx) → IsSharp (wave n2) → HasSmallErrors g (wave n2) (parts_from recording t) → u ≢ t → u ≤ t + 9 → t ≤ u + 9 →
+beside_low : (recording : List Sample) (t u n2 : ℕ) (g : Cpx) → IsSharp (wave n2) → HasSmallErrors 14000 g (wave n2) (parts_from recording t) → u ≢ t → u ≤ t + 9 → t ≤ u + 9 →
     4 * peak recording n2 u ≤ 3 * wave_power n2 * energy recording u
 unfolding wave_power
 beside_low recording t u n2 g sharp clean ne a b =
-    near_low recording t u n2 n2 (3 * energy_below 128 (wave n2)) g clean a b (sharp.beside (u + 9 - t) (omega (arith, a)) (omega (arith, ne, a, b)))
+    near_low 14000 recording t u n2 n2 (3 * energy_below 128 (wave n2)) g clean a b (sharp.beside (u + 9 - t) (omega (arith, a)) (omega (arith, ne, a, b)))
 
-other_low : (recording : List Sample) (t u n2 m2 : ℕ) (g : Cpx) → AreApart (wave n2) (wave m2) → HasSmallErrors g (wave n2) (parts_from recording t) → u ≤ t + 9 → t ≤ u + 9 →
+other_low : (recording : List Sample) (t u n2 m2 : ℕ) (g : Cpx) → AreApart (wave n2) (wave m2) → HasSmallErrors 1800 g (wave n2) (parts_from recording t) → u ≤ t + 9 → t ≤ u + 9 →
     4 * peak recording m2 u ≤ (wave_power m2 - 1) * energy recording u
 unfolding wave_power
 other_low recording t u n2 m2 g apart clean a b =
-    near_low recording t u n2 m2 (energy_below 128 (wave m2) - 1) g clean a b (apart (u + 9 - t) (omega (arith, a)))
+    near_low 1800 recording t u n2 m2 (energy_below 128 (wave m2) - 1) g clean a b (apart (u + 9 - t) (omega (arith, a)))
 
-peaks_at : (recording : List Sample) (t n2 : ℕ) (g : Cpx) → IsSharp (wave n2) → HasSmallErrors g (wave n2) (parts_from recording t) →
-    Peaks (peak recording n2 t) (energy recording t) (wave_power n2)
+peaks_at : (quota least lost : ℕ) (recording : List Sample) (t n2 : ℕ) (g : Cpx) → AreFew quota least lost → IsSharp (wave n2) → HasSmallErrors quota g (wave n2) (parts_from recording t) →
+    Peaks least (peak recording n2 t) (energy recording t) (wave_power n2)
 unfolding wave_power
-peaks_at recording t n2 g sharp clean =
+peaks_at quota least lost recording t n2 g numbers sharp clean =
     let r : ℕ → Cpx = parts_from recording t in
     let p : ℕ → Cpx = wave n2 in
     let e : ℕ → Cpx = λ n. error g p r (0 + n) in
     let same : (n : ℕ) → n < 128 → r n ≡ with_errors g p e n = λ n l. received_is g p r n ∙ ap (λ j. plus (times g (p n)) (error g p r j)) (none n) in
-    peaks_in_parts (peak recording n2 t) (energy recording t) (square (correlation_below 128 r p)) (energy_below 128 r) (energy_below 128 p) (in_parts_from recording n2 t)
-    (subst (λ (z : Cpx). Peaks (square z) (energy_below 128 r) (energy_below 128 p)) (sym (correlation_same 128 r (with_errors g p e) p p same (λ n l. refl)))
-    (subst (λ (n : ℕ). Peaks (square (correlation_below 128 (with_errors g p e) p)) n (energy_below 128 p)) (sym (energy_same 128 r (with_errors g p e) same))
-    (true_place g p e clean.some sharp.power (errors_small g p r clean 0 128 (omega arith)))))
+    peaks_in_parts least (peak recording n2 t) (energy recording t) (square (correlation_below 128 r p)) (energy_below 128 r) (energy_below 128 p) (in_parts_from recording n2 t)
+    (subst (λ (z : Cpx). Peaks least (square z) (energy_below 128 r) (energy_below 128 p)) (sym (correlation_same 128 r (with_errors g p e) p p same (λ n l. refl)))
+    (subst (λ (n : ℕ). Peaks least (square (correlation_below 128 (with_errors g p e) p)) n (energy_below 128 p)) (sym (energy_same 128 r (with_errors g p e) same))
+    (true_place quota least lost g p e numbers clean.some sharp.power (errors_small quota g p r clean 0 128 (omega arith)))))
   where
     none : (n : ℕ) → n ≡ 0 + n
     none n = omega arith
@@ -185,14 +185,17 @@ power_some n2 sharp = some (energy_below 128 (wave n2)) sharp.power
     some : (w : ℕ) → 1990000 ≤ w → 0 < w
     some w h = omega (arith, h)
 
-clear_enough : (c e w : ℕ) → 999 * (e * w) ≤ 1000 * c → e * w ≤ 4 * c
-clear_enough c e w h = omega (arith, h)
+few_errors : AreFew 1800 999 1
+few_errors = record { all = refl; some = omega arith; few = omega arith }
 
-pub primary_stands_out : PrimaryStandsOut
-primary_stands_out recording t n2 primary =
+more_errors : AreFew 14000 990 10
+more_errors = record { all = refl; some = omega arith; few = omega arith }
+
+pub primary_stands_out_by : PrimaryStandsOutBy 14000 990
+primary_stands_out_by recording t n2 primary =
     let sharp = wave_is_sharp n2 primary.root in
-    let clean = clean_from n2 t primary.gain recording primary.received in
-    let here = peaks_at recording t n2 primary.gain sharp clean in
+    let clean = clean_from 14000 n2 t primary.gain recording primary.received in
+    let here = peaks_at 14000 990 10 recording t n2 primary.gain more_errors sharp clean in
     record {
       sounds = here.some;
       clear = here.high;
@@ -203,6 +206,24 @@ primary_stands_out recording t n2 primary =
             (beside_low recording t u n2 primary.gain sharp clean ne a b) here.some sounds (power_some n2 sharp);
       };
     }
+
+-- small errors are among larger ones
+among : (recording : List Sample) (t n2 : ℕ) → IsPrimaryAt recording t n2 → IsPrimaryWithin 14000 recording t n2
+among recording t n2 primary = record {
+  gain = primary.gain;
+  root = primary.root;
+  received = is_received_by_more 1800 14000 primary.gain (pss_grid n2) (samples_from recording t) (omega arith) primary.received;
+}
+
+pub primary_stands_out : PrimaryStandsOut
+primary_stands_out recording t n2 primary = record {
+  sounds = here.some;
+  clear = here.high;
+  above = (primary_stands_out_by recording t n2 (among recording t n2 primary)).above;
+}
+  where
+    here : Peaks 999 (peak recording n2 t) (energy recording t) (wave_power n2)
+    here = peaks_at 1800 999 1 recording t n2 primary.gain few_errors (wave_is_sharp n2 primary.root) (clean_from 1800 n2 t primary.gain recording primary.received)
 
 -- a place that is below another is neither above it nor level with it
 not_above : (recording : List Sample) (n2 t u : ℕ) → IsAbove recording n2 t u → ¬ IsAbove recording n2 u t
@@ -226,9 +247,12 @@ not_above_itself recording n2 t h = clash (peak recording n2 t * energy recordin
 same_or_not : (u t : ℕ) → (u ≡ t) ⊎ (u ≢ t)
 same_or_not u t = grind arith
 
-pub primary_is_hit : PrimaryIsHit
-primary_is_hit recording t n2 primary low high =
-    let stands = primary_stands_out recording t n2 primary in
+clear_enough : (c e w : ℕ) → 990 * (e * w) ≤ 1000 * c → e * w ≤ 4 * c
+clear_enough c e w h = omega (arith, h)
+
+pub primary_is_hit_within : PrimaryIsHitWithin 14000
+primary_is_hit_within recording t n2 primary low high =
+    let stands = primary_stands_out_by recording t n2 primary in
     record {
       from_first = low;
       to_last = high;
@@ -241,13 +265,27 @@ primary_is_hit recording t n2 primary low high =
       none_level_before = λ u before b level. not_level recording n2 t u (stands.above u (omega arith) (omega arith) b level.first_sounds) level;
     }
 
-pub primary_is_listed : PrimaryIsListed
-primary_is_listed recording t n2 primary low high =
+pub primary_is_hit : PrimaryIsHit
+primary_is_hit recording t n2 primary = primary_is_hit_within recording t n2 (among recording t n2 primary)
+
+pub primary_is_listed_within : PrimaryIsListedWithin 14000
+primary_is_listed_within recording t n2 primary low high =
     (list_is_right recording (found recording t n2)).1
-    (record { root = below primary.root; is_hit = primary_is_hit recording t n2 primary low high; measured = refl })
+    (record { root = below primary.root; is_hit = primary_is_hit_within recording t n2 primary low high; measured = refl })
   where
     below : n2 ≤ 2 → n2 < 3
     below h = omega arith
+
+pub primary_is_listed : PrimaryIsListed
+primary_is_listed recording t n2 primary = primary_is_listed_within recording t n2 (among recording t n2 primary)
+
+pub only_hit_of_root_within : OnlyHitOfRootWithin 14000
+only_hit_of_root_within recording t u n2 primary a b hit = elim (same_or_not u t) [
+  | inl same ↦ same
+  | inr ne ↦ absurd (hit.none_above t b a ((primary_stands_out_by recording t n2 primary).above u ne a b hit.sounds))
+]
+
+-- ---- other roots, where errors are small
 
 -- four times the peak is less than the power times the energy, so it is no hit
 faint_is_no_hit : (c e w : ℕ) → 1990000 ≤ w → 0 < e → 4 * c ≤ (w - 1) * e → e * w ≤ 4 * c → ⊥
@@ -258,21 +296,15 @@ faint_is_no_hit c e w power some low clear =
     step : (e v w : ℕ) → v + 1 ≡ w → v * e + e ≡ w * e
     step e v w h = let same : (v + 1) * e ≡ w * e = ap (λ (n : ℕ). n * e) h in omega (arith, same)
 
-same_place : (recording : List Sample) (t u n2 : ℕ) → IsPrimaryAt recording t n2 → u ≤ t + 9 → t ≤ u + 9 → IsHit recording u n2 → u ≡ t
-same_place recording t u n2 primary a b hit = elim (same_or_not u t) [
-  | inl same ↦ same
-  | inr ne ↦ absurd (hit.none_above t b a ((primary_stands_out recording t n2 primary).above u ne a b hit.sounds))
-]
-
 same_root : (recording : List Sample) (t u n2 m2 : ℕ) → IsPrimaryAt recording t n2 → m2 ≤ 2 → u ≤ t + 9 → t ≤ u + 9 → IsHit recording u m2 → m2 ≡ n2
 same_root recording t u n2 m2 primary root a b hit = elim (same_or_not m2 n2) [
   | inl same ↦ same
   | inr ne ↦ absurd (faint_is_no_hit (peak recording m2 u) (energy recording u) (wave_power m2) (power_high m2 root) hit.sounds
       (other_low recording t u n2 m2 primary.gain (waves_are_apart n2 m2 primary.root root (λ e. ne (sym e)))
-      (clean_from n2 t primary.gain recording primary.received) a b) hit.clear)
+      (clean_from 1800 n2 t primary.gain recording primary.received) a b) hit.clear)
 ]
 
 pub only_hit_near : OnlyHitNear
 only_hit_near recording t u n2 m2 primary root a b hit =
     let same : m2 ≡ n2 = same_root recording t u n2 m2 primary root a b hit in
-    (same_place recording t u n2 primary a b (subst (λ n. IsHit recording u n) same hit), same)
+    (only_hit_of_root_within recording t u n2 (among recording t n2 primary) a b (subst (λ n. IsHit recording u n) same hit), same)

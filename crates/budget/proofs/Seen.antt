@@ -15,7 +15,7 @@ use Rattle.budget.specs.Budget.{AmplitudeIsSeen, AmplitudesAreSeen, AmplitudeIsS
 use Rattle.budget.proofs.Causes.{three_causes, IsSent, sent_by_one, sent-plus}
 
 -- three sizes in units of 2^31 times the gain, of what is 2^29 times the deviation
-join : (a b c n : ℕ) (d x y z : Cpx) → multiple (2 ^ 29) d ≡ plus x (plus y z) → IsSized (a * 2 ^ 31) n x → IsSized (b * 2 ^ 31) n y → IsSized (c * 2 ^ 31) n z →
+pub join : (a b c n : ℕ) (d x y z : Cpx) → multiple (2 ^ 29) d ≡ plus x (plus y z) → IsSized (a * 2 ^ 31) n x → IsSized (b * 2 ^ 31) n y → IsSized (c * 2 ^ 31) n z →
     square d ≤ 16 * ((a + (b + c)) * (a + (b + c))) * n
 join a b c n d x y z e p q r =
     let whole = sized-plus x (plus y z) (a * 2 ^ 31) (b * 2 ^ 31 + c * 2 ^ 31) n p (sized-plus y z (b * 2 ^ 31) (c * 2 ^ 31) n q r) in
@@ -36,7 +36,7 @@ record AreUnits (ports quota most a b : ℕ) : Type 0 where
   errors : (n s : ℕ) → s ≤ 2 ^ 41 * (quota * n) * (16385 * 16385) → s ≤ (b * 2 ^ 31) * (b * 2 ^ 31) * n
   whole : (n s : ℕ) → s ≤ 16 * ((a + (b + 1)) * (a + (b + 1))) * n → s ≤ most * most * n
 
-rounding_in : (n s : ℕ) → 2 ^ 28 ≤ n → s ≤ 2 ^ 85 → s ≤ (1 * 2 ^ 31) * (1 * 2 ^ 31) * n
+pub rounding_in : (n s : ℕ) → 2 ^ 28 ≤ n → s ≤ 2 ^ 85 → s ≤ (1 * 2 ^ 31) * (1 * 2 ^ 31) * n
 rounding_in n s l h =
     let k : 2 ^ 62 * 2 ^ 28 ≤ 2 ^ 62 * n = mul-le-mul_left (2 ^ 62) l in
     omega (arith, h, k)

@@ -141,7 +141,7 @@ none_near bit c scale main off v none some room near =
         omega (arith, h, k, some)
 
 -- what is seen there, so many times
-seen_part : (m : ℕ) (h a z : Cpx) → multiple m (in_parts z) ≡ plus (times h (multiple m (multiple 64 a))) (multiple m (deviation h a z))
+pub seen_part : (m : ℕ) (h a z : Cpx) → multiple m (in_parts z) ≡ plus (times h (multiple m (multiple 64 a))) (multiple m (deviation h a z))
 seen_part m h a z =
     ap (multiple m) (seen_is h a z) ∙ multiple-plus m (times h (multiple 64 a)) (deviation h a z)
     ∙ ap (λ (x : Cpx). plus x (multiple m (deviation h a z))) (sym (times-multiple m h (multiple 64 a)))
@@ -149,14 +149,14 @@ seen_part m h a z =
 -- ---- numbers: n is the square of the size, and v that of the channel at the place
 
 module _ (bounds : Bounds) (n v : ℕ) (least : bounds.least * bounds.least * n ≤ 1000000 * v) where
-  channel-some : 1 ≤ n → 1 ≤ bounds.least → 1 ≤ v
+  pub channel-some : 1 ≤ n → 1 ≤ bounds.least → 1 ≤ v
   channel-some some reads =
       let one : 1 * 1 ≤ bounds.least * bounds.least = mul-le-mul reads reads in
       let all : 1 * 1 * n ≤ bounds.least * bounds.least * n = mul-le-mul_right n one in
       omega (arith, all, some, least)
 
   -- the deviation of what is seen
-  seen-fits : (s t : ℕ) → t ≡ bounds.least * bounds.least * s → s ≤ bounds.most * bounds.most * n → t ≤ 1000 * bounds.most * (1000 * bounds.most) * v
+  pub seen-fits : (s t : ℕ) → t ≡ bounds.least * bounds.least * s → s ≤ bounds.most * bounds.most * n → t ≤ 1000 * bounds.most * (1000 * bounds.most) * v
   seen-fits s t same h =
       let one : bounds.least * bounds.least * s ≤ bounds.least * bounds.least * (bounds.most * bounds.most * n) = mul-le-mul_left (bounds.least * bounds.least) h in
       let all : bounds.most * bounds.most * (bounds.least * bounds.least * n) ≤ bounds.most * bounds.most * (1000000 * v) = mul-le-mul_left (bounds.most * bounds.most) least in

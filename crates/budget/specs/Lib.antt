@@ -5,3 +5,4 @@ pub mod Peak
 pub mod Score
 pub mod Sign
 pub mod Through
+pub mod Paths

@@ -1,9 +1,9 @@
 -- The score of a clean cell: that of the group and the half that were sent is the greatest. (own; the signals are those
 -- of TS 36.211 section 6.11)
-use Rattle.std.specs.Prelude.{◌≡◌, ℕ, ◌-◌, ◌<◌, ◌≤◌, List, pos, ◌*ℤ◌, ◌<ℤ◌, ◌^◌}
+use Rattle.std.specs.Prelude.{◌≡◌, ℕ, ◌+◌, ◌-◌, ◌*◌, ◌<◌, ◌≤◌, List, pos, ◌*ℤ◌, ◌<ℤ◌, ◌^◌}
 use Rattle.cs_num.specs.declared.Cpx.{Cpx}
 use Rattle.cs_num.specs.declared.Sample.{Sample}
-use Rattle.cs_num.specs.Complex.{square}
+use Rattle.cs_num.specs.Complex.{times, square}
 use Rattle.lte_types.specs.declared.frame.Half.{Half}
 use Rattle.lte_types.specs.declared.numerology.Prefix.{Prefix}
 use Rattle.lte_types.specs.Numerology.{symbol_step}
@@ -14,7 +14,8 @@ use Rattle.pss_search.specs.Correlation.{pss_grid}
 use Rattle.sss_detect.specs.Scores.{agreement, score}
 use Rattle.lte_types.specs.declared.hit.Hit.{Hit}
 use Rattle.sss_detect.specs.Identity.{best_pair, prefix_identity}
-use Rattle.budget.specs.Received.{IsReceived, IsSeenAs, samples_from}
+use Rattle.observe.specs.Seen.{seen}
+use Rattle.budget.specs.Received.{IsReceived, IsSeenAs, IsSeenNear, samples_from}
 
 -- the grid of a symbol that holds the secondary sequence alone
 abbrev pub sss_grid : ℕ → ℕ → Half → ℕ → Cpx
@@ -63,3 +64,57 @@ SentPairIsIdentified =
     (prefix : Prefix) (recording : List Sample) (hit : Hit) (n1 : ℕ) (half : Half) →
     AreSignals prefix recording hit.t n1 hit.n2 half →
     prefix_identity prefix recording hit ≡ (n1, half)
+
+-- ---- through a channel
+
+-- Both synchronisation signals of a cell's identity and half are seen through a gain in parts for each subcarrier, the
+-- same for both, beside a size whose square is n: off by at most `most` times the size; and each gain's size is at
+-- least `least` thousandths of it.
+pub record AreSeenThrough (most least n : ℕ) (gain : ℕ → Cpx) (n1 n2 : ℕ) (half : Half) (pss_seen sss_seen : ℕ → Cpx) :
+    Type 0 where
+  pub group : n1 ≤ 167
+  pub root : n2 ≤ 2
+  pub sounds : 1 ≤ n
+  pub reads : (k : ℕ) → k < 62 → least * least * n ≤ 1000000 * square (gain (middle k))
+  pub primary : (k : ℕ) → k < 62 → IsSeenNear most n (times (gain (middle k)) (pss_at n2 k)) (pss_seen (middle k))
+  pub secondary : (k : ℕ) → k < 62 →
+      IsSeenNear most n (times (gain (middle k)) (sss_amplitude n1 n2 half k)) (sss_seen (middle k))
+
+-- the main part of each term outweighs what it is off by: 1016 for the primary signal, 1000 for the secondary one, and
+-- 125 for the product of both
+abbrev pub LeaveTermsRoom : ℕ → ℕ → Type 0
+LeaveTermsRoom most least = 2016 * (least * most) + 125 * (most * most) < 8128 * (least * least)
+
+-- a group and a half stand alone in what is seen: each term of their score is above 0, the score of every other pair is
+-- less, and they are the best pair
+pub record PairStandsAlone (n1 n2 : ℕ) (half : Half) (pss_seen sss_seen : ℕ → Cpx) : Type 0 where
+  pub terms : (n : ℕ) → n < 62 → pos 0 <ℤ (sss_at n1 n2 half n *ℤ agreement pss_seen sss_seen n2 n)
+  pub greatest : (m : ℕ) (other : Half) → m ≤ 167 → ((m ≡ n1) × (other ≡ half) → ⊥) →
+      score pss_seen sss_seen n2 m other <ℤ score pss_seen sss_seen n2 n1 half
+  pub best : best_pair (score pss_seen sss_seen n2) ≡ (n1, half)
+
+-- the group and the half that were sent stand alone, where they are seen through a channel that leaves room
+abbrev pub SentPairStandsAlone : Type 0
+SentPairStandsAlone =
+    (most least n : ℕ) (gain : ℕ → Cpx) (n1 n2 : ℕ) (half : Half) (pss_seen sss_seen : ℕ → Cpx) →
+    LeaveTermsRoom most least → AreSeenThrough most least n gain n1 n2 half pss_seen sss_seen →
+    PairStandsAlone n1 n2 half pss_seen sss_seen
+
+-- and they are what is identified by a hit, where so much is seen at its place and one symbol of this prefix before it
+abbrev pub SentPairIsIdentifiedThrough : Type 0
+SentPairIsIdentifiedThrough =
+    (most least n : ℕ) (gain : ℕ → Cpx) (prefix : Prefix) (recording : List Sample) (hit : Hit) (n1 : ℕ) (half : Half) →
+    LeaveTermsRoom most least →
+    AreSeenThrough most least n gain n1 hit.n2 half (seen recording hit.t)
+    (seen recording (hit.t - symbol_step prefix)) →
+    prefix_identity prefix recording hit ≡ (n1, half)
+
+-- ---- one gain is a channel
+
+abbrev pub OneGainLeavesTermsRoom : Type 0
+OneGainLeavesTermsRoom = LeaveTermsRoom 2316 1000
+
+abbrev pub OneGainIsSeenThrough : Type 0
+OneGainIsSeenThrough =
+    (gain : Cpx) (n1 n2 : ℕ) (half : Half) (pss_seen sss_seen : ℕ → Cpx) → AreSeen gain n1 n2 half pss_seen sss_seen →
+    AreSeenThrough 2316 1000 (square gain) (λ k. gain) n1 n2 half pss_seen sss_seen

@@ -5,6 +5,7 @@
 
 mod amplitude;
 mod channel;
+mod paths;
 mod peak;
 mod score;
 mod sign;
@@ -13,8 +14,9 @@ mod whole;
 
 pub use amplitude::seen_amplitude_is_near;
 pub use channel::values_speak_through_a_channel;
-pub use peak::clean_primary_is_a_hit;
-pub use score::sent_pair_is_best;
+pub use paths::several_paths_are_a_channel;
+pub use peak::{clean_primary_is_a_hit, primary_within_errors_is_a_hit};
+pub use score::{sent_pair_is_best, sent_pair_stands_alone_through_a_channel};
 pub use sign::value_has_the_sign_of_the_bit;
 pub use table::table_is_nearly_multiplicative;
 pub use whole::whole_gain_is_received;

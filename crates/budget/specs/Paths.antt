@@ -1,0 +1,205 @@
+-- A symbol that is received over several paths. A path is one way by which what is sent arrives, straight or off a
+-- wall: all of it, times a gain of its own, and so many samples later than by the first path. Before its useful part a
+-- symbol holds the end of that part once more, the cyclic prefix, of 9 samples at least (TS 36.211 section 6.12: 144
+-- for 2048, so 9 for 128). So over a path that is up to 9 samples late, 128 samples hold the whole useful part turned
+-- round: its last samples come first. Several paths are then a channel, a gain for each subcarrier. (own)
+use Rattle.std.specs.Prelude.{◌≡◌, ℕ, ◌+◌, ◌-◌, ◌*◌, ◌%◌, ◌^◌, ◌<◌, ◌≤◌, Bool, List, [], nat_le}
+use Rattle.std.specs.Prelude.{if◌then◌else◌, slice_index_or}
+use Rattle.finite.specs.Sums.{total_below}
+use Rattle.cs_num.specs.declared.Cpx.{Cpx}
+use Rattle.cs_num.specs.declared.Sample.{Sample}
+use Rattle.cs_num.specs.Complex.{plus, times, conjugate, square, minus, multiple}
+use Rattle.cs_num.specs.Rounding.{rounded}
+use Rattle.sizes.specs.Sizes.{energy_below}
+use Rattle.fold128.specs.Tables.{w_at}
+use Rattle.fold128.specs.Symbol.{frequency, useful_at}
+use Rattle.fold128.specs.Spectrum.{spectrum_at}
+use Rattle.crs.specs.Qpsk.{point}
+use Rattle.crs.specs.declared.pattern.Pattern.{Pattern}
+use Rattle.soft_bits.specs.Soft.{SeenSlot, seen_at, pilot_subcarrier, pattern_symbol, pattern_seen, pattern_sent}
+use Rattle.observe.specs.Seen.{seen, seen_symbol}
+use Rattle.budget.specs.Received.{AreAmplitudes, off_by, received_of, samples_from, IsSeenNear}
+use Rattle.budget.specs.Budget.{seen_in, sending_off}
+use Rattle.budget.specs.Through.{Channel, Bounds, LeaveRoom, ArePilotsThrough, IsReadThrough, BothSpeak}
+
+-- ---- paths
+
+-- the gain of the first path, and of so many later ones the delays in samples and the gains; gains are in parts
+pub record Paths : Type 0 where
+  pub first : Cpx
+  pub later : ℕ
+  pub delay : ℕ → ℕ
+  pub gain : ℕ → Cpx
+
+-- 128 samples turned round by a delay
+abbrev pub turned_round : ℕ → (ℕ → Cpx) → ℕ → Cpx
+turned_round delay part n = part ((n + (128 - delay)) % 128)
+
+-- what is received of a useful part over several paths
+abbrev pub received_over : Paths → (ℕ → Cpx) → ℕ → Cpx
+received_over paths part n =
+    plus (times paths.first (part n))
+    (received_of paths.later paths.gain (λ path. turned_round (paths.delay path) part n))
+
+-- 128 samples are received over several paths of a symbol with this grid; the energy of what they are off by is at
+-- most `quota` times the square of the first gain, which is at least that of 1
+pub record IsReceivedOver (quota : ℕ) (paths : Paths) (grid samples : ℕ → Cpx) : Type 0 where
+  pub sounds : 2 ^ 28 ≤ square paths.first
+  pub quiet : energy_below 128 (off_by samples (received_over paths (useful_at grid))) ≤ quota * square paths.first
+
+-- ---- the prefix
+
+-- from a place on a sequence holds the last 9 samples of a useful part, and then the part
+pub record HasPrefix (part : ℕ → Cpx) (place : ℕ) (sent : ℕ → Cpx) : Type 0 where
+  pub before : (n : ℕ) → n < 9 → sent (place + n) ≡ part (119 + n)
+  pub useful : (n : ℕ) → n < 128 → sent (place + 9 + n) ≡ part n
+
+-- what arrives of a sequence over several paths
+abbrev pub arriving : Paths → (ℕ → Cpx) → ℕ → Cpx
+arriving paths sent i =
+    plus (times paths.first (sent i)) (received_of paths.later paths.gain (λ path. sent (i - paths.delay path)))
+
+-- so by delays of at most 9 samples the useful part is turned round
+abbrev pub PrefixTurnsRound : Type 0
+PrefixTurnsRound =
+    (paths : Paths) (part sent : ℕ → Cpx) (place n : ℕ) →
+    ((path : ℕ) → path < paths.later → paths.delay path ≤ 9) → HasPrefix part place sent → n < 128 →
+    arriving paths sent (place + 9 + n) ≡ received_over paths part n
+
+-- so samples that are near what arrives are received over the paths
+abbrev pub ArrivingIsReceived : Type 0
+ArrivingIsReceived =
+    (quota : ℕ) (paths : Paths) (grid sent samples : ℕ → Cpx) (place : ℕ) →
+    ((path : ℕ) → path < paths.later → paths.delay path ≤ 9) → HasPrefix (useful_at grid) place sent →
+    2 ^ 28 ≤ square paths.first →
+    energy_below 128 (off_by samples (λ n. arriving paths sent (place + 9 + n))) ≤ quota * square paths.first →
+    IsReceivedOver quota paths grid samples
+
+-- ---- later paths are faint
+
+-- how much a path of this delay counts: the later, the more it bends the channel
+abbrev pub weight : ℕ → ℕ
+weight delay = if nat_le delay 7 then 17 else 2 * delay + 3
+
+-- later paths come 1 to 9 samples after the first, and their gains, each at most so large and as many times as its path
+-- counts, are together at most as large as the first gain
+pub record AreFaint (sizes : ℕ → ℕ) (paths : Paths) : Type 0 where
+  pub late : (path : ℕ) → path < paths.later → 1 ≤ paths.delay path
+  pub near : (path : ℕ) → path < paths.later → paths.delay path ≤ 9
+  pub sized : (path : ℕ) → path < paths.later → square (paths.gain path) ≤ sizes path * sizes path
+  pub faint :
+      total_below paths.later (λ path. weight (paths.delay path) * sizes path)
+      * total_below paths.later (λ path. weight (paths.delay path) * sizes path) ≤
+      square paths.first
+
+-- ---- the channel
+
+-- what a delay makes of subcarrier k: 16384 times a turn at its frequency
+abbrev pub delayed : ℕ → ℕ → Cpx
+delayed delay k = conjugate (w_at (frequency k * delay))
+
+-- 16384 times the channel at subcarrier k, before it is rounded
+abbrev pub whole_channel : Paths → ℕ → Cpx
+whole_channel paths k =
+    plus (multiple 16384 paths.first) (received_of paths.later paths.gain (λ path. delayed (paths.delay path) k))
+
+-- the channel at subcarrier k: the sum of the gains, each turned by its delay
+unfoldable pub channel_over : Paths → ℕ → Cpx
+channel_over paths k = rounded (whole_channel paths k) 14
+
+-- it is one for all symbols
+abbrev pub over : Paths → Channel
+over paths symbol k = channel_over paths k
+
+-- ---- what is seen
+
+-- 16384 times what is seen of a useful part turned round, before it is rounded, is what is seen of the part itself
+-- times the turn of the delay, off by at most 25 * 2^28: the table is not quite multiplicative
+abbrev pub TurnedPartIsSeen : Type 0
+TurnedPartIsSeen =
+    (grid : ℕ → Cpx) (delay k : ℕ) → AreAmplitudes grid → delay ≤ 128 →
+    square (minus (multiple 16384 (spectrum_at (turned_round delay (useful_at grid)) k))
+    (times (delayed delay k) (spectrum_at (useful_at grid) k))) ≤
+    (25 * 2 ^ 28) * (25 * 2 ^ 28)
+
+-- 2^31 times what is seen of samples before it is rounded, less 2^35 times a number: 16384 times what sending is off by
+abbrev pub turned_off : (ℕ → Cpx) → Cpx → ℕ → Cpx
+turned_off sent number k = minus (multiple (2 ^ 31) (spectrum_at sent k)) (multiple (2 ^ 35) number)
+
+-- so a useful part turned round is seen as 64 times its amplitude times the turn of the delay, off by at most 123 units
+abbrev pub TurnedSendingIsSmall : Type 0
+TurnedSendingIsSmall =
+    (grid : ℕ → Cpx) (delay k : ℕ) → AreAmplitudes grid → delay ≤ 128 → k < 72 →
+    square (turned_off (turned_round delay (useful_at grid)) (times (delayed delay k) (grid k)) k) ≤
+    (123 * 2 ^ 45) * (123 * 2 ^ 45)
+
+-- over faint paths sending is off by at most 106 units of 2^31 times the first gain
+abbrev pub SendingOverIsSmall : Type 0
+SendingOverIsSmall =
+    (sizes : ℕ → ℕ) (paths : Paths) (grid : ℕ → Cpx) (k : ℕ) → AreAmplitudes grid → AreFaint sizes paths →
+    2 ^ 28 ≤ square paths.first → k < 72 →
+    square (sending_off (received_over paths (useful_at grid)) (times (channel_over paths k) (grid k)) k) ≤
+    (106 * 2 ^ 31) * (106 * 2 ^ 31) * square paths.first
+
+-- each amplitude is seen through the channel of faint paths, off by at most 1880 times the size of the first gain,
+-- where the energy of errors is at most 1024 times its square
+abbrev pub AmplitudeIsSeenOver : Type 0
+AmplitudeIsSeenOver =
+    (sizes : ℕ → ℕ) (paths : Paths) (grid samples : ℕ → Cpx) (k : ℕ) → AreAmplitudes grid →
+    AreFaint sizes paths → IsReceivedOver 1024 paths grid samples → k < 72 →
+    IsSeenNear 1880 (square paths.first) (times (channel_over paths k) (grid k)) (seen_in samples k)
+
+-- each amplitude is seen so in a recording, by what `observe` tells of a symbol at a place
+abbrev pub AmplitudeIsSeenOverInRecording : Type 0
+AmplitudeIsSeenOverInRecording =
+    (sizes : ℕ → ℕ) (paths : Paths) (grid : ℕ → Cpx) (recording : List Sample) (start k : ℕ) →
+    AreAmplitudes grid → AreFaint sizes paths → IsReceivedOver 1024 paths grid (samples_from recording start) → k < 72 →
+    IsSeenNear 1880 (square paths.first) (times (channel_over paths k) (grid k)) (seen recording start k)
+
+-- ---- a slot over faint paths
+
+-- in thousandths of the first gain the channel is at least 940, and at the pilots at most 1060; in those of the channel
+-- itself the line through the pilots is at most 43 off it
+abbrev pub path_bounds : Bounds
+path_bounds = record { most = 1880; least = 940; mean = 1060; bend = 43 }
+
+-- they leave room for values of size 1 and more
+abbrev pub PathsLeaveRoom : Type 0
+PathsLeaveRoom = LeaveRoom 1 path_bounds
+
+-- pilots that are seen through the channel of faint paths are seen within these bounds, and each place can be read
+abbrev pub PathsAreThrough : Type 0
+PathsAreThrough =
+    (sizes : ℕ → ℕ) (paths : Paths) (pattern : Pattern) (slot : SeenSlot) → AreFaint sizes paths →
+    2 ^ 28 ≤ square paths.first →
+    ((i : ℕ) → i < 24 →
+    IsSeenNear 1880 (square paths.first)
+    (times (channel_over paths (pilot_subcarrier slot.identity i)) (pattern_sent pattern slot.identity slot.number i))
+    (pattern_seen pattern slot i)) →
+    ArePilotsThrough path_bounds (square paths.first) pattern (over paths) slot
+
+abbrev pub PathsAreRead : Type 0
+PathsAreRead =
+    (sizes : ℕ → ℕ) (paths : Paths) (pattern : Pattern) (slot : SeenSlot) (symbol k : ℕ) →
+    AreFaint sizes paths → 2 ^ 28 ≤ square paths.first → k < 72 →
+    IsReadThrough path_bounds (square paths.first) pattern (over paths) slot symbol k
+
+-- the first symbols of a slot, as many as the count says, are received in a recording over several paths, each from its
+-- place on, and hold the reference signals of the slot's identity and number by a pattern
+pub record IsSlotReceivedOver (paths : Paths) (pattern : Pattern) (count : ℕ) (recording : List Sample)
+    (starts : ℕ → ℕ) (grids : ℕ → ℕ → Cpx) (slot : SeenSlot) : Type 0 where
+  pub seen : (l : ℕ) → l < count → slice_index_or slot.symbols l [] ≡ seen_symbol recording (starts l)
+  pub amplitudes : (l : ℕ) → l < count → AreAmplitudes (grids l)
+  pub received : (l : ℕ) → l < count → IsReceivedOver 1024 paths (grids l) (samples_from recording (starts l))
+  pub references : (i : ℕ) → i < 24 →
+      grids (pattern_symbol pattern slot.identity i) (pilot_subcarrier slot.identity i)
+      ≡ pattern_sent pattern slot.identity slot.number i
+
+-- where later paths are faint, the soft values of each place that carries two bits speak for them
+abbrev pub SlotOverIsHeard : Type 0
+SlotOverIsHeard =
+    (sizes : ℕ → ℕ) (paths : Paths) (pattern : Pattern) (count : ℕ) (recording : List Sample) (starts : ℕ → ℕ)
+    (grids : ℕ → ℕ → Cpx) (slot : SeenSlot) (symbol k : ℕ) (first second : Bool) → AreFaint sizes paths →
+    pattern.later < count → IsSlotReceivedOver paths pattern count recording starts grids slot → symbol < count →
+    k < 72 → grids symbol k ≡ point first second →
+    BothSpeak 1 pattern slot k first second (seen_at slot symbol k)
