@@ -234,7 +234,7 @@ module _ (sizes : ℕ → ℕ) (paths : Paths) (faint : AreFaint sizes paths) (s
       fits : (s n : ℕ) → s ≤ 134217728 → 2 ^ 28 ≤ n → s ≤ 1 * 1 * n
       fits s n h l = omega (arith, h, l)
 
-  channel-least : (k : ℕ) → 940 * 940 * square paths.first ≤ 1000000 * square (channel_over paths k)
+  pub channel-least : (k : ℕ) → 940 * 940 * square paths.first ≤ 1000000 * square (channel_over paths k)
   channel-least k =
       fits (square paths.first) (square x) (square y) (square (plus x y)) (square (multiple 16384 (channel_over paths k))) (square (channel_over paths k))
       (square-multiple 16384 paths.first) (ap (λ (z : Cpx). square z) (channel_is k)) (square-multiple 16384 (channel_over paths k)) (besides-sized k).sized (weighted_term 16 x y)
@@ -377,7 +377,7 @@ module _ (sizes : ℕ → ℕ) (paths : Paths) (pattern : Pattern) (count : ℕ)
   unfolding seen_symbol
   read start k l = values_below_at (seen recording start) 72 k nothing l
 
-  place-seen : (symbol k : ℕ) → symbol < count → k < 72 → IsSeenNear 1880 (square paths.first) (times (channel_over paths k) (grids symbol k)) (seen_at slot symbol k)
+  pub place-seen : (symbol k : ℕ) → symbol < count → k < 72 → IsSeenNear 1880 (square paths.first) (times (channel_over paths k) (grids symbol k)) (seen_at slot symbol k)
   place-seen symbol k few inside =
       subst (λ (z : Cpx). IsSeenNear 1880 (square paths.first) (times (channel_over paths k) (grids symbol k)) z) (sym (ap (λ (xs : List Cpx). value_at xs k) (is.seen symbol few) ∙ read (starts symbol) k inside))
       (amplitude_is_seen_over_in_recording sizes paths (grids symbol) recording (starts symbol) k (is.amplitudes symbol few) faint (is.received symbol few) inside)
@@ -390,7 +390,7 @@ module _ (sizes : ℕ → ℕ) (paths : Paths) (pattern : Pattern) (count : ℕ)
       few true = omega (arith, later)
       few false = later
 
-  pilot-seen : (i : ℕ) → i < 24 →
+  pub pilot-seen : (i : ℕ) → i < 24 →
       IsSeenNear 1880 (square paths.first) (times (channel_over paths (pilot_subcarrier slot.identity i)) (pattern_sent pattern slot.identity slot.number i)) (pattern_seen pattern slot i)
   unfolding pattern_seen
   pilot-seen i l =

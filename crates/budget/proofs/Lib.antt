@@ -31,3 +31,5 @@ pub mod SeenOver
 pub mod BendsOver
 -- Each term of the sent pair's score is above 0 through a channel that leaves room, and so its score is the only greatest.
 pub mod Scores
+-- The signals over several paths: seen through their channel, with the later ones as errors of the primary one.
+pub mod SignalPaths

@@ -1,5 +1,5 @@
 -- The score of what was sent: each term is above 0, so no other sequence agrees as well.
-use Rattle.std.proofs.Common.{◌≡◌, ℕ, zero, suc, ◌+◌, ◌-◌, ◌*◌, ◌%◌, ◌^◌, ◌<◌, ◌≤◌, ◌⊎◌, inl, inr, neg_ℤ, arith, refl, ap, ap₂, sym, ◌∙◌, subst, Bool, true, false, nat_le, nat_lt, ℤ, pos, negsuc, ◌-ℤ◌, ◌*ℤ◌, ◌<ℤ◌, ◌≤ℤ◌, int_lt, mul-le-mul_left, mul-le-mul_right}
+use Rattle.std.proofs.Common.{◌≡◌, ℕ, zero, suc, ◌+◌, ◌-◌, ◌*◌, ◌%◌, ◌^◌, ◌<◌, ◌≤◌, ◌⊎◌, inl, inr, neg_ℤ, arith, refl, ap, ap₂, sym, ◌∙◌, subst, Bool, true, false, nat_le, nat_lt, ℤ, pos, negsuc, ◌-ℤ◌, ◌*ℤ◌, ◌<ℤ◌, ◌≤ℤ◌, int_lt, mul-le-mul_left, mul-le-mul_right, List}
 use Rattle.std.specs.Prelude.{◌&&◌, if◌then◌else◌, nat_abs}
 use Rattle.std.proofs.lemmas.Int.{ints, unsigned_abs-mul}
 use Rattle.std.proofs.lemmas.Bool.{leb-true, and_parts}
@@ -11,7 +11,9 @@ use Rattle.finite.proofs.Ring.{var, lit, same}
 use Rattle.finite.proofs.Ring as ring
 use Rattle.finite.proofs.Integers.{lt-le, lt-not_le}
 use Rattle.cs_num.specs.declared.Cpx.{Cpx}
+use Rattle.cs_num.specs.declared.Sample.{Sample}
 use Rattle.cs_num.specs.Complex.{IsWithin, nothing, plus, times, conjugate, square, minus, multiple}
+use Rattle.lte_types.specs.declared.numerology.Prefix.{Prefix}
 use Rattle.lte_types.specs.declared.frame.Half.{Half}
 use Rattle.lte_types.specs.declared.frame.Half.TheVariants.{Zero, Five}
 use Rattle.lte_types.specs.Numerology.{symbol_step}
@@ -33,7 +35,7 @@ use Rattle.sss_detect.proofs.Choices.{less, not_less, only_one_is_best}
 use Rattle.observe.specs.Seen.{seen}
 use Rattle.pss_search.specs.Correlation.{pss_grid}
 use Rattle.budget.specs.Received.{AreAmplitudes, in_parts, IsSeenAs, IsSeenNear}
-use Rattle.budget.specs.Score.{AreSeen, TermsArePositive, SentPairIsGreatest, SentPairIsBest, SentPairIsIdentified, sss_grid}
+use Rattle.budget.specs.Score.{AreSeen, AreSignals, TermsArePositive, SentPairIsGreatest, SentPairIsBest, SentPairIsIdentified, sss_grid}
 use Rattle.budget.specs.Score.{LeaveTermsRoom, PairStandsAlone, SentPairStandsAlone, SentPairIsIdentifiedThrough, OneGainLeavesTermsRoom, OneGainIsSeenThrough}
 use Rattle.budget.specs.Through.{Bounds}
 use Rattle.sync_seq.specs.Secondary.{sss_amplitude}
@@ -346,14 +348,14 @@ sent_pair_is_best gain n1 n2 half pss_seen sss_seen seen = (stands_alone gain n1
 
 -- ---- in a recording
 
-pss_in_grid : (n2 n : ℕ) → n < 62 → pss_grid n2 (n + 5) ≡ pss_at n2 n
+pub pss_in_grid : (n2 n : ℕ) → n < 62 → pss_grid n2 (n + 5) ≡ pss_at n2 n
 pss_in_grid n2 n l =
     let a : nat_lt (n + 5) 5 ≡ false = grind (arith, nat_tests) in
     let b : nat_lt (n + 5) 67 ≡ true = grind (arith, nat_tests) in
     let c : n + 5 - 5 ≡ n = omega arith in
     rw (a, b, c) refl
 
-sss_in_grid : (n1 n2 : ℕ) (half : Half) (n : ℕ) → n < 62 → sss_grid n1 n2 half (n + 5) ≡ sss_amplitude n1 n2 half n
+pub sss_in_grid : (n1 n2 : ℕ) (half : Half) (n : ℕ) → n < 62 → sss_grid n1 n2 half (n + 5) ≡ sss_amplitude n1 n2 half n
 sss_in_grid n1 n2 half n l =
     let a : nat_lt (n + 5) 5 ≡ false = grind (arith, nat_tests) in
     let b : nat_lt (n + 5) 67 ≡ true = grind (arith, nat_tests) in
@@ -385,13 +387,12 @@ pss_amplitudes n2 k l = amplitude _ (in_middle (pss_at n2) k (λ n. (pss-size n2
 pub sss_amplitudes : (n1 n2 : ℕ) (half : Half) → AreAmplitudes (sss_grid n1 n2 half)
 sss_amplitudes n1 n2 half k l = amplitude _ (in_middle (sss_amplitude n1 n2 half) k (amplitude_small n1 n2 half))
 
-pub sent_pair_is_identified : SentPairIsIdentified
-unfolding prefix_identity
-sent_pair_is_identified prefix recording hit n1 half both =
-    let t : ℕ = hit.t in
-    let n2 : ℕ = hit.n2 in
+-- signals that are received with one gain are seen so
+pub signals_are_seen : (prefix : Prefix) (recording : List Sample) (t n1 n2 : ℕ) (half : Half) (both : AreSignals prefix recording t n1 n2 half) →
+    AreSeen both.gain n1 n2 half (seen recording t) (seen recording (t - symbol_step prefix))
+signals_are_seen prefix recording t n1 n2 half both =
     let before : ℕ = t - symbol_step prefix in
-    sent_pair_is_best both.gain n1 n2 half (seen recording t) (seen recording before) (record {
+    record {
       group = both.group;
       root = both.root;
       sounds = both.primary.sounds;
@@ -399,4 +400,9 @@ sent_pair_is_identified prefix recording hit n1 half both =
           (amplitude_is_seen_in_recording both.gain (pss_grid n2) recording t (n + 5) (pss_amplitudes n2) both.primary (omega arith));
       secondary = λ n l. subst (λ (z : Cpx). IsSeenAs 2316 both.gain z (seen recording before (n + 5))) (sss_in_grid n1 n2 half n l)
           (amplitude_is_seen_in_recording both.gain (sss_grid n1 n2 half) recording before (n + 5) (sss_amplitudes n1 n2 half) both.secondary (omega arith));
-    })
+    }
+
+pub sent_pair_is_identified : SentPairIsIdentified
+unfolding prefix_identity
+sent_pair_is_identified prefix recording hit n1 half both =
+    sent_pair_is_best both.gain n1 hit.n2 half (seen recording hit.t) (seen recording (hit.t - symbol_step prefix)) (signals_are_seen prefix recording hit.t n1 hit.n2 half both)

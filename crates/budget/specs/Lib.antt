@@ -6,3 +6,4 @@ pub mod Score
 pub mod Sign
 pub mod Through
 pub mod Paths
+pub mod SignalPaths

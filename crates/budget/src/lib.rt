@@ -9,6 +9,7 @@ mod paths;
 mod peak;
 mod score;
 mod sign;
+mod signal_paths;
 mod table;
 mod whole;
 
@@ -18,5 +19,6 @@ pub use paths::several_paths_are_a_channel;
 pub use peak::{clean_primary_is_a_hit, primary_within_errors_is_a_hit};
 pub use score::{sent_pair_is_best, sent_pair_stands_alone_through_a_channel};
 pub use sign::value_has_the_sign_of_the_bit;
+pub use signal_paths::signals_stand_over_several_paths;
 pub use table::table_is_nearly_multiplicative;
 pub use whole::whole_gain_is_received;

@@ -13,6 +13,7 @@ use Rattle.explain.specs.System.{even_frame}
 use Rattle.budget.specs.Received.{IsReceived, samples_from}
 use Rattle.budget.specs.Peak.{IsPrimaryAt}
 use Rattle.budget.specs.Score.{sss_grid, AreSignals}
+use Rattle.budget.proofs.SignalPaths.{signals_are_through}
 use Rattle.cell_tx.specs.declared.antenna.Port.{Port}
 use Rattle.cell_tx.specs.declared.antenna.Port.TheVariants.{Only}
 use Rattle.cell_plan.specs.declared.cell.CellPlan.{CellPlan}
@@ -22,7 +23,7 @@ use Rattle.clean_air.specs.Through.{ShowsSignals, IsFrameSlotThrough}
 use Rattle.clean_air.specs.Fading.{IsSlotFading, fading_bounds, by_symbol, LeaveFadingRoom, IsRead, IsFadingBy, FadingIsThrough}
 use Rattle.clean_air.proofs.SentSymbols.{prefix_known, IsTruePlace}
 use Rattle.clean_air.proofs.SentSlots.{slot_grid, references_stand, frame_is, symbol_with_errors, symbol_shown}
-use Rattle.clean_air.proofs.Signals.{primary_is, secondary_is, received_with, is_primary, is_secondary, signal_rows, slot_few}
+use Rattle.clean_air.proofs.Signals.{primary_is, secondary_is, received_with, is_primary, is_secondary, signal_rows, slot_few, primary_within}
 use Rattle.clean_air.proofs.SlowGains.{fading_slot_is_through}
 
 module _ (quota bend : ℕ) (recording : List Sample) (plan : CellPlan) (grids : Port → Elements) (sfn offset : ℕ) (gains : ℕ → ℕ → ℕ → Cpx) (signal_gains : ℕ → ℕ → Cpx)
@@ -99,8 +100,8 @@ module _ (quota bend : ℕ) (recording : List Sample) (plan : CellPlan) (grids :
 
   signals_stand : plan.identity ≤ 503 → ShowsSignals OnePort recording plan.identity offset
   signals_stand known = record {
-    primary = λ t half at low high. primary_at t half at low high;
-    both = λ t half at middle high. signals_at t half at (omega (arith, middle)) high known;
+    primary = λ t half at low high. primary_within recording t (plan.identity % 3) (primary_at t half at low high);
+    both = λ t half at middle high. signals_are_through normal recording t (plan.identity / 3) (plan.identity % 3) half (signals_at t half at (omega (arith, middle)) high known);
   }
 
 pub fading_is_through : FadingIsThrough

@@ -23,7 +23,7 @@ use Rattle.lte_types.specs.CellPlace.{Place}
 use Rattle.lte_types.specs.Frames.{Frames, frames_from}
 use Rattle.lte_types.specs.declared.hit.Hit.{Hit}
 use Rattle.lte_types.specs.declared.entry.Entry.{Entry}
-use Rattle.pss_search.specs.Hits.{found}
+use Rattle.pss_search.specs.Hits.{IsHit, found}
 use Rattle.pss_search.proofs.Listed.{list_is_right}
 use Rattle.lte_types.specs.Identity.{cell_of}
 use Rattle.lte_types.specs.Timing.{start_of as start_after, number_at_start}
@@ -50,8 +50,8 @@ use Rattle.cell_tx.specs.Load.{sent_element}
 use Rattle.cell_plan.specs.Plan.{IsSendableBy}
 use Rattle.cell_tx.specs.Sent.{Elements}
 use Rattle.budget.specs.Received.{in_parts}
-use Rattle.budget.proofs.Peaks.{primary_is_listed, only_hit_near}
-use Rattle.budget.proofs.Scores.{sent_pair_is_identified}
+use Rattle.budget.proofs.Peaks.{primary_is_listed_within, only_hit_of_root_within}
+use Rattle.budget.proofs.Scores.{sent_pair_is_identified_through}
 use Rattle.clean_air.specs.Broadcast.{TellsFreely}
 use Rattle.clean_air.specs.Carried.{SpeakOfWord}
 use Rattle.clean_air.specs.Clean.{told_of, IsKnownPlan, IsKnownBy, HoldsCellBy, HoldsFaithfulBy, HoldsBy, HoldsCleanBy, IsListBy, HoldsCells}
@@ -224,12 +224,13 @@ module _ (receiver : Receiver) (recording : List Sample) (plan : CellPlan) (sfn 
       let high = h.is_hit.high in
       let room : symbol_step prefix ≤ h.t = (let step = step_fits receiver.carrier in omega (arith, step, low)) in
       let primary = placed.signals.primary h.t h.half h.is_hit.is (omega (arith, room)) (omega (arith, high)) in
-      let pair : prefix_identity prefix recording hit ≡ (identity / 3, h.half) = sent_pair_is_identified prefix recording hit (identity / 3) h.half
-      (placed.signals.both h.t h.half h.is_hit.is (omega (arith, low)) high) in
+      let both = placed.signals.both h.t h.half h.is_hit.is (omega (arith, low)) high in
+      let pair : prefix_identity prefix recording hit ≡ (identity / 3, h.half) =
+      sent_pair_is_identified_through both.most both.least both.size both.channel prefix recording hit (identity / 3) h.half both.room both.through in
       let cell : cell_of (identity / 3) (identity % 3) ≡ identity = omega arith in
       record {
         hit = hit;
-        listed = (are_taken receiver.carrier recording hit).1 (primary_is_listed recording h.t (identity % 3) primary (omega (arith, low)) high, room);
+        listed = (are_taken receiver.carrier recording hit).1 (primary_is_listed_within recording h.t (identity % 3) primary (omega (arith, low)) high, room);
         is_of = record {
           id = sym (ap (λ (p : ℕ × Half). cell_of p.0 (identity % 3)) pair ∙ cell);
           start = sym (ap (λ (p : ℕ × Half). start_of h.t p.1) pair ∙ true_start offset h.t h.half placed.within h.is_hit.is);
@@ -244,8 +245,8 @@ module _ (receiver : Receiver) (recording : List Sample) (plan : CellPlan) (sfn 
         };
       }
 
-  -- an entry of a hit with the cell's identity and a start near the cell's has the cell's start: its hit is near a
-  -- true place, and no place near that one is a hit
+  -- an entry of a hit with the cell's identity and a start near the cell's has the cell's start: its hit, which is of
+  -- the cell's root, is near a true place, and no place near that one is a hit of this root
   start_is : (other : Entry) (is : IsOfSome other) → other.id ≡ identity → AreNear other.start (start_after offset) → other.start ≡ start_after offset
   start_is other is id near =
       let hit = is.hit in
@@ -255,8 +256,12 @@ module _ (receiver : Receiver) (recording : List Sample) (plan : CellPlan) (sfn 
       let right = (list_is_right recording hit).0 taken.0 in
       let place = near_true offset hit.t half placed.within right.is_hit.from_first (subst (λ a. AreNear a (start_after offset)) is.is_of.start near) in
       let primary = placed.signals.primary place.u half place.is (omega (arith, room, place.below)) (omega (arith, place.above, right.is_hit.to_last)) in
-      let same = (only_hit_near recording place.u hit.t (identity % 3) hit.n2 primary (omega (arith, right.root)) place.below place.above right.is_hit).0 in
+      let root : hit.n2 ≡ identity % 3 = of_root (prefix_identity prefix recording hit).0 hit.n2 other.id (omega (arith, right.root)) is.is_of.id id in
+      let same = only_hit_of_root_within recording place.u hit.t (identity % 3) primary place.below place.above (subst (λ n2. IsHit recording hit.t n2) root right.is_hit) in
       is.is_of.start ∙ true_start offset hit.t half placed.within (subst (λ t. IsTruePlace offset t half) (sym same) place.is)
+    where
+      of_root : (n1 n2 id : ℕ) → n2 < 3 → id ≡ cell_of n1 n2 → id ≡ identity → n2 ≡ identity % 3
+      of_root n1 n2 id few e same = omega (arith, few, e, same)
 
   at_place : (other : Entry) → other.id ≡ identity → other.start ≡ start_after offset → place_of other ≡ place
   at_place other id start = ap (λ i. record (place_of other) { id = i }) id ∙ ap (λ s. record place { start = s }) start

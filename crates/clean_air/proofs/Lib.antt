@@ -39,6 +39,8 @@ pub mod FaithfulCells
 pub mod HeardCells
 -- A cell whose gain turns and fades slowly is.
 pub mod FadingCells
+-- So is one that arrives over several paths.
+pub mod EchoCells
 -- Its block says its fields, so that its first frame of even number answers with them.
 pub mod SentFields
 pub mod SentSystem

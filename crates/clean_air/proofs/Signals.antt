@@ -38,7 +38,9 @@ use Rattle.cell_tx.proofs.SignalSymbols.{no_channel}
 use Rattle.cell_tx.proofs.Symbols.{with_prefix}
 use Rattle.budget.specs.Received.{in_parts, off_by, IsReceived, samples_from}
 use Rattle.budget.specs.Score.{sss_grid, AreSignals}
-use Rattle.budget.specs.Peak.{IsPrimaryAt}
+use Rattle.budget.specs.Peak.{IsPrimaryAt, IsPrimaryWithin}
+use Rattle.budget.proofs.Parts.{is_received_by_more}
+use Rattle.budget.proofs.SignalPaths.{signals_are_through}
 use Rattle.clean_air.specs.Load.{CarriesPlan, received_from}
 use Rattle.clean_air.specs.Faithful.{IsLittle, IsOfPrimary, IsOfSecondary, IsLookedAt, IsFaithfulBy, errors_from}
 use Rattle.clean_air.specs.Through.{ShowsSignals}
@@ -134,7 +136,7 @@ in_signal (OfFour P2) k z = either (nat_le 5 k && nat_lt k 67)
 in_signal (OfFour P3) k z = either (nat_le 5 k && nat_lt k 67)
 
 -- the last symbol of slots 0 and 10 holds the primary signal alone
-primary_symbol : (port : Port) (plan : CellPlan) (sfn k : ℕ) (half : Half) → port_element port plan sfn (subframe_of half) (port_symbols port - 1) k ≡ sent_signal port (pss_grid (plan.identity % 3) k)
+pub primary_symbol : (port : Port) (plan : CellPlan) (sfn k : ℕ) (half : Half) → port_element port plan sfn (subframe_of half) (port_symbols port - 1) k ≡ sent_signal port (pss_grid (plan.identity % 3) k)
 unfolding port_element
 primary_symbol Only plan sfn k Zero = rw (no_reference plan.identity 6 k refl refl, no_channel Only plan sfn 0 6 k (inr refl)) (in_signal Only k _)
 primary_symbol Only plan sfn k Five = rw (no_reference plan.identity 6 k refl refl, no_channel Only plan sfn 5 6 k (inr refl)) (in_signal Only k _)
@@ -148,7 +150,7 @@ primary_symbol (OfFour p) plan sfn k Zero = let none = none_in p plan.identity 0
 primary_symbol (OfFour p) plan sfn k Five = let none = none_in p plan.identity 10 6 k refl refl refl in rw (none.own, none.other, no_channel (OfFour p) plan sfn 5 6 k (inr refl)) (in_signal (OfFour p) k _)
 
 -- and the symbol before it the secondary one
-secondary_symbol : (port : Port) (plan : CellPlan) (sfn k : ℕ) (half : Half) →
+pub secondary_symbol : (port : Port) (plan : CellPlan) (sfn k : ℕ) (half : Half) →
     port_element port plan sfn (subframe_of half) (port_symbols port - 2) k ≡ sent_signal port (sss_grid (plan.identity / 3) (plan.identity % 3) half k)
 unfolding port_element
 secondary_symbol Only plan sfn k Zero = rw (no_reference plan.identity 5 k refl refl, no_channel Only plan sfn 0 5 k (inl refl)) (in_signal Only k _)
@@ -183,10 +185,10 @@ pub slot_few : (half : Half) → 2 * subframe_of half < 20
 slot_few Zero = omega arith
 slot_few Five = omega arith
 
-whole_slot : (s : ℕ) → 2 * s / 2 ≡ s
+pub whole_slot : (s : ℕ) → 2 * s / 2 ≡ s
 whole_slot s = omega arith
 
-first_slot : (s m l : ℕ) → m * (2 * s % 2) + l ≡ l
+pub first_slot : (s m l : ℕ) → m * (2 * s % 2) + l ≡ l
 first_slot s m l = let even : 2 * s % 2 ≡ 0 = omega arith in rw even (omega arith)
 
 module _ (carrier : Carrier) (plan : CellPlan) (grids : Port → Elements) (carries : (port : Port) → carrier_of port ≡ carrier → CarriesPlan port plan (grids port))
@@ -298,10 +300,20 @@ module _ (carrier : Carrier) (recording : List Sample) (plan : CellPlan) (grids 
         secondary = secondary_received half at low high;
       }
 
+-- a clean primary signal has no larger errors than several paths may be
+pub primary_within : (recording : List Sample) (t n2 : ℕ) → IsPrimaryAt recording t n2 → IsPrimaryWithin 14000 recording t n2
+primary_within recording t n2 primary = record {
+  gain = primary.gain;
+  root = primary.root;
+  received = is_received_by_more 1800 14000 primary.gain (pss_grid n2) (samples_from recording t) (omega arith) primary.received;
+}
+
 -- so they stand where they are looked at
 pub signals_shown : (carrier : Carrier) (recording : List Sample) (plan : CellPlan) (grids : Port → Elements) (sfn offset : ℕ) (gains : List Cpx) → IsFaithfulBy carrier recording plan grids sfn offset gains →
     plan.identity ≤ 503 → ShowsSignals carrier recording plan.identity offset
 signals_shown carrier recording plan grids sfn offset gains faithful known = record {
-  primary = λ t half at low high. primary_at carrier recording plan grids sfn offset gains faithful t half at low high;
-  both = λ t half at middle high. signals_at carrier recording plan grids sfn offset gains faithful t half at (omega (arith, middle)) high known;
+  primary = λ t half at low high. primary_within recording t (plan.identity % 3) (primary_at carrier recording plan grids sfn offset gains faithful t half at low high);
+  both = λ t half at middle high.
+      signals_are_through (prefix_of carrier) recording t (plan.identity / 3) (plan.identity % 3) half
+      (signals_at carrier recording plan grids sfn offset gains faithful t half at (omega (arith, middle)) high known);
 }

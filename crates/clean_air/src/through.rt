@@ -1,6 +1,7 @@
 //! Slots that are seen through channels.
 
 ghost use Rattle.clean_air.specs.Through.{SlotThroughIsHeard, ReceivedSlotIsThrough, FaithfulIsThrough};
+ghost use Rattle.clean_air.specs.Echo.{SlotOverIsThrough, EchoesAreThrough};
 ghost use Rattle.clean_air.specs.Fading.{FadingSlotIsThrough, FadingIsThrough, LeaveFadingRoom};
 
 /// Where a slot is seen through a channel, as its pilots and each place that carries two bits are, and the channel
@@ -33,4 +34,15 @@ pub fn fading_slot_is_seen_through()
 /// for both.
 pub fn fading_is_seen_through()
     ensures { FadingIsThrough }
+{}
+
+/// A cell of one port arrives straight and as fainter echoes, each 1 to 9 samples late. Each symbol repeats its last 9
+/// samples before it, the cyclic prefix (TS 36.211 section 6.12), so that an echo turns its useful part round. Where
+/// the later paths are faint, and the energy of the errors of each symbol that is looked at is at most 1024 times the
+/// square of the first path's gain, the cell is seen through channels; and so is each slot that is received over such
+/// paths. One echo may have a 17th of the first path's gain up to 7 samples late, a 19th at 8 and a 21st at 9; of
+/// several the shares add up.
+pub fn echoes_are_seen_through()
+    ensures slot { SlotOverIsThrough }
+    ensures cell { EchoesAreThrough }
 {}

@@ -1,0 +1,53 @@
+-- The synchronisation signals of a cell in a recording, seen through a channel, as over several paths. (own; the
+-- signals are those of TS 36.211 section 6.11)
+use Rattle.std.specs.Prelude.{ℕ, ◌-◌, ◌≤◌, List}
+use Rattle.cs_num.specs.declared.Cpx.{Cpx}
+use Rattle.cs_num.specs.declared.Sample.{Sample}
+use Rattle.lte_types.specs.declared.frame.Half.{Half}
+use Rattle.lte_types.specs.declared.numerology.Prefix.{Prefix}
+use Rattle.lte_types.specs.Numerology.{symbol_step}
+use Rattle.pss_search.specs.Correlation.{pss_grid}
+use Rattle.observe.specs.Seen.{seen}
+use Rattle.budget.specs.Received.{samples_from}
+use Rattle.budget.specs.Peak.{IsPrimaryWithin}
+use Rattle.budget.specs.Score.{sss_grid, AreSignals, AreSeenThrough, LeaveTermsRoom}
+use Rattle.budget.specs.Paths.{Paths, AreFaint, IsReceivedOver}
+
+-- both signals are seen through some channel that leaves room, the primary one at a place of a recording and the
+-- secondary one a symbol of this prefix before it
+pub record AreSignalsThrough (prefix : Prefix) (recording : List Sample) (t n1 n2 : ℕ) (half : Half) : Type 0 where
+  pub most : ℕ
+  pub least : ℕ
+  pub size : ℕ
+  pub channel : ℕ → Cpx
+  pub room : LeaveTermsRoom most least
+  pub through :
+      AreSeenThrough most least size channel n1 n2 half (seen recording t) (seen recording (t - symbol_step prefix))
+
+-- so are those that are received with one gain
+abbrev pub SignalsAreThrough : Type 0
+SignalsAreThrough =
+    (prefix : Prefix) (recording : List Sample) (t n1 n2 : ℕ) (half : Half) →
+    AreSignals prefix recording t n1 n2 half → AreSignalsThrough prefix recording t n1 n2 half
+
+-- both signals are received over the same paths
+pub record AreSignalsOver (paths : Paths) (prefix : Prefix) (recording : List Sample) (t n1 n2 : ℕ) (half : Half) :
+    Type 0 where
+  pub group : n1 ≤ 167
+  pub root : n2 ≤ 2
+  pub primary : IsReceivedOver 1024 paths (pss_grid n2) (samples_from recording t)
+  pub secondary : IsReceivedOver 1024 paths (sss_grid n1 n2 half) (samples_from recording (t - symbol_step prefix))
+
+-- so are those, where later paths are faint
+abbrev pub SignalsOverAreThrough : Type 0
+SignalsOverAreThrough =
+    (sizes : ℕ → ℕ) (paths : Paths) (prefix : Prefix) (recording : List Sample) (t n1 n2 : ℕ) (half : Half) →
+    AreFaint sizes paths → AreSignalsOver paths prefix recording t n1 n2 half →
+    AreSignalsThrough prefix recording t n1 n2 half
+
+-- and later paths are errors of the primary one: together with those of its samples their energy is at most 14000
+-- times the square of the first gain
+abbrev pub PrimaryOverIsWithin : Type 0
+PrimaryOverIsWithin =
+    (sizes : ℕ → ℕ) (paths : Paths) (recording : List Sample) (t n2 : ℕ) → AreFaint sizes paths → n2 ≤ 2 →
+    IsReceivedOver 1024 paths (pss_grid n2) (samples_from recording t) → IsPrimaryWithin 14000 recording t n2

@@ -1,0 +1,58 @@
+-- Cells of one port that arrive over several paths: straight, and off walls, as fainter echoes that are up to 9
+-- samples late. So late they stay within the cyclic prefix. (own; the prefix is that of TS 36.211 section 6.12)
+use Rattle.std.specs.Prelude.{◌≡◌, ℕ, ◌+◌, ◌*◌, ◌^◌, ◌<◌, ◌≤◌, List}
+use Rattle.cs_num.specs.declared.Cpx.{Cpx}
+use Rattle.cs_num.specs.declared.Sample.{Sample}
+use Rattle.cs_num.specs.Complex.{square}
+use Rattle.sizes.specs.Sizes.{energy_below}
+use Rattle.crs.specs.Reference.{port_0}
+use Rattle.lte_types.specs.declared.carrier.Carrier.TheVariants.{OnePort}
+use Rattle.lte_types.specs.Numerology.{frame_length, normal, useful_start}
+use Rattle.lte_types.specs.Timing.{IsOffset}
+use Rattle.soft_bits.specs.Soft.{SeenSlot}
+use Rattle.budget.specs.Received.{off_by, samples_from}
+use Rattle.budget.specs.Paths.{Paths, AreFaint, arriving, over, path_bounds, IsSlotReceivedOver}
+use Rattle.cell_tx.specs.declared.antenna.Port.{Port}
+use Rattle.cell_tx.specs.declared.antenna.Port.TheVariants.{Only}
+use Rattle.cell_plan.specs.declared.cell.CellPlan.{CellPlan}
+use Rattle.cell_tx.specs.Sent.{Elements, sent}
+use Rattle.clean_air.specs.Load.{CarriesPlan}
+use Rattle.clean_air.specs.Faithful.{IsLookedAt}
+use Rattle.clean_air.specs.Through.{IsSlotThrough, IsSeenThroughBy}
+
+-- a law: a slot of seven symbols that are received over the same paths is seen through their channel, where the later
+-- ones are faint
+abbrev pub SlotOverIsThrough : Type 0
+SlotOverIsThrough =
+    (sizes : ℕ → ℕ) (paths : Paths) (recording : List Sample) (starts : ℕ → ℕ) (grids : ℕ → ℕ → Cpx)
+    (slot : SeenSlot) → AreFaint sizes paths → IsSlotReceivedOver paths port_0 7 recording starts grids slot →
+    IsSlotThrough path_bounds (square paths.first) (over paths) grids slot
+
+-- the energy of what the 128 samples from `start` on are off by from what arrives over paths of the samples that
+-- elements make
+abbrev pub errors_over : List Sample → Elements → ℕ → ℕ → Paths → ℕ → ℕ
+errors_over recording grid sfn offset paths start =
+    energy_below 128
+    (off_by (samples_from recording start) (λ n. arriving paths (λ i. sent grid sfn i) (start + n + offset)))
+
+-- elements of a cell's only port that carry the plan arrive in a recording over several paths, the later ones faint,
+-- from the frame numbered sfn on: in each symbol that the list looks at, whose useful part begins at the sample
+-- `start`, the errors are little beside the first path. Of all else that the recording holds nothing is asked.
+pub record IsEchoedBy (sizes : ℕ → ℕ) (paths : Paths) (recording : List Sample) (plan : CellPlan)
+    (grids : Port → Elements) (sfn offset : ℕ) : Type 0 where
+  pub number : sfn ≤ 1023
+  pub within : IsOffset offset
+  pub carries : CarriesPlan Only plan (grids Only)
+  pub sounds : 2 ^ 28 ≤ square paths.first
+  pub faint : AreFaint sizes paths
+  pub near : (frame slot symbol start : ℕ) → slot < 20 → symbol < 7 →
+      start + offset ≡ frame_length * frame + useful_start normal 0 slot symbol →
+      IsLookedAt OnePort sfn offset frame slot symbol start →
+      errors_over recording (grids Only) sfn offset paths start ≤ 1024 * square paths.first
+
+-- a law: such a cell is seen through channels
+abbrev pub EchoesAreThrough : Type 0
+EchoesAreThrough =
+    (sizes : ℕ → ℕ) (paths : Paths) (recording : List Sample) (plan : CellPlan) (grids : Port → Elements)
+    (sfn offset : ℕ) → plan.identity ≤ 503 → IsEchoedBy sizes paths recording plan grids sfn offset →
+    IsSeenThroughBy OnePort recording plan grids sfn offset
