@@ -174,3 +174,23 @@ four_amplitudes_are_seen = by_all 4 7 900 194 30 units_of_four
 
 pub four_amplitudes_are_seen_in_recording : AmplitudesAreSeenInRecording 4 7 900
 four_amplitudes_are_seen_in_recording = all_in_recording 4 7 900 four_amplitudes_are_seen
+
+-- of two with errors of 64 times the sum: 91 units
+units_of_quiet_two : AreUnits 2 64 1024 138 91
+units_of_quiet_two = record { some = omega arith; sending = λ n s h. omega (arith, h); errors = λ n s h. omega (arith, h); whole = λ n s h. omega (arith, h) }
+
+pub quiet_two_are_seen : AmplitudesAreSeen 2 64 1024
+quiet_two_are_seen = by_all 2 64 1024 138 91 units_of_quiet_two
+
+pub quiet_two_are_seen_in_recording : AmplitudesAreSeenInRecording 2 64 1024
+quiet_two_are_seen_in_recording = all_in_recording 2 64 1024 quiet_two_are_seen
+
+-- of four with errors of 4 times it: 23 units
+units_of_quiet_four : AreUnits 4 4 872 194 23
+units_of_quiet_four = record { some = omega arith; sending = λ n s h. omega (arith, h); errors = λ n s h. omega (arith, h); whole = λ n s h. omega (arith, h) }
+
+pub quiet_four_are_seen : AmplitudesAreSeen 4 4 872
+quiet_four_are_seen = by_all 4 4 872 194 23 units_of_quiet_four
+
+pub quiet_four_are_seen_in_recording : AmplitudesAreSeenInRecording 4 4 872
+quiet_four_are_seen_in_recording = all_in_recording 4 4 872 quiet_four_are_seen

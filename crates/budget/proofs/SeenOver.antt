@@ -14,7 +14,7 @@ use Rattle.cs_num.specs.Sums.{complex_sum_below}
 use Rattle.cs_num.proofs.Complex.{pair, square-within, plus-commutes, times-plus, times-plus_left, times-commutes}
 use Rattle.cs_num.proofs.Sums.{complex_sum_below_same, complex_sum_below_split, complex_sum_below_plus}
 use Rattle.sizes.specs.Sizes.{IsSized, energy_below, correlation_below}
-use Rattle.sizes.proofs.Algebra.{plus-minus, minus-plus, times-minus, times-nothing, times-associates, times-multiple, multiple-times, sum-times_right, conjugate-times, conjugate-plus, conjugate-multiple, multiple-plus, multiple_twice, sum-times, sum-multiple, sum_zero}
+use Rattle.sizes.proofs.Algebra.{plus-minus, minus-plus, times-minus, times-nothing, times-associates, times-multiple, multiple-times, sum-times_right, conjugate-times, conjugate-plus, conjugate-multiple, multiple-plus, multiple_twice, sum-times, sum-multiple, sum_zero, plus-nothing_right}
 use Rattle.sizes.proofs.Squares.{square-multiple, square-times, square-conjugate}
 use Rattle.sizes.proofs.Sized.{sized_gain, sized_plain, sized_more, sized-plus, sized-times, sized-sum, sized-sum_by}
 use Rattle.sizes.proofs.Products.{sized-multiple}
@@ -28,7 +28,7 @@ use Rattle.fold128.proofs.EntrySizes.{w-square}
 use Rattle.observe.specs.Seen.{seen}
 use Rattle.budget.specs.Received.{AreAmplitudes, in_parts, off_by, received_of, samples_from}
 use Rattle.budget.specs.Budget.{seen_in, sending_off}
-use Rattle.budget.specs.Paths.{Paths, AreFaint, turned_round, turned_off, received_over, weight, delayed, whole_channel, channel_over, arriving, PrefixTurnsRound, ArrivingIsReceived, TurnedPartIsSeen, TurnedSendingIsSmall, SendingOverIsSmall, AmplitudeIsSeenOver, AmplitudeIsSeenOverInRecording}
+use Rattle.budget.specs.Paths.{Paths, AreFaint, turned_round, turned_off, received_over, only_path, weight, delayed, whole_channel, channel_over, arriving, PrefixTurnsRound, ArrivingIsReceived, OnePathIsReceivedOver, TurnedPartIsSeen, TurnedSendingIsSmall, SendingOverIsSmall, AmplitudeIsSeenOver, AmplitudeIsSeenOverInRecording}
 use Rattle.budget.proofs.Products.{nearly_multiplicative}
 use Rattle.budget.proofs.Leakage.{tone_at}
 use Rattle.budget.proofs.Causes.{sending_is_small, joined_part, three_causes}
@@ -111,6 +111,19 @@ arriving_is_received quota paths grid sent samples place few is sounds quiet = r
       (λ n l. ap (minus (in_parts (samples n))) (prefix_turns_round paths (useful_at grid) sent place n few is l)))
       quiet;
 }
+
+pub one_path_is_received_over : OnePathIsReceivedOver
+unfolding sum_below total_below
+one_path_is_received_over quota gain grid samples received = (
+  record {
+    sounds = received.sounds;
+    quiet = subst (λ (e : ℕ). e ≤ quota * square gain)
+        (energy_same 128 (off_by samples (λ n. times gain (useful_at grid n))) (off_by samples (received_over (only_path gain) (useful_at grid)))
+        (λ n l. ap (minus (in_parts (samples n))) (sym (plus-nothing_right (times gain (useful_at grid n))))))
+        received.quiet;
+  },
+  record { late = λ path l. absurd (omega (arith, l)); near = λ path l. omega arith; sized = λ path l. absurd (omega (arith, l)); faint = omega arith },
+)
 
 -- ---- one path
 

@@ -23,7 +23,7 @@ use Rattle.crs.specs.declared.pattern.Pattern.{Pattern}
 use Rattle.soft_bits.specs.Estimate.{estimate}
 use Rattle.soft_bits.specs.Soft.{SeenSlot, pattern_seen, pattern_sent, pattern_pilot, pattern_channel, pattern_energy, soft_value}
 use Rattle.budget.specs.Received.{in_parts}
-use Rattle.budget.specs.Through.{Channel, Bounds, at_pilot, ArePilotsThrough, estimate_off, product_off, energy_most, ValuesSpeakThrough, level, OneGainLeavesRoom, OneGainIsThrough, OneGainIsRead}
+use Rattle.budget.specs.Through.{Channel, Bounds, at_pilot, ArePilotsThrough, estimate_off, product_off, energy_most, ValuesSpeakThrough, level, OneGainLeavesRoom, QuietGainLeavesRoom, OneGainIsThrough, OneGainIsRead}
 use Rattle.budget.proofs.Parts.{product-multiples, product_in_parts, square_in_parts, energy_in_parts}
 use Rattle.budget.proofs.Deviations.{deviation, seen_is, deviation-sized}
 use Rattle.budget.proofs.Near.{IsOff, line-off, line-multiple, line-level}
@@ -376,8 +376,11 @@ values_speak_through size n bounds pattern channel slot symbol k first second se
 pub one_gain_leaves_room : OneGainLeavesRoom
 one_gain_leaves_room = record { some = omega arith; high = omega arith; reads = omega arith; room = omega arith }
 
+pub quiet_gain_leaves_room : QuietGainLeavesRoom
+quiet_gain_leaves_room = record { some = omega arith; high = omega arith; reads = omega arith; room = omega arith }
+
 pub one_gain_is_through : OneGainIsThrough
-one_gain_is_through pattern gain slot some seen = record {
+one_gain_is_through most pattern gain slot some seen = record {
   sounds = some;
   pilot = seen;
   mean = means (square gain) (energy_below 24 (at_pilot pattern slot (level gain))) (total_below-within 24 (square gain) (λ i. square (at_pilot pattern slot (level gain) i)) (λ i l. itself (square gain)));
@@ -390,7 +393,7 @@ one_gain_is_through pattern gain slot some seen = record {
     means n e h = omega (arith, h)
 
 pub one_gain_is_read : OneGainIsRead
-one_gain_is_read pattern gain slot symbol k = record {
+one_gain_is_read most pattern gain slot symbol k = record {
   least = omega arith;
   straight = subst (λ (z : Cpx). 1000000 * square (minus z (multiple 3 gain)) ≤ 9 * (0 * 0) * square gain) (sym (line-level 3 23 gain (omega arith) (slot.identity % 3) k)) (none (multiple 3 gain));
 }

@@ -125,13 +125,13 @@ AmplitudeIsSeenInRecording quota most =
     IsSeenAs most gain (grid k) (seen recording start k)
 
 -- errors of at most `quota` times the gain's square make an amplitude be seen off by at most `most` times its size: 97
--- units of 2^31 for sending, so many for the errors, and 1 for rounding, where 4 are a unit of that
+-- units of 2^31 for sending, so many for the errors, and 1 for rounding; a unit is 4 of `most`
 pub record AreUnitsOf (quota most : ℕ) : Type 0 where
   pub errors : ℕ
   pub enough : 2 ^ 41 * quota * (16385 * 16385) ≤ (errors * 2 ^ 31) * (errors * 2 ^ 31)
   pub fits : 4 * (97 + errors + 1) ≤ most
 
--- so it is with each share that has such units, in a recording too
+-- each amplitude is seen by every share that has such units, in a recording too
 abbrev pub UnitsAreSeen : Type 0
 UnitsAreSeen =
     (quota most : ℕ) → AreUnitsOf quota most → AmplitudeIsSeen quota most × AmplitudeIsSeenInRecording quota most

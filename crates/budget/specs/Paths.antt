@@ -8,7 +8,7 @@ use Rattle.std.specs.Prelude.{if◌then◌else◌, slice_index_or}
 use Rattle.finite.specs.Sums.{total_below}
 use Rattle.cs_num.specs.declared.Cpx.{Cpx}
 use Rattle.cs_num.specs.declared.Sample.{Sample}
-use Rattle.cs_num.specs.Complex.{plus, times, conjugate, square, minus, multiple}
+use Rattle.cs_num.specs.Complex.{nothing, plus, times, conjugate, square, minus, multiple}
 use Rattle.cs_num.specs.Rounding.{rounded}
 use Rattle.sizes.specs.Sizes.{energy_below}
 use Rattle.fold128.specs.Tables.{w_at}
@@ -18,7 +18,7 @@ use Rattle.crs.specs.Qpsk.{point}
 use Rattle.crs.specs.declared.pattern.Pattern.{Pattern}
 use Rattle.soft_bits.specs.Soft.{SeenSlot, seen_at, pilot_subcarrier, pattern_symbol, pattern_seen, pattern_sent}
 use Rattle.observe.specs.Seen.{seen, seen_symbol}
-use Rattle.budget.specs.Received.{AreAmplitudes, off_by, received_of, samples_from, IsSeenNear}
+use Rattle.budget.specs.Received.{AreAmplitudes, IsReceived, off_by, received_of, samples_from, IsSeenNear}
 use Rattle.budget.specs.Budget.{seen_in, sending_off}
 use Rattle.budget.specs.Through.{Channel, Bounds, LeaveRoom, ArePilotsThrough, IsReadThrough, BothSpeak}
 
@@ -59,14 +59,14 @@ abbrev pub arriving : Paths → (ℕ → Cpx) → ℕ → Cpx
 arriving paths sent i =
     plus (times paths.first (sent i)) (received_of paths.later paths.gain (λ path. sent (i - paths.delay path)))
 
--- so by delays of at most 9 samples the useful part is turned round
+-- a useful part behind its prefix is turned round by delays of at most 9 samples
 abbrev pub PrefixTurnsRound : Type 0
 PrefixTurnsRound =
     (paths : Paths) (part sent : ℕ → Cpx) (place n : ℕ) →
     ((path : ℕ) → path < paths.later → paths.delay path ≤ 9) → HasPrefix part place sent → n < 128 →
     arriving paths sent (place + 9 + n) ≡ received_over paths part n
 
--- so samples that are near what arrives are received over the paths
+-- samples that are near what arrives are received over the paths
 abbrev pub ArrivingIsReceived : Type 0
 ArrivingIsReceived =
     (quota : ℕ) (paths : Paths) (grid sent samples : ℕ → Cpx) (place : ℕ) →
@@ -92,6 +92,16 @@ pub record AreFaint (sizes : ℕ → ℕ) (paths : Paths) : Type 0 where
       * total_below paths.later (λ path. weight (paths.delay path) * sizes path) ≤
       square paths.first
 
+-- one path alone: none is later
+abbrev pub only_path : Cpx → Paths
+only_path gain = record { first = gain; later = 0; delay = λ path. 0; gain = λ path. nothing }
+
+-- what is received with one gain is received over one path; of later ones there are none, so they are faint
+abbrev pub OnePathIsReceivedOver : Type 0
+OnePathIsReceivedOver =
+    (quota : ℕ) (gain : Cpx) (grid samples : ℕ → Cpx) → IsReceived quota gain grid samples →
+    IsReceivedOver quota (only_path gain) grid samples × AreFaint (λ path. 0) (only_path gain)
+
 -- ---- the channel
 
 -- what a delay makes of subcarrier k: 16384 times a turn at its frequency
@@ -107,7 +117,7 @@ whole_channel paths k =
 unfoldable pub channel_over : Paths → ℕ → Cpx
 channel_over paths k = rounded (whole_channel paths k) 14
 
--- it is one for all symbols
+-- paths as a channel, which is one for all symbols
 abbrev pub over : Paths → Channel
 over paths symbol k = channel_over paths k
 
@@ -126,7 +136,7 @@ TurnedPartIsSeen =
 abbrev pub turned_off : (ℕ → Cpx) → Cpx → ℕ → Cpx
 turned_off sent number k = minus (multiple (2 ^ 31) (spectrum_at sent k)) (multiple (2 ^ 35) number)
 
--- so a useful part turned round is seen as 64 times its amplitude times the turn of the delay, off by at most 123 units
+-- a useful part turned round is seen as 64 times its amplitude times the turn of the delay, off by at most 123 units
 abbrev pub TurnedSendingIsSmall : Type 0
 TurnedSendingIsSmall =
     (grid : ℕ → Cpx) (delay k : ℕ) → AreAmplitudes grid → delay ≤ 128 → k < 72 →
@@ -163,7 +173,7 @@ AmplitudeIsSeenOverInRecording =
 abbrev pub path_bounds : Bounds
 path_bounds = record { most = 1880; least = 940; mean = 1060; bend = 43 }
 
--- they leave room for values of size 1 and more
+-- the bounds of faint paths leave room for values of size 1 and more
 abbrev pub PathsLeaveRoom : Type 0
 PathsLeaveRoom = LeaveRoom 1 path_bounds
 

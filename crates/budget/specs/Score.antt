@@ -100,7 +100,8 @@ SentPairStandsAlone =
     LeaveTermsRoom most least → AreSeenThrough most least n gain n1 n2 half pss_seen sss_seen →
     PairStandsAlone n1 n2 half pss_seen sss_seen
 
--- and they are what is identified by a hit, where so much is seen at its place and one symbol of this prefix before it
+-- a hit tells the group and the half that were sent, where so much is seen at its place and one symbol of this prefix
+-- before it
 abbrev pub SentPairIsIdentifiedThrough : Type 0
 SentPairIsIdentifiedThrough =
     (most least n : ℕ) (gain : ℕ → Cpx) (prefix : Prefix) (recording : List Sample) (hit : Hit) (n1 : ℕ) (half : Half) →

@@ -24,7 +24,7 @@ pub record AreSignalsThrough (prefix : Prefix) (recording : List Sample) (t n1 n
   pub through :
       AreSeenThrough most least size channel n1 n2 half (seen recording t) (seen recording (t - symbol_step prefix))
 
--- so are those that are received with one gain
+-- signals that are received with one gain are seen through a channel
 abbrev pub SignalsAreThrough : Type 0
 SignalsAreThrough =
     (prefix : Prefix) (recording : List Sample) (t n1 n2 : ℕ) (half : Half) →
@@ -38,15 +38,15 @@ pub record AreSignalsOver (paths : Paths) (prefix : Prefix) (recording : List Sa
   pub primary : IsReceivedOver 1024 paths (pss_grid n2) (samples_from recording t)
   pub secondary : IsReceivedOver 1024 paths (sss_grid n1 n2 half) (samples_from recording (t - symbol_step prefix))
 
--- so are those, where later paths are faint
+-- signals that are received over the same paths are seen through a channel, where later paths are faint
 abbrev pub SignalsOverAreThrough : Type 0
 SignalsOverAreThrough =
     (sizes : ℕ → ℕ) (paths : Paths) (prefix : Prefix) (recording : List Sample) (t n1 n2 : ℕ) (half : Half) →
     AreFaint sizes paths → AreSignalsOver paths prefix recording t n1 n2 half →
     AreSignalsThrough prefix recording t n1 n2 half
 
--- and later paths are errors of the primary one: together with those of its samples their energy is at most 14000
--- times the square of the first gain
+-- later paths may count as errors of the primary signal: together with those of its samples their energy is at most
+-- 14000 times the square of the first gain
 abbrev pub PrimaryOverIsWithin : Type 0
 PrimaryOverIsWithin =
     (sizes : ℕ → ℕ) (paths : Paths) (recording : List Sample) (t n2 : ℕ) → AreFaint sizes paths → n2 ≤ 2 →

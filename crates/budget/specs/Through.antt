@@ -52,8 +52,8 @@ pub record IsReadThrough (bounds : Bounds) (n : ℕ) (pattern : Pattern) (channe
 
 -- ---- what the bounds leave
 
--- All is in units of the channel where it is read. So that numbers are whole, what is seen there is taken `least` times,
--- and the estimate, which is three times 64 * 16200 times the channel, 1000 * `least` times.
+-- Numbers here are in units of the channel where a value is read. So that they are whole, what is seen there is taken
+-- `least` times, and the estimate, which is three times 64 * 16200 times the channel, 1000 * `least` times.
 
 -- the estimate is off by the bend of the line, and by what the pilots are off
 abbrev pub estimate_off : Bounds → ℕ
@@ -100,22 +100,30 @@ ValuesSpeakThrough =
 abbrev pub level : Cpx → Channel
 level gain symbol k = gain
 
-abbrev pub level_bounds : Bounds
-level_bounds = record { most = 2316; least = 1000; mean = 1000; bend = 0 }
+-- what is seen is off by at most `most` times its size
+abbrev pub level_within : ℕ → Bounds
+level_within most = record { most = most; least = 1000; mean = 1000; bend = 0 }
 
--- it leaves room for values of size 1 and more
+abbrev pub level_bounds : Bounds
+level_bounds = level_within 2316
+
+-- one gain leaves room for values of size 1 and more
 abbrev pub OneGainLeavesRoom : Type 0
 OneGainLeavesRoom = LeaveRoom 1 level_bounds
+
+-- one gain leaves room for values of size 8 and more where errors are smaller
+abbrev pub QuietGainLeavesRoom : Type 0
+QuietGainLeavesRoom = LeaveRoom 8 (level_within 1920)
 
 -- pilots that are seen with one gain are seen through it, and each place can be read
 abbrev pub OneGainIsThrough : Type 0
 OneGainIsThrough =
-    (pattern : Pattern) (gain : Cpx) (slot : SeenSlot) → 1 ≤ square gain →
+    (most : ℕ) (pattern : Pattern) (gain : Cpx) (slot : SeenSlot) → 1 ≤ square gain →
     ((i : ℕ) → i < 24 →
-    IsSeenAs 2316 gain (pattern_sent pattern slot.identity slot.number i) (pattern_seen pattern slot i)) →
-    ArePilotsThrough level_bounds (square gain) pattern (level gain) slot
+    IsSeenAs most gain (pattern_sent pattern slot.identity slot.number i) (pattern_seen pattern slot i)) →
+    ArePilotsThrough (level_within most) (square gain) pattern (level gain) slot
 
 abbrev pub OneGainIsRead : Type 0
 OneGainIsRead =
-    (pattern : Pattern) (gain : Cpx) (slot : SeenSlot) (symbol k : ℕ) →
-    IsReadThrough level_bounds (square gain) pattern (level gain) slot symbol k
+    (most : ℕ) (pattern : Pattern) (gain : Cpx) (slot : SeenSlot) (symbol k : ℕ) →
+    IsReadThrough (level_within most) (square gain) pattern (level gain) slot symbol k

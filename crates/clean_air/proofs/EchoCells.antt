@@ -1,10 +1,12 @@
 -- A cell that arrives over several paths is seen through their channel, where the later ones are faint: each symbol with its prefix is received over them.
-use Rattle.std.proofs.Common.{◌≡◌, ℕ, ◌+◌, ◌-◌, ◌*◌, ◌/◌, ◌%◌, ◌<◌, ◌≤◌, List, inl, inr, arith, refl, ap, ap₂, subst, ◌∙◌}
+use Rattle.std.proofs.Common.{◌≡◌, ℕ, ◌+◌, ◌-◌, ◌*◌, ◌^◌, ◌/◌, ◌%◌, ◌<◌, ◌≤◌, List, [], ◌∷◌, inl, inr, arith, refl, ap, ap₂, sym, subst, ◌∙◌}
+use Rattle.finite.specs.Sums.{sum_below, total_below}
 use Rattle.std.proofs.Math.Path.{fun_ext}
 use Rattle.std.proofs.lemmas.Bool.Decides.{nat_tests}
 use Rattle.cs_num.specs.declared.Cpx.{Cpx}
 use Rattle.cs_num.specs.declared.Sample.{Sample}
 use Rattle.cs_num.specs.Complex.{times, square, minus}
+use Rattle.sizes.proofs.Algebra.{plus-nothing_right}
 use Rattle.sizes.proofs.Cauchy.{energy_same}
 use Rattle.fold128.specs.Symbol.{useful_at}
 use Rattle.crs.specs.Reference.{port_0}
@@ -18,8 +20,9 @@ use Rattle.explain.specs.Frame.{frame_at, seen_slot}
 use Rattle.explain.specs.System.{even_frame}
 use Rattle.budget.specs.Received.{in_parts, off_by, samples_from, IsSeenNear}
 use Rattle.budget.specs.Score.{sss_grid}
-use Rattle.budget.specs.Paths.{Paths, HasPrefix, arriving, over, path_bounds, channel_over, IsReceivedOver, IsSlotReceivedOver}
+use Rattle.budget.specs.Paths.{Paths, HasPrefix, only_path, arriving, over, path_bounds, channel_over, IsReceivedOver, IsSlotReceivedOver}
 use Rattle.budget.specs.SignalPaths.{AreSignalsOver}
+use Rattle.budget.proofs.Parts.{square_in_parts}
 use Rattle.budget.proofs.SeenOver.{arriving_is_received}
 use Rattle.budget.proofs.BendsOver.{paths_leave_room, paths_are_through, paths_are_read, place-seen, pilot-seen}
 use Rattle.budget.proofs.SignalPaths.{signals_over_are_through, primary_over_is_within}
@@ -31,8 +34,10 @@ use Rattle.cell_tx.proofs.Symbols.{frames_follow, prefixes_repeat}
 use Rattle.clean_air.specs.Faithful.{IsLookedAt, first_frame_of}
 use Rattle.clean_air.specs.Through.{ShowsSignals, IsFrameSlotThrough}
 use Rattle.clean_air.specs.Fading.{IsRead}
-use Rattle.clean_air.specs.Echo.{SlotOverIsThrough, IsEchoedBy, EchoesAreThrough}
+use Rattle.clean_air.specs.Echo.{SlotOverIsThrough, IsEchoedBy, EchoesAreThrough, LoadedIsEchoed}
+use Rattle.clean_air.specs.Load.{received_from}
 use Rattle.clean_air.proofs.Carrying.{of_primary_symbol, of_secondary_symbol}
+use Rattle.clean_air.proofs.LoadedErrors.{looked_inside, loaded_has_little_errors}
 use Rattle.clean_air.proofs.SentSymbols.{prefix_sent_symbol, prefix_known, IsTruePlace}
 use Rattle.clean_air.proofs.SentSlots.{slot_grid, references_stand, frame_is, symbol_shown}
 use Rattle.clean_air.proofs.Signals.{primary_symbol, secondary_symbol, whole_slot, first_slot, is_primary, is_secondary, signal_rows, slot_few}
@@ -105,7 +110,7 @@ module _ (sizes : ℕ → ℕ) (paths : Paths) (recording : List Sample) (plan :
         amplitudes = λ l inside. echoed.carries.small number (slot / 2) (7 * (slot % 2) + l);
         received = λ l inside.
             subst (λ m. IsReceivedOver 1024 paths (slot_grid grid m slot l) (samples_from recording (useful_start normal (frame_at (start_of offset) j) slot l))) frame.number
-            (symbol_over n slot l (useful_start normal (frame_at (start_of offset) j) slot l) few inside (omega (arith, frame.place)) (elim read [ | inl master ↦ inl master | inr system ↦ inr (inl system) ]));
+            (symbol_over n slot l (useful_start normal (frame_at (start_of offset) j) slot l) few inside (omega (arith, frame.place)) (elim read [ inl master ↦ inl master | inr system ↦ inr (inl system) ]));
         references = λ i inside. references_stand plan grid echoed.carries number slot i;
       }
 
@@ -175,3 +180,29 @@ echoes_are_through sizes paths recording plan grids sfn offset known echoed = re
   master = slot_through sizes paths recording plan grids sfn offset echoed 0 1 (omega arith) (inl (omega arith, refl));
   system = λ slot five. slot_through sizes paths recording plan grids sfn offset echoed (even_frame (number_at_start sfn offset) 0) slot (omega (arith, five)) (inr (omega arith, five));
 }
+
+-- ---- one path
+
+pub loaded_is_echoed : LoadedIsEchoed
+unfolding sum_below total_below
+loaded_is_echoed recording plan grid sfn offset gain eps long clean = record {
+  number = clean.number;
+  within = clean.within;
+  carries = clean.carries Only refl;
+  sounds = some (square gain) (square (in_parts gain)) (square_in_parts gain) clean.gains_are.least;
+  faint = record { late = λ path l. absurd (omega (arith, l)); near = λ path l. omega arith; sized = λ path l. absurd (omega (arith, l)); faint = omega arith };
+  near = λ frame slot symbol start few row place looked.
+      let inside = looked_inside OnePort sfn offset frame slot symbol start few row place looked in
+      quiet (square gain) (square (in_parts gain)) (eps * eps) _ (square_in_parts gain) clean.bound
+      (subst (λ (e : ℕ). e ≤ 2 ^ 36 * (eps * eps))
+      (energy_same 128 (off_by (samples_from recording start) (λ n. received_from OnePort (λ port. grid) sfn offset (in_parts gain ∷ []) (start + n)))
+      (off_by (samples_from recording start) (λ n. arriving (only_path (in_parts gain)) (λ i. sent grid sfn i) (start + n + offset)))
+      (λ n l. ap (minus (in_parts (samples_from recording start n))) (sym (plus-nothing_right (times (in_parts gain) (sent grid sfn (start + n + offset)))))))
+      (loaded_has_little_errors OnePort recording plan (λ port. grid) sfn offset (gain ∷ []) eps start clean (omega (arith, long, inside))));
+}
+  where
+    some : (n p : ℕ) → p ≡ 268435456 * n → 1 ≤ n → 2 ^ 28 ≤ p
+    some n p same least = omega (arith, same, least)
+
+    quiet : (n p q energy : ℕ) → p ≡ 268435456 * n → q ≤ 4 * n → energy ≤ 2 ^ 36 * q → energy ≤ 1024 * p
+    quiet n p q energy same bound small = omega (arith, same, bound, small)

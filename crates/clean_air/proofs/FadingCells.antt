@@ -1,8 +1,9 @@
 -- A cell whose gain turns and fades slowly is seen through channels: in each slot that is read, through the gains of its symbols.
-use Rattle.std.proofs.Common.{ℕ, ◌+◌, ◌-◌, ◌*◌, ◌/◌, ◌%◌, ◌<◌, ◌≤◌, List, [], ◌∷◌, inl, inr, arith, refl}
+use Rattle.std.proofs.Common.{◌≡◌, ℕ, ◌+◌, ◌-◌, ◌*◌, ◌/◌, ◌%◌, ◌<◌, ◌≤◌, List, [], ◌∷◌, inl, inr, arith, refl, ℤ, pos, ◌-ℤ◌}
+use Rattle.std.proofs.lemmas.Int.{ints}
 use Rattle.cs_num.specs.declared.Cpx.{Cpx}
 use Rattle.cs_num.specs.declared.Sample.{Sample}
-use Rattle.cs_num.specs.Complex.{square}
+use Rattle.cs_num.specs.Complex.{square, minus, value_at}
 use Rattle.lte_types.specs.declared.carrier.Carrier.TheVariants.{OnePort}
 use Rattle.lte_types.specs.declared.frame.Half.{Half}
 use Rattle.lte_types.specs.Numerology.{normal, useful_start, symbol_step, subframe_of}
@@ -20,7 +21,7 @@ use Rattle.cell_plan.specs.declared.cell.CellPlan.{CellPlan}
 use Rattle.cell_tx.specs.Sent.{Elements}
 use Rattle.clean_air.specs.Faithful.{first_frame_of}
 use Rattle.clean_air.specs.Through.{ShowsSignals, IsFrameSlotThrough}
-use Rattle.clean_air.specs.Fading.{IsSlotFading, fading_bounds, by_symbol, LeaveFadingRoom, IsRead, IsFadingBy, FadingIsThrough}
+use Rattle.clean_air.specs.Fading.{IsSlotFading, fading_bounds, by_symbol, LeaveFadingRoom, IsRead, IsFadingBy, FadingIsThrough, FaithfulIsFading}
 use Rattle.clean_air.proofs.SentSymbols.{prefix_known, IsTruePlace}
 use Rattle.clean_air.proofs.SentSlots.{slot_grid, references_stand, frame_is, symbol_with_errors, symbol_shown}
 use Rattle.clean_air.proofs.Signals.{primary_is, secondary_is, received_with, is_primary, is_secondary, signal_rows, slot_few, primary_within}
@@ -112,4 +113,24 @@ fading_is_through quota bend recording plan grids sfn offset gains signal_gains 
   signals = signals_stand quota bend recording plan grids sfn offset gains signal_gains fading known;
   master = slot_through quota bend recording plan grids sfn offset gains signal_gains fading leave 0 1 (omega arith) (inl (omega arith, refl));
   system = λ slot five. slot_through quota bend recording plan grids sfn offset gains signal_gains fading leave (even_frame (number_at_start sfn offset) 0) slot (omega (arith, five)) (inr (omega arith, five));
+}
+
+-- ---- one gain
+
+itself : (bend : ℕ) (z : Cpx) → 1000000 * square (minus z z) ≤ bend * bend * square z
+itself bend z = rw (nought z.re, nought z.im) (omega arith)
+  where
+    nought : (a : ℤ) → a -ℤ a ≡ pos 0
+    nought a = omega (arith, ints)
+
+pub faithful_is_fading : FaithfulIsFading
+faithful_is_fading recording plan grids sfn offset gains faithful = record {
+  number = faithful.number;
+  within = faithful.within;
+  carries = faithful.carries;
+  sounds = λ frame slot symbol. faithful.gains_are.sounds;
+  signals_sound = λ frame slot. faithful.gains_are.sounds;
+  slow = λ frame slot read l m few inside. itself 0 (value_at gains 0);
+  near = λ frame slot symbol start few inside place read. faithful.near frame slot symbol start few inside place (elim read [ inl master ↦ inl master | inr system ↦ inr (inl system) ]);
+  signals_near = λ frame slot symbol start few inside place signal. faithful.near frame slot symbol start few inside place (inr (inr signal));
 }

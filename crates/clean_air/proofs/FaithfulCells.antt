@@ -29,8 +29,8 @@ received_slot_is_through recording starts grids slot is =
     let pilots = pattern_pilots_seen 1800 2316 amplitude_is_seen_in_recording port_0 7 recording starts grids slot is (omega arith) in
     record {
       room = one_gain_leaves_room;
-      pilots = one_gain_is_through port_0 is.gain slot (some (square is.gain) pilots.sounds) pilots.pilot;
-      read = λ symbol k first second few inside same. one_gain_is_read port_0 is.gain slot symbol k;
+      pilots = one_gain_is_through 2316 port_0 is.gain slot (some (square is.gain) pilots.sounds) pilots.pilot;
+      read = λ symbol k first second few inside same. one_gain_is_read 2316 port_0 is.gain slot symbol k;
       seen = λ symbol k first second few inside same.
           subst (λ (z : Cpx). IsSeenAs 2316 is.gain z (seen_at slot symbol k)) same
           (pattern_place_seen 1800 2316 amplitude_is_seen_in_recording port_0 7 recording starts grids slot is symbol k few inside);
@@ -44,7 +44,7 @@ module _ (recording : List Sample) (plan : CellPlan) (grids : Port → Elements)
   slot_through : (j slot : ℕ) → slot < 20 → IsOfMaster offset (first_frame_of offset + j) slot ⊎ IsOfSystem OnePort sfn offset (first_frame_of offset + j) slot →
       IsFrameSlotThrough recording plan.identity (grids Only) sfn offset j slot
   slot_through j slot few read =
-      let received = each_slot_received recording plan grids sfn offset gains faithful j slot few (λ l inside. elim read [ | inl master ↦ inl master | inr system ↦ inr (inl system) ]) in
+      let received = each_slot_received recording plan grids sfn offset gains faithful j slot few (λ l inside. elim read [ inl master ↦ inl master | inr system ↦ inr (inl system) ]) in
       record {
         bounds = level_bounds;
         size = square received.gain;

@@ -132,7 +132,7 @@ system_frame LongPrefix sfn offset frame slot is = absurd is
 system_frame FourPorts sfn offset frame slot is = absurd is
 
 -- they all lie in the first three frames that are sent, and so in the recording
-looked_inside : (carrier : Carrier) (sfn offset frame slot symbol start : ℕ) → slot < 20 → symbol < symbols_of_slot (prefix_of carrier) →
+pub looked_inside : (carrier : Carrier) (sfn offset frame slot symbol start : ℕ) → slot < 20 → symbol < symbols_of_slot (prefix_of carrier) →
     start + offset ≡ 19200 * frame + useful_start (prefix_of carrier) 0 slot symbol → IsLookedAt carrier sfn offset frame slot symbol start → start + 128 ≤ 57600
 looked_inside carrier sfn offset frame slot symbol start few row place looked = elim looked [
   | inl master ↦ let first = first_small offset in early (omega (arith, first, master.0))

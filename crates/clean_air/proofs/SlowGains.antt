@@ -234,3 +234,13 @@ turning_leaves_room = record {
   wider = omega arith;
   room = record { some = omega arith; high = omega arith; reads = omega arith; room = omega arith };
 }
+
+-- one gain
+pub still_leaves_room : LeaveFadingRoom 1800 0
+still_leaves_room = record {
+  own = 2316;
+  most = 2316;
+  units = record { errors = 481; enough = omega arith; fits = omega arith };
+  wider = omega arith;
+  room = record { some = omega arith; high = omega arith; reads = omega arith; room = omega arith };
+}

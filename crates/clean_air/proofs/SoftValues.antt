@@ -12,28 +12,40 @@ use Rattle.observe.specs.Seen.{seen, seen_symbol}
 use Rattle.soft_bits.specs.Soft.{SeenSlot, seen_at, pilot_subcarrier, pattern_symbol, pattern_seen, pattern_sent, pattern_energy, soft_values}
 use Rattle.budget.specs.Received.{AreAmplitudes, IsReceived, IsSeenAs, samples_from}
 use Rattle.budget.specs.Budget.{AmplitudeIsSeenInRecording}
-use Rattle.budget.specs.Through.{level, level_bounds}
-use Rattle.clean_air.specs.Values.{ArePatternSeen, SeenPairSupportsBits, IsPatternReceived, ValuesSupportBits, ReceivedSlotIsHeard}
+use Rattle.budget.specs.Through.{level, level_within, LeaveRoom}
+use Rattle.clean_air.specs.Values.{ArePatternSeen, SeenPairSupportsBits, IsPatternReceived, ValuesSupportBits, SpeaksFor, ReceivedSlotIsHeard, QuietSlotIsHeard}
 use Rattle.budget.proofs.Pilots.{IsPilot, pilot-square}
-use Rattle.budget.proofs.Seen.{amplitude_is_seen_in_recording}
-use Rattle.budget.proofs.Through.{values_speak_through, one_gain_leaves_room, one_gain_is_through, one_gain_is_read}
+use Rattle.budget.proofs.Seen.{amplitude_is_seen_in_recording, quiet_amplitude_is_seen_in_recording}
+use Rattle.budget.proofs.Through.{values_speak_through, one_gain_leaves_room, quiet_gain_leaves_room, one_gain_is_through, one_gain_is_read}
 use Rattle.clean_air.proofs.Estimates.{clean_pilots}
 
 -- ---- a place
 
-pub seen_pair_supports_bits : SeenPairSupportsBits
-seen_pair_supports_bits pattern gain slot z k first second seen here =
-    let both = values_speak_through 1 (square gain) level_bounds pattern (level gain) slot 0 k first second z one_gain_leaves_room
-    (one_gain_is_through pattern gain slot (some (square gain) seen.sounds) seen.pilot) (one_gain_is_read pattern gain slot 0 k) here in
+pair_supports_bits : (most size : ℕ) → LeaveRoom size (level_within most) → SeenPairSupportsBits most size
+pair_supports_bits most size leave pattern gain slot z k first second seen here =
+    let both = values_speak_through size (square gain) (level_within most) pattern (level gain) slot 0 k first second z leave
+    (one_gain_is_through most pattern gain slot (some (square gain) seen.sounds) seen.pilot) (one_gain_is_read most pattern gain slot 0 k) here in
     record { re = both.re; im = both.im }
   where
     some : (n : ℕ) → 2 ^ 28 ≤ n → 1 ≤ n
     some n h = omega (arith, h)
 
+pub seen_pair_supports_bits : SeenPairSupportsBits 2316 1
+seen_pair_supports_bits = pair_supports_bits 2316 1 one_gain_leaves_room
+
+pub quiet_pair_supports_bits : SeenPairSupportsBits 1920 8
+quiet_pair_supports_bits = pair_supports_bits 1920 8 quiet_gain_leaves_room
+
 -- of port 0 with the normal prefix
-pub values_support_bits : ValuesSupportBits
+place_supports_bits : (most size : ℕ) → SeenPairSupportsBits most size → ValuesSupportBits most size
 unfolding soft_values
-values_support_bits gain slot symbol k first second seen here = seen_pair_supports_bits port_0 gain slot (seen_at slot symbol k) k first second seen here
+place_supports_bits most size supports gain slot symbol k first second seen here = supports port_0 gain slot (seen_at slot symbol k) k first second seen here
+
+pub values_support_bits : ValuesSupportBits 2316 1
+values_support_bits = place_supports_bits 2316 1 seen_pair_supports_bits
+
+pub quiet_values_support_bits : ValuesSupportBits 1920 8
+quiet_values_support_bits = place_supports_bits 1920 8 quiet_pair_supports_bits
 
 -- ---- the energy of the pilots, with one gain
 
@@ -101,9 +113,16 @@ module _ (quota most : ℕ) (are_seen : AmplitudeIsSeenInRecording quota most) (
         (pattern_place_seen (pattern_symbol pattern slot.identity i) (pilot_subcarrier slot.identity i) (symbol-few count pattern slot.identity i later) (omega (arith, l)));
   }
 
+received_speaks : (quota most size : ℕ) → AmplitudeIsSeenInRecording quota most → ValuesSupportBits most size → (recording : List Sample) (starts : ℕ → ℕ) (grids : ℕ → ℕ → Cpx) (slot : SeenSlot) →
+    IsPatternReceived quota port_0 7 recording starts grids slot → SpeaksFor size grids slot
+received_speaks quota most size are_seen support recording starts grids slot is symbol k first second few inside same =
+    support is.gain slot symbol k first second
+    (pattern_pilots_seen quota most are_seen port_0 7 recording starts grids slot is (omega arith))
+    (subst (λ (z : Cpx). IsSeenAs most is.gain z (seen_at slot symbol k)) same
+    (pattern_place_seen quota most are_seen port_0 7 recording starts grids slot is symbol k few inside))
+
 pub received_slot_is_heard : ReceivedSlotIsHeard
-received_slot_is_heard recording starts grids slot is symbol k first second few inside same =
-    values_support_bits is.gain slot symbol k first second
-    (pattern_pilots_seen 1800 2316 amplitude_is_seen_in_recording port_0 7 recording starts grids slot is (omega arith))
-    (subst (λ (z : Cpx). IsSeenAs 2316 is.gain z (seen_at slot symbol k)) same
-    (pattern_place_seen 1800 2316 amplitude_is_seen_in_recording port_0 7 recording starts grids slot is symbol k few inside))
+received_slot_is_heard = received_speaks 1800 2316 1 amplitude_is_seen_in_recording values_support_bits
+
+pub quiet_slot_is_heard : QuietSlotIsHeard
+quiet_slot_is_heard = received_speaks 1024 1920 8 quiet_amplitude_is_seen_in_recording quiet_values_support_bits

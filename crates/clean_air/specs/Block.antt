@@ -52,7 +52,8 @@ HeardSubframeTells =
     IsSubframeHeard first second places (shared_scrambled first (matched_bit row rv word)) →
     TellsBlock row rv word (shared_values first second cfi start blocks)
 
--- they do where both slots are heard, and the places of the blocks carry the scrambled bits
+-- the values of resource blocks tell a word where both slots are heard, and the places of the blocks carry its
+-- scrambled bits
 abbrev pub CarriedBlockIsTold : Type 0
 CarriedBlockIsTold =
     (grids : ℕ → ℕ → Cpx) (first second : SeenSlot) (cfi start blocks : ℕ) (row : Row) (rv : ℕ) (word : List Bool) →

@@ -1,22 +1,22 @@
 -- Cells of one port that arrive over several paths: straight, and off walls, as fainter echoes that are up to 9
 -- samples late. So late they stay within the cyclic prefix. (own; the prefix is that of TS 36.211 section 6.12)
-use Rattle.std.specs.Prelude.{◌≡◌, ℕ, ◌+◌, ◌*◌, ◌^◌, ◌<◌, ◌≤◌, List}
+use Rattle.std.specs.Prelude.{◌≡◌, ℕ, ◌+◌, ◌*◌, ◌^◌, ◌<◌, ◌≤◌, List, length}
 use Rattle.cs_num.specs.declared.Cpx.{Cpx}
 use Rattle.cs_num.specs.declared.Sample.{Sample}
 use Rattle.cs_num.specs.Complex.{square}
 use Rattle.sizes.specs.Sizes.{energy_below}
 use Rattle.crs.specs.Reference.{port_0}
 use Rattle.lte_types.specs.declared.carrier.Carrier.TheVariants.{OnePort}
-use Rattle.lte_types.specs.Numerology.{frame_length, normal, useful_start}
+use Rattle.lte_types.specs.Numerology.{frame_length, least_samples, normal, useful_start}
 use Rattle.lte_types.specs.Timing.{IsOffset}
 use Rattle.soft_bits.specs.Soft.{SeenSlot}
-use Rattle.budget.specs.Received.{off_by, samples_from}
-use Rattle.budget.specs.Paths.{Paths, AreFaint, arriving, over, path_bounds, IsSlotReceivedOver}
+use Rattle.budget.specs.Received.{in_parts, off_by, samples_from}
+use Rattle.budget.specs.Paths.{Paths, AreFaint, only_path, arriving, over, path_bounds, IsSlotReceivedOver}
 use Rattle.cell_tx.specs.declared.antenna.Port.{Port}
 use Rattle.cell_tx.specs.declared.antenna.Port.TheVariants.{Only}
 use Rattle.cell_plan.specs.declared.cell.CellPlan.{CellPlan}
 use Rattle.cell_tx.specs.Sent.{Elements, sent}
-use Rattle.clean_air.specs.Load.{CarriesPlan}
+use Rattle.clean_air.specs.Load.{CarriesPlan, IsLoaded}
 use Rattle.clean_air.specs.Faithful.{IsLookedAt}
 use Rattle.clean_air.specs.Through.{IsSlotThrough, IsSeenThroughBy}
 
@@ -56,3 +56,10 @@ EchoesAreThrough =
     (sizes : ℕ → ℕ) (paths : Paths) (recording : List Sample) (plan : CellPlan) (grids : Port → Elements)
     (sfn offset : ℕ) → plan.identity ≤ 503 → IsEchoedBy sizes paths recording plan grids sfn offset →
     IsSeenThroughBy OnePort recording plan grids sfn offset
+
+-- a law: a recording that is clean of a cell, with a whole gain, holds it over one path, with the gain in parts
+abbrev pub LoadedIsEchoed : Type 0
+LoadedIsEchoed =
+    (recording : List Sample) (plan : CellPlan) (grid : Elements) (sfn offset : ℕ) (gain : Cpx) (eps : ℕ) →
+    least_samples ≤ length recording → IsLoaded recording plan grid sfn offset gain eps →
+    IsEchoedBy (λ path. 0) (only_path (in_parts gain)) recording plan (λ port. grid) sfn offset

@@ -3,7 +3,7 @@
 use Rattle.std.specs.Prelude.{◌≡◌, ℕ, ◌+◌, ◌*◌, ◌^◌, ◌<◌, ◌≤◌, ◌⊎◌, List, [], ◌∷◌, slice_index_or}
 use Rattle.cs_num.specs.declared.Cpx.{Cpx}
 use Rattle.cs_num.specs.declared.Sample.{Sample}
-use Rattle.cs_num.specs.Complex.{square, minus}
+use Rattle.cs_num.specs.Complex.{square, minus, value_at}
 use Rattle.crs.specs.Reference.{port_0}
 use Rattle.lte_types.specs.declared.carrier.Carrier.TheVariants.{OnePort}
 use Rattle.lte_types.specs.Numerology.{frame_length, normal, useful_start}
@@ -18,7 +18,7 @@ use Rattle.cell_tx.specs.Ports.{carrier_of}
 use Rattle.cell_plan.specs.declared.cell.CellPlan.{CellPlan}
 use Rattle.cell_tx.specs.Sent.{Elements}
 use Rattle.clean_air.specs.Load.{CarriesPlan}
-use Rattle.clean_air.specs.Faithful.{IsOfMaster, IsOfSystem, IsOfPrimary, IsOfSecondary, errors_from}
+use Rattle.clean_air.specs.Faithful.{IsOfMaster, IsOfSystem, IsOfPrimary, IsOfSecondary, errors_from, IsFaithfulBy}
 use Rattle.clean_air.specs.Through.{IsSlotThrough, IsSeenThroughBy}
 
 -- ---- a slot
@@ -104,3 +104,11 @@ FadingIsThrough =
     (gains : ℕ → ℕ → ℕ → Cpx) (signal_gains : ℕ → ℕ → Cpx) → LeaveFadingRoom quota bend → plan.identity ≤ 503 →
     IsFadingBy quota bend recording plan grids sfn offset gains signal_gains →
     IsSeenThroughBy OnePort recording plan grids sfn offset
+
+-- a law: a cell to which the recording is faithful is one whose gains differ by nothing
+abbrev pub FaithfulIsFading : Type 0
+FaithfulIsFading =
+    (recording : List Sample) (plan : CellPlan) (grids : Port → Elements) (sfn offset : ℕ) (gains : List Cpx) →
+    IsFaithfulBy OnePort recording plan grids sfn offset gains →
+    IsFadingBy 1800 0 recording plan grids sfn offset (λ frame slot symbol. value_at gains 0)
+    (λ frame slot. value_at gains 0)

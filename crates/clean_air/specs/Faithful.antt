@@ -1,6 +1,7 @@
--- A recording is faithful to a cell: in each symbol at which the list of the cell's carrier looks, it is what the
--- cell's antenna ports send, each times a gain in parts of 2^-14, up to errors of little energy. Of all else that the
--- recording holds nothing is asked. (own; frames, slots and symbols are those of TS 36.211 sections 4.1 and 6.2)
+-- A recording is faithful to a cell: in each symbol of the slots that the list of the cell's carrier reads, in the
+-- primary signals at which it looks and in one of the secondary ones, it is what the cell's antenna ports send, each
+-- times a gain in parts of 2^-14, up to errors of little energy. Of all else that the recording holds nothing is
+-- asked. (own; frames, slots and symbols are those of TS 36.211 sections 4.1 and 6.2)
 use Rattle.std.specs.Prelude.{◌≡◌, ℕ, ◌+◌, ◌*◌, ◌^◌, ◌/◌, ◌%◌, ◌<◌, ◌≤◌, ◌⊎◌, nat_eq, if◌then◌else◌}
 use Rattle.std.specs.Prelude.{List, [], ◌∷◌, length, map}
 use Rattle.cs_num.specs.declared.Cpx.{Cpx}
@@ -49,11 +50,11 @@ first_frame_of offset = if nat_eq offset 0 then 0 else 1
 abbrev pub even_frame_of : ℕ → ℕ → ℕ
 even_frame_of sfn offset = first_frame_of offset + number_at_start sfn offset % 2
 
--- a symbol of slot 1 of the first frame, which holds the broadcast channel (TS 36.211 section 6.6)
+-- any symbol of slot 1 of the first frame, which holds the broadcast channel (TS 36.211 section 6.6)
 abbrev pub IsOfMaster : ℕ → ℕ → ℕ → Type 0
 IsOfMaster offset frame slot = (frame ≡ first_frame_of offset) × (slot ≡ 1)
 
--- a symbol of subframe 5 of the first frame of even number, which holds SIB1 (TS 36.331 section 5.2.1.2); it is read
+-- any symbol of subframe 5 of the first frame of even number, which holds SIB1 (TS 36.331 section 5.2.1.2); it is read
 -- with the normal prefix, of one or two ports
 abbrev pub IsOfSystem : Carrier → ℕ → ℕ → ℕ → ℕ → Type 0
 IsOfSystem OnePort sfn offset frame slot = (frame ≡ even_frame_of sfn offset) × (slot / 2 ≡ 5)
@@ -79,7 +80,8 @@ pub record IsOfSecondary (carrier : Carrier) (slot symbol start : ℕ) : Type 0 
   pub from_middle : last_place < start + symbol_step (prefix_of carrier) + half_frame_length
   pub to_last : start + symbol_step (prefix_of carrier) ≤ last_place
 
--- the list of a carrier looks at this symbol of a cell, whose useful part begins at this sample
+-- the list of a carrier looks at this symbol of a cell, whose useful part begins at this sample: it is of a slot that
+-- the list reads, or it is one of these signals
 abbrev pub IsLookedAt : Carrier → ℕ → ℕ → ℕ → ℕ → ℕ → ℕ → Type 0
 IsLookedAt carrier sfn offset frame slot symbol start =
     IsOfMaster offset frame slot ⊎ (IsOfSystem carrier sfn offset frame slot

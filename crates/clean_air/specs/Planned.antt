@@ -57,7 +57,7 @@ IsFaithfulPlan recording entry answer =
     entry.id ≡ plan.identity → entry.start ≡ start_of offset → entry.sfn ≡ number_at_start sfn offset →
     answer ≡ Some plan
 
--- so where the recording is clean of it
+-- where the recording is clean of a cell that can be sent, the entry's plan is the one by which it was sent
 abbrev pub IsSentPlan : List Sample → Entry → Option CellPlan → Type 0
 IsSentPlan recording entry answer =
     (plan : CellPlan) (grid : Elements) (sfn offset : ℕ) (gain : Cpx) (eps : ℕ) → IsSendable plan →

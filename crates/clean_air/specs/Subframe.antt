@@ -50,7 +50,8 @@ CarriedSubframeIsHeard =
     CarryInSubframe grids places bits →
     AreHeard 1 (2 * length places) bits (placed_values (in_subframe first second) places)
 
--- and the values of the shared channel speak for the bits before scrambling, where its places carry them
+-- where both slots are heard, the values of the shared channel speak for the bits before scrambling that its places
+-- carry
 abbrev pub CarriedBlocksAreHeard : Type 0
 CarriedBlocksAreHeard =
     (grids : ℕ → ℕ → Cpx) (first second : SeenSlot) (cfi start blocks : ℕ) (bits : ℕ → Bool) →

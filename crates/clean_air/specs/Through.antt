@@ -54,7 +54,8 @@ abbrev pub slot_elements : Elements → ℕ → ℕ → ℕ → ℕ → Cpx
 slot_elements grid number slot l = grid number (slot / 2) (7 * (slot % 2) + l)
 
 -- a slot of port 0 is seen through a channel, beside a size whose square is n: so are its pilots, and so is each place
--- that carries two bits, which can be read; and the bounds leave room
+-- that holds a point of two bits, whether the list reads it or not; each of these can be read, and the bounds leave
+-- room
 pub record IsSlotThrough (bounds : Bounds) (n : ℕ) (channel : Channel) (grids : ℕ → ℕ → Cpx) (slot : SeenSlot) :
     Type 0 where
   pub room : LeaveRoom 1 bounds
@@ -77,7 +78,7 @@ ReceivedSlotIsThrough =
     (received : IsSlotReceived recording starts grids slot) →
     IsSlotThrough level_bounds (square received.gain) (level received.gain) grids slot
 
--- it is seen through some channel
+-- a slot is seen through some channel
 pub record IsThrough (grids : ℕ → ℕ → Cpx) (slot : SeenSlot) : Type 0 where
   pub bounds : Bounds
   pub size : ℕ

@@ -1,4 +1,4 @@
--- The soft values of a clean slot: each speaks for the bit that was sent, and is not small. (own)
+-- The soft values of a clean slot: each speaks for the bit that was sent. (own)
 use Rattle.std.specs.Prelude.{◌≡◌, ℕ, ◌^◌, ◌<◌, ◌≤◌, Bool, List, [], slice_index_or, ℤ, pos}
 use Rattle.cs_num.specs.declared.Cpx.{Cpx}
 use Rattle.cs_num.specs.declared.Sample.{Sample}
@@ -28,22 +28,22 @@ pub record ArePatternSeen (most : ℕ) (pattern : Pattern) (gain : Cpx) (slot : 
 abbrev pub ArePilotsSeen : ℕ → Cpx → SeenSlot → Type 0
 ArePilotsSeen most gain slot = ArePatternSeen most port_0 gain slot
 
--- where what stands for two bits is seen at a subcarrier with the gain of a slot's pilots, its soft values by these
--- speak for the bits
-abbrev pub SeenPairSupportsBits : Type 0
-SeenPairSupportsBits =
+-- where what stands for two bits is seen at a subcarrier with the gain of a slot's pilots, each off by at most `most`
+-- times its size, its soft values by these speak for the bits with this size and more
+abbrev pub SeenPairSupportsBits : ℕ → ℕ → Type 0
+SeenPairSupportsBits most size =
     (pattern : Pattern) (gain : Cpx) (slot : SeenSlot) (seen : Cpx) (k : ℕ) (first second : Bool) →
-    ArePatternSeen 2316 pattern gain slot →
-    IsSeenAs 2316 gain (point first second) seen →
-    SupportBoth 1 first second
+    ArePatternSeen most pattern gain slot →
+    IsSeenAs most gain (point first second) seen →
+    SupportBoth size first second
     (soft_pair (times seen (conjugate (pattern_channel pattern slot k))) (pattern_energy pattern slot))
 
 -- where a place carries two bits and is seen with the gain of the slot's pilots, its soft values speak for them
-abbrev pub ValuesSupportBits : Type 0
-ValuesSupportBits =
-    (gain : Cpx) (slot : SeenSlot) (symbol k : ℕ) (first second : Bool) → ArePilotsSeen 2316 gain slot →
-    IsSeenAs 2316 gain (point first second) (seen_at slot symbol k) →
-    SupportBoth 1 first second (soft_values slot symbol k)
+abbrev pub ValuesSupportBits : ℕ → ℕ → Type 0
+ValuesSupportBits most size =
+    (gain : Cpx) (slot : SeenSlot) (symbol k : ℕ) (first second : Bool) → ArePilotsSeen most gain slot →
+    IsSeenAs most gain (point first second) (seen_at slot symbol k) →
+    SupportBoth size first second (soft_values slot symbol k)
 
 -- the first symbols of a slot, as many as the count says, are received in a recording with one gain, each from its
 -- place on, and hold the reference signals of the slot's identity and number by a pattern
@@ -61,12 +61,22 @@ pub record IsPatternReceived (quota : ℕ) (pattern : Pattern) (count : ℕ) (re
 abbrev pub IsSlotReceived : List Sample → (ℕ → ℕ) → (ℕ → ℕ → Cpx) → SeenSlot → Type 0
 IsSlotReceived recording starts grids slot = IsPatternReceived 1800 port_0 7 recording starts grids slot
 
--- the soft values of a slot speak for what a grid says: at each place that carries two bits, for these
-abbrev pub IsSlotHeard : (ℕ → ℕ → Cpx) → SeenSlot → Type 0
-IsSlotHeard grids slot = (symbol k : ℕ) (first second : Bool) → symbol < 7 → k < 72 →
-    grids symbol k ≡ point first second → SupportBoth 1 first second (soft_values slot symbol k)
+-- the soft values of a slot speak for what a grid says with this size and more: at each place that carries two bits,
+-- for these
+abbrev pub SpeaksFor : ℕ → (ℕ → ℕ → Cpx) → SeenSlot → Type 0
+SpeaksFor size grids slot = (symbol k : ℕ) (first second : Bool) → symbol < 7 → k < 72 →
+    grids symbol k ≡ point first second → SupportBoth size first second (soft_values slot symbol k)
 
--- so do those of a slot that is received
+-- a slot is heard where its soft values speak at all for what a grid says
+abbrev pub IsSlotHeard : (ℕ → ℕ → Cpx) → SeenSlot → Type 0
+IsSlotHeard grids slot = SpeaksFor 1 grids slot
+
+-- a slot that is received is heard
 abbrev pub ReceivedSlotIsHeard : Type 0
 ReceivedSlotIsHeard = (recording : List Sample) (starts : ℕ → ℕ) (grids : ℕ → ℕ → Cpx) (slot : SeenSlot) →
     IsSlotReceived recording starts grids slot → IsSlotHeard grids slot
+
+-- the soft values of a slot that is received with smaller errors speak with size 8 and more
+abbrev pub QuietSlotIsHeard : Type 0
+QuietSlotIsHeard = (recording : List Sample) (starts : ℕ → ℕ) (grids : ℕ → ℕ → Cpx) (slot : SeenSlot) →
+    IsPatternReceived 1024 port_0 7 recording starts grids slot → SpeaksFor 8 grids slot

@@ -13,7 +13,7 @@ use sample_file::Recording;
 /// faithful. (own)
 pub trait CleanReader: FrameReader {
     /// A law: the list of a recording by this receiver holds each cell of its carrier to which the recording is
-    /// faithful, and each that is seen in it through channels.
+    /// faithful, and with one port and the normal prefix each that is seen in it through channels.
     fn holds_cells()
         ensures { HoldsCells Self.receiver };
 }
@@ -28,18 +28,17 @@ impl CleanReader for OnePort {
 /// frame's number, the carrier's count of antenna ports, its master block, read at no cost from that frame alone, and
 /// what is told of its system information, and no other with this identity, sample and number (`faithful`).
 ///
-/// It is faithful where each symbol that the list looks at is what the cell's antenna ports send, each times its own
-/// gain in parts of 2^-14, that of the first of size 1 and more, up to errors of little energy beside the gains
-/// (`specs/Faithful.antt`). These symbols are those of the primary signal near the places of hits, one of the
-/// secondary signal, the slot of the broadcast channel in the first whole frame, and with the normal prefix, of one or
-/// two ports, subframe 5 of the first whole frame of even number; what else is received may be anything. The cell may
-/// send anything where its plan sends nothing, beside the synchronisation signals nothing, in elements of size at most
-/// 256.
+/// It is faithful where each symbol of the slots that the list reads, the primary signals near the places of hits and
+/// one of the secondary ones are what the cell's antenna ports send, each times its own gain in parts of 2^-14, that of
+/// the first of size 1 and more, up to errors of little energy beside the gains (`specs/Faithful.antt`). These slots
+/// are that of the broadcast channel in the first whole frame, and with the normal prefix, of one or two ports, both of
+/// subframe 5 of the first whole frame of even number; what else is received may be anything. The cell may send
+/// anything where its plan sends nothing, beside the synchronisation signals nothing, in elements of size at most 256.
 ///
-/// With one port it is enough that the cell is seen through channels (`through`): that its synchronisation signals
-/// stand, each time with a gain of its own, and that each slot which is read is seen through a gain for each place,
-/// which leaves room for its values (`specs/Through.antt`), as where the gain turns and fades slowly
-/// (`specs/Fading.antt`).
+/// With one port and the normal prefix it is enough that the cell is seen through channels (`through`): that its
+/// synchronisation signals stand, each time through a channel of their own, and that each slot which is read is seen
+/// through a gain for each place, which leaves room for its values (`specs/Through.antt`), as where the gain turns and
+/// fades slowly (`specs/Fading.antt`), or the cell arrives with faint echoes too (`specs/Echo.antt`).
 ///
 /// And it is faithful where the recording is clean of the cell: each component of each sample is within the carrier's
 /// bounds of what the ports send, each times a whole-number gain (`cell_plan/specs/Gains.antt`), whatever else they

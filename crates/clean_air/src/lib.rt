@@ -25,8 +25,8 @@ pub use load::{loaded_is_faithful, open_places_are_silent};
 pub use planning::{faithful_entry_has_plan, one_plan, plan_granted, plan_of, sent_entry_has_plan};
 pub use subframe::carried_blocks_are_heard;
 pub use through::{
-    echoes_are_seen_through, faithful_is_seen_through, fading_is_seen_through, fading_slot_is_seen_through,
-    slot_through_is_heard,
+    echoes_are_seen_through, fading_is_seen_through, fading_slot_is_seen_through,
+    faithful_is_seen_through, slot_through_is_heard,
 };
 pub use values::values_support_the_sent_bits;
 pub use words::spoken_word_is_the_least;

@@ -104,7 +104,7 @@ pub fn faithful_entry_has_plan()
     ensures { FaithfulEntryHasPlan }
 {}
 
-/// So it has in a recording that is clean of it.
+/// In a recording that is clean of a cell that can be sent, its entry has the plan by which it was sent.
 pub fn sent_entry_has_plan()
     ensures { SentEntryHasPlan }
 {}

@@ -25,7 +25,7 @@ is_over_four = record { lower = λ i. omega arith; upper = λ i. omega arith; ap
 -- 36 * 900^2 * 16200 * 8 / 3 of the channels, where the pair's gains have three eighths, and 900^2 * 8 / 3 of what is seen; the energy's
 -- 6340239360, and six times 34517463575, are less than 540 * 398131200. With 912 in place of 900 they are more, so that no quota of 8
 -- follows
-margins_of_four : AreMargins over_four 900 5 3 8 1259712000000 2160000 2079 285708484 3299077399 6340239360
+margins_of_four : AreMargins over_four 900 5 3 8 1259712000000 2160000 2079 285708484 3299077399 6340239360 1
 margins_of_four = record {
   roots = record { seen = omega arith; estimates = omega arith; both = omega arith };
   estimates = λ n m q share h. omega (arith, share, h);
@@ -52,7 +52,7 @@ have_part gains paired = record { each = λ i. by (i % 2) (omega arith) }
     by (suc (suc n)) l = absurd (omega (arith, l))
 
 pub pair_values_speak : PairValuesSpeak
-pair_values_speak gains paired = values_speak over_four 900 5 3 8 1259712000000 2160000 2079 285708484 3299077399 6340239360 is_over_four margins_of_four gains (have_part gains paired)
+pair_values_speak gains paired = values_speak over_four 900 5 3 8 1259712000000 2160000 2079 285708484 3299077399 6340239360 1 is_over_four margins_of_four gains (have_part gains paired)
 
 pub received_pair_speaks : ReceivedPairSpeaks
-received_pair_speaks gains paired = received_pair_speaks_by over_four 7 900 four_amplitudes_are_seen_in_recording gains (pair_values_speak gains paired)
+received_pair_speaks gains paired = received_pair_speaks_by over_four 7 900 1 four_amplitudes_are_seen_in_recording gains (pair_values_speak gains paired)

@@ -8,7 +8,7 @@ use Rattle.four_ports.specs.Pairs.{over_four}
 -- the values of pairs speak where each pair of ports has three eighths of the gains' squares, and what is seen is off
 -- by little more than 14 units
 abbrev pub PairValuesSpeak : Type 0
-PairValuesSpeak = (gains : ℕ → Cpx) → ArePaired gains → SpeakWith gains over_four 900
+PairValuesSpeak = (gains : ℕ → Cpx) → ArePaired gains → SpeakWith gains over_four 900 1
 
 abbrev pub ReceivedPairSpeaks : Type 0
-ReceivedPairSpeaks = (gains : ℕ → Cpx) → ArePaired gains → SpeakReceivedWith gains over_four 7
+ReceivedPairSpeaks = (gains : ℕ → Cpx) → ArePaired gains → SpeakReceivedWith gains over_four 7 1

@@ -116,13 +116,13 @@ fn slot_of(recording: &Recording, number: u8, id: CellId) -> Slot
     Slot::new(seen, number, id)
 }
 
-// Each value speaks: none is 0.
-fn all_speak(values: &[i16]) -> bool {
-    values.iter().all(|value| *value != 0)
+// Each value has size 8 at least.
+fn are_large(values: &[i16]) -> bool {
+    values.iter().all(|value| value.unsigned_abs() >= 8)
 }
 
-// How many values the blocks have that an attempt was granted, where each speaks.
-fn speaking_values(first: &Slot, second: &Slot, attempt: &Attempt) -> Option<usize>
+// How many values the blocks have that an attempt was granted, where each has size 8 at least.
+fn large_values(first: &Slot, second: &Slot, attempt: &Attempt) -> Option<usize>
     requires first { first.now.number ≡ 10 }
     requires second { second.now.number ≡ 11 }
     requires cell { second.now.identity ≡ first.now.identity }
@@ -136,7 +136,11 @@ fn speaking_values(first: &Slot, second: &Slot, attempt: &Attempt) -> Option<usi
     }
     let mut out = [0; MOST_VALUES];
     let count = values(first, second, attempt.cfi, grant, &mut out);
-    if out.iter().take(count).all(|value| *value != 0) {
+    if out
+        .iter()
+        .take(count)
+        .all(|value| value.unsigned_abs() >= 8)
+    {
         Some(count)
     } else {
         None
@@ -165,12 +169,12 @@ fn has_grant(attempt: &Attempt) -> bool {
     attempt.cfi.value() == 3 && attempt.grant == Some(granted)
 }
 
-// Whether each value of the control information speaks.
-fn has_speaking_control(slot: &Slot, cfi: Cfi, mib: Mib) -> bool
+// Whether each value of the control information has size 8 at least.
+fn has_large_control(slot: &Slot, cfi: Cfi, mib: Mib) -> bool
     requires { slot.now.number ≡ 10 }
 {
     match candidate(slot, cfi, mib) {
-        Some(control) => all_speak(&control),
+        Some(control) => are_large(&control),
         None => false,
     }
 }
@@ -192,8 +196,8 @@ fn what_was_sent_is_read_with_errors_at_the_bound(rt: HostRuntime) -> Result<(),
     let mut work = Decoders::new(rt.alloc())?;
     let attempt = attempt_in(&first, &second, mib, &mut work);
     assert!(rt; has_grant(&attempt));
-    assert!(rt; has_speaking_control(&first, attempt.cfi, mib));
-    assert!(rt; speaking_values(&first, &second, &attempt) == Some(900));
+    assert!(rt; has_large_control(&first, attempt.cfi, mib));
+    assert!(rt; large_values(&first, &second, &attempt) == Some(900));
     assert!(rt; has_fields(&attempt));
     carried_blocks_are_heard();
     sent_indicator_is_told();

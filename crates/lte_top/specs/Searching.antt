@@ -30,8 +30,8 @@ receiver_of TwoPorts = two_ports_receiver
 receiver_of LongPrefix = long_prefix_receiver
 receiver_of FourPorts = four_ports_receiver
 
--- the list of the cells of a carrier, which holds each to which the recording is faithful, and each of which it is
--- clean, whatever else its ports send
+-- the list of the cells of a carrier, which holds each to which the recording is faithful, with one port each that is
+-- seen through channels, and each of which it is clean, whatever else its ports send
 abbrev pub IsListOf : Carrier → List Sample → List Entry → Type 0
 IsListOf carrier = IsListBy (receiver_of carrier)
 

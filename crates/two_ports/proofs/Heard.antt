@@ -13,7 +13,7 @@ use Rattle.two_ports.proofs.Paired.{length-fours, get_or-fours, length-pair_at}
 
 -- four values speak for the bits of points 2i and 2i + 1
 abbrev pub SpeakAs : (ℕ → Bool) → ℕ → List ℤ → Type 0
-SpeakAs bits i values = SupportFour (bits (2 * (2 * i))) (bits (2 * (2 * i) + 1)) (bits (2 * (2 * i + 1))) (bits (2 * (2 * i + 1) + 1)) values
+SpeakAs bits i values = SupportFour 1 (bits (2 * (2 * i))) (bits (2 * (2 * i) + 1)) (bits (2 * (2 * i + 1))) (bits (2 * (2 * i + 1) + 1)) values
 
 one_of_four : (bits : ℕ → Bool) (i q r : ℕ) (values : List ℤ) → i ≡ 4 * q + r → r < 4 → SpeakAs bits q values → Supports 1 (bits i) (get_or values r (pos 0))
 one_of_four bits i q zero values e l four = subst (λ n. Supports 1 (bits n) (get_or values 0 (pos 0))) (let f : 2 * (2 * q) ≡ i = omega (arith, e) in f) four.first

@@ -39,7 +39,7 @@ unfolding is_pbch
 on_subcarrier identity p e = grind (arith, nat_tests)
 
 module _ (pairing : Pairing) (quota : ℕ) (carrier : Carrier) (port : ℕ → Port) (are : ArePorts pairing quota carrier port)
-    (recording : List Sample) (plan : CellPlan) (grids : Port → Elements) (sfn offset : ℕ) (gains : List Cpx) (speak : SpeakReceivedWith (value_at gains) pairing quota)
+    (recording : List Sample) (plan : CellPlan) (grids : Port → Elements) (sfn offset : ℕ) (gains : List Cpx) (speak : SpeakReceivedWith (value_at gains) pairing quota 1)
     (faithful : IsFaithfulBy carrier recording plan grids sfn offset gains) where
   abbrev number : ℕ
   number = (number_at_start sfn offset + 0) % 1024

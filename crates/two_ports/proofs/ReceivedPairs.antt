@@ -11,11 +11,11 @@ use Rattle.soft_bits.specs.Soft.{SeenSlot, seen_at}
 use Rattle.soft_bits.proofs.Lines.{is_line}
 use Rattle.budget.specs.Budget.{AmplitudesAreSeenInRecording}
 use Rattle.budget.specs.Received.{in_parts, IsSeenBy}
-use Rattle.budget.proofs.Seen.{two_amplitudes_are_seen_in_recording}
+use Rattle.budget.proofs.Seen.{two_amplitudes_are_seen_in_recording, quiet_two_are_seen_in_recording}
 use Rattle.clean_air.proofs.SoftValues.{read_symbol}
 use Rattle.two_ports.specs.Pairs.{Pairing, over_two, pair_values}
-use Rattle.two_ports.specs.Received.{ArePortsSeen, IsSlotReceived, SpeakWith, SpeakReceivedWith, ReceivedPairSpeaks, first_sent, second_sent}
-use Rattle.two_ports.proofs.Values.{pair_values_speak}
+use Rattle.two_ports.specs.Received.{ArePortsSeen, IsSlotReceived, SpeakWith, SpeakReceivedWith, ReceivedPairSpeaks, QuietReceivedPairSpeaks, first_sent, second_sent}
+use Rattle.two_ports.proofs.Values.{pair_values_speak, quiet_pair_values_speak}
 
 module _ (ports quota most : ℕ) (are_seen : AmplitudesAreSeenInRecording ports quota most) (gains : ℕ → Cpx) (recording : List Sample) (starts : ℕ → ℕ) (grids : ℕ → ℕ → ℕ → Cpx) (slot : SeenSlot)
     (is : IsSlotReceived ports quota gains recording starts grids slot) where
@@ -41,10 +41,10 @@ module _ (ports quota most : ℕ) (are_seen : AmplitudesAreSeenInRecording ports
         place_holds (line.symbol i) (line_place line i) _ (omega (arith, row)) ((is_line port slot).inside i few) (λ other m. is.pilots port i other l few m);
   }
 
-pub received_pair_speaks_by : (pairing : Pairing) (quota most : ℕ) → AmplitudesAreSeenInRecording pairing.ports quota most → (gains : ℕ → Cpx) → SpeakWith gains pairing most →
-    SpeakReceivedWith gains pairing quota
+pub received_pair_speaks_by : (pairing : Pairing) (quota most least : ℕ) → AmplitudesAreSeenInRecording pairing.ports quota most → (gains : ℕ → Cpx) → SpeakWith gains pairing most least →
+    SpeakReceivedWith gains pairing quota least
 unfolding pair_values
-received_pair_speaks_by pairing quota most are_seen gains speak recording starts grids slot i p q b c d e is l m carry =
+received_pair_speaks_by pairing quota most least are_seen gains speak recording starts grids slot i p q b c d e is l m carry =
     speak slot i p.k b c d e (seen_at slot (p.symbol % 7) p.k) (seen_at slot (q.symbol % 7) q.k)
     (ports_seen pairing.ports quota most are_seen gains recording starts grids slot is)
     (record {
@@ -53,4 +53,7 @@ received_pair_speaks_by pairing quota most are_seen gains speak recording starts
     })
 
 pub received_pair_speaks : ReceivedPairSpeaks
-received_pair_speaks gains = received_pair_speaks_by over_two 400 1464 two_amplitudes_are_seen_in_recording gains (pair_values_speak gains)
+received_pair_speaks gains = received_pair_speaks_by over_two 400 1464 1 two_amplitudes_are_seen_in_recording gains (pair_values_speak gains)
+
+pub quiet_received_pair_speaks : QuietReceivedPairSpeaks
+quiet_received_pair_speaks gains = received_pair_speaks_by over_two 64 1024 16 quiet_two_are_seen_in_recording gains (quiet_pair_values_speak gains)

@@ -13,7 +13,7 @@ use Rattle.budget.specs.Received.{in_parts, IsSeenBy}
 use Rattle.budget.proofs.Near.{near-off}
 use Rattle.budget.proofs.Signs.{near_component_speaks}
 use Rattle.two_ports.specs.Pairs.{Pairing, over_two, first_of, second_of}
-use Rattle.two_ports.specs.Received.{over, SpeakWith, PairValuesSpeak}
+use Rattle.two_ports.specs.Received.{over, SpeakWith, PairValuesSpeak, QuietPairValuesSpeak}
 use Rattle.two_ports.proofs.Points.{AreRoots, AreEstimates, pair_is_combined}
 use Rattle.two_ports.proofs.Estimates.{received_of_two, pilots_alone, port_channel-near}
 use Rattle.two_ports.proofs.Energies.{AreEnergies, energies}
@@ -28,15 +28,15 @@ pub record IsPairing (pairing : Pairing) : Type 0 where
 
 -- n is the sum of the squares of all gains, and m that of a pair's, which has at least part / whole of it; off by at most s * m
 -- are the channels, by t * m what is seen, all in parts, and of e * m is the energy of the pilots, 2^28 times, which is told by a
--- weight
-pub record AreMargins (pairing : Pairing) (most weight part whole s t u v w e : ℕ) : Type 0 where
+-- weight; values are then of size `least` and more
+pub record AreMargins (pairing : Pairing) (most weight part whole s t u v w e least : ℕ) : Type 0 where
   pub roots : AreRoots s t u v w
   pub estimates : (n m q : ℕ) → part * n ≤ whole * m → q ≤ pairing.scale * most * (pairing.scale * most) * (16200 * n) → q ≤ s * m
   pub seen : (n m q : ℕ) → part * n ≤ whole * m → q ≤ most * most * n → q ≤ t * m
   pub some : (n q : ℕ) → 2 ^ 28 ≤ n → AreEnergies pairing.ports weight most n q → 1 ≤ q
   pub energy : (n m q : ℕ) → part * n ≤ whole * m → AreEnergies pairing.ports weight most n q → 2 ^ 28 * q ≤ e * m
   pub speaks : (m q : ℕ) (bit : Bool) (z : ℤ) → 1 ≤ q → 2 ^ 28 * q ≤ e * m →
-      nat_abs (pos (2 ^ 28) *ℤ z -ℤ pos (pairing.scale * 1036800 * 64 * m) *ℤ component bit) ≤ (pairing.scale * 1036800 * u + (64 * v + w)) * m → Supports 1 bit (soft_value z q)
+      nat_abs (pos (2 ^ 28) *ℤ z -ℤ pos (pairing.scale * 1036800 * 64 * m) *ℤ component bit) ≤ (pairing.scale * 1036800 * u + (64 * v + w)) * m → Supports least bit (soft_value z q)
 
 -- each pair of ports has this part of the sum of the gains' squares
 pub record HavePart (pairing : Pairing) (part whole : ℕ) (gains : ℕ → Cpx) : Type 0 where
@@ -48,9 +48,9 @@ point-small false true = omega arith
 point-small true false = omega arith
 point-small true true = omega arith
 
-pub values_speak : (pairing : Pairing) (most weight part whole s t u v w e : ℕ) → IsPairing pairing → AreMargins pairing most weight part whole s t u v w e →
-    (gains : ℕ → Cpx) → HavePart pairing part whole gains → SpeakWith gains pairing most
-values_speak pairing most weight part whole s t u v w e is margins gains have slot i k b c d f at_first at_second ports pair =
+pub values_speak : (pairing : Pairing) (most weight part whole s t u v w e least : ℕ) → IsPairing pairing → AreMargins pairing most weight part whole s t u v w e least →
+    (gains : ℕ → Cpx) → HavePart pairing part whole gains → SpeakWith gains pairing most least
+values_speak pairing most weight part whole s t u v w e least is margins gains have slot i k b c d f at_first at_second ports pair =
     let n : ℕ = energy_below pairing.ports gains in
     let lower : ℕ = pairing.lower i in
     let upper : ℕ = pairing.upper i in
@@ -97,7 +97,7 @@ is_over_two = record { lower = λ i. omega arith; upper = λ i. omega arith; apa
 
 -- 2 * 1464^2 is below the square of 2071; the energy's 2505047040, and six times 17185671867, are less than 540 * 199065600. With
 -- 1492 in place of 1464 they are more, so that no quota of 425 follows
-margins_of_two : AreMargins over_two 1464 4 1 1 312492556800 2143296 2071 142300800 1636782267 2505047040
+margins_of_two : AreMargins over_two 1464 4 1 1 312492556800 2143296 2071 142300800 1636782267 2505047040 1
 margins_of_two = record {
   roots = record { seen = omega arith; estimates = omega arith; both = omega arith };
   estimates = λ n m q share h. omega (arith, share, h);
@@ -105,6 +105,18 @@ margins_of_two = record {
   some = λ n q some energy. omega (arith, some, energy.least);
   energy = λ n m q share energy. omega (arith, share, energy.high);
   speaks = λ m q bit z some few near. near_component_speaks 1 199065600 17185671867 2505047040 (omega arith) (omega arith) (omega arith) 268435456 m q bit z (omega arith) some few near;
+}
+
+-- with smaller errors: 2 * 1024^2 is below the square of 1449; 16 times the energy's 2244575232, and six times 11678307840, are less
+-- than 540 * 199065600
+quiet_margins_of_two : AreMargins over_two 1024 8 1 1 152882380800 1048576 1449 99532800 801239040 2244575232 16
+quiet_margins_of_two = record {
+  roots = record { seen = omega arith; estimates = omega arith; both = omega arith };
+  estimates = λ n m q share h. omega (arith, share, h);
+  seen = λ n m q share h. omega (arith, share, h);
+  some = λ n q some energy. omega (arith, some, energy.least);
+  energy = λ n m q share energy. omega (arith, share, energy.high);
+  speaks = λ m q bit z some few near. near_component_speaks 16 199065600 11678307840 2244575232 (omega arith) (omega arith) (omega arith) 268435456 m q bit z (omega arith) some few near;
 }
 
 -- the sum of two squares
@@ -122,4 +134,7 @@ both gains = record { each = λ i. all }
     all = let same = squares gains in omega (arith, same)
 
 pub pair_values_speak : PairValuesSpeak
-pair_values_speak gains = values_speak over_two 1464 4 1 1 312492556800 2143296 2071 142300800 1636782267 2505047040 is_over_two margins_of_two gains (both gains)
+pair_values_speak gains = values_speak over_two 1464 4 1 1 312492556800 2143296 2071 142300800 1636782267 2505047040 1 is_over_two margins_of_two gains (both gains)
+
+pub quiet_pair_values_speak : QuietPairValuesSpeak
+quiet_pair_values_speak gains = values_speak over_two 1024 8 1 1 152882380800 1048576 1449 99532800 801239040 2244575232 16 is_over_two quiet_margins_of_two gains (both gains)

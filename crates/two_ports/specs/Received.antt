@@ -47,20 +47,20 @@ pub record IsPairSeen (pairing : Pairing) (most : ℕ) (gains : ℕ → Cpx) (i 
   pub second : IsSeenBy pairing.ports most gains (second_sent pairing i x y) b
 
 -- four values speak for four bits
-pub record SupportFour (b c d e : Bool) (values : List ℤ) : Type 0 where
-  pub first : Supports 1 b (slice_index_or values 0 (pos 0))
-  pub second : Supports 1 c (slice_index_or values 1 (pos 0))
-  pub third : Supports 1 d (slice_index_or values 2 (pos 0))
-  pub fourth : Supports 1 e (slice_index_or values 3 (pos 0))
+pub record SupportFour (least : ℕ) (b c d e : Bool) (values : List ℤ) : Type 0 where
+  pub first : Supports least b (slice_index_or values 0 (pos 0))
+  pub second : Supports least c (slice_index_or values 1 (pos 0))
+  pub third : Supports least d (slice_index_or values 2 (pos 0))
+  pub fourth : Supports least e (slice_index_or values 3 (pos 0))
 
--- the four values of a pair of points that is seen with these gains speak for its bits, whatever subcarrier the
--- channels are taken at
-abbrev pub SpeakWith : (ℕ → Cpx) → Pairing → ℕ → Type 0
-SpeakWith gains pairing most =
+-- the four values of a pair of points that is seen with these gains speak for its bits with size `least` and more,
+-- whatever subcarrier the channels are taken at
+abbrev pub SpeakWith : (ℕ → Cpx) → Pairing → ℕ → ℕ → Type 0
+SpeakWith gains pairing most least =
     (slot : SeenSlot) (i k : ℕ) (b c d e : Bool) (at_first at_second : Cpx) →
     ArePortsSeen pairing.ports most gains slot →
     IsPairSeen pairing most gains i (point b c) (point d e) at_first at_second →
-    SupportFour b c d e (seen_by pairing i slot k at_first at_second)
+    SupportFour least b c d e (seen_by pairing i slot k at_first at_second)
 
 -- ---- slots of a recording
 
@@ -83,19 +83,26 @@ pub record CarryPair (pairing : Pairing) (grids : ℕ → ℕ → ℕ → Cpx) (
 
 -- where a slot is received with these gains, the four values of two places that carry a pair of points speak for their
 -- bits
-abbrev pub SpeakReceivedWith : (ℕ → Cpx) → Pairing → ℕ → Type 0
-SpeakReceivedWith gains pairing quota =
+abbrev pub SpeakReceivedWith : (ℕ → Cpx) → Pairing → ℕ → ℕ → Type 0
+SpeakReceivedWith gains pairing quota least =
     (recording : List Sample) (starts : ℕ → ℕ) (grids : ℕ → ℕ → ℕ → Cpx) (slot : SeenSlot) (i : ℕ) (p q : Place)
     (b c d e : Bool) →
     IsSlotReceived pairing.ports quota gains recording starts grids slot → p.k < 72 → q.k < 72 →
     CarryPair pairing grids i p q (point b c) (point d e) →
-    SupportFour b c d e (pair_values pairing i slot p q)
+    SupportFour least b c d e (pair_values pairing i slot p q)
 
 -- ---- two ports
 
 -- the values of pairs speak whatever the gains are, where what is seen is off by less than 23 units
 abbrev pub PairValuesSpeak : Type 0
-PairValuesSpeak = (gains : ℕ → Cpx) → SpeakWith gains over_two 1464
+PairValuesSpeak = (gains : ℕ → Cpx) → SpeakWith gains over_two 1464 1
 
 abbrev pub ReceivedPairSpeaks : Type 0
-ReceivedPairSpeaks = (gains : ℕ → Cpx) → SpeakReceivedWith gains over_two 400
+ReceivedPairSpeaks = (gains : ℕ → Cpx) → SpeakReceivedWith gains over_two 400 1
+
+-- the values of pairs speak with size 16 and more, where what is seen is off by at most 16 units
+abbrev pub QuietPairValuesSpeak : Type 0
+QuietPairValuesSpeak = (gains : ℕ → Cpx) → SpeakWith gains over_two 1024 16
+
+abbrev pub QuietReceivedPairSpeaks : Type 0
+QuietReceivedPairSpeaks = (gains : ℕ → Cpx) → SpeakReceivedWith gains over_two 64 16

@@ -2,6 +2,7 @@ use Rattle.budget.proofs.Causes.{sending_has_two_causes, leakage_is_small, round
 use Rattle.budget.proofs.Causes.{three_causes, four_causes}
 use Rattle.budget.proofs.Seen.{amplitude_is_seen, quiet_amplitude_is_seen, two_amplitudes_are_seen, four_amplitudes_are_seen, units_are_seen}
 use Rattle.budget.proofs.Seen.{amplitude_is_seen_in_recording, quiet_amplitude_is_seen_in_recording, two_amplitudes_are_seen_in_recording, four_amplitudes_are_seen_in_recording}
+use Rattle.budget.proofs.Seen.{quiet_two_are_seen, quiet_four_are_seen, quiet_two_are_seen_in_recording, quiet_four_are_seen_in_recording}
 use Rattle.budget.proofs.amplitude.seen_amplitude_is_near.Goals as goal
 
 pub returns-clause-two_causes : goal.returns-clause-two_causes
@@ -37,6 +38,12 @@ returns-clause-two_gains c = two_amplitudes_are_seen
 pub returns-clause-four_gains : goal.returns-clause-four_gains
 returns-clause-four_gains c = four_amplitudes_are_seen
 
+pub returns-clause-quiet_two : goal.returns-clause-quiet_two
+returns-clause-quiet_two c = quiet_two_are_seen
+
+pub returns-clause-quiet_four : goal.returns-clause-quiet_four
+returns-clause-quiet_four c = quiet_four_are_seen
+
 pub returns-clause-recording : goal.returns-clause-recording
 returns-clause-recording c = amplitude_is_seen_in_recording
 
@@ -48,6 +55,12 @@ returns-clause-recording_of_two c = two_amplitudes_are_seen_in_recording
 
 pub returns-clause-recording_of_four : goal.returns-clause-recording_of_four
 returns-clause-recording_of_four c = four_amplitudes_are_seen_in_recording
+
+pub returns-clause-quiet_recording_of_two : goal.returns-clause-quiet_recording_of_two
+returns-clause-quiet_recording_of_two c = quiet_two_are_seen_in_recording
+
+pub returns-clause-quiet_recording_of_four : goal.returns-clause-quiet_recording_of_four
+returns-clause-quiet_recording_of_four c = quiet_four_are_seen_in_recording
 
 pub returns-clause-by_units : goal.returns-clause-by_units
 returns-clause-by_units c = units_are_seen

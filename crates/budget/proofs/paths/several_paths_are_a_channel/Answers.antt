@@ -1,4 +1,4 @@
-use Rattle.budget.proofs.SeenOver.{prefix_turns_round, arriving_is_received, turned_part_is_seen, turned_sending_is_small, sending_over_is_small, amplitude_is_seen_over, amplitude_is_seen_over_in_recording}
+use Rattle.budget.proofs.SeenOver.{prefix_turns_round, arriving_is_received, one_path_is_received_over, turned_part_is_seen, turned_sending_is_small, sending_over_is_small, amplitude_is_seen_over, amplitude_is_seen_over_in_recording}
 use Rattle.budget.proofs.BendsOver.{paths_leave_room, paths_are_through, paths_are_read, slot_over_is_heard}
 use Rattle.budget.proofs.paths.several_paths_are_a_channel.Goals as goal
 
@@ -7,6 +7,9 @@ returns-clause-prefix c = prefix_turns_round
 
 pub returns-clause-arriving : goal.returns-clause-arriving
 returns-clause-arriving c = arriving_is_received
+
+pub returns-clause-one_path : goal.returns-clause-one_path
+returns-clause-one_path c = one_path_is_received_over
 
 pub returns-clause-turned : goal.returns-clause-turned
 returns-clause-turned c = turned_part_is_seen

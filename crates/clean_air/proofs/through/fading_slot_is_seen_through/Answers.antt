@@ -1,4 +1,4 @@
-use Rattle.clean_air.proofs.SlowGains.{fading_slot_is_through, slow_leaves_room, turning_leaves_room}
+use Rattle.clean_air.proofs.SlowGains.{fading_slot_is_through, slow_leaves_room, turning_leaves_room, still_leaves_room}
 use Rattle.clean_air.proofs.through.fading_slot_is_seen_through.Goals as goal
 
 pub returns-clause-through : goal.returns-clause-through
@@ -9,3 +9,6 @@ returns-clause-slow c = slow_leaves_room
 
 pub returns-clause-turning : goal.returns-clause-turning
 returns-clause-turning c = turning_leaves_room
+
+pub returns-clause-still : goal.returns-clause-still
+returns-clause-still c = still_leaves_room
