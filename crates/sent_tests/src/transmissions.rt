@@ -344,8 +344,7 @@ fn is_answer(cfi: u8, blocks: u8, column: u8, mcs: u8, letter: u8) -> bool {
     }
 }
 
-// Whether they are for each modulation and coding scheme, from 0 on. The letters are those of
-// `scripts/peers/punctured_table.py`.
+// Whether the answers for each modulation and coding scheme, from 0 on, are these.
 fn are_answers(cfi: u8, blocks: u8, column: u8, letters: &str) -> bool {
     let mut all = true;
     let mut mcs = 0_u8;
@@ -356,91 +355,41 @@ fn are_answers(cfi: u8, blocks: u8, column: u8, letters: &str) -> bool {
     all
 }
 
-#[test]
-fn answers_with_indicator_2_and_one_or_two_blocks(rt: HostRuntime) {
-    for (blocks, column, letters) in [
-        (1, 2, "lppppppppppppppppppppp"),
-        (2, 2, "llllrrrrpppppppppppppp"),
-        (1, 3, "ppppppppppppppppp"),
-        (2, 3, "llrrprppppppppppp"),
-    ] {
-        assert!(rt; are_answers(2, blocks, column, letters));
-    }
-}
+// What `scripts/peers/punctured_table.py` prints: control format indicator, resource blocks, column and letters.
+const ANSWERS: [(u8, u8, u8, &str); 24] = [
+    (2, 1, 2, "lppppppppppppppppppppp"),
+    (2, 2, 2, "llllrrrrpppppppppppppp"),
+    (2, 3, 2, "llllwwwrrrrrpppppppppp"),
+    (2, 4, 2, "llllwwwwrrrrrrpppppppp"),
+    (2, 5, 2, "llllwwwwwwrrrrrrpppppp"),
+    (2, 6, 2, "llllwwwwwwwwrrrrrprppp"),
+    (2, 1, 3, "ppppppppppppppppp"),
+    (2, 2, 3, "llrrprppppppppppp"),
+    (2, 3, 3, "llwwrrrrppppppppp"),
+    (2, 4, 3, "llwwwwrrrprpppppp"),
+    (2, 5, 3, "llwwwwwrrrrrppppp"),
+    (2, 6, 3, "llwwwwwwrrrrrrppp"),
+    (3, 1, 2, "lppppppppppppppppppppp"),
+    (3, 2, 2, "lllprrrppppppppppppppp"),
+    (3, 3, 2, "llllwwrrrppppppppppppp"),
+    (3, 4, 2, "llllwwwrrrrrrppppppppp"),
+    (3, 5, 2, "llllwwwwwrrrrrpppppppp"),
+    (3, 6, 2, "llllwwwwwwwrrrrrrppppp"),
+    (3, 1, 3, "ppppppppppppppppp"),
+    (3, 2, 3, "llrrrpppppppppppp"),
+    (3, 3, 3, "llwrrrrpppppppppp"),
+    (3, 4, 3, "llwwwrrrrpppppppp"),
+    (3, 5, 3, "llwwwwwrrrrpppppp"),
+    (3, 6, 3, "llwwwwwwrrrrrpppp"),
+];
 
 #[test]
-fn answers_with_indicator_2_and_three_or_four_blocks(rt: HostRuntime) {
-    for (blocks, column, letters) in [
-        (3, 2, "llllwwwrrrrrpppppppppp"),
-        (4, 2, "llllwwwwrrrrrrpppppppp"),
-        (3, 3, "llwwrrrrppppppppp"),
-        (4, 3, "llwwwwrrrprpppppp"),
-    ] {
-        assert!(rt; are_answers(2, blocks, column, letters));
-    }
-}
-
-#[test]
-fn answers_with_indicator_2_and_five_blocks(rt: HostRuntime) {
-    for (blocks, column, letters) in [
-        (5, 2, "llllwwwwwwrrrrrrpppppp"),
-        (5, 3, "llwwwwwrrrrrppppp"),
-    ] {
-        assert!(rt; are_answers(2, blocks, column, letters));
-    }
-}
-
-#[test]
-fn answers_with_indicator_2_and_six_blocks(rt: HostRuntime) {
-    for (blocks, column, letters) in [
-        (6, 2, "llllwwwwwwwwrrrrrprppp"),
-        (6, 3, "llwwwwwwrrrrrrppp"),
-    ] {
-        assert!(rt; are_answers(2, blocks, column, letters));
-    }
-}
-
-#[test]
-fn answers_with_indicator_3_and_one_or_two_blocks(rt: HostRuntime) {
-    for (blocks, column, letters) in [
-        (1, 2, "lppppppppppppppppppppp"),
-        (2, 2, "lllprrrppppppppppppppp"),
-        (1, 3, "ppppppppppppppppp"),
-        (2, 3, "llrrrpppppppppppp"),
-    ] {
-        assert!(rt; are_answers(3, blocks, column, letters));
-    }
-}
-
-#[test]
-fn answers_with_indicator_3_and_three_or_four_blocks(rt: HostRuntime) {
-    for (blocks, column, letters) in [
-        (3, 2, "llllwwrrrppppppppppppp"),
-        (4, 2, "llllwwwrrrrrrppppppppp"),
-        (3, 3, "llwrrrrpppppppppp"),
-        (4, 3, "llwwwrrrrpppppppp"),
-    ] {
-        assert!(rt; are_answers(3, blocks, column, letters));
-    }
-}
-
-#[test]
-fn answers_with_indicator_3_and_five_blocks(rt: HostRuntime) {
-    for (blocks, column, letters) in [
-        (5, 2, "llllwwwwwrrrrrpppppppp"),
-        (5, 3, "llwwwwwrrrrpppppp"),
-    ] {
-        assert!(rt; are_answers(3, blocks, column, letters));
-    }
-}
-
-#[test]
-fn answers_with_indicator_3_and_six_blocks(rt: HostRuntime) {
-    for (blocks, column, letters) in [
-        (6, 2, "llllwwwwwwwrrrrrrppppp"),
-        (6, 3, "llwwwwwwrrrrrpppp"),
-    ] {
-        assert!(rt; are_answers(3, blocks, column, letters));
+fn answers_by_indicator_blocks_and_column(rt: HostRuntime) {
+    for (cfi, blocks, column, letters) in ANSWERS {
+        assert!(rt;
+            are_answers(cfi, blocks, column, letters),
+            "{cfi} {blocks} {column}"
+        );
     }
 }
 
