@@ -218,6 +218,7 @@ def pseudo_random(c_init, count):
     return [x1[i + 1600] ^ x2[i + 1600] for i in range(count)]
 
 
+@functools.lru_cache(1_000)
 def reference(cell, slot, symbol, n_cp=1):
     """The twelve values (TS 36.211 section 6.10.1)."""
     bits = pseudo_random(2**10 * (7 * (slot + 1) + symbol + 1) * (2 * cell + 1) + 2 * cell + n_cp, 232)

@@ -1,0 +1,200 @@
+"""Recordings that are faithful to a cell (crates/clean_air/specs/Faithful.antt), for held.py: what is sent, where a list
+looks, whole samples that are off by an energy, and whether the list holds the cell.
+
+Gains and values are in parts, 16,384 of them one. They are whole numbers below 2^53 in complex arrays, whose sums and
+products are exact; energies are sums of whole numbers of 64 bits. Debian: python3-numpy.
+"""
+import itertools
+import json
+import math
+import pathlib
+import subprocess
+import sys
+from typing import NamedTuple
+
+import numpy as np
+
+SCRIPTS = pathlib.Path(__file__).resolve().parent.parent
+sys.path += [str(SCRIPTS / "peers"), str(SCRIPTS / "tools")]
+import fuzz_inputs
+import machine
+import second_cell
+import second_search
+from second_search import FRAME, SIZES
+
+PARTS = 16_384
+LATEST = 9  # samples by which a path may be later than the first
+NUMBERS = ("identity", "at", "sfn")
+GAINS = ("gain", "gain2", "gain3", "gain4")
+WORDS = {"one": (), "two": ("--ports", "2"), "long": ("--prefix", "long"), "four": ("--ports", "4")}
+EDGES = [*range(11), *range(19_189, 19_200), *range(667, 706), *range(10_267, 10_306)]  # offsets at ends of the span
+
+
+def said(words, data):
+    """What lte_cli writes, or nothing where it refuses."""
+    done = subprocess.run([machine.program("lte_cli"), *words], input=data, capture_output=True, check=False)
+    return done.stdout if done.returncode == 0 else None
+
+
+# ---- where a list looks
+
+
+class Symbol(NamedTuple):
+    """A symbol that a list looks at, and the sample at which its useful part begins."""
+
+    frame: int
+    slot: int
+    number: int
+    start: int
+
+
+def looked_at(rule, sfn, offset):
+    """The symbols that the list of a carrier looks at."""
+    first = int(offset > 0)
+    even = first + (sfn + first) % 2
+    for frame, slot, number in itertools.product(range(3), range(20), range(rule.symbols)):
+        start = FRAME * frame + 960 * slot + rule.first + rule.step * number - offset
+        signal = number - rule.symbols if slot in (0, 10) else 0
+        if start >= 0 and (
+            (frame, slot) == (first, 1)
+            or (frame, slot // 2) == (even, 5)
+            and not rule.unread
+            or signal == -1
+            and 137 <= start + 9
+            and start <= 19_336 + 9
+            or signal == -2
+            and 137 <= start + rule.step <= 19_336
+        ):
+            yield Symbol(frame, slot, number, start)
+
+
+# ---- what is sent
+
+
+def drawn(draw, **keys):
+    """A description of a random cell; a plan that `transmit` refuses may be one of them."""
+    column, blocks = draw.choice((2, 3)), draw.randint(1, 6)
+    told = {
+        **fuzz_inputs.valid_description(draw),
+        "sfn": draw.choice([draw.randrange(1024), draw.randrange(1024), 0, 1023]),
+        "offset": draw.choice([draw.randrange(FRAME), draw.randrange(FRAME), draw.choice(EDGES)]),
+        "samples": 57_600 + draw.choice([0, 0, draw.randrange(40_000)]),
+        "start": draw.randrange(7 - blocks),
+        "blocks": blocks,
+        "column": column,
+        "mcs": draw.randrange(len(SIZES[column - 2])),
+        "gain": [1, 0],
+    }
+    return {**told, **keys}
+
+
+def hardly_resolved(draw, plan):
+    """Keys of a plan, of indicator, count of blocks, scheme and column, with a text of SIB1 that fills the block."""
+    cfi, blocks, mcs, column = plan
+    sib1, size = fuzz_inputs.valid_description(draw)["sib1"], SIZES[column - 2][mcs]
+    sib1 |= {"plmns": sib1["plmns"][:1], "csg_identity": None, "scheduling": [{"period": 8, "sibs": []}]}
+    while len(second_cell.text(sib1)) + 13 <= size and len(sib1["scheduling"]) < 32:
+        sib1["scheduling"].append({"period": 8 << draw.randrange(7), "sibs": [draw.randrange(16)]})
+    start = draw.randrange(7 - blocks)
+    return {"cfi": cfi, "start": start, "blocks": blocks, "mcs": mcs, "column": column, "sib1": sib1}
+
+
+def transmitted(carrier, told, load=None, gains=((1, 0),)):
+    """What `transmit` sends, or nothing where it refuses."""
+    plan = {**told, **dict(zip(GAINS, gains))}
+    words = ["transmit", *WORDS[carrier], *([] if load is None else ["--load", str(load)])]
+    data = said(words, json.dumps(plan).encode())
+    return None if data is None else np.frombuffer(data, "<i2").astype(float).reshape(-1, 2) @ (1, 1j)
+
+
+def early(told):
+    """The description from as many samples earlier on as a path may be late, and how many these are."""
+    before = min(told["offset"], LATEST)
+    return {**told, "offset": told["offset"] - before, "samples": told["samples"] + before}, before
+
+
+def sent(carrier, told, load=None):
+    """What each antenna port sends, from LATEST samples before the recording on, or nothing where it is refused."""
+    told, before = early(told)
+    count = second_search.RULES[WORDS[carrier]].ports
+    first = ((1, 0),) + ((0, 0),) * (count - 1)
+    ports = [transmitted(carrier, told, load, first)]
+    if ports[0] is None:
+        return None
+    for port in range(1, count):
+        both = [first[i] if i != port else (1, 0) for i in range(count)]
+        ports.append(transmitted(carrier, told, load, both) - ports[0])
+    return np.pad(ports, ((0, 0), (LATEST - before, 0)))
+
+
+def sent_by_second(carrier, told, frame=None):
+    """The same by the second transmitter, also of a description with `traffic`, and by another class of frames."""
+    told, before = early(told)
+    frame = frame or second_cell.CARRIERS[carrier]
+    cell = {**told, **dict.fromkeys(GAINS, (1, 0))}
+    numbers = [(told["sfn"] + j) % 1024 for j in range(-(-(told["offset"] + told["samples"]) // FRAME))]
+    ports = [np.concatenate([frame(cell, sfn, port).samples() for sfn in numbers]) for port in range(frame.PORTS)]
+    samples = np.array(ports)[:, told["offset"] :][:, : told["samples"]] @ (1, 1j)
+    return np.pad(samples, ((0, 0), (LATEST - before, 0)))
+
+
+# ---- errors
+
+
+def energy(samples, values):
+    """The energy of what whole samples are off by from values in parts, in the square of parts."""
+    off = PARTS * samples - values
+    return int((off.real.astype(np.int64) ** 2 + off.imag.astype(np.int64) ** 2).sum())
+
+
+def fitted(values, shape, limit):
+    """Whole samples beside values in parts, with errors of this shape and nearly of this energy, or nothing where
+    rounding alone has more."""
+    best = np.round(values / PARTS)
+    if energy(best, values) > limit:
+        return None
+    low, high = 0, 2 * math.sqrt(limit) / PARTS / max(math.sqrt(np.vdot(shape, shape).real), 1e-9)
+    for _ in range(40):
+        tried = np.round(values / PARTS + (low + high) / 2 * shape)
+        if energy(tried, values) <= limit:
+            low, best = (low + high) / 2, tried
+        else:
+            high = (low + high) / 2
+    return best
+
+
+# ---- whether the list holds the cell
+
+
+def wanted(rule, told):
+    """The cell's entry as `search --json` has it."""
+    br, spare = divmod(told["spare"], 32)
+    return {
+        "identity": told["identity"],
+        "at": -told["offset"] % FRAME,
+        "sfn": (told["sfn"] + (told["offset"] > 0)) % 1024,
+        "ports": rule.ports,
+        "bandwidth": "n6",
+        **{key: told[key] for key in ("duration", "resource")},
+        "br": br,
+        "spare": spare,
+        "sib1": {"none": rule.unread} if rule.unread else {**told["sib1"], "tdd": None, "extension": False},
+    }
+
+
+def fault(carrier, told, data):
+    """How the list fails to hold the cell, or nothing: one entry of its identity, start and frame number, with each
+    field as it was sent, told by the first frame alone at no cost."""
+    want = wanted(second_search.RULES[WORDS[carrier]], told)
+    listed = json.loads(said(["search", *WORDS[carrier], "--json"], data))
+    same = [entry for entry in listed if all(entry[name] == want[name] for name in NUMBERS)]
+    if len(same) != 1:
+        return f"{len(same)} entries"
+    if same != [want]:
+        return ", ".join(f"{key} {same[0][key]}" for key in want if same[0][key] != want[key])
+    rows = [line.split() for line in said(["evidence", *WORDS[carrier]], data).decode().splitlines()[1:]]
+    row = next(row for row in rows if row[:3] == [str(want[name]) for name in NUMBERS])
+    told_by = {name: int(value) for name, value in zip(row[3::2], row[4::2])}
+    if (told_by["cost"], told_by["frames"], told_by["frame"]) != (0, 1, 0):
+        return ", ".join(f"{name} {told_by[name]}" for name in ("cost", "frames", "frame"))
+    return None
