@@ -209,6 +209,7 @@ def identity(r, t, n2, rule=ONE_PORT):
 # ---- soft values
 
 
+@functools.lru_cache(1_000)
 def pseudo_random(c_init, count):
     """TS 36.211 section 7.2."""
     x1, x2 = [1] + [0] * 30, [c_init >> i & 1 for i in range(31)]
@@ -218,7 +219,6 @@ def pseudo_random(c_init, count):
     return [x1[i + 1600] ^ x2[i + 1600] for i in range(count)]
 
 
-@functools.lru_cache(1_000)
 def reference(cell, slot, symbol, n_cp=1):
     """The twelve values (TS 36.211 section 6.10.1)."""
     bits = pseudo_random(2**10 * (7 * (slot + 1) + symbol + 1) * (2 * cell + 1) + 2 * cell + n_cp, 232)

@@ -84,8 +84,9 @@ class Slot:
 
     def slope(self, seen, weights):
         """How the weighed sum of values grows with each element, of which it is a linear function by itself."""
+        used = weights.any(1).reshape(-1, min(len(self.ports), 2)).any(1).repeat(min(len(self.ports), 2))
         at = {(l, k) for rows, columns, *_ in self.ports for l, k in zip(rows, columns)}
-        rows, columns = np.array(sorted(at | set(zip(self.rows, self.columns)))).T
+        rows, columns = np.array(sorted(at | set(zip(self.rows[used], self.columns[used])))).T
         found, now = np.zeros(seen.shape, complex), (weights * self.values(seen)).sum()
         for unit in (1, 1j):
             moved = np.repeat(seen[None], len(rows), 0)
@@ -97,7 +98,7 @@ class Slot:
         """Errors of the elements, in each symbol of this size, that bring down the weighed sum of values: each symbol's
         are the worst by those of the others, again and again."""
         errors = np.zeros(seen.shape, complex)
-        for _ in range(8):
+        for _ in range(6):
             slope = self.slope(seen + errors, weights)
             norms = np.sqrt((abs(slope) ** 2).sum(1))
             errors = -slope * np.where(norms > 1e-6 * norms.max(), sizes / np.maximum(norms, 1e-30), 0)[:, None]

@@ -154,7 +154,7 @@ def fitted(values, shape, limit):
     if energy(best, values) > limit:
         return None
     low, high = 0, 2 * math.sqrt(limit) / PARTS / max(math.sqrt(np.vdot(shape, shape).real), 1e-9)
-    for _ in range(40):
+    for _ in range(22):
         tried = np.round(values / PARTS + (low + high) / 2 * shape)
         if energy(tried, values) <= limit:
             low, best = (low + high) / 2, tried
