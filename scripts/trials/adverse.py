@@ -65,7 +65,9 @@ class Slot:
         if (attack == "block") == (self.slot == 1):
             return np.zeros(rest.shape, bool)
         if attack == "block":
-            return self.falling(flat, signs, draw.randrange(24), draw.randint(1, 4), draw.choice([-0.3, 0.3]))
+            _, columns, *_ = self.ports[0]
+            within = np.flatnonzero((columns >= self.columns.min()) & (columns <= self.columns.max()))
+            return self.falling(flat, signs, draw.choice(within), draw.randint(1, 4), draw.choice([-0.3, 0.3]))
         first = self.rule.size * (self.told["sfn"] + (self.told["offset"] > 0))
         numbers = (first + np.arange(rest.size).reshape(rest.shape)) % 120
         if attack == "bit":

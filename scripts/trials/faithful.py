@@ -23,6 +23,7 @@ import second_search
 from second_search import FRAME, SIZES
 
 PARTS = 16_384
+UNIT = PARTS**2  # the square of a gain of 1
 LATEST = 9  # samples by which a path may be later than the first
 NUMBERS = ("identity", "at", "sfn")
 GAINS = ("gain", "gain2", "gain3", "gain4")
@@ -136,6 +137,33 @@ def sent_by_second(carrier, told, frame=None):
     ports = [np.concatenate([frame(cell, sfn, port).samples() for sfn in numbers]) for port in range(frame.PORTS)]
     samples = np.array(ports)[:, told["offset"] :][:, : told["samples"]] @ (1, 1j)
     return np.pad(samples, ((0, 0), (LATEST - before, 0)))
+
+
+# ---- gains
+
+
+def squares_of(gains):
+    return [int(gain.real) ** 2 + int(gain.imag) ** 2 for gain in gains]
+
+
+def any_gains(carrier, most, draw, rng, is_great=False):
+    """Gains of the ports in parts, whose squares add to so much at most."""
+    ports = second_search.RULES[WORDS[carrier]].ports
+    while True:
+        power = draw.choice([draw.uniform(1, most**0.5) ** 2, draw.uniform(1, 1.1), draw.uniform(0.9, 1) * most])
+        power = 0.9 * most if is_great else power
+        sizes = np.array([draw.choice([0, draw.random(), 1]) for _ in range(ports)], float)
+        sizes[0] = draw.uniform(0.05, 1)
+        if carrier == "four":  # each pair has three eighths and more
+            share = draw.choice([draw.uniform(0.376, 0.624), 0.3751, 0.6249])
+            for pair, part in ((slice(0, 4, 2), share), (slice(1, 4, 2), 1 - share)):
+                sizes[pair] *= math.sqrt(part / max(sum(sizes[pair] ** 2), 1e-9))
+        gains = sizes * math.sqrt(power / sum(sizes**2)) * np.exp(2j * np.pi * rng.random(ports))
+        gains = np.round(gains * PARTS) if draw.random() < 0.8 else PARTS * np.round(gains)
+        squares = squares_of(gains)
+        if UNIT <= squares[0] and sum(squares) <= most * UNIT:
+            if carrier != "four" or all(3 * sum(squares) <= 8 * sum(squares[i::2]) for i in (0, 1)):
+                return gains
 
 
 # ---- errors

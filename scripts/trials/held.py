@@ -23,6 +23,7 @@ last recording. LTE_CLI names the program. Debian: python3-numpy.
 """
 import itertools
 import math
+import pathlib
 import random
 import sys
 from typing import Any, Callable, NamedTuple
@@ -33,11 +34,10 @@ import faithful
 import seen_through
 import words
 from adverse import ATTACKS, TURNS, Leaking, Slot, elements, traffic_against
-from faithful import LATEST, PARTS, energy, fitted
+from faithful import LATEST, PARTS, UNIT, energy, fitted, squares_of
 from second_search import RULES
 from seen_through import READ
 
-UNIT = PARTS**2  # the square of a gain of 1
 # by carrier: the energy of a symbol's errors by the sum of the gains' squares, and by the first one's square; the most
 # that the sum may be
 QUOTA = {"one": 1_800, "two": 64, "long": 1_800, "four": 4}
@@ -80,7 +80,7 @@ class Trial:
 
     def received(self):
         """The samples, or nothing where whole numbers of 16 bits do not fit the premise."""
-        self.gains = self.any_gains()
+        self.gains = faithful.any_gains(self.carrier, MOST[self.carrier], self.draw, self.rng, self.is_beyond)
         values, limits = self.kind.through(self) or (None, None)
         if values is None:
             return None
@@ -100,27 +100,6 @@ class Trial:
 
     def fault(self):
         return faithful.fault(self.carrier, self.told, self.data())
-
-    # ---- gains
-
-    def any_gains(self):
-        """Gains of the ports in parts, within the premise."""
-        most, draw = MOST[self.carrier], self.draw
-        while True:
-            power = draw.choice([draw.uniform(1, most**0.5) ** 2, draw.uniform(1, 1.1), draw.uniform(0.9, 1) * most])
-            sizes = [draw.choice([0, draw.random(), 1]) for _ in range(self.rule.ports)]
-            sizes[0] = draw.uniform(0.05, 1)
-            sizes = np.array(sizes)
-            if self.carrier == "four":  # a pair has three eighths and more
-                share = draw.choice([draw.uniform(0.376, 0.624), 0.3751, 0.6249])
-                for pair, part in ((slice(0, 4, 2), share), (slice(1, 4, 2), 1 - share)):
-                    sizes[pair] *= math.sqrt(part / max(sum(sizes[pair] ** 2), 1e-9))
-            gains = sizes * math.sqrt(power / sum(sizes**2)) * np.exp(2j * np.pi * self.rng.random(len(sizes)))
-            gains = np.round(gains * PARTS) if draw.random() < 0.8 else PARTS * np.round(gains)
-            squares = squares_of(gains)
-            if UNIT <= squares[0] and sum(squares) <= most * UNIT:
-                if self.carrier != "four" or all(3 * sum(squares) <= 8 * sum(squares[i::2]) for i in (0, 1)):
-                    return gains
 
     # ---- what stands elsewhere
 
@@ -144,11 +123,9 @@ class Trial:
                 own[s.start + 128 :][:9], own[max(0, s.start - 9) : s.start] = wave[-9:], wave[max(0, 9 - s.start) : 9]
         if fill == "signals":
             own = np.resize(wave, count)
-        return (
-            np.zeros(count, complex)
-            if fill == "zeros"
-            else np.clip(own.real, -32e3, 32e3) + 1j * np.clip(own.imag, -32e3, 32e3)
-        )
+        if fill == "zeros":
+            own = np.zeros(count)
+        return np.clip(own.real, -32e3, 32e3) + 1j * np.clip(own.imag, -32e3, 32e3)
 
     # ---- errors
 
@@ -201,10 +178,6 @@ class Trial:
     def flat(self, symbol):
         """What is received of it by one gain for each port, in parts."""
         return self.gains @ self.sent(symbol)
-
-
-def squares_of(gains):
-    return [int(gain.real) ** 2 + int(gain.imag) ** 2 for gain in gains]
 
 
 # ---- kinds: the values of each symbol that is looked at, and the greatest energy of its errors
@@ -335,7 +308,7 @@ KINDS = {
 }
 # plans that hardly can be resolved (scripts/peers/punctured_table.py): cfi, blocks, mcs, column
 HARD = {
-    "one": [(2, 3, 11, 2), (2, 2, 7, 2), (3, 2, 4, 3), (3, 3, 10, 2)],
+    "one": [(2, 3, 11, 2)],
     "two": [(2, 3, 5, 2)],
     "long": [(2, 6, 4, 2)],
     "four": [(2, 6, 4, 2)],
@@ -358,21 +331,22 @@ def tried(name, seeds):
 
 
 def first_lost(name, count, counts):
-    """Prints of so many seeds that which is lost at the least number, by faults that count."""
+    """Of so many seeds prints that which is lost at the least number, by faults that count, and gives its fault."""
 
     def lost(times):
         fault = Trial(name, seed, times).fault()
         return fault if fault and counts(fault) else None
 
-    least, best = 1e3, None
+    least, best, found = 1e3, None, None
     for seed in range(count):
         if lost(0.99 * least):
             low, high = 1, 0.99 * least
             while high > 1.005 * low:
                 middle = math.sqrt(low * high)
                 low, high = (low, middle) if lost(middle) else (middle, high)
-            least, best = high, (seed, lost(high))
-    print(f"{name}: of {count} seeds first at {least:.3f} times: {best}", flush=True)
+            least, best, found = high, seed, lost(high)
+    print(f"{name}: of {count} seeds {best} is lost first, at {least:.3f} times: {found}", flush=True)
+    return found
 
 
 def main():
@@ -382,16 +356,19 @@ def main():
     parser.add_argument("--first", type=int, default=0)
     parser.add_argument("--times", type=float)
     parser.add_argument("--find", type=int)
-    parser.add_argument("--save")
+    parser.add_argument("--save", type=pathlib.Path)
     told = parser.parse_args()
     lost = 0
     for name in told.kinds or KINDS:
         if told.find:
-            first_lost(name, told.find, lambda fault: True)
-            first_lost(name, told.find, lambda fault: not fault.startswith("cost"))
-        elif told.times:
+            first = first_lost(name, told.find, lambda fault: True)
+            if first and first.startswith("cost"):
+                first_lost(name, told.find, lambda fault: not fault.startswith("cost"))
+        elif told.times or told.save:
             trial = Trial(name, told.first, told.times)
-            print(f"{name} {told.first} at {told.times} times: {trial.fault() or 'held'}")
+            print(f"{name} {told.first} at {told.times or 1} times: {trial.fault() or 'held'}")
+            if told.save:
+                told.save.write_bytes(trial.data())
         else:
             lost += tried(name, range(told.first, told.first + told.count))
     sys.exit(lost > 0)
