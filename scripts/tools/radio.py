@@ -11,6 +11,7 @@ RATE = 1_920_000
 FRAME = 19_200
 LONGEST = RATE  # samples: one second
 FULL = 32_767
+BLOCK = 1024  # samples
 # how many reference elements `power` of `evidence` counts, and second differences `noise`, by antenna ports
 REFERENCES = {1: (24, 20), 2: (48, 40), 4: (96, 60)}
 PSS_ROOTS = (25, 29, 34)  # TS 36.211 table 6.11.1.1-1, by the identity within its group
@@ -24,8 +25,7 @@ def from_bytes(data):
 
 def to_bytes(x):
     """The samples as ci16_le bytes, each component rounded and kept within 16 bits."""
-    parts = np.empty(2 * len(x))
-    parts[0::2], parts[1::2] = x.real, x.imag
+    parts = np.ascontiguousarray(x, complex).view(float)
     return np.clip(np.round(parts), -FULL - 1, FULL).astype("<i2").tobytes()
 
 
@@ -35,8 +35,10 @@ def peak(x):
 
 
 def shifted(x, hertz, rate=RATE):
-    """The samples moved up in frequency."""
-    return x * np.exp(2j * np.pi * hertz / rate * np.arange(len(x)))
+    """The samples moved up in frequency; the turn of each is that of its block by that within one."""
+    turn = 2j * np.pi * hertz / rate
+    blocks = np.exp(turn * BLOCK * np.arange(-(-len(x) // BLOCK)))
+    return x * np.outer(blocks, np.exp(turn * np.arange(BLOCK))).ravel()[: len(x)]
 
 
 def pss(n2):

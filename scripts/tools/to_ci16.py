@@ -43,7 +43,7 @@ def converted(x, rate, shift):
     x = radio.shifted(x - x.mean(), -shift, rate)
     ratio = ratio_of(rate)
     x = signal.resample_poly(x, ratio.denominator, ratio.numerator)
-    return np.convolve(x, signal.firwin(129, PASS, fs=radio.RATE), "same")[: radio.LONGEST]
+    return signal.oaconvolve(x, signal.firwin(129, PASS, fs=radio.RATE), "same")[: radio.LONGEST]
 
 
 def main(kind, rate, shift="0", start="0"):
