@@ -23,7 +23,7 @@ from to_ci16 import ratio_of
 EVERY = 10  # seconds from one window to the next where --every does not say it
 SAME = 2_000  # hertz by which one cell may seem to stand elsewhere, by the raster's other frequency
 HELD = 8  # bytes of a sample that is held
-TOGETHER = 8  # frequencies that one process takes from a transform
+TOGETHER, EACH = 8, 4  # least frequencies that a process takes from one transform, and how often each has its turn
 
 
 def add_arguments(parser):
@@ -132,7 +132,8 @@ def starts_of(told, file):
 def scanned(told, file, ask):
     """The survey of all frequencies as an object of JSON; `ask` answers for many windows."""
     shifts, starts = raster(file), starts_of(told, file)
-    parts = [shifts[i : i + TOGETHER] for i in range(0, len(shifts), TOGETHER)]
+    together = max(TOGETHER, math.ceil(len(shifts) * len(starts) / (EACH * told.jobs)))
+    parts = [shifts[i : i + together] for i in range(0, len(shifts), together)]
     looks = [Look(file, *start, part, told.offset) for start in starts for part in parts]
     found = list(zip(looks, ask("scan", heard, looks)))
     spoiled = [round(start, 6) for start in dict.fromkeys(look.start for look, one in found if one is None)]
