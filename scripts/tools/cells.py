@@ -7,14 +7,13 @@ import json
 import numpy as np
 
 import radio
-from sightings import NEAR, WINDOW, distance, tells
+from sightings import DEAR, NEAR, WINDOW, distance, tells
 
 CLOCK = 100e-6  # by which a radio's clock may be off
 SAME_OFFSET, DRIFT = 1_000, 200  # hertz, and hertz per second, by which the offset of one cell may change
 SURE, BESIDE, LINE = 15, 0.5, 4  # hertz of an error; seconds about a sighting, and sightings that tell a straight line
 DOPPLER = 60  # hertz by which the offset of one cell mostly differs from another's
 SAME_PATH = 1.1  # microseconds by which a path's delay may change
-DEAR = 0.07  # cost by total from which on chance explains a line that was seen once
 FEW = 1_000  # a total of values that are nearly all 0
 
 

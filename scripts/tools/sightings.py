@@ -19,6 +19,7 @@ STEP = radio.RATE / 128 / 128  # hertz of a turn
 TURNS = 3  # times that a window is turned by what is left
 FINE = 8  # hertz that may be left
 VAGUE = 250  # hertz of error from which on pilots tell nothing
+DEAR = 0.07  # cost by total from which on chance explains a line that was seen once
 PARTS, PART = (3, 6, 9, 12), 4  # frames of a window from which on pilots are read again, and how many frames that takes
 
 # the words behind `evidence` for the list of a rule, and the antenna ports whose reference signals its numbers are of
@@ -91,6 +92,11 @@ class Heard(NamedTuple):
     @property
     def rule(self):
         return self.line["rule"]
+
+    @property
+    def share(self):
+        """Cost by total."""
+        return self.evidence[0]["cost"] / self.evidence[0]["total"]
 
     @property
     def measured(self):
@@ -178,15 +184,29 @@ def by_itself(window, one):
 
 
 def told_offset(task):
-    """The offset of a window in hertz, as far as a cell is listed in it."""
+    """The offset of a window in hertz, as far as a cell is listed in it: `lte_tune` asks the list of one port alone, so
+    where that has none each of its candidates is asked of all lists."""
     try:
         window = window_of(task)
     except radio_file.Spoiled:
         return None
-    told = machine.answer([machine.program("lte_tune"), "tell", "--json"], window.data)["told"]
-    if not told or not told["cells"]:
-        return None
-    window, heard = settled(window.turned(told["turn"] * STEP) if told["turn"] else window)
+    answer = machine.answer([machine.program("lte_tune"), "tell", "--json"], window.data)
+    told = answer["told"]
+    if told and told["cells"]:
+        return offset_of(*settled(turned_by(window, told["turn"])))
+    for one in answer["candidates"]:
+        turned, heard = settled(turned_by(window, one["turn"]))
+        if any(its.share < DEAR for its in heard):
+            return offset_of(turned, heard)
+    return None
+
+
+def turned_by(window, turn):
+    return window.turned(turn * STEP) if turn else window
+
+
+def offset_of(window, heard):
+    """By the pilots of its surest cell, else what was taken off."""
     hertz, error = left_of_surest(heard)
     return window.offset + (hertz if error < VAGUE else 0)
 
