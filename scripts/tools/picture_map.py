@@ -274,7 +274,7 @@ def draw_sizes(ax, drawn):
     if any(spot.cell is None for spot in drawn.marks):
         ax.scatter([], [], 22, facecolors="white", edgecolors=NOTHING, linewidths=0.9, label="no sure cell")
     keys = {"loc": "upper left", "borderaxespad": 0, "frameon": False, "handletextpad": 0.2, "columnspacing": 1.4}
-    ax.add_artist(ax.legend(bbox_to_anchor=(0, -0.36 / drawn.height), ncol=4, fontsize=8, **keys))
+    ax.legend(bbox_to_anchor=(0, -0.36 / drawn.height), ncol=4, fontsize=8, **keys)
     near = metres_text(float(f"{APART * drawn.metres * drawn.width:.1g}"))
     text = f"Windows within {near} are one mark, of their median level. A cell without a letter is strongest nowhere."
     ax.text(0, -0.66 / drawn.height, text, transform=ax.transAxes, fontsize=7.5, color="#555555", va="top")
@@ -329,6 +329,7 @@ def map_alone(found):
         for number, (letter, mark, colour) in drawn.signs.items()
     ]
     keys = {"loc": "upper left", "borderaxespad": 0, "frameon": False, "ncol": 2, "fontsize": 8.5}
+    ax.add_artist(ax.get_legend())  # that of the sizes, in place of which the next one comes
     ax.legend(handles=handles, bbox_to_anchor=(0, -0.9 / drawn.height), **keys)
     return figure
 
