@@ -284,7 +284,7 @@ class Put(unittest.TestCase):
         recording.write_bytes(bytes(range(256)) * 900)
         survey = self.run_tool("lte_survey", str(recording))
         self.assertEqual((survey.returncode, survey.stderr), (0, ""))
-        self.assertIn("1 windows, no offset told", survey.stdout)
+        self.assertIn("1 window, no offset told", survey.stdout)
         picture = self.run_tool("lte_picture", "/nowhere.ci16", "-o", "a.png")
         self.assertEqual((picture.returncode, picture.stderr.split(": ")[:2]), (1, ["lte_picture", "/nowhere.ci16"]))
         self.assertIn("lte_survey FILE", self.run_tool("lte_survey", "--help").stdout)

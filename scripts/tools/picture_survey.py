@@ -25,7 +25,8 @@ def survey_sheet(found, title=None, signs=None):
     more = len(found["cells"]) - len(cells)
     headed(figure, title or found["file"], facts_line(found, title) + (f"; {more} further cells" if more else ""))
     keys = {"width_ratios": (4.1, 4.2, 3.4), "height_ratios": (2, room + 0.35)}
-    (names, levels, offsets), (table, *lanes) = figure.subplots(2, 3, sharex="col", gridspec_kw=keys)
+    share = "none" if "scan" in found else "col"
+    (names, levels, offsets), (table, *lanes) = figure.subplots(2, 3, sharex=share, gridspec_kw=keys)
     strongest = signs or {id(cell): ("", *sign) for cell, *sign in zip(strong_first(cells), MARKS, COLOURS)}
     draw_together(levels, found, cells, strongest, "level")
     draw_together(offsets, found, cells, strongest, "offset")
@@ -46,8 +47,8 @@ def facts_line(found, title):
     facts = facts_of(found["form"], found["rate"], found["carrier"], found["shift"])
     if found.get("datetime"):
         facts.append(f"from {found['datetime']} on")
-    windows = f"{found['windows']} windows of {found['window']:g} s"
-    if found["every"] > 1.5 * found["window"]:
+    windows = f"{survey_table.windows_text(found['windows'])} of {found['window']:g} s"
+    if found["windows"] > 1 and found["every"] > 1.5 * found["window"]:
         windows += f", one every {found['every']:g} s"
     return ", ".join([found["file"]] * bool(title) + facts + [f"{found['seconds']:,.2f} s", windows])
 
@@ -69,16 +70,26 @@ def number_of(cell):
 
 
 def draw_together(ax, found, cells, strongest, key):
-    """A value of all cells over time: the strongest by marks of their own, the others as dots."""
+    """A value of all cells over time, of a scan over frequency: the strongest by marks of their own, the others as dots."""
     for cell in cells:
         _, mark, colour = strongest.get(id(cell), ("", ".", "#b0b0b0"))
         places, values = seen_of(cell, found, key)
+        if "scan" in found:
+            places = np.full(len(places), megahertz(cell))
         every = max(1, len(values) // 12)
         size, lead = (3 if mark == "." else 5), id(cell) in strongest
         ax.plot(places, values, ls="-" if lead else "", lw=0.9, color=colour, zorder=3 if lead else 2)
         some = slice(0, None, every if lead else 1)
         ax.plot(places[some], values[some], mark, ms=size, color=colour, mfc=colour, zorder=3 if lead else 2)
     ax.tick_params(labelbottom=True)
+    if "scan" in found:
+        first, last = (found["scan"][key] / 1e6 for key in ("first", "last"))
+        ax.set(xlabel="MHz" if found["carrier"] else "MHz beside the centre", xlim=(first - 0.5, last + 0.5))
+
+
+def megahertz(cell):
+    """Where a scanned cell stands, by the file's centre where that is not known."""
+    return (cell["shift"] if cell["frequency"] is None else cell["frequency"]) / 1e6
 
 
 def seen_of(cell, found, key):
@@ -159,7 +170,9 @@ def identity_lines(cell):
         more = f" +{len(names) - 2}" if names[2:] else ""
         lines = [f"{' '.join(names[:2])}{more}, TAC {sib1['tac']}", f"{sib1['cell']}{number_of(cell)}"]
     if "shift" in cell:
-        lines.append(f"{survey_table.megahertz(cell)} MHz, EARFCN {survey_table.earfcn_text(cell)}")
+        earfcn, *others = survey_table.earfcn_text(cell).split()
+        number = f"{earfcn} +{len(others)}" if others else f"EARFCN {earfcn}"
+        lines.append(f"{survey_table.megahertz(cell)} MHz, {number}")
     return lines + ([f"echo {echo['delay']} us, {echo['level']} dB"] if echo else [])
 
 

@@ -61,7 +61,8 @@ def page_of(found, title=None):
     is_long = sum(len(cell["seen"]) for cell in found["cells"]) > MOST
     if rows:
         says = "Level, signal to noise and frequency offset of each cell over time"
-        parts += ["<h2>Over time</h2>", image(picture_map.time_sheet(found, title), says, is_long), words_of(rows)]
+        over = "Over frequency and time" if "scan" in found else "Over time"
+        parts += [f"<h2>{over}</h2>", image(picture_map.time_sheet(found, title), says, is_long), words_of(rows)]
     said = ("The survey as JSON, without windows", without_windows(found)) if is_long else ("The survey as JSON", found)
     parts += [details(*said), SCRIPT * bool(rows)]
     return page(title or f"Survey of {found['file']}", parts, STYLE)

@@ -96,7 +96,7 @@ def table_of(survey):
 
 def head_of(survey):
     """What there is to say of the file."""
-    parts = [f"{survey['file']}: {survey['seconds']:.2f} s", f"{survey['windows']} windows"]
+    parts = [f"{survey['file']}: {survey['seconds']:.2f} s", windows_text(survey["windows"])]
     if survey["datetime"]:
         parts.insert(1, f"from {survey['datetime']} on")
     if survey["spoiled"]:
@@ -108,6 +108,10 @@ def head_of(survey):
     if "scan" in survey:
         return ", ".join([*parts, scan_text(survey["scan"])])
     return ", ".join([*parts, offset_text(survey["offsets"])])
+
+
+def windows_text(count):
+    return f"{count} window{'s' * (count != 1)}"
 
 
 def live_text(live):
