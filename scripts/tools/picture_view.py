@@ -124,7 +124,9 @@ class View(NamedTuple):
             return ["lte_tune: no primary signal, no offset told"]
         hertz = self.told["turn"] * sightings.STEP
         line = f"lte_tune: {hertz:+,.0f} Hz" if hertz else "lte_tune: 0 Hz"
-        return [f"{line}; cells then: {self.told['cells']}" if self.told["cells"] else f"{line}: a guess, no cell then"]
+        if self.told["cells"]:
+            return [f"{line}; cells then: {self.told['cells']}"]
+        return [f"{line}; no cell of one port then" if self.cells else f"{line}: a guess, no cell then"]
 
     def why_none(self):
         """What a list without cells mostly comes from."""
