@@ -9,7 +9,7 @@
 set -u
 shopt -s lastpipe                       # what the last command of a pipeline counts is kept
 here=$(cd "$(dirname "$0")" && pwd)
-tools=$here/../tools peers=$here/../peers
+tools=$here/../tools peers=$here/../peers top=$(realpath "$here/../..")
 program=$(realpath -m "${1:-$here/../../crates/lte_cli/out/lte_cli}")
 [ -x "$program" ] || { echo "test.sh: no program at $program; rt run in crates/lte_cli builds it" >&2; exit 1; }
 tuner=$(realpath -m "${LTE_TUNE:-${program//lte_cli/lte_tune}}")
@@ -135,6 +135,18 @@ for one in json.load(open("cells.geojson"))["features"]:
     print(named["kind"], named["identity"], named["plmn"], *(f"{degrees:.3f}" for degrees in place))' |
         says 'survey.py: places of the windows that a track has' $'cell 217 001-01 13.002 51.998
 window 217 001-01 13.002 51.998'
+    if /usr/bin/python3 -c 'import qgis.core' 2> /dev/null; then
+        QT_QPA_PLATFORM=offscreen /usr/bin/python3 -c 'import os
+from qgis.core import QgsApplication, QgsVectorLayer
+application = QgsApplication([], False)
+application.initQgis()
+layer = QgsVectorLayer("cells.geojson", "cells", "ogr")
+kinds = {field.name(): field.typeName() for field in layer.fields()}
+print(layer.isValid(), layer.featureCount(), layer.crs().authid(), kinds["level"], kinds["time"], flush=True)
+os._exit(0)' 2> notes | says 'QGIS opens the places' 'True 2 EPSG:4326 Real DateTime'
+    else
+        echo 'left out QGIS: no python3-qgis'
+    fi
     grep -c 'no places before and after\|^survey.py: 2 of 3 windows' words | says 'survey.py says what has no place' 2
     for start in 2026-05-01T07:29:59.8Z 2026-05-01T07:30:10.1Z; do
         "$tools/survey.py" "${walk[@]}" "$start" 2>&1 | sed 's/.*: //'
@@ -162,6 +174,13 @@ window 217 001-01 13.002 51.998'
     if /usr/bin/python3 -c 'import matplotlib' 2> /dev/null; then
         "$tools/picture.py" drive.cu8 --rate 2.4e6 --tune -o drive.svg
         head -c 5 drive.svg | says 'picture.py draws it' '<?xml'
+        "$tools/picture.py" "$top/crates/capture_example/stdin" --title 'The shipped recording' -o shipped.svg
+        drawn_by='Matplotlib v[0-9.]*' picture=$top/docs/shipped_recording.svg
+        if [ "$(grep -o "$drawn_by" shipped.svg)" = "$(grep -o "$drawn_by" "$picture")" ]; then
+            cmp shipped.svg "$picture" | says 'picture.py draws what README shows' ''
+        else
+            echo 'left out the picture of README: another matplotlib drew it'
+        fi
         "$tools/picture.py" survey.json -o survey.html
         head -c 15 survey.html | says 'picture.py draws a survey' '<!doctype html>'
         "$tools/survey.py" "${walk[@]}" 2026-05-01T07:29:59.95Z --html walk.html --json > walk.json 2> words
@@ -205,7 +224,7 @@ fi
 "$tools/check_certificate.py" < certificate | says 'check_certificate.py answers as check does' "$(cat answers)"
 "$peers/second_search.py" < five | says 'second_search.py lists what search lists' "$("$program" search < five)"
 "$program" transmit < "$here/../examples/chance_line.json" > two_lines
-for file in five two_lines "$here/../../crates/capture_example/stdin"; do
+for file in five two_lines "$top/crates/capture_example/stdin"; do
     "$peers/second_evidence.py" < "$file" |
         says "second_evidence.py writes what evidence writes of ${file##*/}" "$("$program" evidence < "$file")"
     for form in {hits,ids,evidence}' --json' search{,' --all',' --cancel'}' --json' 'search --all'; do
