@@ -40,7 +40,7 @@ from seen_through import READ
 
 # by carrier: the energy of a symbol's errors by the sum of the gains' squares, and by the first one's square; the most
 # that the sum may be
-QUOTA = {"one": 1_800, "two": 64, "long": 1_800, "four": 4}
+QUOTA = {"one": 1_800, "two": 400, "long": 1_800, "four": 7}
 BY_FIRST = {"two": 1_800}
 MOST = {"one": 784, "two": 392, "long": 784, "four": 196}
 SHAPES = ("white", "burst", "tone", "adverse")
