@@ -169,6 +169,10 @@ def any_gains(carrier, most, draw, rng, is_great=False):
 # ---- errors
 
 
+def clipped(samples):
+    return np.clip(samples.real, -32e3, 32e3) + 1j * np.clip(samples.imag, -32e3, 32e3)
+
+
 def energy(samples, values):
     """The energy of what whole samples are off by from values in parts, in the square of parts."""
     off = PARTS * samples - values
@@ -219,7 +223,8 @@ def fault(carrier, told, data):
     if len(same) != 1:
         return f"{len(same)} entries"
     if same != [want]:
-        return ", ".join(f"{key} {same[0][key]}" for key in want if same[0][key] != want[key])
+        its = {**same[0], "sib1": same[0]["sib1"].get("none", same[0]["sib1"])}
+        return ", ".join(f"{key} {its[key]}" for key in want if same[0][key] != want[key])
     rows = [line.split() for line in said(["evidence", *WORDS[carrier]], data).decode().splitlines()[1:]]
     row = next(row for row in rows if row[:3] == [str(want[name]) for name in NUMBERS])
     told_by = {name: int(value) for name, value in zip(row[3::2], row[4::2])}

@@ -88,6 +88,8 @@ class Trial:
         shapes = self.shapes(values, limits)
         for symbol, its in values.items():
             found = fitted(its, shapes[symbol], limits[symbol])
+            if self.is_beyond:
+                found = faithful.clipped(found)
             if found is None or max(abs(found.real).max(), abs(found.imag).max()) > 32_767:
                 return None
             samples[symbol.start : symbol.start + 128] = found
@@ -123,9 +125,7 @@ class Trial:
                 own[s.start + 128 :][:9], own[max(0, s.start - 9) : s.start] = wave[-9:], wave[max(0, 9 - s.start) : 9]
         if fill == "signals":
             own = np.resize(wave, count)
-        if fill == "zeros":
-            own = np.zeros(count)
-        return np.clip(own.real, -32e3, 32e3) + 1j * np.clip(own.imag, -32e3, 32e3)
+        return np.zeros(count, complex) if fill == "zeros" else faithful.clipped(own)
 
     # ---- errors
 
@@ -154,7 +154,7 @@ class Trial:
         """Of each slot that is read: its places, a weight of each value that is attacked, the symbols, and what is seen of
         them."""
         draw = random.Random(self.seed)
-        attack = draw.choice(ATTACKS[1:] if self.is_beyond else ATTACKS)
+        attack = draw.choice(ATTACKS[1 : 3 if self.rule.unread else 4] if self.is_beyond else ATTACKS)
         slots = {}
         for symbol in values:
             if symbol.slot in READ and symbol.frame == (self.first if symbol.slot == 1 else self.even):
@@ -337,7 +337,7 @@ def first_lost(name, count, counts):
         fault = Trial(name, seed, times).fault()
         return fault if fault and counts(fault) else None
 
-    least, best, found = 1e3, None, None
+    least, best, found = 1e3 if KINDS[name].through == by_one_gain else 8, None, None
     for seed in range(count):
         if lost(0.99 * least):
             low, high = 1, 0.99 * least
