@@ -30,10 +30,11 @@ class Cell:
         """Whether a later sighting is of it, as far as a radio's clock and offset allow."""
         last = self.seen[-1]
         gap = new.seconds - last.seconds
+        apart = min(abs(last.taken - new.taken), abs(last.offset - new.offset))
         return (
             last.line["identity"] == new.line["identity"]
             and distance(last.epoch, new.epoch) <= NEAR + CLOCK * radio.RATE * gap
-            and abs(last.taken - new.taken) <= SAME_OFFSET + DRIFT * gap
+            and apart <= SAME_OFFSET + DRIFT * gap
         )
 
     @property

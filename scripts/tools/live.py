@@ -31,7 +31,7 @@ from survey_table import networks
 
 STDIN = 0
 WAITING = 2  # windows in the ring for each process
-LOST = 6  # windows without a cell after which the offset is told anew
+LOST = 6  # windows without a sure cell after which the offset is told anew
 KEPT = 300  # sightings of a cell
 FORGET = 60  # seconds
 ENDING = 10  # seconds that a signal leaves for what is being looked at
@@ -148,23 +148,26 @@ class Live:
         if found is None:
             self.spoiled = [*self.spoiled, round(start, 6)][-KEPT:]
             return
+        sure = []
         for one in found:
             cell = add_sighting(self.cells, one, LiveCell)
+            if not cell.is_chance(self.cells):
+                sure.append(one)
             if self.told.follow:
                 self.tell(line_of(one, cell, self.cells, self.told.gain) + f"  {behind:.1f} s behind")
-        self.learn(start, found)
+        self.learn(start, sure)
         self.forget(start)
 
-    def learn(self, start, found):
-        """The offset for the windows to come."""
-        sure = min(found, key=lambda one: one.error, default=None)
-        self.without = 0 if found else self.without + 1
+    def learn(self, start, sure):
+        """The offset for the windows to come, by the surest of those found that chance does not explain."""
+        surest = min(sure, key=lambda one: one.error, default=None)
+        self.without = 0 if sure else self.without + 1
         if self.told.offset is not None:
             return
-        if sure and sure.error < VAGUE:
+        if surest and surest.error < VAGUE:
             if not self.is_told:
-                self.offsets = [*self.offsets, [round(start, 6), round(sure.offset, 1)]][-KEPT:]
-            self.offset, self.is_told = sure.offset, True
+                self.offsets = [*self.offsets, [round(start, 6), round(surest.offset, 1)]][-KEPT:]
+            self.offset, self.is_told = surest.offset, True
         elif self.without >= LOST:
             self.offset, self.is_told = 0, False
 
