@@ -97,7 +97,7 @@ values_fit receiver samples entry within few =
     let each : ℕ → List ℤ = λ m. values (entry.frame + m) in
     let frames = values_below entry.frames each in
     let received = values_in values entry.frames entry.frame in
-    let first = receiver.size * entry.phase in
+    let first = receiver.count * entry.phase in
     let many = values_below-length entry.frames each in
     let long = count_in_frames frames (values_below-All (λ (frame : List ℤ). length frame ≤ 480) entry.frames each []
     (λ m below. within.few samples (place_of entry) (entry.frame + m))) in

@@ -26,8 +26,8 @@ use Rattle.lte_types.specs.declared.entry.Entry.{Entry}
 use Rattle.pss_search.specs.Hits.{IsHit, found}
 use Rattle.pss_search.proofs.Listed.{list_is_right}
 use Rattle.lte_types.specs.Identity.{cell_of}
-use Rattle.lte_types.specs.Timing.{start_of as start_after, number_at_start}
-use Rattle.sss_detect.specs.Place.{start_of}
+use Rattle.lte_types.specs.Timing.{start_of, number_at_start}
+use Rattle.sss_detect.specs.Place.{start_by_hit}
 use Rattle.sss_detect.specs.Identity.{prefix_identity}
 use Rattle.grid_map.specs.Scrambling.{pbch_c_init}
 use Rattle.pbch.specs.declared.master.Master.{Master}
@@ -68,7 +68,7 @@ use Rattle.clean_air.proofs.TruePlaces.{AreNear, true_hit, true_start, near_true
 
 -- the place of a cell that begins at this offset
 abbrev pub sent_place : ℕ → ℕ → Place
-sent_place identity offset = record { id = identity; start = start_after offset }
+sent_place identity offset = record { id = identity; start = start_of offset }
 
 -- the block of a plan in the frame with this number
 abbrev pub sent_mib : (plan : CellPlan) → plan.spare ≤ 1023 → ℕ → Mib
@@ -80,7 +80,7 @@ sent_mib plan range number =
 pub record IsShown (receiver : Receiver) (recording : List Sample) (plan : CellPlan) (offset number : ℕ) (range : plan.spare ≤ 1023) : Type 0 where
   pub word : List Bool
   pub block : IsBlockOf (ports_of receiver.carrier) plan number word
-  pub speaks : SpeakOfWord (pbch_c_init plan.identity) (receiver.size * (number % 4)) word (receiver.broadcast recording (sent_place plan.identity offset) 0)
+  pub speaks : SpeakOfWord (pbch_c_init plan.identity) (receiver.count * (number % 4)) word (receiver.broadcast recording (sent_place plan.identity offset) 0)
   pub single : 1 ≤ receiver.most_frames
   pub taken : receiver.takes (ports_of receiver.carrier) ≡ true
   pub system : IsSystemFor receiver recording (sent_place plan.identity offset) number (ports_of receiver.carrier) (sent_mib plan range number) (told_of receiver.carrier plan.sib1)
@@ -130,7 +130,7 @@ record IsOneCell (m n gap : ℕ) : Type 0 where
 cell_tells : (m n gap : ℕ) → (nat_eq m n && nat_le gap 9) ≡ true → IsOneCell m n gap
 cell_tells m n gap e = record { id = grind (arith, nat_tests); near = grind (arith, nat_tests) }
 
-start_small : (t : ℕ) (half : Half) → start_of t half < 19200
+start_small : (t : ℕ) (half : Half) → start_by_hit t half < 19200
 start_small t Zero = omega arith
 start_small t Five = omega arith
 
@@ -180,8 +180,8 @@ module _ (receiver : Receiver) (recording : List Sample) (plan : CellPlan) (sfn 
       let block = shown.block in
       let width = block.width in
       let values = receiver.broadcast recording place 0 in
-      subst (λ received. TellsFreely (summed_values identity (receiver.size * (number % 4)) received) shown.word count) (sym (append-nil values))
-      (sent_word_is_told (pbch_c_init identity) (receiver.size * (number % 4)) count shown.word values block.size shown.speaks block.check (omega (arith, width)))
+      subst (λ received. TellsFreely (summed_values identity (receiver.count * (number % 4)) received) shown.word count) (sym (append-nil values))
+      (sent_word_is_told (pbch_c_init identity) (receiver.count * (number % 4)) count shown.word values block.size shown.speaks block.check (omega (arith, width)))
 
   block_told : Tells place (frames_from 1 0 (number % 4)) master
   block_told =
@@ -211,7 +211,7 @@ module _ (receiver : Receiver) (recording : List Sample) (plan : CellPlan) (sfn 
   sent_number = let known = fits in omega (arith, known)
 
   -- no frames are looked at before the first alone
-  none_first : (few i : ℕ) → IsInWindow recording (start_after offset) few i → ComeBefore (few, i) (1, 0) → ⊥
+  none_first : (few i : ℕ) → IsInWindow recording (start_of offset) few i → ComeBefore (few, i) (1, 0) → ⊥
   none_first few i window (inl fewer) = let some = window.some in omega (arith, some, fewer)
   none_first few i window (inr (same, below)) = omega (arith, below)
 
@@ -233,7 +233,7 @@ module _ (receiver : Receiver) (recording : List Sample) (plan : CellPlan) (sfn 
         listed = (are_taken receiver.carrier recording hit).1 (primary_is_listed_within recording h.t (identity % 3) primary (omega (arith, low)) high, room);
         is_of = record {
           id = sym (ap (λ (p : ℕ × Half). cell_of p.0 (identity % 3)) pair ∙ cell);
-          start = sym (ap (λ (p : ℕ × Half). start_of h.t p.1) pair ∙ true_start offset h.t h.half placed.within h.is_hit.is);
+          start = sym (ap (λ (p : ℕ × Half). start_by_hit h.t p.1) pair ∙ true_start offset h.t h.half placed.within h.is_hit.is);
           period = omega arith;
           frames = record {
             inside = record { some = omega arith; few = omega arith; known = omega arith; whole = λ m below. omega (arith, long, below) };
@@ -247,14 +247,14 @@ module _ (receiver : Receiver) (recording : List Sample) (plan : CellPlan) (sfn 
 
   -- an entry of a hit with the cell's identity and a start near the cell's has the cell's start: its hit, which is of
   -- the cell's root, is near a true place, and no place near that one is a hit of this root
-  start_is : (other : Entry) (is : IsOfSome other) → other.id ≡ identity → AreNear other.start (start_after offset) → other.start ≡ start_after offset
+  start_is : (other : Entry) (is : IsOfSome other) → other.id ≡ identity → AreNear other.start (start_of offset) → other.start ≡ start_of offset
   start_is other is id near =
       let hit = is.hit in
       let half = (prefix_identity prefix recording hit).1 in
       let taken = (are_taken receiver.carrier recording hit).0 is.listed in
       let room = taken.1 in
       let right = (list_is_right recording hit).0 taken.0 in
-      let place = near_true offset hit.t half placed.within right.is_hit.from_first (subst (λ a. AreNear a (start_after offset)) is.is_of.start near) in
+      let place = near_true offset hit.t half placed.within right.is_hit.from_first (subst (λ a. AreNear a (start_of offset)) is.is_of.start near) in
       let primary = placed.signals.primary place.u half place.is (omega (arith, room, place.below)) (omega (arith, place.above, right.is_hit.to_last)) in
       let root : hit.n2 ≡ identity % 3 = of_root (prefix_identity prefix recording hit).0 hit.n2 other.id (omega (arith, right.root)) is.is_of.id id in
       let same = only_hit_of_root_within recording place.u hit.t (identity % 3) primary place.below place.above (subst (λ n2. IsHit recording hit.t n2) root right.is_hit) in
@@ -263,24 +263,24 @@ module _ (receiver : Receiver) (recording : List Sample) (plan : CellPlan) (sfn 
       of_root : (n1 n2 id : ℕ) → n2 < 3 → id ≡ cell_of n1 n2 → id ≡ identity → n2 ≡ identity % 3
       of_root n1 n2 id few e same = omega (arith, few, e, same)
 
-  at_place : (other : Entry) → other.id ≡ identity → other.start ≡ start_after offset → place_of other ≡ place
+  at_place : (other : Entry) → other.id ≡ identity → other.start ≡ start_of offset → place_of other ≡ place
   at_place other id start = ap (λ i. record (place_of other) { id = i }) id ∙ ap (λ s. record place { start = s }) start
 
   -- what an entry with the cell's identity and start tells, by these
-  there : (other : Entry) → IsOfSome other → other.id ≡ identity → other.start ≡ start_after offset → Tells place (frames_of other) (master_of other)
+  there : (other : Entry) → IsOfSome other → other.id ≡ identity → other.start ≡ start_of offset → Tells place (frames_of other) (master_of other)
   there other is id start = subst (λ p. Tells p (frames_of other) (master_of other)) (at_place other id start) is.is_of.master
 
   -- it does not come before them, since the first frame alone tells a master block
-  not_after : (other : Entry) → IsOfSome other → other.id ≡ identity → other.start ≡ start_after offset → ComeBefore (1, 0) (other.frames, other.frame) → ⊥
+  not_after : (other : Entry) → IsOfSome other → other.id ≡ identity → other.start ≡ start_of offset → ComeBefore (1, 0) (other.frames, other.frame) → ⊥
   not_after other is id start before =
-      let first : start_after offset < 19200 = omega arith in
+      let first : start_of offset < 19200 = omega arith in
       is.is_of.frames.first 1 0 (record { some = omega arith; few = omega arith; known = omega arith; whole = λ m below. omega (arith, long, first, start, below) }) before
       (number % 4) master (omega arith)
       (subst (λ p. Tells p (frames_from 1 0 (number % 4)) master) (sym (at_place other id start)) block_told)
 
   -- an entry of a hit with the cell's identity, start and number is the cell's entry: it tells the same master block
   -- of the same frame
-  entry_is : (other : Entry) → IsOfSome other → other.id ≡ identity → other.start ≡ start_after offset → other.sfn ≡ number → other ≡ sent_entry
+  entry_is : (other : Entry) → IsOfSome other → other.id ≡ identity → other.start ≡ start_of offset → other.sfn ≡ number → other ≡ sent_entry
   entry_is other is id start sfn_is =
       let frames : other.frames ≡ 1 = elim (cases_lt 1 other.frames) [
         | inl more ↦ absurd (not_after other is id start (inl more))
@@ -308,11 +308,11 @@ module _ (receiver : Receiver) (recording : List Sample) (plan : CellPlan) (sfn 
       let cell = cell_tells other.id identity (distance (epoch other) (epoch sent_entry)) same in
       let small = start_small is.hit.t (prefix_identity prefix recording is.hit).1 in
       let low : other.start < 19200 = omega (arith, small, is.is_of.start) in
-      let first : start_after offset < 19200 = omega arith in
+      let first : start_of offset < 19200 = omega arith in
       let fits : other.sfn < 1024 = omega (arith, is.is_of.sfn) in
       let sent : sent_entry.sfn < 1024 = omega arith in
-      let start = start_is other is cell.id (near_starts other.start (start_after offset) other.sfn sent_entry.sfn low first fits sent cell.near) in
-      entry_is other is cell.id start (same_numbers other.start (start_after offset) other.sfn sent_entry.sfn low first fits sent cell.near start ∙ sent_number)
+      let start = start_is other is cell.id (near_starts other.start (start_of offset) other.sfn sent_entry.sfn low first fits sent cell.near) in
+      entry_is other is cell.id start (same_numbers other.start (start_of offset) other.sfn sent_entry.sfn low first fits sent cell.near start ∙ sent_number)
 
   module _ (list : List Entry) (listed : IsListFor receiver recording list) where
     -- so the list has it
@@ -326,7 +326,7 @@ module _ (receiver : Receiver) (recording : List Sample) (plan : CellPlan) (sfn 
         subst (Contains list) same stands.inside
 
     -- and no other with its identity, start and number
-    pub shown_is_held : HoldsCellBy receiver.carrier list plan (start_after offset) number
+    pub shown_is_held : HoldsCellBy receiver.carrier list plan (start_of offset) number
     shown_is_held = record {
       entry = sent_entry;
       inside = in_list;

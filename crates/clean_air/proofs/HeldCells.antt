@@ -2,7 +2,7 @@
 use Rattle.std.proofs.Common.{ℕ, ◌%◌, ◌≤◌, List, length, arith, refl}
 use Rattle.cs_num.specs.declared.Sample.{Sample}
 use Rattle.lte_types.specs.declared.carrier.Carrier.TheVariants.{OnePort}
-use Rattle.lte_types.specs.Timing.{start_of as start_after, number_at_start}
+use Rattle.lte_types.specs.Timing.{start_of, number_at_start}
 use Rattle.soft_bits.specs.Places.{placed_values}
 use Rattle.cell_tx.specs.declared.antenna.Port.TheVariants.{Only}
 use Rattle.cell_tx.specs.Block.{broadcast_word}
@@ -28,7 +28,7 @@ heard_is_shown recording plan grid sfn offset long sendable heard =
     record {
       word = broadcast_word plan number;
       block = block;
-      speaks = slot_speaks (slot_grid grid number 1) (broadcast_slot recording plan.identity (start_after offset) 0) (number % 4) (broadcast_word plan number)
+      speaks = slot_speaks (slot_grid grid number 1) (broadcast_slot recording plan.identity (start_of offset) 0) (number % 4) (broadcast_word plan number)
           heard.master block.size (carries_word plan grid heard.carries number);
       single = omega arith;
       taken = refl;

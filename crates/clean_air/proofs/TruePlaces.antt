@@ -3,8 +3,8 @@ use Rattle.std.proofs.Common.{◌≡◌, ℕ, ◌+◌, ◌-◌, ◌*◌, ◌/◌
 use Rattle.std.proofs.lemmas.Bool.{cases_lt}
 use Rattle.lte_types.specs.declared.frame.Half.{Half}
 use Rattle.lte_types.specs.declared.frame.Half.TheVariants.{Zero, Five}
-use Rattle.lte_types.specs.Timing.{start_of as start_after}
-use Rattle.sss_detect.specs.Place.{start_of}
+use Rattle.lte_types.specs.Timing.{start_of}
+use Rattle.sss_detect.specs.Place.{start_by_hit}
 use Rattle.explain.specs.Entries.{distance}
 use Rattle.clean_air.proofs.SentSymbols.{IsTruePlace}
 
@@ -22,28 +22,28 @@ pub record HasTrueHit (offset : ℕ) : Type 0 where
   pub is_hit : IsTrueHit offset t half
 
 pub true_hit : (offset : ℕ) → offset < 19200 → HasTrueHit offset
-true_hit offset within = elim (cases_lt (start_after offset) 8905) [
+true_hit offset within = elim (cases_lt (start_of offset) 8905) [
   | inl low ↦ record {
-    t = start_after offset + 10432;
+    t = start_of offset + 10432;
     half = Five;
     is_hit = record {
       low = omega arith;
       high = omega (arith, low);
-      is = record { frame = (start_after offset + offset) / 19200; place = omega (arith, within) };
+      is = record { frame = (start_of offset + offset) / 19200; place = omega (arith, within) };
     };
   }
-  | inr late ↦ elim (cases_lt (start_after offset) 18505) [
+  | inr late ↦ elim (cases_lt (start_of offset) 18505) [
     | inl low ↦ record {
-      t = start_after offset + 832;
+      t = start_of offset + 832;
       half = Zero;
       is_hit = record {
         low = omega (arith, late);
         high = omega (arith, low);
-        is = record { frame = (start_after offset + offset) / 19200; place = omega (arith, within) };
+        is = record { frame = (start_of offset + offset) / 19200; place = omega (arith, within) };
       };
     }
     | inr high ↦ record {
-      t = start_after offset - 8768;
+      t = start_of offset - 8768;
       half = Five;
       is_hit = record {
         low = omega (arith, high);
@@ -55,7 +55,7 @@ true_hit offset within = elim (cases_lt (start_after offset) 8905) [
 ]
 
 -- a true place tells the start of the cell's frames
-pub true_start : (offset t : ℕ) (half : Half) → offset < 19200 → IsTruePlace offset t half → start_of t half ≡ start_after offset
+pub true_start : (offset t : ℕ) (half : Half) → offset < 19200 → IsTruePlace offset t half → start_by_hit t half ≡ start_of offset
 true_start offset t Zero within p = omega (arith, within, p.place)
 true_start offset t Five within p = omega (arith, within, p.place)
 
@@ -77,20 +77,20 @@ record IsNearPlace (offset t p : ℕ) : Type 0 where
   above : u ≤ t + 9
   below : t ≤ u + 9
 
-near_place : (offset t p : ℕ) → offset < 19200 → p < 19200 → 137 ≤ t → AreNear ((t + (19200 - p)) % 19200) (start_after offset) → IsNearPlace offset t p
-near_place offset t p within inside first near = elim (cases_lt ((t + (19200 - p)) % 19200) (start_after offset)) [
+near_place : (offset t p : ℕ) → offset < 19200 → p < 19200 → 137 ≤ t → AreNear ((t + (19200 - p)) % 19200) (start_of offset) → IsNearPlace offset t p
+near_place offset t p within inside first near = elim (cases_lt ((t + (19200 - p)) % 19200) (start_of offset)) [
   | inl before ↦ elim near [
-    | inl close ↦ record { u = t + (start_after offset - (t + (19200 - p)) % 19200); place = omega arith; above = omega arith; below = omega arith }
-    | inr far ↦ record { u = t - (19200 + (t + (19200 - p)) % 19200 - start_after offset); place = omega arith; above = omega arith; below = omega arith }
+    | inl close ↦ record { u = t + (start_of offset - (t + (19200 - p)) % 19200); place = omega arith; above = omega arith; below = omega arith }
+    | inr far ↦ record { u = t - (19200 + (t + (19200 - p)) % 19200 - start_of offset); place = omega arith; above = omega arith; below = omega arith }
   ]
   | inr after ↦ elim near [
-    | inl close ↦ record { u = t - ((t + (19200 - p)) % 19200 - start_after offset); place = omega arith; above = omega arith; below = omega arith }
-    | inr far ↦ record { u = t + (19200 + start_after offset - (t + (19200 - p)) % 19200); place = omega arith; above = omega arith; below = omega arith }
+    | inl close ↦ record { u = t - ((t + (19200 - p)) % 19200 - start_of offset); place = omega arith; above = omega arith; below = omega arith }
+    | inr far ↦ record { u = t + (19200 + start_of offset - (t + (19200 - p)) % 19200); place = omega arith; above = omega arith; below = omega arith }
   ]
 ]
 
 -- a place that tells a near start is near a true place
-pub near_true : (offset t : ℕ) (half : Half) → offset < 19200 → 137 ≤ t → AreNear (start_of t half) (start_after offset) → IsNearTrue offset t half
+pub near_true : (offset t : ℕ) (half : Half) → offset < 19200 → 137 ≤ t → AreNear (start_by_hit t half) (start_of offset) → IsNearTrue offset t half
 near_true offset t Zero within first near =
     let p = near_place offset t 832 within (omega arith) first near in
     record { u = p.u; is = record { frame = (p.u + offset) / 19200; place = p.place }; above = p.above; below = p.below }

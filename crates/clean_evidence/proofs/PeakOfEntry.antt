@@ -7,8 +7,8 @@ use Rattle.lte_types.specs.declared.carrier.Carrier.TheVariants.{OnePort}
 use Rattle.lte_types.specs.declared.frame.Half.{Half}
 use Rattle.lte_types.specs.declared.frame.Half.TheVariants.{Zero, Five}
 use Rattle.lte_types.specs.declared.entry.Entry.{Entry}
-use Rattle.lte_types.specs.Timing.{start_of as start_after}
-use Rattle.sss_detect.specs.Place.{start_of}
+use Rattle.lte_types.specs.Timing.{start_of}
+use Rattle.sss_detect.specs.Place.{start_by_hit}
 use Rattle.sss_detect.specs.Identity.{identity_of}
 use Rattle.pss_search.specs.Correlation.{peak, energy, wave_power}
 use Rattle.pss_search.proofs.Listed.{list_is_right}
@@ -24,7 +24,7 @@ use Rattle.clean_air.proofs.SentSymbols.{IsTruePlace}
 use Rattle.clean_air.proofs.Signals.{primary_at}
 
 -- a place that tells the start of a cell's frames is one of its true places
-told_place : (offset t : ℕ) (half : Half) → offset < 19200 → start_of t half ≡ start_after offset → IsTruePlace offset t half
+told_place : (offset t : ℕ) (half : Half) → offset < 19200 → start_by_hit t half ≡ start_of offset → IsTruePlace offset t half
 told_place offset t Zero within told = record { frame = (t + offset) / 19200; place = omega (arith, within, told) }
 told_place offset t Five within told = record { frame = (t + offset) / 19200; place = omega (arith, within, told) }
 
@@ -33,7 +33,7 @@ fraction c e w some power h = le-div 999 (1000 * c) (e * w) (some_product e w so
 
 -- at such a place the fraction is high
 pub peak_is_high : (recording : List Sample) (plan : CellPlan) (grid : Elements) (sfn offset : ℕ) (gain : Cpx) (entry : Entry) (t : ℕ) →
-    IsFaithful recording plan grid sfn offset gain → entry.id ≡ plan.identity → entry.start ≡ start_after offset → IsToldBy OnePort recording entry t → 999 ≤ thousandths recording (entry.id % 3) t
+    IsFaithful recording plan grid sfn offset gain → entry.id ≡ plan.identity → entry.start ≡ start_of offset → IsToldBy OnePort recording entry t → 999 ≤ thousandths recording (entry.id % 3) t
 peak_is_high recording plan grid sfn offset gain entry t faithful id start told =
     let is = (list_is_right recording told.hit).0 told.listed in
     let first : 137 ≤ told.hit.t = is.is_hit.from_first in

@@ -4,13 +4,13 @@ use Rattle.cs_num.specs.declared.Sample.{Sample}
 use Rattle.lte_types.specs.declared.frame.Half.{Half}
 use Rattle.lte_types.specs.declared.frame.Half.TheVariants.{Zero, Five}
 use Rattle.lte_types.specs.declared.entry.Entry.{Entry}
-use Rattle.sss_detect.specs.Place.{start_of}
+use Rattle.sss_detect.specs.Place.{start_by_hit}
 use Rattle.explain.specs.Entries.{IsEntryFor, place_of}
 use Rattle.explain.specs.Frame.{IsWhole}
 use Rattle.explain.specs.Laws.{IsEntryOfSome}
 use Rattle.explain.specs.Receiver.{Receiver, hits_by}
 
-early : (t : ℕ) (half : Half) → start_of t half < 19200
+early : (t : ℕ) (half : Half) → start_by_hit t half < 19200
 early t Zero = omega arith
 early t Five = omega arith
 

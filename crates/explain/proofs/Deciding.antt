@@ -133,7 +133,7 @@ module _ (receiver : Receiver) (look : LooksAtFirstFrames receiver) where
   sums_agree : (a b : List Sample) (place : Place) (frames : Frames) → AgreeBefore deciding_length a b → place.start < frame_length → frames.first + frames.count ≤ 8 →
       sums_by receiver a place frames ≡ sums_by receiver b place frames
   sums_agree a b place frames agree early few =
-      ap (λ (rows : List (List ℤ)). summed_values place.id (receiver.size * frames.phase) (flat_map (λ row. row) rows))
+      ap (λ (rows : List (List ℤ)). summed_values place.id (receiver.count * frames.phase) (flat_map (λ row. row) rows))
       (values_below_same frames.count (λ m. receiver.broadcast a place (frames.first + m)) (λ m. receiver.broadcast b place (frames.first + m))
       (λ m below. look.broadcast a b place (frames.first + m) agree early (omega (arith, few, below))))
 

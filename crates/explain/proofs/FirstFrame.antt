@@ -132,22 +132,22 @@ has_one count masters beyond e =
 
 module _ (receiver : Receiver) (recording : List Sample) where
   -- the master blocks of frames from frame j on, by what was received of them
-  pub masters_of_frames : (place : Place) (identity size j : ℕ) (frames : List (List ℤ)) (all : List (Option Master)) → identity ≡ place.id → size ≡ receiver.size →
+  pub masters_of_frames : (place : Place) (identity size j : ℕ) (frames : List (List ℤ)) (all : List (Option Master)) → identity ≡ place.id → size ≡ receiver.count →
       AreReceived (receiver.broadcast recording place) j frames → AreMasters identity size (length frames) (flat_map (λ frame. frame) frames) all →
-      AreMasters place.id receiver.size (length frames) (values_in (receiver.broadcast recording place) (length frames) j) all
+      AreMasters place.id receiver.count (length frames) (values_in (receiver.broadcast recording place) (length frames) j) all
   masters_of_frames place identity size j frames all id many are m =
-      subst (λ values. AreMasters place.id receiver.size (length frames) values all) (ap (flat_map (λ frame. frame)) are)
+      subst (λ values. AreMasters place.id receiver.count (length frames) values all) (ap (flat_map (λ frame. frame)) are)
       (subst (λ n. AreMasters place.id n (length frames) (flat_map (λ frame. frame) frames) all) many
       (subst (λ i. AreMasters i size (length frames) (flat_map (λ frame. frame) frames) all) id m))
 
   module _ (place : Place) (count j : ℕ) (all masters : List (Option Master))
       (each : (phase : ℕ) → phase < 4 → master_at masters phase ≡ taken_of receiver.takes (master_at all phase))
-      (m : AreMasters place.id receiver.size count (values_in (receiver.broadcast recording place) count j) all) where
+      (m : AreMasters place.id receiver.count count (values_in (receiver.broadcast recording place) count j) all) where
     -- of those that so many frames from frame j on tell, these are taken
     pub told_in_frames : 1 ≤ count → count ≤ receiver.most_frames → AreTold (IsMasterFor receiver recording) place count j masters
     told_in_frames some adds phase period =
         subst (IsToldAt (IsMasterFor receiver recording) place (frames_from count j phase)) (sym (each phase (omega (arith, some, period))))
-        (by_option (master_at all phase) ((told_at place.id receiver.size count _ all phase m (omega (arith, some, period))).told period))
+        (by_option (master_at all phase) ((told_at place.id receiver.count count _ all phase m (omega (arith, some, period))).told period))
       where
         sums : List (List ℤ)
         sums = sums_by receiver recording place (frames_from count j phase)
@@ -168,4 +168,4 @@ module _ (receiver : Receiver) (recording : List Sample) where
     -- and none beyond a period
     pub none_beyond : (phase : ℕ) → phase < 4 → 4 < phase + count → master_at masters phase ≡ None
     none_beyond phase below beyond =
-        each phase below ∙ ap (taken_of receiver.takes) ((told_at place.id receiver.size count _ all phase m below).beyond beyond)
+        each phase below ∙ ap (taken_of receiver.takes) ((told_at place.id receiver.count count _ all phase m below).beyond beyond)

@@ -6,14 +6,14 @@ use Rattle.cs_num.specs.declared.Sample.{Sample}
 use Rattle.lte_types.specs.declared.frame.Half.{Half}
 use Rattle.lte_types.specs.declared.frame.Half.TheVariants.{Zero, Five}
 use Rattle.lte_types.specs.declared.entry.Entry.{Entry}
-use Rattle.sss_detect.specs.Place.{start_of}
+use Rattle.sss_detect.specs.Place.{start_by_hit}
 use Rattle.lte_types.specs.Ranges.{IsValid}
 use Rattle.explain.specs.Receiver.{Receiver, one_port_receiver}
 use Rattle.explain.specs.Entries.{IsInList, place_of, IsListFor}
 use Rattle.explain.proofs.Information.{system_is_valid}
 use Rattle.explain.proofs.Listed.{is_sound}
 
-early : (t : ℕ) (half : Half) → start_of t half < 19200
+early : (t : ℕ) (half : Half) → start_by_hit t half < 19200
 early t Zero = omega arith
 early t Five = omega arith
 

@@ -26,7 +26,7 @@ pub record Receiver : Type 0 where
   -- how the cells send
   pub carrier : Carrier
   -- how many values the broadcast channel has in a frame
-  pub size : ℕ
+  pub count : ℕ
   -- the values of the broadcast channel in frame j of the cell at a place
   pub broadcast : List Sample → Place → ℕ → List ℤ
   -- how many frames there are at most of which the values are added for one master block
@@ -49,7 +49,7 @@ subframes_by carrier values recording place j =
 abbrev pub by_slots : Carrier → (ℕ → Bool) → Valuing → Receiver
 by_slots kind taken values = record {
   carrier = kind;
-  size = 480;
+  count = 480;
   broadcast = broadcast_by values;
   most_frames = 4;
   takes = taken;
@@ -87,5 +87,5 @@ place_by carrier recording hit = prefix_place (prefix_of carrier) recording hit
 -- them at its phase
 abbrev pub sums_by : Receiver → List Sample → Place → Frames → List (List ℤ)
 sums_by receiver recording place frames =
-    summed_values place.id (receiver.size * frames.phase)
+    summed_values place.id (receiver.count * frames.phase)
     (values_in (receiver.broadcast recording place) frames.count frames.first)

@@ -26,7 +26,7 @@ pub trait FrameReader {
     fn received(&self, recording: &Recording, place: CellPlace, j: u8) -> Received
         requires { IsWhole recording.now place.start j }
         ensures values { result ≡ receiver.broadcast recording.now place j }
-        ensures length { length result ≡ receiver.size };
+        ensures length { length result ≡ receiver.count };
 
     /// How many frames of a period there are at most of which the values are added for one master block: 1 to 4.
     fn most_frames(&self) -> u8

@@ -88,7 +88,7 @@ fn first_alone<F: FrameReader>(
     ensures received { MatchOption result
         ((array_vec_len frames.new ≡ whole)
         × AreReceived (F.receiver.broadcast recording.now cell.now) 0 frames.new.items) (λ found. Unit) }
-    ensures sizes { All (λ frame. length frame ≡ F.receiver.size) frames.new.items }
+    ensures sizes { All (λ frame. length frame ≡ F.receiver.count) frames.new.items }
 {
     for frame in 0..whole {
         frames.push(reader.received(recording, cell.place(), frame));
@@ -119,7 +119,7 @@ fn first_of<F: FrameReader>(
     requires few { count ≤ 4 }
     requires adds { count ≤ F.receiver.most_frames }
     requires known { length frames.now ≤ 8 }
-    requires sizes { All (λ frame. length frame ≡ F.receiver.size) frames.now }
+    requires sizes { All (λ frame. length frame ≡ F.receiver.count) frames.now }
     ensures masters { (recording : List Sample) →
         AreReceived (F.receiver.broadcast recording cell.now) 0 frames.now →
         let Tells = IsMasterFor F.receiver recording in
@@ -159,7 +159,7 @@ fn masters_of<F: FrameReader>(
     requires some { 1 ≤ length frames.now }
     requires few { length frames.now ≤ 4 }
     requires adds { length frames.now ≤ F.receiver.most_frames }
-    requires sizes { All (λ frame. length frame ≡ F.receiver.size) frames.now }
+    requires sizes { All (λ frame. length frame ≡ F.receiver.count) frames.now }
     ensures masters { (recording : List Sample) →
         AreReceived (F.receiver.broadcast recording cell.now) frame frames.now →
         let Tells = IsMasterFor F.receiver recording in

@@ -20,7 +20,7 @@ are_four ports = nat_eq ports 4
 abbrev pub four_ports_receiver : Receiver
 four_ports_receiver = record {
   carrier = FourPorts;
-  size = 480;
+  count = 480;
   broadcast = broadcast_by paired_values;
   most_frames = 4;
   takes = are_four;

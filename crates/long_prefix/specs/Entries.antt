@@ -51,7 +51,7 @@ long_values slot = values_below 432 (long_value slot)
 abbrev pub long_prefix_receiver : Receiver
 long_prefix_receiver = record {
   carrier = LongPrefix;
-  size = 432;
+  count = 432;
   broadcast = λ recording place j. long_values (long_slot recording place.id place.start j);
   most_frames = 1;
   takes = λ ports. true;

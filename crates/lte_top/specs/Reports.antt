@@ -10,7 +10,7 @@ use Rattle.lte_types.specs.Identity.{cell_of}
 use Rattle.lte_types.specs.Numerology.{normal, least_samples, most_samples}
 use Rattle.pss_search.specs.Hits.{hits_of}
 use Rattle.sss_detect.specs.Identity.{identity_of}
-use Rattle.sss_detect.specs.Place.{start_of}
+use Rattle.sss_detect.specs.Place.{start_by_hit}
 use Rattle.sss_detect.specs.Second.{prefix_ranking}
 use Rattle.lte_types.specs.declared.evidence.Evidence.{Evidence as Numbers}
 use Rattle.evidence.specs.Evidence.{IsEvidenceFor}
@@ -41,7 +41,7 @@ identified_by hit pair = record {
   hit = hit;
   id = cell_of pair.0 hit.n2;
   half = pair.1;
-  start = start_of hit.t pair.1;
+  start = start_by_hit hit.t pair.1;
 }
 
 -- a hit of a recording with what it tells: the identity of its cell, the half, and where a frame begins

@@ -11,7 +11,7 @@ use Rattle.sample_file.specs.Recording.{AgreeBefore}
 use Rattle.observe.proofs.Agree.{seen_agrees}
 use Rattle.observe.specs.Seen.{seen}
 use Rattle.sss_detect.specs.Identity.{prefix_scores, identity_of, prefix_identity, best_pair}
-use Rattle.sss_detect.specs.Place.{prefix_place, start_of}
+use Rattle.sss_detect.specs.Place.{prefix_place, start_by_hit}
 use Rattle.sss_detect.specs.Second.{prefix_ranking, ranking_of}
 
 -- the scores are the same
@@ -31,7 +31,7 @@ identity_agrees = prefix_agrees normal
 
 pub place_agrees : (prefix : Prefix) (count : ℕ) (a b : List Sample) (hit : Hit) → AgreeBefore count a b → hit.t + 128 ≤ count → prefix_place prefix a hit ≡ prefix_place prefix b hit
 place_agrees prefix count a b hit agree within =
-    ap (λ (pair : ℕ × Half). record { id = cell_of pair.0 hit.n2; start = start_of hit.t pair.1 }) (prefix_agrees prefix count a b hit agree within)
+    ap (λ (pair : ℕ × Half). record { id = cell_of pair.0 hit.n2; start = start_by_hit hit.t pair.1 }) (prefix_agrees prefix count a b hit agree within)
 
 pub ranking_agrees : (prefix : Prefix) (count : ℕ) (a b : List Sample) (hit : Hit) → AgreeBefore count a b → hit.t + 128 ≤ count → prefix_ranking prefix a hit ≡ prefix_ranking prefix b hit
 unfolding prefix_ranking

@@ -11,13 +11,13 @@ use Rattle.sss_detect.specs.Identity.{prefix_identity}
 
 -- the start of a frame, modulo the samples of one, whose primary signal of this half stands at t (TS 36.211 sections
 -- 4.1, 6.11 and 6.12)
-abbrev pub start_of : ℕ → Half → ℕ
-start_of t half = (t + (frame_length - primary_start half)) % frame_length
+abbrev pub start_by_hit : ℕ → Half → ℕ
+start_by_hit t half = (t + (frame_length - primary_start half)) % frame_length
 
 -- the place of the cell that a hit tells by a cyclic prefix: by its group and the identity within it, and by the half
 -- of the frame
 abbrev pub prefix_place : Prefix → List Sample → Hit → Place
 prefix_place prefix recording hit = record {
   id = cell_of (prefix_identity prefix recording hit).0 hit.n2;
-  start = start_of hit.t (prefix_identity prefix recording hit).1;
+  start = start_by_hit hit.t (prefix_identity prefix recording hit).1;
 }

@@ -3,14 +3,14 @@
 ghost use Rattle.std.specs.Prelude.{◌≡◌, ◌<◌, ◌≤◌};
 ghost use Rattle.lte_types.specs.Identity.{cell_of};
 ghost use Rattle.lte_types.specs.Numerology.{frame_length};
-ghost use Rattle.sss_detect.specs.Place.{start_of};
+ghost use Rattle.sss_detect.specs.Place.{start_by_hit};
 
 use lte_types::{CellId, FRAME_LENGTH, Half, Hit};
 
 /// The sample, modulo the 19,200 of a frame, at which the frames of a hit begin whose primary
 /// signal stands in this half.
 pub fn frame_start(hit: &Hit, half: Half) -> u32
-    ensures value { result ≡ start_of hit.now.t half }
+    ensures value { result ≡ start_by_hit hit.now.t half }
     ensures small { result < frame_length }
 {
     let frame = FRAME_LENGTH as u32;

@@ -33,7 +33,7 @@ returns-in-Some-clause-found g c =
 
 pub returns-in-Some-clause-sizes : goal.returns-in-Some-clause-sizes
 returns-in-Some-clause-sizes g c =
-    let P = λ (frame : List ℤ). length frame ≡ g.F.FrameReader.receiver.size in
+    let P = λ (frame : List ℤ). length frame ≡ g.F.FrameReader.receiver.count in
     All-same P c.push.new.self.items (c.loop-frame.frames.items ++ c.received.result ∷ []) c.push.ensures.items (All-push P c.loop-frame.frames.items c.received.result c.loop-frame.invariant.sizes c.received.ensures.length)
 
 pub loop-frame-preserved : goal.loop-frame-preserved
@@ -44,7 +44,7 @@ loop-frame-preserved g c =
     let values = receiver.broadcast recording place in
     let frame = c.loop-frame.frame in
     let before = c.loop-frame.invariant in
-    let P = λ (frame : List ℤ). length frame ≡ receiver.size in
+    let P = λ (frame : List ℤ). length frame ≡ receiver.count in
     let are = received_more values frame c.loop-frame.frames.items c.received.result c.push.new.self.items before.count (c.received.ensures.values ∙ ap (λ place. receiver.broadcast recording place frame) c.place.ensures) c.push.ensures.items before.received in
     let all = ap (λ (frames : List (List ℤ)). length frames) c.as_slice.ensures.value in
     let inside : frame + 1 ≤ length c.as_slice.result.now = omega (arith, all, before.count, c.push.ensures.len) in

@@ -9,6 +9,6 @@ abbrev pub invariant-loop-frame : goal.invariant-loop-frame
 invariant-loop-frame g l = record {
   none : (i : ℕ) → i < l.frame → TellNone (IsMasterFor g.F.FrameReader.receiver l.recording) l.cell 1 i;
   received : AreReceived (g.F.FrameReader.receiver.broadcast l.recording l.cell) 0 l.frames.items;
-  sizes : All (λ (frame : List ℤ). length frame ≡ g.F.FrameReader.receiver.size) l.frames.items;
+  sizes : All (λ (frame : List ℤ). length frame ≡ g.F.FrameReader.receiver.count) l.frames.items;
   count : length l.frames.items ≡ l.frame;
 }

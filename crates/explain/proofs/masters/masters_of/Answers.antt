@@ -9,7 +9,7 @@ returns-then-not-has_master-clause-masters g c recording are =
     let place = c.args.cell.now in
     let count = length c.args.frames.now in
     let all = c.masters-told.result.at in
-    let size : c.len.result ≡ receiver.size =
+    let size : c.len.result ≡ receiver.count =
     c.len.ensures.value ∙ ap (λ (frame : List ℤ). length frame) c.index-frames-0.is ∙ c.requires.sizes 0 c.index-frames-0.result c.requires.some in
     let m = masters_of_frames receiver recording place c.bits.result.now c.len.result c.args.frame c.args.frames.now all c.bits.ensures size are c.masters-told.ensures.masters in
     no_master (IsMasterFor receiver recording) place count c.args.frame c.taken-at.result c.requires.some
@@ -23,7 +23,7 @@ returns-clause-masters g c recording are =
     let count = length c.args.frames.now in
     let all = c.masters-told.result.at in
     let masters = c.taken-at.result in
-    let size : c.len.result ≡ receiver.size =
+    let size : c.len.result ≡ receiver.count =
     c.len.ensures.value ∙ ap (λ (frame : List ℤ). length frame) c.index-frames-0.is ∙ c.requires.sizes 0 c.index-frames-0.result c.requires.some in
     let m = masters_of_frames receiver recording place c.bits.result.now c.len.result c.args.frame c.args.frames.now all c.bits.ensures size are c.masters-told.ensures.masters in (
       refl,
