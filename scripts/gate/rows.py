@@ -71,15 +71,15 @@ def values(text):
 
 
 def pairs(text):
-    """Of each pair the symbol l and the subcarrier k, and its values."""
-    found = re.findall(r"(\d+) (\d+) (\[.*\])", text)
-    return [exactly(f"({k}, {l}, ({k}, {(int(k) + 1) % 72}), {values})") for l, k, values in found]
+    """Of each pair its number and its values."""
+    found = re.findall(r"\d+ \d+ (\[.*\])", text)
+    return [exactly(f"({number}, {values})") for number, values in enumerate(found)]
 
 
-def pairs_in_order(text):
-    """Of all pairs together the symbol, the first subcarrier and the values, in their order."""
-    found = re.findall(r"(\d+) (\d+) (\[.*\])", text)
-    return [exactly(f"[{', '.join(f'({l}, {k}, {values})' for l, k, values in found)}]")]
+def pair_places(text):
+    """Of all pairs together the symbol and the first subcarrier, in their order."""
+    found = re.findall(r"(\d+) (\d+) \[", text)
+    return [exactly(f"[{', '.join(f'({l}, {k})' for l, k in found)}]")]
 
 
 def turbo(text):
@@ -307,7 +307,8 @@ LOOKS = [
         for file in ("crates/top_tests/src/evidence_of_cells.rt", "docs/FORMATS.md")
     ),
     Look("crates/list_tests/src/two_antenna_ports.rt", "$PY peers/second_pairs.py", pairs),
-    Look("crates/list_tests/src/four_antenna_ports.rt", "$PY peers/second_pairs.py --ports 4", pairs_in_order),
+    Look("crates/list_tests/src/four_antenna_ports.rt", "$PY peers/second_pairs.py --ports 4", pairs),
+    Look("crates/list_tests/src/ports.rt", "$PY peers/second_pairs.py --ports 4", pair_places),
     Look(TRANSMISSIONS, "$PY peers/second_cell.py", table("ROW"), described(), False),
     Look(TRANSMISSIONS, "$PY peers/second_cell.py", table("TURNED"), described(**TURNED), False),
     Look(

@@ -6,8 +6,6 @@ use Rattle.std.proofs.lemmas.Bool.Decides.{nat_tests}
 use Rattle.cs_num.specs.declared.Cpx.{Cpx}
 use Rattle.cs_num.specs.Complex.{nothing}
 use Rattle.crs.specs.declared.pattern.Pattern.{Pattern}
-use Rattle.crs.specs.declared.upper.UpperPort.{UpperPort}
-use Rattle.crs.specs.declared.upper.UpperPort.TheVariants.{Third, Fourth}
 use Rattle.crs.specs.Reference.{port_0, long_prefix, has_pilots, pattern_first, pattern_list, pattern_reference, is_pattern_place, first_subcarrier, reference, reference_at, is_reference, is_second_reference, is_upper_reference, upper_first, upper_pair, upper_list}
 use Rattle.crs.proofs.Values.{no_pair, reference-of_port_0, get_or-pattern_list}
 use Rattle.std.proofs.lemmas.List.FromFn.{get_or-map-range_with_len}
@@ -63,7 +61,7 @@ pub no_second_reference : (identity symbol k : ℕ) → nat_eq symbol 0 ≡ fals
 unfolding is_second_reference
 no_second_reference identity symbol k e f = rw (e, f) refl
 
-no_upper_reference : (port : UpperPort) (identity slot symbol k : ℕ) → nat_eq symbol 1 ≡ false → is_upper_reference port identity slot symbol k ≡ false
+no_upper_reference : (port identity slot symbol k : ℕ) → nat_eq symbol 1 ≡ false → is_upper_reference port identity slot symbol k ≡ false
 unfolding is_upper_reference
 no_upper_reference port identity slot symbol k e = rw e refl
 
@@ -112,7 +110,7 @@ by_second m n b other = let no : nat_eq m n ≡ false = grind (arith, nat_tests)
 
 -- what the code finds of four tests
 four_is : (port : PortOfFour) (identity slot symbol k : ℕ) (zero one two three any : Bool) → is_reference identity symbol k ≡ zero → is_second_reference identity symbol k ≡ one
-    → is_upper_reference Third identity slot symbol k ≡ two → is_upper_reference Fourth identity slot symbol k ≡ three → any ≡ ((zero || one) || (two || three))
+    → is_upper_reference 2 identity slot symbol k ≡ two → is_upper_reference 3 identity slot symbol k ≡ three → any ≡ ((zero || one) || (two || three))
     → found_of_four port zero one two three any (reference_at identity slot symbol k) ≡ port_reference_if (OfFour port) identity slot symbol k
 four_is Zero identity slot symbol k zero one two three any e f g h is = rw (e, f, g, h) (any_of zero any _ (reference_at identity slot symbol k) (is ∙ zero_first zero one two three))
 four_is One identity slot symbol k zero one two three any e f g h is = rw (e, f, g, h) (any_of one any _ (reference_at identity slot symbol k) (is ∙ one_first zero one two three))
@@ -134,7 +132,7 @@ no_port_reference Second identity slot symbol k e g f = rw (no_second_reference 
 no_port_reference Long identity slot symbol k e g f = rw (no_place long_prefix identity symbol k e f) refl
 no_port_reference (OfFour port) identity slot symbol k e g f =
     sym (four_is port identity slot symbol k false false false false false (no_reference identity symbol k e f) (no_second_reference identity symbol k e f)
-    (no_upper_reference Third identity slot symbol k g) (no_upper_reference Fourth identity slot symbol k g) refl)
+    (no_upper_reference 2 identity slot symbol k g) (no_upper_reference 3 identity slot symbol k g) refl)
     ∙ found_none port (reference_at identity slot symbol k)
 
 module _ (pattern : Pattern) (pilots : List (ℕ × Cpx)) (identity slot symbol k : ℕ) (row : (symbol ≡ 0) ⊎ (symbol ≡ pattern.later)) (is : pilots ≡ pattern_list pattern identity slot symbol) where
@@ -186,32 +184,32 @@ pilot_is (OfFour port) pilots identity slot symbol k row is inside =
     let single : nat_eq symbol 1 ≡ false = elim row [ inl e ↦ rw e refl | inr e ↦ rw e refl ] in
     ap (found_of_four port _ _ false false _) (value_is port_0 pilots identity slot symbol k row is inside ∙ reference_of_port_0 identity slot symbol k)
     ∙ four_is port identity slot symbol k _ _ false false _ (sym (own port_0 pilots identity slot symbol k row is ∙ is_reference_of identity symbol k))
-    (sym (second pilots identity slot symbol k row is)) (no_upper_reference Third identity slot symbol k single) (no_upper_reference Fourth identity slot symbol k single) (or-false _)
+    (sym (second pilots identity slot symbol k row is)) (no_upper_reference 2 identity slot symbol k single) (no_upper_reference 3 identity slot symbol k single) (or-false _)
 
 -- the row of ports 2 and 3
-get_or-upper_list : (port : UpperPort) (identity slot m : ℕ) → m < 12 → get_or (upper_list port identity slot) m no_pair ≡ upper_pair port identity slot m
+get_or-upper_list : (port identity slot m : ℕ) → m < 12 → get_or (upper_list port identity slot) m no_pair ≡ upper_pair port identity slot m
 unfolding upper_list
 get_or-upper_list port identity slot m few = get_or-map-range_with_len (upper_pair port identity slot) 0 12 m m no_pair few (omega arith)
 
-upper_first_is : (pilots : List (ℕ × Cpx)) (identity slot : ℕ) → pilots ≡ upper_list Third identity slot → (get_or pilots 0 no_pair).0 % 6 ≡ upper_first Third identity slot
+upper_first_is : (pilots : List (ℕ × Cpx)) (identity slot : ℕ) → pilots ≡ upper_list 2 identity slot → (get_or pilots 0 no_pair).0 % 6 ≡ upper_first 2 identity slot
 upper_first_is pilots identity slot is =
-    let zeroth : (6 * 0 + upper_first Third identity slot) % 6 ≡ upper_first Third identity slot = omega arith in
-    ap (λ (pair : ℕ × Cpx). pair.0 % 6) (ap (λ list. get_or list 0 no_pair) is ∙ get_or-upper_list Third identity slot 0 (omega arith)) ∙ zeroth
+    let zeroth : (6 * 0 + upper_first 2 identity slot) % 6 ≡ upper_first 2 identity slot = omega arith in
+    ap (λ (pair : ℕ × Cpx). pair.0 % 6) (ap (λ list. get_or list 0 no_pair) is ∙ get_or-upper_list 2 identity slot 0 (omega arith)) ∙ zeroth
 
-upper_value_is : (pilots : List (ℕ × Cpx)) (identity slot k : ℕ) → pilots ≡ upper_list Third identity slot → k < 72 → (get_or pilots (k / 6) no_pair).1 ≡ reference_at identity slot 1 k
+upper_value_is : (pilots : List (ℕ × Cpx)) (identity slot k : ℕ) → pilots ≡ upper_list 2 identity slot → k < 72 → (get_or pilots (k / 6) no_pair).1 ≡ reference_at identity slot 1 k
 upper_value_is pilots identity slot k is inside =
-    ap (λ (pair : ℕ × Cpx). pair.1) (ap (λ list. get_or list (k / 6) no_pair) is ∙ get_or-upper_list Third identity slot (k / 6) (omega (arith, inside)))
+    ap (λ (pair : ℕ × Cpx). pair.1) (ap (λ list. get_or list (k / 6) no_pair) is ∙ get_or-upper_list 2 identity slot (k / 6) (omega (arith, inside)))
     ∙ sym (reference_at_is identity slot 1 k)
 
-third_row : (identity slot k n : ℕ) → n ≡ upper_first Third identity slot → is_upper_reference Third identity slot 1 k ≡ nat_eq (k % 6) n
+third_row : (identity slot k n : ℕ) → n ≡ upper_first 2 identity slot → is_upper_reference 2 identity slot 1 k ≡ nat_eq (k % 6) n
 unfolding is_upper_reference
 third_row identity slot k n e = rw e refl
 
-fourth_row : (identity slot k n : ℕ) → n ≡ upper_first Third identity slot → is_upper_reference Fourth identity slot 1 k ≡ nat_eq (k % 6) ((n + 3) % 6)
+fourth_row : (identity slot k n : ℕ) → n ≡ upper_first 2 identity slot → is_upper_reference 3 identity slot 1 k ≡ nat_eq (k % 6) ((n + 3) % 6)
 unfolding is_upper_reference
-fourth_row identity slot k n e = let same : upper_first Fourth identity slot ≡ (n + 3) % 6 = omega (arith, e) in ap (nat_eq (k % 6)) same
+fourth_row identity slot k n e = let same : upper_first 3 identity slot ≡ (n + 3) % 6 = omega (arith, e) in ap (nat_eq (k % 6)) same
 
-pub upper_is : (port : PortOfFour) (pilots : List (ℕ × Cpx)) (identity slot k : ℕ) → pilots ≡ upper_list Third identity slot → k < 72 →
+pub upper_is : (port : PortOfFour) (pilots : List (ℕ × Cpx)) (identity slot k : ℕ) → pilots ≡ upper_list 2 identity slot → k < 72 →
     (let n = (get_or pilots 0 no_pair).0 % 6 in
     let two = nat_eq (k % 6) n in
     let three = nat_eq (k % 6) ((n + 3) % 6) in

@@ -9,7 +9,6 @@ use Rattle.lte_types.specs.declared.numerology.Prefix.{Prefix}
 use Rattle.lte_types.specs.Carrier.{prefix_of}
 use Rattle.lte_types.specs.Numerology.{symbols_of_slot}
 use Rattle.crs.specs.declared.pattern.Pattern.{Pattern}
-use Rattle.crs.specs.declared.upper.UpperPort.TheVariants.{Third, Fourth}
 use Rattle.crs.specs.Reference.{pattern_of, long_prefix, is_reference, is_second_reference, is_upper_reference}
 use Rattle.crs.specs.Reference.{is_pattern_place, reference_at, pattern_reference}
 use Rattle.cell_tx.specs.declared.antenna.Port.{Port}
@@ -127,8 +126,8 @@ sent_signal (OfFour Three) z = nothing
 abbrev pub is_reference_of_four : PortOfFour → ℕ → ℕ → ℕ → ℕ → Bool
 is_reference_of_four Zero identity slot symbol k = is_reference identity symbol k
 is_reference_of_four One identity slot symbol k = is_second_reference identity symbol k
-is_reference_of_four Two identity slot symbol k = is_upper_reference Third identity slot symbol k
-is_reference_of_four Three identity slot symbol k = is_upper_reference Fourth identity slot symbol k
+is_reference_of_four Two identity slot symbol k = is_upper_reference 2 identity slot symbol k
+is_reference_of_four Three identity slot symbol k = is_upper_reference 3 identity slot symbol k
 
 -- a place of a slot is one of the reference signals of one of three of four ports
 abbrev pub is_reference_of_three : PortOfFour → PortOfFour → PortOfFour → ℕ → ℕ → ℕ → ℕ → Bool

@@ -6,7 +6,6 @@ ghost use Rattle.finite.specs.Lists.{values_below};
 ghost use Rattle.cs_num.specs.Complex.{nothing};
 ghost use Rattle.lte_types.specs.Numerology.{half_of};
 ghost use Rattle.sync_seq.specs.Secondary.{sss_at};
-ghost use Rattle.crs.specs.declared.upper.UpperPort.TheVariants.{Third};
 ghost use Rattle.crs.specs.Reference.{IsPattern, pattern_list, upper_list};
 ghost use Rattle.fold128.specs.Symbol.{useful_part};
 ghost use Rattle.std.specs.Option.{unwrap_or};
@@ -25,7 +24,7 @@ use crate::layout::{Carried, Layout};
 use crate::load::{LOAD_BITS, load_bits};
 use crate::{Port, PortOfFour};
 use cell_plan::Cell;
-use crs::{Pattern, UpperPort, pattern_pilots, point, upper_pilots};
+use crs::{Pattern, pattern_pilots, point, upper_pilots};
 use cs_num::Cpx;
 use fold128::synth;
 use grid_map::Place;
@@ -121,7 +120,7 @@ fn test_of_four(port: PortOfFour, zero: bool, one: bool, two: bool, three: bool)
 // place. Port 3 has its own three subcarriers on.
 fn upper_of(port: PortOfFour, pilots: &[(u8, Cpx); 12], k: usize) -> Option<Cpx>
     requires { k < 72 }
-    ensures { (identity slot : ℕ) → pilots.now ≡ upper_list Third identity slot →
+    ensures { (identity slot : ℕ) → pilots.now ≡ upper_list 2 identity slot →
         result ≡ port_reference_if (OfFour port) identity slot 1 k }
 {
     let first = pilots[0].0 as usize % 6;
@@ -198,7 +197,7 @@ fn upper_row(id: CellId, port: PortOfFour, slot: u8) -> [Option<Cpx>; 72]
     ensures { result ≡ values_below 72 (port_reference_if (OfFour port) id slot 1) }
 {
     let mut row = [None; 72];
-    let pilots = upper_pilots(UpperPort::Third, id, slot);
+    let pilots = upper_pilots(2, id, slot);
     for k in 0..72 {
         row[k] = upper_of(port, &pilots, k);
     }

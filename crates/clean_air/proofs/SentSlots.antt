@@ -9,7 +9,6 @@ use Rattle.cs_num.specs.Complex.{times, minus, square, value_at}
 use Rattle.sizes.proofs.Cauchy.{energy_same}
 use Rattle.fold128.specs.Symbol.{useful_at}
 use Rattle.finite.proofs.Lists.{values_below_at}
-use Rattle.crs.specs.declared.upper.UpperPort.TheVariants.{Third, Fourth}
 use Rattle.cell_tx.specs.declared.antenna.PortOfFour.TheVariants.{Zero, One, Two, Three}
 use Rattle.crs.specs.Reference.{port_0, is_reference, is_second_reference, is_upper_reference, first_subcarrier, pattern_reference, reference, reference_c_init, reference_at}
 use Rattle.observe.specs.Seen.{seen_symbol}
@@ -98,8 +97,8 @@ record IsBroadcastPlace (identity symbol k : ℕ) : Type 0 where
   high : symbol < 11
   free : is_reference identity (symbol % 7) k ≡ false
   second_free : is_second_reference identity (symbol % 7) k ≡ false
-  third_free : (slot : ℕ) → is_upper_reference Third identity slot (symbol % 7) k ≡ false
-  fourth_free : (slot : ℕ) → is_upper_reference Fourth identity slot (symbol % 7) k ≡ false
+  third_free : (slot : ℕ) → is_upper_reference 2 identity slot (symbol % 7) k ≡ false
+  fourth_free : (slot : ℕ) → is_upper_reference 3 identity slot (symbol % 7) k ≡ false
   here : is_broadcast identity 0 symbol k ≡ true
 
 broadcast_place : (identity : ℕ) (p : Place) → is_pbch identity p ≡ true → IsBroadcastPlace identity p.symbol p.k

@@ -20,8 +20,6 @@ use Rattle.lte_types.specs.declared.frame.Half.TheVariants.{Zero, Five}
 use Rattle.lte_types.specs.declared.numerology.Prefix.{Prefix}
 use Rattle.lte_types.specs.Carrier.{prefix_of}
 use Rattle.lte_types.specs.Numerology.{IsPrefix, symbols_of_slot, symbol_step, useful_start, subframe_of, primary_start}
-use Rattle.crs.specs.declared.upper.UpperPort.{UpperPort}
-use Rattle.crs.specs.declared.upper.UpperPort.TheVariants.{Third, Fourth}
 use Rattle.crs.specs.Reference.{is_reference, is_second_reference, is_upper_reference}
 use Rattle.pss_search.specs.Correlation.{pss_grid}
 use Rattle.cell_tx.specs.declared.antenna.Port.{Port}
@@ -97,7 +95,7 @@ little_beside FourPorts gains energy little = little.1
 
 -- ---- what a port sends of the signals
 
-no_upper : (port : UpperPort) (identity slot symbol k : ℕ) → nat_eq symbol 1 ≡ false → is_upper_reference port identity slot symbol k ≡ false
+no_upper : (port identity slot symbol k : ℕ) → nat_eq symbol 1 ≡ false → is_upper_reference port identity slot symbol k ≡ false
 unfolding is_upper_reference
 no_upper port identity slot symbol k e = rw e refl
 
@@ -111,10 +109,10 @@ record HasNone (port : PortOfFour) (identity slot symbol k : ℕ) : Type 0 where
 
 none_in : (port : PortOfFour) (identity slot symbol k : ℕ) → nat_eq symbol 0 ≡ false → nat_eq symbol 4 ≡ false → nat_eq symbol 1 ≡ false → HasNone port identity slot symbol k
 none_in port identity slot symbol k e f g =
-    by port (no_reference identity symbol k e f) (no_second_reference identity symbol k e f) (no_upper Third identity slot symbol k g) (no_upper Fourth identity slot symbol k g)
+    by port (no_reference identity symbol k e f) (no_second_reference identity symbol k e f) (no_upper 2 identity slot symbol k g) (no_upper 3 identity slot symbol k g)
   where
-    by : (port : PortOfFour) → is_reference identity symbol k ≡ false → is_second_reference identity symbol k ≡ false → is_upper_reference Third identity slot symbol k ≡ false →
-        is_upper_reference Fourth identity slot symbol k ≡ false → HasNone port identity slot symbol k
+    by : (port : PortOfFour) → is_reference identity symbol k ≡ false → is_second_reference identity symbol k ≡ false → is_upper_reference 2 identity slot symbol k ≡ false →
+        is_upper_reference 3 identity slot symbol k ≡ false → HasNone port identity slot symbol k
     by P0 a b c d = record { own = a; other = rw (b, c, d) refl }
     by P1 a b c d = record { own = b; other = rw (a, c, d) refl }
     by P2 a b c d = record { own = c; other = rw (a, b, d) refl }

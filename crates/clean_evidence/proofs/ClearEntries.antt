@@ -1,5 +1,5 @@
 -- The evidence of the entry of a cell to which a recording is faithful, or of which it is clean.
-use Rattle.std.proofs.Common.{◌≡◌, ℕ, ◌*◌, ◌^◌, ◌≤◌, arith, sym, subst, ◌∙◌, List, [], ◌∷◌, length}
+use Rattle.std.proofs.Common.{◌≡◌, ℕ, ◌*◌, ◌^◌, ◌≤◌, arith, ap, sym, subst, ◌∙◌, List, [], ◌∷◌, length}
 use Rattle.cs_num.specs.declared.Cpx.{Cpx}
 use Rattle.cs_num.specs.declared.Sample.{Sample}
 use Rattle.cs_num.specs.Complex.{square}
@@ -7,13 +7,15 @@ use Rattle.lte_types.specs.declared.carrier.Carrier.TheVariants.{OnePort}
 use Rattle.lte_types.specs.declared.entry.Entry.{Entry}
 use Rattle.lte_types.specs.declared.evidence.Evidence.{Evidence}
 use Rattle.lte_types.specs.Timing.{start_of, number_at_start}
-use Rattle.soft_bits.specs.Soft.{SeenSlot, pilot_energy}
+use Rattle.soft_bits.specs.Soft.{SeenSlot, pilot, pilot_energy}
+use Rattle.soft_bits.proofs.Lines.{energy_of_one}
 use Rattle.explain.specs.Frame.{broadcast_slot}
 use Rattle.explain.specs.Entries.{IsInList}
 use Rattle.cell_plan.specs.declared.cell.CellPlan.{CellPlan}
 use Rattle.cell_plan.specs.Plan.{IsSendable}
 use Rattle.cell_tx.specs.Sent.{Elements}
 use Rattle.evidence.specs.Evidence.{IsEvidence, noise_of, differences}
+use Rattle.evidence.proofs.SecondDifferences.{differences_of_one}
 use Rattle.budget.specs.Received.{in_parts}
 use Rattle.clean_air.specs.Faithful.{IsFaithful}
 use Rattle.clean_air.specs.Clean.{IsSentEntryOf}
@@ -53,14 +55,23 @@ module _ (recording : List Sample) (entry : Entry) (told : Evidence) (plan : Cel
       (subst (λ n. Is (broadcast_slot recording plan.identity n entry.frame)) (sym start)
       (subst (λ n. Is (broadcast_slot recording plan.identity (start_of offset) n)) (sym is_sent.frame) is))
 
+  -- the noise and the power are those of the pilots of its slot
+  noise_is : told.noise ≡ noise_of (differences 24 2 (pilot (broadcast_slot recording entry.id entry.start entry.frame)))
+  noise_is = evidence.noise ∙ ap noise_of (differences_of_one (broadcast_slot recording entry.id entry.start entry.frame))
+
+  power_is : told.power ≡ pilot_energy (broadcast_slot recording entry.id entry.start entry.frame)
+  power_is = evidence.power ∙ energy_of_one (broadcast_slot recording entry.id entry.start entry.frame)
+
 pub faithful_entries_are_supported : FaithfulEntriesAreSupported
 faithful_entries_are_supported recording entry told plan grid sfn offset gain long listed evidence sendable faithful id start number =
     let steady = of_entry recording entry told plan grid sfn offset gain long listed evidence sendable faithful id start number (AreSteady gain)
     (are_steady gain _ (pilots_seen recording plan grid sfn offset gain faithful)) in
+    let noise = noise_is recording entry told plan grid sfn offset gain long listed evidence sendable faithful id start number in
+    let power = power_is recording entry told plan grid sfn offset gain long listed evidence sendable faithful id start number in
     record {
       certain = certain recording entry told plan grid sfn offset gain long listed evidence sendable faithful id start number;
-      noise = subst (λ n. 2 ^ 28 * n ≤ 289321537 * square gain) (sym evidence.noise) steady.small;
-      quiet = told_share 8 3 (noise_of (differences 24 2 _)) told.noise (pilot_energy _) told.power evidence.noise evidence.power steady.quiet;
+      noise = subst (λ n. 2 ^ 28 * n ≤ 289321537 * square gain) (sym noise) steady.small;
+      quiet = told_share 8 3 (noise_of (differences 24 2 _)) told.noise (pilot_energy _) told.power noise power steady.quiet;
     }
 
 pub clean_entries_are_clear : CleanEntriesAreClear
@@ -68,10 +79,12 @@ clean_entries_are_clear recording entry told plan grid sfn offset gain eps long 
     let faithful : IsFaithful recording plan grid sfn offset (in_parts gain) = loaded_is_faithful OnePort recording plan (λ port. grid) sfn offset (gain ∷ []) eps long clean in
     let quiet = of_entry recording entry told plan grid sfn offset (in_parts gain) long listed evidence sendable faithful id start number (AreQuiet gain)
     (are_quiet gain _ (loaded_pilots_seen recording plan grid sfn offset gain eps clean 0 1 (omega (arith, long)) (omega arith))) in
+    let noise = noise_is recording entry told plan grid sfn offset (in_parts gain) long listed evidence sendable faithful id start number in
+    let power = power_is recording entry told plan grid sfn offset (in_parts gain) long listed evidence sendable faithful id start number in
     record {
       certain = certain recording entry told plan grid sfn offset (in_parts gain) long listed evidence sendable faithful id start number;
-      noise = subst (λ n. n ≤ 198841079 * square gain) (sym evidence.noise) quiet.small;
-      quiet = two (noise_of (differences 24 2 _)) told.noise (pilot_energy _) told.power evidence.noise evidence.power quiet.quiet;
+      noise = subst (λ n. n ≤ 198841079 * square gain) (sym noise) quiet.small;
+      quiet = two (noise_of (differences 24 2 _)) told.noise (pilot_energy _) told.power noise power quiet.quiet;
     }
   where
     two : (m noise e power : ℕ) → noise ≡ m → power ≡ e → 4 * m ≤ e → 4 * noise ≤ power

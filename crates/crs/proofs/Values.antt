@@ -7,8 +7,6 @@ use Rattle.gold.proofs.Bits.{get_or-gold_bits}
 use Rattle.crs.specs.Qpsk.{component, IsFull, IsPoint}
 use Rattle.crs.specs.declared.pattern.Pattern.{Pattern}
 use Rattle.crs.specs.Reference.{port_0, has_pilots, value_by, pattern_c_init, pattern_reference, pattern_pair, pattern_list, reference_c_init, reference, reference_list, reference_pair, first_subcarrier, is_reference, is_second_reference, upper_pair, upper_list, upper_first, is_upper_reference}
-use Rattle.crs.specs.declared.upper.UpperPort.TheVariants.{Third, Fourth}
-use Rattle.crs.specs.declared.upper.UpperPort.{UpperPort}
 use Rattle.cs_num.specs.Complex.{nothing}
 use Rattle.std.specs.List.{range_with_len}
 use Rattle.std.proofs.lemmas.List.FromFn.{length-map-range_with_len, get_or-map-range_with_len}
@@ -97,33 +95,33 @@ both_ports identity symbol k = cases (nat_eq symbol 0) (nat_eq symbol 4) refl re
 
 -- ---- ports 2 and 3 of four
 
-pub upper_list-full : (port : UpperPort) (identity slot : ℕ) → All (λ pilot. IsPoint pilot.1) (upper_list port identity slot)
+pub upper_list-full : (port identity slot : ℕ) → All (λ pilot. IsPoint pilot.1) (upper_list port identity slot)
 unfolding upper_list
 upper_list-full port identity slot =
     All-map (λ (pilot : ℕ × Cpx). IsPoint pilot.1) (upper_pair port identity slot) (range_with_len 0 12)
     (λ k d inside. reference-IsPoint identity slot 1 _)
 
-pub get_or-upper_list : (port : UpperPort) (identity slot m : ℕ) (d : ℕ × Cpx) → m < 12 → get_or (upper_list port identity slot) m d ≡ upper_pair port identity slot m
+pub get_or-upper_list : (port identity slot m : ℕ) (d : ℕ × Cpx) → m < 12 → get_or (upper_list port identity slot) m d ≡ upper_pair port identity slot m
 unfolding upper_list
 get_or-upper_list port identity slot m d few = get_or-map-range_with_len (upper_pair port identity slot) 0 12 m m d few (omega arith)
 
 -- the places of ports 2 and 3 are every third subcarrier of symbol 1
-pub both_upper : (identity slot symbol k : ℕ) → (is_upper_reference Third identity slot symbol k || is_upper_reference Fourth identity slot symbol k) ≡ (nat_eq symbol 1 && nat_eq (k % 3) (identity % 3))
+pub both_upper : (identity slot symbol k : ℕ) → (is_upper_reference 2 identity slot symbol k || is_upper_reference 3 identity slot symbol k) ≡ (nat_eq symbol 1 && nat_eq (k % 3) (identity % 3))
 unfolding is_upper_reference
 both_upper identity slot symbol k = in_symbol (nat_eq symbol 1)
   where
-    every_third : (t : Bool) → nat_eq (k % 3) (identity % 3) ≡ t → (nat_eq (k % 6) (upper_first Third identity slot) || nat_eq (k % 6) (upper_first Fourth identity slot)) ≡ t
+    every_third : (t : Bool) → nat_eq (k % 3) (identity % 3) ≡ t → (nat_eq (k % 6) (upper_first 2 identity slot) || nat_eq (k % 6) (upper_first 3 identity slot)) ≡ t
     every_third true e = grind (arith, nat_tests)
     every_third false e = grind (arith, nat_tests)
 
-    in_symbol : (a : Bool) → ((a && nat_eq (k % 6) (upper_first Third identity slot)) || (a && nat_eq (k % 6) (upper_first Fourth identity slot))) ≡ (a && nat_eq (k % 3) (identity % 3))
+    in_symbol : (a : Bool) → ((a && nat_eq (k % 6) (upper_first 2 identity slot)) || (a && nat_eq (k % 6) (upper_first 3 identity slot))) ≡ (a && nat_eq (k % 3) (identity % 3))
     in_symbol true = every_third (nat_eq (k % 3) (identity % 3)) refl
     in_symbol false = refl
 
 -- in the next slot port 2 has the places of port 3
-pub upper_turns : (identity slot symbol k : ℕ) → is_upper_reference Third identity (slot + 1) symbol k ≡ is_upper_reference Fourth identity slot symbol k
+pub upper_turns : (identity slot symbol k : ℕ) → is_upper_reference 2 identity (slot + 1) symbol k ≡ is_upper_reference 3 identity slot symbol k
 unfolding is_upper_reference
 upper_turns identity slot symbol k = ap (λ first. nat_eq symbol 1 && nat_eq (k % 6) first) first
   where
-    first : upper_first Third identity (slot + 1) ≡ upper_first Fourth identity slot
+    first : upper_first 2 identity (slot + 1) ≡ upper_first 3 identity slot
     first = omega arith

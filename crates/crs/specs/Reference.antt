@@ -8,8 +8,6 @@ use Rattle.lte_types.specs.declared.carrier.Carrier.TheVariants.{OnePort, TwoPor
 use Rattle.gold.specs.Gold.{gold_bit}
 use Rattle.crs.specs.Qpsk.{point}
 use Rattle.crs.specs.declared.pattern.Pattern.{Pattern}
-use Rattle.crs.specs.declared.upper.UpperPort.{UpperPort}
-use Rattle.crs.specs.declared.upper.UpperPort.TheVariants.{Third, Fourth}
 
 -- port 0 with the normal prefix: the one that is meant where no pattern is named
 abbrev pub port_0 : Pattern
@@ -124,23 +122,22 @@ is_second_reference identity symbol k = is_pattern_place port_1 identity symbol 
 -- ---- for ports 2 and 3 of four with the normal prefix, which have them in one symbol of a slot, its second
 
 -- what stands before 3 (n_s mod 2) in v: 0 for port 2 and 3 for port 3 (section 6.10.1.2)
-abbrev pub upper_shift : UpperPort → ℕ
-upper_shift Third = 0
-upper_shift Fourth = 3
+abbrev pub upper_shift : ℕ → ℕ
+upper_shift port = 3 * (port % 2)
 
 -- the first subcarrier: the two ports change places from slot to slot
-abbrev pub upper_first : UpperPort → ℕ → ℕ → ℕ
+abbrev pub upper_first : ℕ → ℕ → ℕ → ℕ
 upper_first port identity slot = (upper_shift port + 3 * (slot % 2) + identity) % 6
 
 -- symbol and subcarrier are one of its reference places in a slot
-unfoldable pub is_upper_reference : UpperPort → ℕ → ℕ → ℕ → ℕ → Bool
+unfoldable pub is_upper_reference : ℕ → ℕ → ℕ → ℕ → ℕ → Bool
 is_upper_reference port identity slot symbol k = nat_eq symbol 1 && nat_eq (k % 6) (upper_first port identity slot)
 
 -- the subcarrier of value m, and the value; the sequence, and so the value by the sixth of a subcarrier, is that of
 -- port 0
-abbrev pub upper_pair : UpperPort → ℕ → ℕ → ℕ → ℕ × Cpx
+abbrev pub upper_pair : ℕ → ℕ → ℕ → ℕ → ℕ × Cpx
 upper_pair port identity slot m = (6 * m + upper_first port identity slot, reference identity slot 1 m)
 
 -- the twelve subcarriers and values of port 2 or 3 in a slot
-unfoldable pub upper_list : UpperPort → ℕ → ℕ → List (ℕ × Cpx)
+unfoldable pub upper_list : ℕ → ℕ → ℕ → List (ℕ × Cpx)
 upper_list port identity slot = map (upper_pair port identity slot) (range_with_len 0 12)

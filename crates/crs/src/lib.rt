@@ -19,7 +19,7 @@ use cs_num::Cpx;
 use lte_types::CellId;
 pub use pattern::{Pattern, patterns};
 pub use qpsk::{POINT_POWER, point};
-pub use upper::{UpperPort, first_of_upper, reference_places_of_upper, upper_pilots};
+pub use upper::{first_of_upper, reference_places_of_upper, upper_pilots};
 
 // c_init of the sequence for a slot and a symbol of it.
 fn c_init(pattern: Pattern, id: CellId, slot: u8, symbol: u8) -> u32

@@ -39,7 +39,8 @@ impl Pattern {
         prefix: 0,
     };
 
-    /// The pattern of port 0 of a carrier, or of port 1 of two or four. Ports 2 and 3 have none: `UpperPort`.
+    /// The pattern of port 0 of a carrier, or of port 1 of two or four. Ports 2 and 3 have none: `upper_pilots` has
+    /// theirs.
     pub fn of(carrier: Carrier, port: u8) -> Pattern
         requires known { port < ports_of carrier }
         requires first { port < 2 }

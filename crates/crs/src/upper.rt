@@ -2,46 +2,27 @@
 
 ghost use Rattle.std.specs.Prelude.{◌≡◌, ◌<◌, ◌+◌, ◌%◌, ◌&&◌, ◌||◌, ℕ, nat_eq, All, IsTrue};
 ghost use Rattle.crs.specs.Qpsk.{IsPoint};
-ghost use Rattle.crs.specs.Reference.{upper_shift, upper_first, upper_list, is_upper_reference};
-ghost use Rattle.crs.specs.declared.upper.UpperPort.TheVariants.{Third, Fourth};
+ghost use Rattle.crs.specs.Reference.{upper_first, upper_list, is_upper_reference};
 
 use crate::{Pattern, pattern_pilots};
 use cs_num::Cpx;
 use lte_types::CellId;
 
-/// Antenna port 2 or 3, the third or the fourth, which has reference signals in one symbol of a slot, its second
-/// (TS 36.211 section 6.10.1.2).
-#[derive(Clone, Copy, Debug, PartialEq, Eq)]
-pub enum UpperPort {
-    /// Port 2.
-    Third,
-    /// Port 3.
-    Fourth,
-}
-
-// What stands before 3 (n_s mod 2) in v.
-fn shift_of(port: UpperPort) -> u16
-    ensures value { result ≡ upper_shift port }
-    ensures small { result < 4 }
-{
-    match port {
-        UpperPort::Third => 0,
-        UpperPort::Fourth => 3,
-    }
-}
-
-/// The first of the subcarriers of symbol 1 of a slot that have reference places of a port: each sixth from it on has
-/// one (TS 36.211 section 6.10.1.2).
-pub fn first_of_upper(port: UpperPort, id: CellId, slot: u8) -> u8
+/// The first of the subcarriers of symbol 1 of a slot that have reference places of antenna port 2 or 3: each sixth
+/// from it on has one (TS 36.211 section 6.10.1.2). `port` is 2 or 3: only whether the number is odd counts.
+pub fn first_of_upper(port: u8, id: CellId, slot: u8) -> u8
     ensures value { result ≡ upper_first port id slot }
     ensures bound { result < 6 }
 {
-    ((shift_of(port) + 3 * (u16::from(slot) % 2) + id.value()) % 6) as u8
+    // What stands before 3 (n_s mod 2) in v.
+    let shift = 3 * (u16::from(port) % 2);
+    ((shift + 3 * (u16::from(slot) % 2) + id.value()) % 6) as u8
 }
 
-/// Subcarriers and values of the reference signals of a port in symbol 1 of a slot, in the order of subcarriers. `slot`
-/// is 0 to 19. Each component of a value is 90 or -90.
-pub fn upper_pilots(port: UpperPort, id: CellId, slot: u8) -> [(u8, Cpx); 12]
+/// Subcarriers and values of the reference signals of antenna port 2 or 3 in symbol 1 of a slot, in the order of
+/// subcarriers. `port` is 2 or 3: only whether the number is odd counts. `slot` is 0 to 19. Each component of a value
+/// is 90 or -90.
+pub fn upper_pilots(port: u8, id: CellId, slot: u8) -> [(u8, Cpx); 12]
     requires slot { slot < 20 }
     ensures pilots { result ≡ upper_list port id slot }
     ensures full { All (λ pilot. IsPoint pilot.1) result }
@@ -60,11 +41,11 @@ pub fn upper_pilots(port: UpperPort, id: CellId, slot: u8) -> [(u8, Cpx); 12]
 /// the identity modulo 3 on, no place is one of both, and from slot to slot the two ports change places.
 pub fn reference_places_of_upper()
     ensures both { (identity slot symbol k : ℕ) →
-        (is_upper_reference Third identity slot symbol k || is_upper_reference Fourth identity slot symbol k)
+        (is_upper_reference 2 identity slot symbol k || is_upper_reference 3 identity slot symbol k)
         ≡ (nat_eq symbol 1 && nat_eq (k % 3) (identity % 3)) }
     ensures apart { (identity slot symbol k : ℕ) →
-        IsTrue (is_upper_reference Third identity slot symbol k) →
-        ¬ IsTrue (is_upper_reference Fourth identity slot symbol k) }
+        IsTrue (is_upper_reference 2 identity slot symbol k) →
+        ¬ IsTrue (is_upper_reference 3 identity slot symbol k) }
     ensures turns { (identity slot symbol k : ℕ) →
-        is_upper_reference Third identity (slot + 1) symbol k ≡ is_upper_reference Fourth identity slot symbol k }
+        is_upper_reference 2 identity (slot + 1) symbol k ≡ is_upper_reference 3 identity slot symbol k }
 {}

@@ -40,31 +40,15 @@ told_at values told fields is None b =
     absurd (let e : ◌≡◌ {A = Result Sib1 Sib1Reason} (Err NotDecoded) (Ok fields) = one_text (values.shared told.0 told.1.start told.1.blocks) told.1 (Err NotDecoded) (Ok fields) b is.follows.tells in cc)
 
 module _ (values : Subframe) (attempt : Attempt) (is : IsAttempt values attempt) where
-  block_at : (told : ℕ × Grant) → granted_by attempt ≡ Some told → (found : Option (List Bool)) → IsBlock (values.shared told.0 told.1.start told.1.blocks) told.1 found → IsBlockAt values found
+  pub block_at : (told : ℕ × Grant) → granted_by attempt ≡ Some told → (found : Option (List Bool)) → IsBlock (values.shared told.0 told.1.start told.1.blocks) told.1 found → IsBlockAt values found
   block_at told e found b =
       let read = has_read attempt.cfi attempt.grant attempt.answer told e in
       told_at values told read.fields (subst (λ (a : Attempt). IsAttempt values a) read.is is) found b
 
-  no_block_at : granted_by attempt ≡ None → HasNoBlock values
+  pub no_block_at : granted_by attempt ≡ None → HasNoBlock values
   no_block_at e fields reads =
       none_read values attempt.cfi attempt.grant attempt.answer fields is.follows e
       (ap (λ (a : Attempt). a.answer) (one_attempt values attempt reads.attempt is reads.is) ∙ reads.answers)
-
--- the same of a subframe by its two slots, as they are seen
-module _ (carrier : Carrier) (values : Valuing) (first second one two : SeenSlot) (same_first : first ≡ one) (same_second : second ≡ two) (duration : Duration) (resource : Resource)
-    (attempt : Attempt) (is : IsAttempt (subframe_by carrier values first second duration resource) attempt) where
-  pub block_in : (told : ℕ × Grant) → granted_by attempt ≡ Some told → (found : Option (List Bool)) →
-      IsBlock (shared_values_by carrier values first second told.0 told.1.start told.1.blocks) told.1 found → IsBlockAt (subframe_by carrier values one two duration resource) found
-  block_in told e found b =
-      subst (λ (s : SeenSlot). IsBlockAt (subframe_by carrier values s two duration resource) found) same_first
-      (subst (λ (s : SeenSlot). IsBlockAt (subframe_by carrier values first s duration resource) found) same_second
-      (block_at (subframe_by carrier values first second duration resource) attempt is told e found b))
-
-  pub no_block_in : granted_by attempt ≡ None → HasNoBlock (subframe_by carrier values one two duration resource)
-  no_block_in e =
-      subst (λ (s : SeenSlot). HasNoBlock (subframe_by carrier values s two duration resource)) same_first
-      (subst (λ (s : SeenSlot). HasNoBlock (subframe_by carrier values first s duration resource)) same_second
-      (no_block_at (subframe_by carrier values first second duration resource) attempt is e))
 
 -- the grant is one that control information can have
 pub grant_of_attempt : (attempt : Attempt) (told : ℕ × Grant) → IfSome attempt.grant IsGrant → granted_by attempt ≡ Some told → IsGrant told.1

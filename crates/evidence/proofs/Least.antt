@@ -33,7 +33,7 @@ taken_in_order carrier recording =
 -- ---- the first of an entry
 
 same_place : (place : Place) (entry : Entry) → place.id ≡ entry.id → place.start ≡ entry.start → place ≡ place_of entry
-same_place place entry id start = ap (λ n. record { id = n; start = place.start }) id ∙ ap (λ n. record { id = entry.id; start = n }) start
+same_place place entry id start i = record { id = id i; start = start i }
 
 -- the first hit that tells the place of an entry is the entry's
 pub first_tells : (carrier : Carrier) (recording : List Sample) (entry : Entry) (hit : Hit) → IsFirstTelling (place_by carrier recording) (hits_by carrier recording) (place_of entry) hit →

@@ -1,5 +1,6 @@
 pub mod Fractions
 pub mod SecondDifferences
+mod PortByPort
 pub mod Least
 pub mod Numbers
 pub mod Only

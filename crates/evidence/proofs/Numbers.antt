@@ -1,4 +1,4 @@
--- The numbers of an entry, by how it was read and by the pilots of its slot.
+-- The numbers of an entry, by how it was read and by what its slot shows.
 use Rattle.std.proofs.Common.{◌≡◌, ℕ, ◌*◌, ◌<◌, ◌≤◌, List, arith, refl, ap}
 use Rattle.cs_num.specs.declared.Sample.{Sample}
 use Rattle.lte_types.specs.declared.entry.Entry.{Entry}
@@ -9,7 +9,7 @@ use Rattle.explain.specs.Entries.{IsEntryFor, place_of, frames_of}
 use Rattle.explain.specs.Laws.{IsEntryOfSome}
 use Rattle.explain.specs.Readings.{IsReadingFor}
 use Rattle.explain.specs.Receiver.{Receiver, hits_by, sums_by}
-use Rattle.evidence.specs.Evidence.{slot_by, power_by, differences_by, noise_of, numbers_by, IsEvidenceFor, IsInRange, IsHitOfEntry}
+use Rattle.evidence.specs.Evidence.{SlotShown, shown_in, noise_of, numbers_by, IsEvidenceFor, IsInRange, IsHitOfEntry}
 use Rattle.evidence.proofs.Fractions.{at_most_whole, hit_sounds, hit_within, hit_is_clear, hit_fraction}
 use Rattle.evidence.proofs.Least.{first_tells}
 
@@ -29,10 +29,9 @@ module _ (receiver : Receiver) (recording : List Sample) (entry : Entry) (readin
   pub is_within : reading.hit.peak ≤ reading.hit.energy * wave_power reading.hit.n2
   is_within = hit_within receiver.carrier recording entry reading.hit hit_is
 
-  -- and the numbers by it, and by the sums of the pilots of the entry's slot, are the entry's
-  pub are_numbers : (power differences : ℕ) → power ≡ power_by receiver.carrier (slot_by receiver.carrier recording (place_of entry) entry.frame) →
-      differences ≡ differences_by receiver.carrier (slot_by receiver.carrier recording (place_of entry) entry.frame) → IsEvidenceFor receiver recording entry (numbers_by entry reading power differences)
-  are_numbers power differences p s = record {
+  -- and the numbers by it, and by what the entry's slot shows, are the entry's
+  pub are_numbers : (shown : SlotShown) → shown ≡ shown_in receiver.carrier recording (place_of entry) entry.frame → IsEvidenceFor receiver recording entry (numbers_by entry reading shown)
+  are_numbers shown is = record {
     id = refl;
     start = refl;
     sfn = refl;
@@ -43,13 +42,13 @@ module _ (receiver : Receiver) (recording : List Sample) (entry : Entry) (readin
     frames = refl;
     frame = refl;
     phase = refl;
-    power = p;
-    noise = ap noise_of s;
+    power = ap (λ (s : SlotShown). s.power) is;
+    noise = ap (λ (s : SlotShown). noise_of s.differences) is;
   }
 
   -- in their ranges
-  pub are_in_range : (power differences : ℕ) → IsInRange (numbers_by entry reading power differences)
-  are_in_range power differences =
+  pub are_in_range : (shown : SlotShown) → IsInRange (numbers_by entry reading shown)
+  are_in_range shown =
       let master = e.is_of.master.told in
       let heard = master.tells.heard in
       let clear = master.tells.clear in

@@ -18,7 +18,8 @@ use Rattle.system_block.proofs.Once.{one_attempt, one_block}
 use Rattle.explain.specs.Receiver.{Subframes}
 use Rattle.explain.specs.System.{even_frame}
 use Rattle.explain.specs.Entries.{place_of}
-use Rattle.evidence.specs.Blocks.{HasBlock, IsFirstBlock, IsBlockRead, IsBlockWith, IsToldWith, IsSystemBlock, subframes_of}
+use Rattle.evidence.specs.Blocks.{HasBlock, IsFirstBlock, IsBlockRead, IsBlockWith, IsToldWith, IsSystemBlock}
+use Rattle.evidence.specs.Receivers.{receiver_of}
 
 one_of_subframe : (values : Subframe) (a b : List Bool) → HasBlock values a → HasBlock values b → a ≡ b
 one_of_subframe values a b p q =
@@ -61,5 +62,5 @@ one_where_told (Err reason) Is a b once p q = p ∙ sym q
 
 pub one_system_block : (carrier : Carrier) (recording : List Sample) (entry : Entry) (a b : List Bool) → IsSystemBlock carrier recording entry a → IsSystemBlock carrier recording entry b → a ≡ b
 one_system_block carrier recording entry a b =
-    one_where_told entry.sib1 (IsBlockWith (subframes_of carrier) recording (place_of entry) entry.sfn entry.mib) a b
-    (one_with (subframes_of carrier) recording (place_of entry) entry.sfn entry.mib a b)
+    one_where_told entry.sib1 (IsBlockWith (receiver_of carrier).subframe recording (place_of entry) entry.sfn entry.mib) a b
+    (one_with (receiver_of carrier).subframe recording (place_of entry) entry.sfn entry.mib a b)

@@ -1,5 +1,5 @@
 -- Entries have one evidence.
-use Rattle.std.proofs.Common.{◌≡◌, ◌%◌, List, [], ◌∷◌, arith, refl, ap, sym, ◌∙◌}
+use Rattle.std.proofs.Common.{◌≡◌, ◌%◌, List, [], ◌∷◌, arith, rules, refl, ap, sym, ◌∙◌}
 use Rattle.std.specs.List.{AllZip}
 use Rattle.cs_num.specs.declared.Sample.{Sample}
 use Rattle.lte_types.specs.declared.entry.Entry.{Entry}
@@ -12,19 +12,7 @@ use Rattle.evidence.proofs.OneBlock.{one_system_block}
 -- two of the same numbers are the same
 same_evidence : (a b : Evidence) → a.id ≡ b.id → a.start ≡ b.start → a.sfn ≡ b.sfn → a.t ≡ b.t → a.peak ≡ b.peak → a.cost ≡ b.cost → a.total ≡ b.total →
     a.frames ≡ b.frames → a.frame ≡ b.frame → a.phase ≡ b.phase → a.power ≡ b.power → a.noise ≡ b.noise → a ≡ b
-same_evidence a b id start sfn t peak cost total frames frame phase power noise =
-    ap (λ x. record a { id = x }) id
-    ∙ ap (λ x. record a { id = b.id; start = x }) start
-    ∙ ap (λ x. record a { id = b.id; start = b.start; sfn = x }) sfn
-    ∙ ap (λ x. record a { id = b.id; start = b.start; sfn = b.sfn; t = x }) t
-    ∙ ap (λ x. record a { id = b.id; start = b.start; sfn = b.sfn; t = b.t; peak = x }) peak
-    ∙ ap (λ x. record a { id = b.id; start = b.start; sfn = b.sfn; t = b.t; peak = b.peak; cost = x }) cost
-    ∙ ap (λ x. record a { id = b.id; start = b.start; sfn = b.sfn; t = b.t; peak = b.peak; cost = b.cost; total = x }) total
-    ∙ ap (λ x. record a { id = b.id; start = b.start; sfn = b.sfn; t = b.t; peak = b.peak; cost = b.cost; total = b.total; frames = x }) frames
-    ∙ ap (λ x. record a { id = b.id; start = b.start; sfn = b.sfn; t = b.t; peak = b.peak; cost = b.cost; total = b.total; frames = b.frames; frame = x }) frame
-    ∙ ap (λ x. record a { id = b.id; start = b.start; sfn = b.sfn; t = b.t; peak = b.peak; cost = b.cost; total = b.total; frames = b.frames; frame = b.frame; phase = x }) phase
-    ∙ ap (λ x. record a { id = b.id; start = b.start; sfn = b.sfn; t = b.t; peak = b.peak; cost = b.cost; total = b.total; frames = b.frames; frame = b.frame; phase = b.phase; power = x }) power
-    ∙ ap (λ x. record a { id = b.id; start = b.start; sfn = b.sfn; t = b.t; peak = b.peak; cost = b.cost; total = b.total; frames = b.frames; frame = b.frame; phase = b.phase; power = b.power; noise = x }) noise
+same_evidence a b id start sfn t peak cost total frames frame phase power noise = search rules
 
 -- an entry has one
 one_evidence : (receiver : Receiver) (recording : List Sample) (entry : Entry) (a b : Evidence) → IsEvidenceFor receiver recording entry a → IsEvidenceFor receiver recording entry b → a ≡ b
@@ -36,13 +24,12 @@ one_evidence receiver recording entry a b p q =
 
 -- it shows one slot, and has one block
 one_shown : (receiver : Receiver) (recording : List Sample) (entry : Entry) (a b : Shown) → IsShownFor receiver recording entry a → IsShownFor receiver recording entry b → a ≡ b
-one_shown receiver recording entry a b p q =
-    ap (λ x. record a { numbers = x }) (one_evidence receiver recording entry a.numbers b.numbers p.numbers q.numbers)
-    ∙ ap (λ x. record a { numbers = b.numbers; channel = x }) (p.channel ∙ sym q.channel)
-    ∙ ap (λ x. record a { numbers = b.numbers; channel = b.channel; values = x }) (p.values ∙ sym q.values)
-    ∙ ap (λ x. record a { numbers = b.numbers; channel = b.channel; values = b.values; master = x }) (p.master ∙ sym q.master)
-    ∙ ap (λ x. record a { numbers = b.numbers; channel = b.channel; values = b.values; master = b.master; block = x })
-    (one_system_block receiver.carrier recording entry a.block b.block p.block q.block)
+one_shown receiver recording entry a b p q i = record {
+  numbers = one_evidence receiver recording entry a.numbers b.numbers p.numbers q.numbers i;
+  slot = (p.slot ∙ sym q.slot) i;
+  master = (p.master ∙ sym q.master) i;
+  block = one_system_block receiver.carrier recording entry a.block b.block p.block q.block i;
+}
 
 -- and so have all of a list
 each_once : {A B : Type 0} (R : A → B → Type 0) → ((x : A) (a b : B) → R x a → R x b → a ≡ b) → (xs : List A) (first second : List B) → AllZip R xs first → AllZip R xs second → first ≡ second

@@ -1,12 +1,16 @@
 -- The second differences of pilots.
 use Rattle.std.proofs.Common.{◌≡◌, ℕ, ◌+◌, ◌-◌, ◌*◌, ◌^◌, ◌<◌, ◌≤◌, List, length, ap, ap₂, arith, ◌∙◌}
+use Rattle.finite.specs.Sums.{total_below}
 use Rattle.finite.specs.Lists.{values_below}
 use Rattle.finite.proofs.Lists.{values_below_at, values_below-length}
 use Rattle.finite.proofs.Sums.{total_below_same}
 use Rattle.cs_num.specs.declared.Cpx.{Cpx}
 use Rattle.cs_num.specs.Complex.{IsWithin, plus, minus, multiple, square, nothing, value_at}
 use Rattle.cs_num.proofs.Complex.{plus-within, minus-within, multiple-within, square-within}
-use Rattle.evidence.specs.Evidence.{difference_power, differences}
+use Rattle.lte_types.specs.declared.carrier.Carrier.TheVariants.{OnePort}
+use Rattle.soft_bits.specs.Soft.{SeenSlot, pattern_seen, pattern_pilot, pilot}
+use Rattle.soft_bits.specs.Lines.{line_of}
+use Rattle.evidence.specs.Evidence.{difference_power, differences, line_differences, differences_by}
 
 -- pilots that are the same have the same second differences
 pub differences_same : (count stride : ℕ) (f g : ℕ → Cpx) → ((i : ℕ) → i < count → f i ≡ g i) → differences count stride f ≡ differences count stride g
@@ -26,10 +30,16 @@ difference_small a b c p q r =
     let small = square-within (minus (plus a c) (multiple 2 b)) (720 * 2 ^ 25) within in
     omega (arith, small)
 
--- the pilots of a slot in a list have its second differences
-pub differences_of_values : (count stride : ℕ) (pilots : List Cpx) (f : ℕ → Cpx) → pilots ≡ values_below count f → differences count stride (value_at pilots) ≡ differences count stride f
-differences_of_values count stride pilots f e = differences_same count stride (value_at pilots) f (λ i l. ap (λ list. value_at list i) e ∙ values_below_at f count i nothing l)
-
+-- pilots in a list have the second differences of their line
 pub differences_of_list : (count stride : ℕ) (pilots : List Cpx) (f : ℕ → Cpx) → pilots ≡ values_below count f → differences (length pilots) stride (value_at pilots) ≡ differences count stride f
 differences_of_list count stride pilots f e =
-    ap (λ n. differences n stride (value_at pilots)) (ap length e ∙ values_below-length count f) ∙ differences_of_values count stride pilots f e
+    ap (λ n. differences n stride (value_at pilots)) (ap length e ∙ values_below-length count f)
+    ∙ differences_same count stride (value_at pilots) f (λ i l. ap (λ list. value_at list i) e ∙ values_below_at f count i nothing l)
+
+-- of one port, those of its pilots
+pub differences_of_one : (slot : SeenSlot) → differences_by OnePort slot ≡ differences 24 2 (pilot slot)
+unfolding total_below pattern_pilot pattern_seen
+differences_of_one slot = sums (line_differences (line_of OnePort 0 slot) slot)
+  where
+    sums : (a : ℕ) → 0 + a ≡ a
+    sums a = omega arith

@@ -4,7 +4,6 @@ use Rattle.std.specs.Prelude.{◌≡◌, ◌⊎◌, ℕ, ◌+◌, ◌*◌, ◌<�
 use Rattle.cs_num.specs.declared.Sample.{Sample}
 use Rattle.cs_bits.specs.Numbers.{bits_of}
 use Rattle.lte_types.specs.declared.carrier.Carrier.{Carrier}
-use Rattle.lte_types.specs.declared.carrier.Carrier.TheVariants.{OnePort, TwoPorts, LongPrefix, FourPorts}
 use Rattle.lte_types.specs.declared.mib.Mib.{Mib}
 use Rattle.lte_types.specs.declared.sib1.Sib1.{Sib1}
 use Rattle.lte_types.specs.declared.sib1_reason.Sib1Reason.{Sib1Reason}
@@ -15,12 +14,10 @@ use Rattle.dci.specs.declared.grant.Grant.{Grant}
 use Rattle.system_block.specs.Subframe.{Subframe}
 use Rattle.system_block.specs.Attempt.{IsAttempt, Reads}
 use Rattle.system_block.specs.Block.{IsBlock}
-use Rattle.explain.specs.Receiver.{Subframes, one_port_receiver}
+use Rattle.explain.specs.Receiver.{Subframes}
 use Rattle.explain.specs.System.{even_frame, IsTried}
 use Rattle.explain.specs.Entries.{place_of}
-use Rattle.two_ports.specs.Entries.{two_ports_receiver}
-use Rattle.long_prefix.specs.Entries.{long_prefix_receiver}
-use Rattle.four_ports.specs.Entries.{four_ports_receiver}
+use Rattle.evidence.specs.Receivers.{receiver_of}
 
 -- ---- the master block
 
@@ -76,13 +73,6 @@ IsBlockWith (Err reason) recording place sfn mib bits = bits ≡ []
 
 -- ---- the transport block of an entry
 
--- the values of subframe 5 by which a carrier's list reads system information, or why it does not
-abbrev pub subframes_of : Carrier → Result Subframes Sib1Reason
-subframes_of OnePort = one_port_receiver.subframe
-subframes_of TwoPorts = two_ports_receiver.subframe
-subframes_of LongPrefix = long_prefix_receiver.subframe
-subframes_of FourPorts = four_ports_receiver.subframe
-
 -- a block is told where there are fields, and none otherwise
 abbrev pub IsToldWith : Result Sib1 Sib1Reason → (List Bool → Type 0) → List Bool → Type 0
 IsToldWith (Ok fields) Is bits = Is bits
@@ -92,7 +82,7 @@ IsToldWith (Err reason) Is bits = bits ≡ []
 -- where it has none
 abbrev pub IsSystemBlock : Carrier → List Sample → Entry → List Bool → Type 0
 IsSystemBlock carrier recording entry =
-    IsToldWith entry.sib1 (IsBlockWith (subframes_of carrier) recording (place_of entry) entry.sfn entry.mib)
+    IsToldWith entry.sib1 (IsBlockWith (receiver_of carrier).subframe recording (place_of entry) entry.sfn entry.mib)
 
 -- ---- the code's way
 

@@ -1,34 +1,32 @@
 -- What supports an entry of a list by a receiver. (own)
-use Rattle.std.specs.Prelude.{◌≡◌, ℕ, ◌+◌, ◌-◌, ◌*◌, ◌/◌, ◌%◌, ◌<◌, ◌≤◌, List}
+use Rattle.std.specs.Prelude.{◌≡◌, ℕ, ◌+◌, ◌-◌, ◌*◌, ◌/◌, ◌%◌, ◌<◌, ◌≤◌, List, [], ◌∷◌, ◌++◌, length, ℤ}
 use Rattle.std.specs.List.{Contains}
 use Rattle.finite.specs.Sums.{total_below}
+use Rattle.finite.specs.Lists.{values_below}
 use Rattle.cs_num.specs.declared.Cpx.{Cpx}
 use Rattle.cs_num.specs.declared.Sample.{Sample}
-use Rattle.cs_num.specs.Complex.{plus, minus, multiple, square}
+use Rattle.cs_num.specs.Complex.{plus, minus, multiple, square, value_at}
 use Rattle.crs.specs.Power.{point_power}
-use Rattle.crs.specs.declared.pattern.Pattern.{Pattern}
-use Rattle.crs.specs.declared.upper.UpperPort.{UpperPort}
-use Rattle.crs.specs.declared.upper.UpperPort.TheVariants.{Third, Fourth}
-use Rattle.crs.specs.Reference.{port_0, port_1, long_prefix}
 use Rattle.lte_types.specs.declared.carrier.Carrier.{Carrier}
 use Rattle.lte_types.specs.declared.carrier.Carrier.TheVariants.{OnePort, TwoPorts, LongPrefix, FourPorts}
+use Rattle.lte_types.specs.Carrier.{ports_of}
 use Rattle.lte_types.specs.declared.hit.Hit.{Hit}
 use Rattle.lte_types.specs.declared.entry.Entry.{Entry}
+use Rattle.lte_types.specs.declared.evidence.Evidence.{Evidence}
 use Rattle.lte_types.specs.CellPlace.{Place}
 use Rattle.pss_search.specs.Correlation.{peak, energy, wave_power}
 use Rattle.pss_search.specs.Hits.{first_place, last_place}
 use Rattle.pss_search.specs.Laws.{IsHitOf}
-use Rattle.soft_bits.specs.Soft.{SeenSlot, pattern_pilot, pattern_energy}
-use Rattle.soft_bits.specs.Upper.{upper_pilot}
+use Rattle.soft_bits.specs.Soft.{SeenSlot}
+use Rattle.soft_bits.specs.Lines.{Line, line_of, line_pilot, line_pilots, ports_energy}
+use Rattle.soft_bits.specs.Kept.{SeenLine}
 use Rattle.pbch.specs.Master.{total}
 use Rattle.explain.specs.declared.readings.Reading.{Reading}
 use Rattle.explain.specs.Frame.{broadcast_slot}
 use Rattle.explain.specs.Receiver.{Receiver, one_port_receiver, hits_by, place_by, sums_by}
 use Rattle.explain.specs.Entries.{place_of, frames_of}
-use Rattle.two_ports.specs.Pairs.{pilots_energy}
-use Rattle.four_ports.specs.Pairs.{ports_energy}
 use Rattle.long_prefix.specs.Entries.{long_slot}
-use Rattle.lte_types.specs.declared.evidence.Evidence.{Evidence}
+use Rattle.evidence.specs.Receivers.{receiver_of}
 
 -- ---- the hit
 
@@ -49,7 +47,7 @@ pub record IsFirstToldBy (carrier : Carrier) (recording : List Sample) (entry : 
 abbrev pub thousandths : List Sample → ℕ → ℕ → ℕ
 thousandths recording n2 t = 1000 * peak recording n2 t / (energy recording t * wave_power n2)
 
--- ---- the pilots
+-- ---- the pilots of the slot that tells the master block
 
 -- the slot that carries the broadcast channel in frame j of the cell at a place, as it is seen
 abbrev pub slot_by : Carrier → List Sample → Place → ℕ → SeenSlot
@@ -57,13 +55,6 @@ slot_by OnePort recording place j = broadcast_slot recording place.id place.star
 slot_by TwoPorts recording place j = broadcast_slot recording place.id place.start j
 slot_by LongPrefix recording place j = long_slot recording place.id place.start j
 slot_by FourPorts recording place j = broadcast_slot recording place.id place.start j
-
--- the energy of the pilots of all antenna ports; that of a port with 12 of them counts twice
-abbrev pub power_by : Carrier → SeenSlot → ℕ
-power_by OnePort slot = pattern_energy port_0 slot
-power_by TwoPorts slot = pilots_energy slot
-power_by LongPrefix slot = pattern_energy long_prefix slot
-power_by FourPorts slot = ports_energy slot
 
 -- the second difference of pilots: how far both neighbours of a pilot in its symbol are from it, together. `stride`
 -- pilots on stands the next one of the same symbol, so that a turn from one symbol to the other makes none
@@ -79,27 +70,46 @@ difference_power stride pilots i = square (second_difference stride pilots i)
 unfoldable pub differences : ℕ → ℕ → (ℕ → Cpx) → ℕ
 differences count stride pilots = total_below (count - 2 * stride) (difference_power stride pilots)
 
--- this sum for a port with 24 pilots, in two symbols by turns, and for one with 12, in one symbol
-abbrev pub lower_differences : Pattern → SeenSlot → ℕ
-lower_differences pattern slot = differences 24 2 (pattern_pilot pattern slot)
+-- this sum for a line of pilots: the next one of the same symbol stands six subcarriers on
+abbrev pub line_differences : Line → SeenSlot → ℕ
+line_differences line slot = differences (line.last + 1) (6 / line.step) (line_pilot line slot)
 
-abbrev pub upper_differences : UpperPort → SeenSlot → ℕ
-upper_differences port slot = differences 12 1 (upper_pilot port slot)
-
--- the sum of the squares of the second differences of the pilots of all ports: 20, 40 or 60 of them
+-- this sum for the pilots of all antenna ports: 20, 40 or 60 differences
 abbrev pub differences_by : Carrier → SeenSlot → ℕ
-differences_by OnePort slot = lower_differences port_0 slot
-differences_by TwoPorts slot = lower_differences port_0 slot + lower_differences port_1 slot
-differences_by LongPrefix slot = lower_differences long_prefix slot
-differences_by FourPorts slot =
-    lower_differences port_0 slot + lower_differences port_1 slot
-    + upper_differences Third slot + upper_differences Fourth slot
+differences_by carrier slot = total_below (ports_of carrier) (λ port. line_differences (line_of carrier port slot) slot)
+
+-- the pilots of each antenna port
+abbrev pub channels_by : Carrier → SeenSlot → List (List Cpx)
+channels_by carrier slot = values_below (ports_of carrier) (λ port. line_pilots (line_of carrier port slot) slot)
 
 -- the noise: the sum of the second differences' squares, divided by six times the square of a reference value's size,
 -- and rounded down. Errors of one variance v in what is seen make a second difference of variance 6 v, times that
 -- square
 abbrev pub noise_of : ℕ → ℕ
 noise_of differences = differences / (6 * point_power)
+
+-- ---- what the slot shows
+
+-- what a slot shows: the energy of its pilots, and the squares of their second differences, of all antenna ports
+-- together; the pilots of each port; and the soft values of the broadcast channel, as they were received
+pub record SlotShown : Type 0 where
+  pub power : ℕ
+  pub differences : ℕ
+  pub channel : List (List Cpx)
+  pub values : List ℤ
+
+abbrev pub shown_by : Carrier → SeenSlot → List ℤ → SlotShown
+shown_by carrier slot received = record {
+  power = ports_energy carrier slot;
+  differences = differences_by carrier slot;
+  channel = channels_by carrier slot;
+  values = received;
+}
+
+-- what the slot with the broadcast channel in frame j of the cell at a place shows
+abbrev pub shown_in : Carrier → List Sample → Place → ℕ → SlotShown
+shown_in carrier recording place j =
+    shown_by carrier (slot_by carrier recording place j) ((receiver_of carrier).broadcast recording place j)
 
 -- ---- the numbers of an entry
 
@@ -116,9 +126,8 @@ pub record IsEvidenceFor (receiver : Receiver) (recording : List Sample) (entry 
   pub frames : told.frames ≡ entry.frames
   pub frame : told.frame ≡ entry.frame
   pub phase : told.phase ≡ entry.phase
-  pub power : told.power ≡ power_by receiver.carrier (slot_by receiver.carrier recording (place_of entry) entry.frame)
-  pub noise : told.noise
-      ≡ noise_of (differences_by receiver.carrier (slot_by receiver.carrier recording (place_of entry) entry.frame))
+  pub power : told.power ≡ (shown_in receiver.carrier recording (place_of entry) entry.frame).power
+  pub noise : told.noise ≡ noise_of (shown_in receiver.carrier recording (place_of entry) entry.frame).differences
 
 -- these are the numbers of the entry, as the receiver of one antenna port reads it
 abbrev pub IsEvidence : List Sample → Entry → Evidence → Type 0
@@ -141,9 +150,18 @@ pub record IsHitOfEntry (carrier : Carrier) (recording : List Sample) (entry : E
   pub first : IsFirstToldBy carrier recording entry hit.t
   pub root : hit.n2 ≡ entry.id % 3
 
--- the numbers of an entry by how it was read, and by the energy and the differences of the pilots of its slot
-abbrev pub numbers_by : Entry → Reading → ℕ → ℕ → Evidence
-numbers_by entry reading power differences = record {
+-- what is shown with the pilots of one port more
+abbrev pub with_port : SlotShown → SeenLine → SlotShown
+with_port shown port = record {
+  power = shown.power;
+  differences = shown.differences + differences (length port.pilots) (6 / port.step) (value_at port.pilots);
+  channel = shown.channel ++ port.pilots ∷ [];
+  values = shown.values;
+}
+
+-- the numbers of an entry by how it was read, and by what its slot shows
+abbrev pub numbers_by : Entry → Reading → SlotShown → Evidence
+numbers_by entry reading shown = record {
   id = entry.id;
   start = entry.start;
   sfn = entry.sfn;
@@ -154,6 +172,6 @@ numbers_by entry reading power differences = record {
   frames = entry.frames;
   frame = entry.frame;
   phase = entry.phase;
-  power = power;
-  noise = noise_of differences;
+  power = shown.power;
+  noise = noise_of shown.differences;
 }

@@ -1,3 +1,4 @@
+pub mod Receivers
 pub mod Evidence
 pub mod Blocks
 pub mod Shown

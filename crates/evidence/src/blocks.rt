@@ -4,12 +4,14 @@ ghost use Rattle.std.specs.Prelude.{◌≡◌, ◌+◌, ◌*◌, ◌<◌, ◌≤
 ghost use Rattle.std.specs.Option.{option_map, unwrap_or};
 ghost use Rattle.dci.specs.Format1A.{IsGrant};
 ghost use Rattle.pdsch.specs.Values.{shared_values_by};
+ghost use Rattle.system_block.specs.Subframe.{subframe_by};
 ghost use Rattle.system_block.specs.Block.{IsBlock};
 ghost use Rattle.explain.specs.Entries.{place_of};
 ghost use Rattle.explain.specs.Frame.{IsWhole};
 ghost use Rattle.explain.specs.Receiver.{subframes_by};
 ghost use Rattle.explain.specs.System.{even_frame as even_frame_of};
-ghost use Rattle.evidence.specs.Blocks.{subframes_of, IsBlockAt, IsBlockRead, IsBlockWith, IsSystemBlock};
+ghost use Rattle.evidence.specs.Receivers.{receiver_of};
+ghost use Rattle.evidence.specs.Blocks.{IsBlockAt, IsBlockRead, IsBlockWith, IsSystemBlock};
 
 use crate::listing::place_in;
 use dci::Grant;
@@ -59,7 +61,7 @@ fn block_by(
     work: &mut Decoders,
 ) -> Option<Block>
     requires { entry.now.start < 19200 }
-    ensures { IsBlockWith (subframes_of carrier) recording.now (place_of entry.now) entry.now.sfn entry.now.mib
+    ensures { IsBlockWith (receiver_of carrier).subframe recording.now (place_of entry.now) entry.now.sfn entry.now.mib
         (unwrap_or (option_map (λ block. block.items) result) []) }
 {
     let place = place_in(entry);
@@ -109,9 +111,25 @@ fn block_at<S: ReadSlot>(
 {
     let first: S = slot_of(recording, place, j, 10);
     let second: S = slot_of(recording, place, j, 11);
-    let attempt = attempt_in(&first, &second, mib, work);
+    block_in(&first, &second, mib, work)
+}
+
+// The block of a subframe 5, or none. `first` and `second` are slots 10 and 11 of one cell.
+fn block_in<S: ReadSlot>(
+    first: &S,
+    second: &S,
+    mib: Mib,
+    work: &mut Decoders,
+) -> Option<Block>
+    requires first { (S.seen_as first.now).number ≡ 10 }
+    requires second { (S.seen_as second.now).number ≡ 11 }
+    requires cell { (S.seen_as second.now).identity ≡ (S.seen_as first.now).identity }
+    ensures { IsBlockAt (subframe_by S.carrier S.values_by (S.seen_as first.now) (S.seen_as second.now)
+        mib.duration mib.resource) (option_map (λ block. block.items) result) }
+{
+    let attempt = attempt_in(first, second, mib, work);
     match attempt.granted() {
-        Some(told) => block_granted(&first, &second, told, &mut work.turbo),
+        Some(told) => block_granted(first, second, told, &mut work.turbo),
         None => None,
     }
 }

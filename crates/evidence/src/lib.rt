@@ -3,12 +3,15 @@
 #![tactic(auto)]
 
 mod blocks;
+mod channel;
 mod listing;
 mod noise;
 mod shown;
 mod slot;
 mod support;
 
+pub use channel::PortChannel;
 pub use listing::{evidence_of, evidence_of_list};
-pub use shown::{PortChannel, SoftPair, Support};
+pub use shown::Support;
+pub use slot::SlotShown;
 pub use support::support_of_list;

@@ -7,10 +7,11 @@ ghost use Rattle.explain.specs.Entries.{place_of, IsEntryFor, IsListFor};
 ghost use Rattle.explain.specs.Laws.{IsEntryOfSome};
 ghost use Rattle.explain.specs.Readings.{IsReadingFor};
 ghost use Rattle.explain.specs.Receiver.{Receiver, hits_by};
-ghost use Rattle.evidence.specs.Evidence.{IsEvidenceFor, IsInRange, numbers_by};
+ghost use Rattle.evidence.specs.Evidence.{shown_in as shown_in_of, IsEvidenceFor, IsInRange, numbers_by};
 
+use crate::SlotShown;
 use crate::noise::noise_of;
-use crate::slot::{PilotSums, pilot_sums};
+use crate::slot::shown_in;
 use explain::Reading;
 use lte_types::{Carrier, CellPlace, Entry, Evidence, Hit};
 use pbch::total_of;
@@ -59,17 +60,37 @@ pub fn evidence_of(
     ensures evidence { IsEvidenceFor receiver recording.now entry.now result }
     ensures range { IsInRange result }
 {
-    let pilots = pilot_sums(recording, carrier, place_in(entry), entry.frame);
-    numbers_of(entry, reading, pilots)
+    let (numbers, _slot) = told_of(recording, carrier, entry, reading);
+    numbers
 }
 
-// The numbers of an entry by how it was read, and by what the pilots of its slot are together.
-pub(crate) fn numbers_of(entry: &Entry, reading: &Reading, pilots: PilotSums) -> Evidence
+// The numbers of an entry, and what its slot shows.
+pub(crate) fn told_of(
+    recording: &Recording,
+    carrier: Carrier,
+    entry: &Entry,
+    reading: &Reading,
+) -> (Evidence, SlotShown)
+    ghost receiver: { Receiver }
+    requires carrier { carrier ≡ receiver.carrier }
+    requires entry { IsEntryOfSome (IsEntryFor receiver recording.now)
+        (hits_by receiver.carrier recording.now) entry.now }
+    requires reading { IsReadingFor receiver recording.now entry.now reading.now }
+    ensures evidence { IsEvidenceFor receiver recording.now entry.now result.0 }
+    ensures range { IsInRange result.0 }
+    ensures slot { result.1 ≡ shown_in_of receiver.carrier recording.now (place_of entry.now) entry.now.frame }
+{
+    let slot = shown_in(recording, carrier, place_in(entry), entry.frame);
+    let numbers = numbers_of(entry, reading, &slot);
+    (numbers, slot)
+}
+
+// The numbers of an entry by how it was read, and by what its slot shows.
+fn numbers_of(entry: &Entry, reading: &Reading, slot: &SlotShown) -> Evidence
     requires root { reading.now.hit.n2 ≤ 2 }
     requires sounds { 0 < reading.now.hit.energy }
     requires within { reading.now.hit.peak ≤ reading.now.hit.energy * wave_power reading.now.hit.n2 }
-    requires small { pilots.differences ≤ 96 * 2 ^ 70 }
-    ensures { result ≡ numbers_by entry.now reading.now pilots.energy pilots.differences }
+    ensures { result ≡ numbers_by entry.now reading.now slot.now }
 {
     Evidence {
         id: entry.id,
@@ -82,8 +103,8 @@ pub(crate) fn numbers_of(entry: &Entry, reading: &Reading, pilots: PilotSums) ->
         frames: entry.frames,
         frame: entry.frame,
         phase: entry.phase,
-        power: pilots.energy,
-        noise: noise_of(pilots.differences),
+        power: slot.power(),
+        noise: noise_of(slot.differences()),
     }
 }
 

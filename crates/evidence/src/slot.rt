@@ -1,100 +1,145 @@
-//! What the pilots of a slot are together.
+//! What a slot shows.
 
-ghost use Rattle.std.specs.Prelude.{◌≡◌, ◌*◌, ◌^◌, ◌≤◌, All};
-ghost use Rattle.cs_num.specs.Complex.{IsWithin, value_at};
-ghost use Rattle.lte_types.specs.declared.carrier.Carrier.TheVariants.{OnePort as One, TwoPorts as Two};
-ghost use Rattle.lte_types.specs.declared.carrier.Carrier.TheVariants.{FourPorts as Four};
-ghost use Rattle.explain.specs.Frame.{IsWhole};
-ghost use Rattle.evidence.specs.Evidence.{slot_by, power_by, differences_by, differences};
+ghost use Rattle.std.specs.Prelude.{◌≡◌, ◌*◌, ◌/◌, ◌^◌, ◌<◌, ◌≤◌, [], length};
+ghost use Rattle.explain.specs.Frame.{IsWhole, broadcast_slot};
+ghost use Rattle.explain.specs.Receiver.{broadcast_by};
+ghost use Rattle.lte_types.specs.declared.carrier.Carrier.TheVariants.{LongPrefix as Long};
+ghost use Rattle.soft_bits.specs.Pairs.{values_over};
+ghost use Rattle.evidence.specs.Evidence.{SlotShown as SlotShownAs, shown_by, shown_in as shown_in_of, with_port};
 
+use crate::PortChannel;
 use crate::noise::differences_of;
-use crs::UpperPort;
-use explain::{broadcast_slot, slot_of};
-use four_ports::FourSlot;
-use long_prefix::{LongFrame, long_frame};
+use arrayvec::ArrayVec;
+use explain::slot_of;
+use four_ports::FourPorts;
+use long_prefix::long_frame;
 use lte_types::{Carrier, CellPlace};
+use pbch::{Received, received};
 use sample_file::Recording;
-use soft_bits::Slot;
-use two_ports::PairSlot;
+use soft_bits::{Pilots, PortSlot, Ports, Single};
+use std::marker::Model;
+use two_ports::TwoPorts;
 
-// What the pilots of a slot are together, of all antenna ports: their energy, and the squares of their second
-// differences.
-#[derive(Clone, Copy)]
-pub(crate) struct PilotSums {
-    pub(crate) energy: u64,
-    pub(crate) differences: u128,
+/// What the slot with the broadcast channel of a frame shows. Contracts see it as the energy of its pilots, of all
+/// antenna ports together, the squares of their second differences, the pilots of each port, and the soft values of the
+/// channel. (own)
+#[derive(Drop)]
+pub struct SlotShown {
+    power: u64,
+    differences: u128,
+    channel: ArrayVec<PortChannel, 4>,
+    values: Received,
 }
 
-// The sums of the pilots of the slot that carries the broadcast channel in frame `j` of a cell, which lies within the
-// recording.
-pub(crate) fn pilot_sums(
+impl Model for SlotShown {
+    ghost Value = { SlotShownAs };
+
+    ghost view = { λ s. record {
+      power = s.power;
+      differences = s.differences;
+      channel = s.channel.items;
+      values = s.values;
+    } };
+
+    ghost invariant = { λ s.
+        (s.differences ≤ length s.channel.items * (24 * 2 ^ 70)) × (length s.channel.items ≤ 4) };
+}
+
+impl SlotShown {
+    // What is shown before the pilots of any port.
+    fn new(power: u64, values: Received) -> SlotShown
+        ensures { result ≡ record { power = power; differences = 0; channel = []; values = values } }
+    {
+        SlotShown {
+            power,
+            differences: 0,
+            channel: ArrayVec::new(),
+            values,
+        }
+    }
+
+    // Adds the pilots of a port.
+    fn add(&mut self, pilots: &Pilots)
+        requires room { length self.old.channel < 4 }
+        requires step { 0 < pilots.now.step }
+        requires some { 2 * (6 / pilots.now.step) ≤ length pilots.now.pilots }
+        ensures { self.new ≡ with_port self.old pilots.now }
+    {
+        let stride = 6 / pilots.step();
+        self.differences += differences_of(pilots.values(), stride as usize);
+        self.channel.push(PortChannel::of(pilots.values()));
+    }
+
+    // The energy of the pilots.
+    pub(crate) fn power(&self) -> u64
+        ensures { result ≡ self.now.power }
+    {
+        self.power
+    }
+
+    // The squares of their second differences.
+    pub(crate) fn differences(&self) -> u128
+        ensures value { result ≡ self.now.differences }
+        ensures small { result ≤ 96 * 2 ^ 70 }
+    {
+        self.differences
+    }
+
+    /// The channel of each antenna port.
+    pub fn channel(&self) -> &[PortChannel]
+        ensures { result.now ≡ self.now.channel }
+    {
+        &self.channel
+    }
+
+    /// The soft values of the broadcast channel as they were received, in the order of its places, of each the real
+    /// part before the imaginary one.
+    pub fn values(&self) -> &[i16]
+        ensures { result.now ≡ self.now.values }
+    {
+        self.values.slice()
+    }
+}
+
+// What the slot with the broadcast channel in frame `j` of a cell shows. The frame lies within the recording.
+pub(crate) fn shown_in(
     recording: &Recording,
     carrier: Carrier,
     place: CellPlace,
     j: u8,
-) -> PilotSums
+) -> SlotShown
     requires { IsWhole recording.now place.start j }
-    ensures energy { result.energy ≡ power_by carrier (slot_by carrier recording.now place j) }
-    ensures differences { result.differences ≡ differences_by carrier (slot_by carrier recording.now place j) }
-    ensures small { result.differences ≤ 96 * 2 ^ 70 }
+    ensures { result ≡ shown_in_of carrier recording.now place j }
 {
     match carrier {
-        Carrier::OnePort => of_one_port(&broadcast_slot(recording, place, j)),
-        Carrier::TwoPorts => of_two_ports(&slot_of(recording, place, j, 1)),
-        Carrier::LongPrefix => of_long_prefix(&long_frame(recording, place, j)),
-        Carrier::FourPorts => of_four_ports(&slot_of(recording, place, j, 1)),
+        Carrier::OnePort => shown_of::<Single>(recording, place, j),
+        Carrier::TwoPorts => shown_of::<TwoPorts>(recording, place, j),
+        Carrier::LongPrefix => shown_of_long(recording, place, j),
+        Carrier::FourPorts => shown_of::<FourPorts>(recording, place, j),
     }
 }
 
-// The energy and the second differences of the pilots of a cell with one antenna port.
-pub(crate) fn of_one_port(slot: &Slot) -> PilotSums
-    ensures energy { result.energy ≡ power_by One slot.now }
-    ensures differences { result.differences ≡ differences_by One slot.now }
-    ensures small { result.differences ≤ 96 * 2 ^ 70 }
+// What the slot of a cell with the normal prefix shows.
+fn shown_of<K: Ports>(recording: &Recording, place: CellPlace, j: u8) -> SlotShown
+    requires { IsWhole recording.now place.start j }
+    ensures { result ≡ shown_by K.pairing.carrier (broadcast_slot recording.now place.id place.start j)
+        (broadcast_by (values_over K.pairing.carrier K.pairing) recording.now place j) }
 {
-    PilotSums {
-        energy: slot.energy(),
-        differences: differences_of(slot.pilots(), 2),
+    let slot: PortSlot<K> = slot_of(recording, place, j, 1);
+    let mut shown = SlotShown::new(slot.energy(), received(&slot));
+    for port in 0..K::carrier().ports() {
+        shown.add(slot.pilots(port));
     }
+    shown
 }
 
-// The energy and the second differences of the pilots of a cell with two antenna ports.
-pub(crate) fn of_two_ports(slot: &PairSlot) -> PilotSums
-    ensures energy { result.energy ≡ power_by Two slot.now }
-    ensures differences { result.differences ≡ differences_by Two slot.now }
-    ensures small { result.differences ≤ 96 * 2 ^ 70 }
+// What the slot of a cell with the extended prefix shows.
+fn shown_of_long(recording: &Recording, place: CellPlace, j: u8) -> SlotShown
+    requires { IsWhole recording.now place.start j }
+    ensures { result ≡ shown_in_of Long recording.now place j }
 {
-    PilotSums {
-        energy: slot.energy(),
-        differences: differences_of(slot.first_pilots(), 2)
-            + differences_of(slot.second_pilots(), 2),
-    }
-}
-
-// The energy and the second differences of the pilots of a cell with the extended prefix.
-pub(crate) fn of_long_prefix(frame: &LongFrame) -> PilotSums
-    requires { All (IsWithin (180 * 2 ^ 25)) frame.now.pilots }
-    ensures energy { result.energy ≡ frame.now.energy }
-    ensures differences { result.differences ≡ differences 24 2 (value_at frame.now.pilots) }
-    ensures small { result.differences ≤ 96 * 2 ^ 70 }
-{
-    PilotSums {
-        energy: frame.energy,
-        differences: differences_of(&frame.pilots, 2),
-    }
-}
-
-// The energy and the second differences of the pilots of a cell with four antenna ports.
-pub(crate) fn of_four_ports(slot: &FourSlot) -> PilotSums
-    ensures energy { result.energy ≡ power_by Four slot.now }
-    ensures differences { result.differences ≡ differences_by Four slot.now }
-    ensures small { result.differences ≤ 96 * 2 ^ 70 }
-{
-    PilotSums {
-        energy: slot.energy(),
-        differences: differences_of(slot.first_pilots(), 2)
-            + differences_of(slot.second_pilots(), 2)
-            + differences_of(slot.upper_pilots(UpperPort::Third), 1)
-            + differences_of(slot.upper_pilots(UpperPort::Fourth), 1),
-    }
+    let frame = long_frame(recording, place, j);
+    let mut shown = SlotShown::new(frame.energy, frame.values);
+    shown.add(&frame.pilots);
+    shown
 }

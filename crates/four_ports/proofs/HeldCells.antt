@@ -1,7 +1,6 @@
 -- A recording that is faithful to the four ports of a cell shows it to a receiver of four, whatever else they send.
-use Rattle.std.proofs.Common.{ℕ, ◌≤◌, arith, refl}
+use Rattle.std.proofs.Common.{ℕ, ◌≤◌, true, arith, refl}
 use Rattle.cs_num.specs.Complex.{value_at}
-use Rattle.lte_types.specs.declared.carrier.Carrier.TheVariants.{FourPorts}
 use Rattle.lte_types.specs.Timing.{number_at_start}
 use Rattle.cell_tx.specs.declared.antenna.Port.TheVariants.{OfFour}
 use Rattle.cell_tx.specs.declared.antenna.PortOfFour.TheVariants.{Zero}
@@ -10,9 +9,7 @@ use Rattle.clean_air.specs.Clean.{HoldsCells}
 use Rattle.clean_air.proofs.Held.{ShowsCells, number_fits, shown_are_held}
 use Rattle.clean_air.proofs.SentBlock.{is_block}
 use Rattle.two_ports.proofs.Master.{word_speaks}
-use Rattle.four_ports.specs.Pairs.{over_four}
 use Rattle.four_ports.specs.Entries.{four_ports_receiver}
-use Rattle.four_ports.proofs.Senders.{sender, four_ports_send}
 use Rattle.four_ports.proofs.Values.{received_pair_speaks}
 
 shows_cells : ShowsCells four_ports_receiver
@@ -22,7 +19,7 @@ shows_cells recording plan grids sfn offset gains long known faithful =
     record {
       word = port_word (OfFour Zero) plan number;
       block = is_block (OfFour Zero) plan number known.spare fits;
-      speaks = word_speaks over_four 7 FourPorts sender four_ports_send recording plan grids sfn offset gains (received_pair_speaks (value_at gains) faithful.gains_are.paired) faithful fits known.spare;
+      speaks = word_speaks true recording plan grids sfn offset gains (received_pair_speaks (value_at gains) faithful.gains_are.paired) faithful fits known.spare;
       single = omega arith;
       taken = refl;
       system = refl;

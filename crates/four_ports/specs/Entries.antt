@@ -5,11 +5,11 @@ use Rattle.cs_num.specs.declared.Sample.{Sample}
 use Rattle.lte_types.specs.declared.carrier.Carrier.TheVariants.{FourPorts}
 use Rattle.lte_types.specs.declared.sib1_reason.Sib1Reason.TheVariants.{NotOnePort}
 use Rattle.lte_types.specs.declared.entry.Entry.{Entry}
+use Rattle.soft_bits.specs.Pairs.{over_four, paired_by}
 use Rattle.explain.specs.Receiver.{Receiver, broadcast_by}
 use Rattle.explain.specs.Entries.{IsListFor}
 use Rattle.explain.specs.declared.readings.Reading.{Reading}
 use Rattle.explain.specs.Readings.{IsReadingFor}
-use Rattle.four_ports.specs.Pairs.{paired_values}
 
 -- four antenna ports are told: the check has the mask 5555 (TS 36.212 section 5.3.1.1)
 abbrev pub are_four : ℕ → Bool
@@ -21,7 +21,7 @@ abbrev pub four_ports_receiver : Receiver
 four_ports_receiver = record {
   carrier = FourPorts;
   count = 480;
-  broadcast = broadcast_by paired_values;
+  broadcast = broadcast_by (paired_by over_four);
   most_frames = 4;
   takes = are_four;
   subframe = Err (NotOnePort 4);

@@ -2,8 +2,8 @@
 use Rattle.std.specs.Prelude.{ℕ}
 use Rattle.cs_num.specs.declared.Cpx.{Cpx}
 use Rattle.sizes.specs.Sizes.{ArePaired}
+use Rattle.soft_bits.specs.Pairs.{over_four}
 use Rattle.two_ports.specs.Received.{SpeakWith, SpeakReceivedWith}
-use Rattle.four_ports.specs.Pairs.{over_four}
 
 -- the values of pairs speak where each pair of ports has three eighths of the gains' squares, and what is seen is off
 -- by little more than 14 units

@@ -1,17 +1,38 @@
 //! The way to read frames with four antenna ports.
 
+ghost use Rattle.soft_bits.specs.Pairs.{over_four};
 ghost use Rattle.four_ports.specs.Entries.{four_ports_receiver};
 
-use crate::FourSlot;
 use explain::{FrameReader, Informed, received_in};
 use lte_types::{Carrier, CellPlace, Sfn, Sib1Reason};
 use pbch::{Master, Received};
 use sample_file::Recording;
+use soft_bits::{PortSlot, Ports};
 use system_block::Decoders;
 
 /// The way to read frames with four antenna ports, to the master block: those that tell four are taken, and no
 /// others. (own)
 pub struct FourPorts;
+
+/// A slot of a cell with four antenna ports.
+pub type FourSlot = PortSlot<FourPorts>;
+
+impl Ports for FourPorts {
+    ghost pairing = { over_four };
+
+    fn carrier() -> Carrier {
+        Carrier::FourPorts
+    }
+
+    fn scale() -> u8 {
+        6
+    }
+
+    fn pair(i: usize) -> (u8, u8) {
+        let odd = (i % 2) as u8;
+        (odd, 2 + odd)
+    }
+}
 
 impl FrameReader for FourPorts {
     ghost receiver = { four_ports_receiver };

@@ -1,15 +1,13 @@
-//! Cells with four antenna ports, which send by transmit diversity (TS 36.211 section 6.3.4.3): the soft values of
-//! pairs of places, the list of the cells of a recording, to the master block, and that a faithful recording's list
-//! holds its cell.
+//! Cells with four antenna ports, which send by transmit diversity (TS 36.211 section 6.3.4.3): that the soft values of
+//! pairs of places speak for what was sent, the list of the cells of a recording, to the master block, and that a
+//! faithful recording's list holds its cell.
 #![tactic(auto)]
 
 mod clean;
 mod frames;
 mod laws;
-mod slot;
 
 pub use clean::explain_clean;
 pub use explain::Workspace as Workspace4;
-pub use frames::FourPorts;
+pub use frames::{FourPorts, FourSlot};
 pub use laws::pair_values_speak_for_the_sent_bits;
-pub use slot::FourSlot;

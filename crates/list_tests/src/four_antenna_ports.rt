@@ -1,82 +1,38 @@
 // The values of pairs are those of a second program, `scripts/peers/second_pairs.py --ports 4`, and the recordings by
 // number those whose samples `scripts/peers/second_four_ports.py` gives too.
-ghost use Rattle.std.specs.Prelude.{◌≡◌, ◌*◌, ◌<◌, All, IfOk, length};
+ghost use Rattle.std.specs.Prelude.{◌≡◌, IfOk, length};
 
-use crate::ports::{is_of, of_port, opposed, symbols, with_port};
+use crate::ports::{is_of, is_pair, of_port, opposed, symbols, values_of, with_port};
 use capture_make::{make_by, plan};
 use cell_tx::{Cell, Port, PortOfFour};
 use cs_num::Sample;
 use explain::EntryList;
 use four_ports::{FourSlot, Workspace4, explain_clean};
-use grid_map::Place;
 use lte_types::{Carrier, CellId, Sib1Reason};
 use sample_file::Recording;
-use soft_bits::ReadSlot;
 use std::alloc::{AllocError, Global};
 use std::test::Fail;
 use test_support::silent_recording;
 
-// The pairs by number, each at a subcarrier of a symbol and the next subcarrier: symbol, subcarrier and values.
-const PAIRS: [(u8, u8, [i16; 4]); 12] = [
-    (1, 0, [44, -37, 53, -22]),
-    (2, 1, [2, 0, -48, 4]),
-    (3, 2, [52, 62, 20, 21]),
-    (6, 35, [8, 1, 24, 25]),
-    (5, 70, [-92, 100, 33, 41]),
-    (2, 71, [4, -18, 35, 36]),
-    (1, 4, [23, 2, -23, -2]),
-    (3, 0, [14, 11, -20, 15]),
-    (0, 5, [-10, -15, -33, -14]),
-    (4, 66, [1, 22, 0, -14]),
-    (4, 67, [-47, -46, 40, -11]),
-    (6, 68, [50, -2, 25, 38]),
-];
-
-// A place of the slot.
-fn place(symbol: u8, k: u8) -> Place
-    ensures symbol { result.symbol < 14 }
-    ensures k { result.k < 72 }
-{
-    Place {
-        symbol: symbol % 7,
-        k: k % 72,
-    }
-}
-
-// The places of all pairs.
-fn places() -> [Place; 24]
-    ensures { All (λ p. (p.symbol < 14) × (p.k < 72)) result }
-{
-    let mut places = [place(0, 0); 24];
-    for i in 0..12_usize {
-        let (symbol, k, _) = PAIRS[i];
-        places[2 * i] = place(symbol, k);
-        places[2 * i + 1] = place(symbol, k.saturating_add(1));
-    }
-    places
-}
-
-// The values of all pairs.
-fn values_of(slot: &FourSlot) -> [i16; 48] {
-    let mut values = [0; 48];
-    slot.fill(slot, &places(), &mut values);
-    values
-}
-
-// Whether these are the values of pair i.
-fn is_pair(values: &[i16; 48], i: usize, expected: [i16; 4]) -> bool {
-    i < 12 && &values[4 * i..4 * i + 4] == expected.as_slice()
-}
-
 #[test]
 fn values_of_pairs(rt: HostRuntime) -> Result<(), Fail> {
     let id = CellId::new(271).ok_or("an identity")?;
-    let slot = FourSlot::new(symbols(), 10, id);
-    let values = values_of(&slot);
-    let mut i = 0_usize;
-    for (_, _, expected) in PAIRS {
+    let values = values_of(&FourSlot::new(symbols(), 10, id));
+    for (i, expected) in [
+        (0, [44, -37, 53, -22]),
+        (1, [2, 0, -48, 4]),
+        (2, [52, 62, 20, 21]),
+        (3, [8, 1, 24, 25]),
+        (4, [-92, 100, 33, 41]),
+        (5, [4, -18, 35, 36]),
+        (6, [23, 2, -23, -2]),
+        (7, [14, 11, -20, 15]),
+        (8, [-10, -15, -33, -14]),
+        (9, [1, 22, 0, -14]),
+        (10, [-47, -46, 40, -11]),
+        (11, [50, -2, 25, 38]),
+    ] {
         assert!(rt; is_pair(&values, i, expected), "pair {i}");
-        i = i.wrapping_add(1);
     }
     Ok(())
 }

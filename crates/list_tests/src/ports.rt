@@ -7,12 +7,14 @@ ghost use Rattle.cs_num.specs.Complex.{IsWithin};
 use capture_make::plan;
 use cell_tx::{Cell, Port, Sender, sequence};
 use cs_num::{Cpx, Sample};
+use grid_map::Place;
 use lte_types::{Entry, Sfn, Timing};
+use soft_bits::{ReadSlot, fill_slot};
 use std::alloc::{AllocError, Global};
 use test_support::silent;
 
 // What is seen at subcarrier k of symbol l.
-pub(crate) fn seen_at(l: u8, k: u8) -> Cpx
+fn seen_at(l: u8, k: u8) -> Cpx
     requires l { l < 7 }
     requires k { k < 72 }
     ensures { IsWithin (2 ^ 25) result }
@@ -24,7 +26,7 @@ pub(crate) fn seen_at(l: u8, k: u8) -> Cpx
 }
 
 // All subcarriers of symbol l.
-pub(crate) fn symbol(l: u8) -> [Cpx; 72]
+fn symbol(l: u8) -> [Cpx; 72]
     requires { l < 7 }
     ensures { All (IsWithin (2 ^ 25)) result }
 {
@@ -48,6 +50,59 @@ pub(crate) fn symbols() -> [[Cpx; 72]; 7]
         symbol(5),
         symbol(6),
     ]
+}
+
+// The pairs of places by number, each at a subcarrier of a symbol and the next subcarrier, after 71 the first: symbol
+// and subcarrier.
+const PAIRS: [(u8, u8); 12] = [
+    (1, 0),
+    (2, 1),
+    (3, 2),
+    (6, 35),
+    (5, 70),
+    (2, 71),
+    (1, 4),
+    (3, 0),
+    (0, 5),
+    (4, 66),
+    (4, 67),
+    (6, 68),
+];
+
+// A place of the slot.
+fn place(symbol: u8, k: u8) -> Place
+    ensures symbol { result.symbol < 14 }
+    ensures k { result.k < 72 }
+{
+    Place {
+        symbol: symbol % 7,
+        k: k % 72,
+    }
+}
+
+// The places of all pairs.
+fn places() -> [Place; 24]
+    ensures { All (λ p. (p.symbol < 14) × (p.k < 72)) result }
+{
+    let mut places = [place(0, 0); 24];
+    for i in 0..12_usize {
+        let (symbol, k) = PAIRS[i];
+        places[2 * i] = place(symbol, k);
+        places[2 * i + 1] = place(symbol, k.saturating_add(1));
+    }
+    places
+}
+
+// The values of all pairs.
+pub(crate) fn values_of<S: ReadSlot>(slot: &S) -> [i16; 48] {
+    let mut values = [0; 48];
+    fill_slot(slot, &places(), &mut values);
+    values
+}
+
+// Whether these are the values of pair i.
+pub(crate) fn is_pair(values: &[i16; 48], i: usize, expected: [i16; 4]) -> bool {
+    i < 12 && &values[4 * i..4 * i + 4] == expected.as_slice()
 }
 
 // Whether an entry is of the cell of recording number n, but for its system information.

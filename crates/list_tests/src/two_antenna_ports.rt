@@ -1,8 +1,8 @@
 // The values of pairs are those of a second program, `scripts/peers/second_pairs.py`, and the recordings by number
 // those of `two_tx`, whose samples `scripts/peers/second_two_ports.py` gives too.
-ghost use Rattle.std.specs.Prelude.{◌≡◌, ◌*◌, IfOk, length};
+ghost use Rattle.std.specs.Prelude.{◌≡◌, IfOk, length};
 
-use crate::ports::{is_of, of_port, opposed, seen_at, symbols, with_port};
+use crate::ports::{is_of, is_pair, of_port, opposed, symbols, values_of, with_port};
 use capture_make::plan;
 use cell_tx::{Cell, Port};
 use cs_num::Sample;
@@ -12,31 +12,22 @@ use sample_file::Recording;
 use std::alloc::{AllocError, Global};
 use std::test::Fail;
 use test_support::silent_recording;
-use two_ports::{PairSlot, Workspace2, explain_clean, pair};
+use two_ports::{PairSlot, Workspace2, explain_clean};
 use two_tx::make;
-
-// Whether these are the values of the pair at subcarrier k, which is seen at two subcarriers of symbol l.
-fn is_pair(slot: &PairSlot, k: u8, l: u8, seen: (u8, u8), values: [i16; 4]) -> bool {
-    k < 72
-        && l < 7
-        && seen.0 < 72
-        && seen.1 < 72
-        && pair(slot, k, seen_at(l, seen.0), seen_at(l, seen.1)) == values
-}
 
 #[test]
 fn values_of_pairs(rt: HostRuntime) -> Result<(), Fail> {
     let id = CellId::new(271).ok_or("an identity")?;
-    let slot = PairSlot::new(symbols(), 10, id);
-    for (k, l, seen, values) in [
-        (0, 1, (0, 1), [61, 8, -18, -73]),
-        (1, 2, (1, 2), [-49, -17, -33, -26]),
-        (2, 3, (2, 3), [74, 20, -44, 58]),
-        (35, 6, (35, 36), [18, 0, -25, 1]),
-        (70, 5, (70, 71), [12, 66, 101, -36]),
-        (71, 2, (71, 0), [23, -14, 28, 27]),
+    let values = values_of(&PairSlot::new(symbols(), 10, id));
+    for (i, expected) in [
+        (0, [61, 8, -18, -73]),
+        (1, [-49, -17, -33, -26]),
+        (2, [74, 20, -44, 58]),
+        (3, [18, 0, -25, 1]),
+        (4, [12, 66, 101, -36]),
+        (5, [23, -14, 28, 27]),
     ] {
-        assert!(rt; is_pair(&slot, k, l, seen, values));
+        assert!(rt; is_pair(&values, i, expected), "pair {i}");
     }
     Ok(())
 }

@@ -4,15 +4,16 @@ ghost use Rattle.std.specs.Prelude.{◌≡◌, ◌+◌, ◌*◌, ◌^◌, ◌<�
 ghost use Rattle.finite.specs.Lists.{values_below};
 ghost use Rattle.finite.specs.Sizes.{AllWithin};
 ghost use Rattle.cs_num.specs.Complex.{IsWithin};
+ghost use Rattle.lte_types.specs.declared.carrier.Carrier.TheVariants.{LongPrefix};
 ghost use Rattle.lte_types.specs.Numerology.{frame_length, extended, useful_start};
 ghost use Rattle.crs.specs.Reference.{long_prefix};
 ghost use Rattle.observe.specs.Seen.{seen_symbol};
-ghost use Rattle.soft_bits.specs.Soft.{AreSmall, pattern_pilot, pattern_energy};
-ghost use Rattle.soft_bits.specs.Kept.{slot_of};
+ghost use Rattle.soft_bits.specs.Soft.{AreSmall, pattern_energy};
+ghost use Rattle.soft_bits.specs.Lines.{line_of, ports_energy};
+ghost use Rattle.soft_bits.specs.Kept.{slot_of, seen_line};
 ghost use Rattle.explain.specs.Frame.{IsWhole};
 ghost use Rattle.long_prefix.specs.Entries.{long_slot, long_pair, long_values, long_prefix_receiver};
 
-use crs::Pattern;
 use cs_num::Cpx;
 use explain::{FrameReader, Informed};
 use grid_map::{Place, long_places};
@@ -20,7 +21,7 @@ use lte_types::{Carrier, CellPlace, FRAME_LENGTH, Prefix, Sfn, Sib1Reason};
 use observe::symbol;
 use pbch::{Master, Received};
 use sample_file::Recording;
-use soft_bits::{Seen, energy_of, estimate, pilots_of, soft_pair};
+use soft_bits::{Pilots, Seen, energy_of, pilots_of, soft_pair};
 use system_block::Decoders;
 
 /// The way to read frames with the extended cyclic prefix, to the master block: each is taken, whatever ports it
@@ -95,7 +96,7 @@ fn symbols_of(recording: &Recording, frame: usize) -> [[Cpx; 72]; 6]
 pub struct LongFrame {
     /// The 24 pilots, in the order of subcarriers: what was seen at each reference place of symbols 0 and 3 times the
     /// conjugate of what was sent.
-    pub pilots: [Cpx; 24],
+    pub pilots: Pilots,
     /// The sum of the squares of the sizes of what was seen at these places.
     pub energy: u64,
     /// The 432 soft values of the broadcast channel as they were received: two of each place, in the order of the
@@ -103,14 +104,15 @@ pub struct LongFrame {
     pub values: Received,
 }
 
-/// What is read of frame `j` of a cell with the extended cyclic prefix. The frame lies within the recording. Components
-/// of pilots have size at most 180 * 2^25, and their energy is at most 24 * 2^51.
+/// What is read of frame `j` of a cell with the extended cyclic prefix. The frame lies within the recording. The energy
+/// of the pilots is at most 24 * 2^51.
 pub fn long_frame(recording: &Recording, place: CellPlace, j: u8) -> LongFrame
     requires { IsWhole recording.now place.start j }
     ensures pilots { result.pilots
-        ≡ values_below 24 (pattern_pilot long_prefix (long_slot recording.now place.id place.start j)) }
-    ensures small { All (IsWithin (180 * 2 ^ 25)) result.pilots }
+        ≡ seen_line (line_of LongPrefix 0 (long_slot recording.now place.id place.start j))
+        (long_slot recording.now place.id place.start j) }
     ensures energy { result.energy ≡ pattern_energy long_prefix (long_slot recording.now place.id place.start j) }
+    ensures total { result.energy ≡ ports_energy LongPrefix (long_slot recording.now place.id place.start j) }
     ensures few { result.energy ≤ 24 * 2 ^ 51 }
     ensures values { result.values ≡ long_values (long_slot recording.now place.id place.start j) }
     ensures length { length result.values ≡ 432 }
@@ -121,9 +123,9 @@ pub fn long_frame(recording: &Recording, place: CellPlace, j: u8) -> LongFrame
         symbols: &symbols,
         number: 1,
         id: place.id(),
-        pattern: Pattern::LONG_PREFIX,
+        carrier: Carrier::LongPrefix,
     };
-    let pilots = pilots_of(&seen);
+    let pilots = pilots_of(&seen, 0);
     let energy = energy_of(&seen);
     let values = Received::new(&values_of(&seen, &pilots, energy));
     LongFrame {
@@ -134,11 +136,9 @@ pub fn long_frame(recording: &Recording, place: CellPlace, j: u8) -> LongFrame
 }
 
 // The soft values of a slot, by its pilots and their energy.
-fn values_of(seen: &Seen, pilots: &[Cpx; 24], energy: u64) -> [i16; 432]
-    requires pattern { seen.now.pattern ≡ long_prefix }
+fn values_of(seen: &Seen, pilots: &Pilots, energy: u64) -> [i16; 432]
     requires symbols { length seen.now.symbols.now ≡ 6 }
-    requires pilots { pilots.now ≡ values_below 24 (pattern_pilot long_prefix (slot_of seen.now)) }
-    requires small { All (IsWithin (180 * 2 ^ 25)) pilots.now }
+    requires pilots { pilots.now ≡ seen_line (line_of LongPrefix 0 (slot_of seen.now)) (slot_of seen.now) }
     requires energy { energy ≡ pattern_energy long_prefix (slot_of seen.now) }
     requires few { energy ≤ 24 * 2 ^ 51 }
     ensures values { result ≡ long_values (slot_of seen.now) }
@@ -155,11 +155,9 @@ fn values_of(seen: &Seen, pilots: &[Cpx; 24], energy: u64) -> [i16; 432]
 }
 
 // The two soft values of a place, by the pilots of the slot and their energy.
-fn pair_at(seen: &Seen, pilots: &[Cpx; 24], energy: u64, place: Place) -> [i16; 2]
-    requires pattern { seen.now.pattern ≡ long_prefix }
+fn pair_at(seen: &Seen, pilots: &Pilots, energy: u64, place: Place) -> [i16; 2]
     requires symbols { length seen.now.symbols.now ≡ 6 }
-    requires pilots { pilots.now ≡ values_below 24 (pattern_pilot long_prefix (slot_of seen.now)) }
-    requires small { All (IsWithin (180 * 2 ^ 25)) pilots.now }
+    requires pilots { pilots.now ≡ seen_line (line_of LongPrefix 0 (slot_of seen.now)) (slot_of seen.now) }
     requires energy { energy ≡ pattern_energy long_prefix (slot_of seen.now) }
     requires few { energy ≤ 24 * 2 ^ 51 }
     requires symbol { place.symbol < 4 }
@@ -167,7 +165,6 @@ fn pair_at(seen: &Seen, pilots: &[Cpx; 24], energy: u64, place: Place) -> [i16; 
     ensures values { result ≡ long_pair (slot_of seen.now) place }
     ensures sizes { AllWithin 127 result }
 {
-    let channel = estimate(pilots, seen.id.n2() as u8, place.k);
     let here = seen.symbols[place.symbol as usize][place.k as usize];
-    soft_pair(here, channel, energy)
+    soft_pair(here, pilots.channel(place.k), energy)
 }

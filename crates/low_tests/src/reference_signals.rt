@@ -1,6 +1,6 @@
 ghost use Rattle.std.specs.Prelude.{◌<◌};
 
-use crs::{Pattern, UpperPort, pilots, upper_pilots};
+use crs::{Pattern, pilots, upper_pilots};
 use cs_num::Cpx;
 use lte_types::{Carrier, CellId};
 use std::process::Abort;
@@ -34,7 +34,7 @@ fn pilots_of_port_0(rt: HostRuntime) {
 // Those of ports 2 and 3 of four, in symbol 1.
 #[test]
 fn pilots_of_ports_2_and_3_change_places(rt: HostRuntime) {
-    let (two, three) = (UpperPort::Third, UpperPort::Fourth);
+    let (two, three) = (2, 3);
     let (first, last) = (id_of(&rt, 0), id_of(&rt, 503));
     assert!(rt; are_points(&upper_pilots(two, first, 0), 0, b"012313232031"));
     assert!(rt; are_points(&upper_pilots(two, first, 1), 3, b"311103223120"));

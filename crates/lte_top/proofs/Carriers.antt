@@ -17,7 +17,8 @@ use Rattle.clean_air.proofs.HeldCells.{holds_cells as holds_of_one}
 use Rattle.two_ports.proofs.HeldCells.{holds_cells as holds_of_two}
 use Rattle.long_prefix.proofs.HeldLong.{holds_cells as holds_of_long}
 use Rattle.four_ports.proofs.HeldCells.{holds_cells as holds_of_four}
-use Rattle.lte_top.specs.Searching.{receiver_of, IsListOf}
+use Rattle.evidence.specs.Receivers.{receiver_of}
+use Rattle.lte_top.specs.Searching.{IsListOf}
 
 -- it is one for it
 pub of_carrier : (carrier : Carrier) → carrier ≡ (receiver_of carrier).carrier

@@ -19,7 +19,7 @@ use Rattle.lte_top.specs.declared.status.Status.TheVariants.{Done, Usage, Ragged
 use Rattle.lte_top.specs.Certificates.{IsChecked, IsCertified}
 use Rattle.lte_top.specs.Errors.{of_stream}
 use Rattle.lte_top.specs.Forms.{certificates, RefusesCertificates}
-use Rattle.lte_top.specs.Searching.{receiver_of}
+use Rattle.evidence.specs.Receivers.{receiver_of}
 use Rattle.lte_top.proofs.Lists.{one_list}
 use Rattle.lte_top.specs.Run.{Cause, HasOutput}
 

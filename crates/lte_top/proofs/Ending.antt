@@ -17,7 +17,8 @@ use Rattle.lte_top.specs.declared.status.Status.{Status}
 use Rattle.lte_top.specs.Certificates.{IsCertified}
 use Rattle.cert_stream.specs.Certifying.{HasCertifiedAll, HasCertifiedSome}
 use Rattle.cert_stream.specs.Stream.{all_bytes}
-use Rattle.lte_top.specs.Searching.{receiver_of, IsListOf}
+use Rattle.evidence.specs.Receivers.{receiver_of}
+use Rattle.lte_top.specs.Searching.{IsListOf}
 use Rattle.lte_top.specs.Forms.{recording_refusal, RefusesRecording}
 use Rattle.lte_top.specs.Tuning.{IsTurned, IsTurnedAsBytes}
 use Rattle.lte_top.specs.Run.{HasOutput, IsDone, IsWriteFault}

@@ -18,12 +18,11 @@ use Rattle.pss_search.specs.Hits.{IsInSpan, hits_of}
 use Rattle.pss_search.proofs.Agree.{hits_agree}
 use Rattle.pss_search.proofs.Listed.{listed_in_span}
 use Rattle.sss_detect.proofs.Agree.{identity_agrees, ranking_agrees}
+use Rattle.soft_bits.specs.Pairs.{over_two, over_four, paired_by}
 use Rattle.soft_bits.specs.Places.{placed_values}
 use Rattle.explain.specs.Deciding.{deciding_length, LooksAtFirstFrames}
 use Rattle.explain.proofs.Deciding.{decided, broadcast_agrees, slots_look}
 use Rattle.two_ports.specs.Entries.{are_two}
-use Rattle.two_ports.specs.Pairs.{paired_values}
-use Rattle.four_ports.specs.Pairs.{paired_values as paired_values_of_four}
 use Rattle.long_prefix.proofs.Deciding.{long_looks}
 use Rattle.report.specs.Hits.{hits_text, ids_text}
 use Rattle.report.specs.HitsJson.{hits_json, ids_json}
@@ -36,7 +35,8 @@ use Rattle.lte_words.specs.declared.form.Output.TheVariants.{Text, Json}
 use Rattle.lte_top.specs.Line.{as_line}
 use Rattle.lte_top.specs.Reports.{identified, identified_by, measured, measured_id, kept_for, IsReport}
 use Rattle.lte_top.specs.Run.{HasOutput}
-use Rattle.lte_top.specs.Searching.{receiver_of, FirstFramesDecideEach, IsListOf}
+use Rattle.evidence.specs.Receivers.{receiver_of}
+use Rattle.lte_top.specs.Searching.{FirstFramesDecideEach, IsListOf}
 use Rattle.lte_top.proofs.Carriers.{list_holds}
 use Rattle.lte_top.proofs.Ending.{recording_unrefused}
 
@@ -45,10 +45,10 @@ use Rattle.lte_top.proofs.Ending.{recording_unrefused}
 -- the receiver of a carrier looks at the first frames alone
 looks : (carrier : Carrier) → LooksAtFirstFrames (receiver_of carrier)
 looks OnePort = slots_look OnePort (λ ports. true) placed_values
-looks TwoPorts = slots_look TwoPorts are_two paired_values
+looks TwoPorts = slots_look TwoPorts are_two (paired_by over_two)
 looks LongPrefix = long_looks
 looks FourPorts = record {
-  broadcast = broadcast_agrees paired_values_of_four;
+  broadcast = broadcast_agrees (paired_by over_four);
   subframes = λ first second place j agree early few. tt;
 }
 

@@ -16,7 +16,8 @@ use Rattle.lte_words.specs.declared.form.Output.TheVariants.{Text, Json}
 use Rattle.lte_words.specs.declared.form.Rule.{Rule}
 use Rattle.lte_words.specs.declared.form.Rule.TheVariants.{Of, Cancel, All}
 use Rattle.lte_top.specs.Line.{as_line, IsLine}
-use Rattle.lte_top.specs.Searching.{receiver_of, IsListOf, list_text, list_among, lists_text, IsListText, IsTextOfAll, IsCancelled, IsSearch}
+use Rattle.evidence.specs.Receivers.{receiver_of}
+use Rattle.lte_top.specs.Searching.{IsListOf, list_text, list_among, lists_text, IsListText, IsTextOfAll, IsCancelled, IsSearch}
 
 -- ---- lists
 

@@ -20,7 +20,7 @@ use Rattle.lte_words.specs.declared.form.Output.TheVariants.{Text, Json}
 use Rattle.lte_words.specs.declared.form.Turn.{Turn}
 use Rattle.lte_words.specs.declared.form.Turn.TheVariants.{AsTold, Steps}
 use Rattle.lte_top.specs.Reports.{IsEvidence, IsEvidenceJson, IsEvidenceText, IsTelling, IsHits, IsIds, IsReport}
-use Rattle.lte_top.specs.Searching.{receiver_of}
+use Rattle.evidence.specs.Receivers.{receiver_of}
 use Rattle.lte_top.specs.Tuning.{IsTurnedAsBytes}
 use Rattle.lte_top.proofs.Lists.{one_line, one_list, one_search}
 

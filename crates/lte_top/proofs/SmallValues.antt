@@ -8,7 +8,9 @@ use Rattle.lte_types.specs.declared.carrier.Carrier.TheVariants.{OnePort, TwoPor
 use Rattle.lte_types.specs.declared.entry.Entry.{Entry}
 use Rattle.grid_map.specs.Broadcast.{pbch_places}
 use Rattle.grid_map.proofs.Points.{length-pbch_places}
+use Rattle.soft_bits.specs.Pairs.{Pairing, over_two, over_four, paired_by}
 use Rattle.soft_bits.specs.Soft.{SeenSlot}
+use Rattle.soft_bits.proofs.Paired.{length-paired_by, paired_by-small}
 use Rattle.pbch.proofs.FrameSums.{length-received_values, received_values-small}
 use Rattle.cert_stream.specs.Certifying.{HasSmallValues}
 use Rattle.explain.specs.Entries.{IsListFor}
@@ -16,12 +18,10 @@ use Rattle.explain.specs.Frame.{broadcast_slot}
 use Rattle.explain.specs.Readings.{IsReadingFor}
 use Rattle.explain.specs.Receiver.{Receiver}
 use Rattle.explain.specs.declared.readings.Reading.{Reading}
-use Rattle.two_ports.specs.Pairs.{Pairing, over_two, paired_by}
-use Rattle.two_ports.proofs.Paired.{length-paired_by, paired_by-small}
-use Rattle.four_ports.specs.Pairs.{over_four}
 use Rattle.long_prefix.specs.Entries.{long_slot, long_value, long_values}
 use Rattle.long_prefix.proofs.Pairs.{long_values-small}
-use Rattle.lte_top.specs.Searching.{receiver_of, IsListOf}
+use Rattle.evidence.specs.Receivers.{receiver_of}
+use Rattle.lte_top.specs.Searching.{IsListOf}
 
 length-pairs : (pairing : Pairing) (slot : SeenSlot) → length (paired_by pairing (λ p. slot) (pbch_places slot.identity)) ≡ 480
 length-pairs pairing slot =

@@ -8,7 +8,8 @@ use Rattle.tail_cert.specs.Certificate.{Held}
 use Rattle.cert_stream.specs.Stream.{all_bytes, AreAnswers}
 use Rattle.cert_stream.specs.Certifying.{Certifies}
 use Rattle.report.specs.Answers.{check_text}
-use Rattle.lte_top.specs.Searching.{receiver_of, IsListOf}
+use Rattle.evidence.specs.Receivers.{receiver_of}
+use Rattle.lte_top.specs.Searching.{IsListOf}
 
 -- the output is the bytes of certificates, one for each entry of the list of a carrier, in order
 pub record IsCertified (carrier : Carrier) (samples : List Sample) (output : List ℕ) : Type 0 where

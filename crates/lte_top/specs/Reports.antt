@@ -33,7 +33,8 @@ use Rattle.report.specs.declared.measured.MeasuredHit.{MeasuredHit}
 use Rattle.report.specs.declared.measured.MeasuredId.{MeasuredId}
 use Rattle.explain.specs.Deciding.{deciding_length}
 use Rattle.lte_top.specs.Line.{as_line, IsLine}
-use Rattle.lte_top.specs.Searching.{receiver_of, IsListOf, IsSearch}
+use Rattle.evidence.specs.Receivers.{receiver_of}
+use Rattle.lte_top.specs.Searching.{IsListOf, IsSearch}
 
 -- a hit with the identity of its cell, the half that it stands in, and where a frame begins, by its group and this half
 abbrev pub identified_by : Hit → ℕ × Half → IdentifiedHit

@@ -6,10 +6,7 @@ use Rattle.lte_types.specs.declared.carrier.Carrier.{Carrier}
 use Rattle.lte_types.specs.declared.carrier.Carrier.TheVariants.{OnePort, TwoPorts, LongPrefix, FourPorts}
 use Rattle.clean_air.specs.Clean.{IsListBy}
 use Rattle.explain.specs.Deciding.{AreDecidedFor}
-use Rattle.explain.specs.Receiver.{Receiver, one_port_receiver}
-use Rattle.two_ports.specs.Entries.{two_ports_receiver}
-use Rattle.long_prefix.specs.Entries.{long_prefix_receiver}
-use Rattle.four_ports.specs.Entries.{four_ports_receiver}
+use Rattle.evidence.specs.Receivers.{receiver_of}
 use Rattle.report.specs.RoundsJson.{IsCancelJson}
 use Rattle.report.specs.Rounds.{IsCancelText}
 use Rattle.report.specs.All.{all_text, all_json}
@@ -22,13 +19,6 @@ use Rattle.lte_words.specs.declared.form.Output.TheVariants.{Text, Json}
 use Rattle.lte_top.specs.Line.{as_line, IsLine}
 
 -- ---- the list of a carrier
-
--- the receiver by which the cells of a carrier are read
-abbrev pub receiver_of : Carrier → Receiver
-receiver_of OnePort = one_port_receiver
-receiver_of TwoPorts = two_ports_receiver
-receiver_of LongPrefix = long_prefix_receiver
-receiver_of FourPorts = four_ports_receiver
 
 -- the list of the cells of a carrier, which holds each to which the recording is faithful, with one port each that is
 -- seen through channels, and each of which it is clean, whatever else its ports send

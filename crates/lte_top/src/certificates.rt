@@ -7,7 +7,8 @@ ghost use Rattle.cert_stream.specs.Certifying.{HasCertifiedAll, HasCertifiedSome
 ghost use Rattle.lte_top.specs.Forms.{certificates};
 ghost use Rattle.lte_top.specs.Run.{Cause, HasOutput, IsDone, Ends};
 ghost use Rattle.explain.specs.Receiver.{Receiver};
-ghost use Rattle.lte_top.specs.Searching.{receiver_of, IsListOf};
+ghost use Rattle.evidence.specs.Receivers.{receiver_of};
+ghost use Rattle.lte_top.specs.Searching.{IsListOf};
 ghost use Rattle.lte_words.specs.declared.form.Form.TheVariants.{Certify, Check};
 
 use crate::reporting::recording_of;

@@ -6,7 +6,8 @@ ghost use Rattle.sample_file.specs.Recording.{IsRecording};
 ghost use Rattle.pss_search.specs.Hits.{hits_of as all_hits};
 ghost use Rattle.explain.specs.Entries.{IsListFor};
 ghost use Rattle.explain.specs.Readings.{IsReadingFor};
-ghost use Rattle.lte_top.specs.Searching.{receiver_of, IsListOf, IsListText, IsTextOfAll, IsCancelled, IsSearch};
+ghost use Rattle.evidence.specs.Receivers.{receiver_of};
+ghost use Rattle.lte_top.specs.Searching.{IsListOf, IsListText, IsTextOfAll, IsCancelled, IsSearch};
 ghost use Rattle.lte_top.specs.Searching.{list_among, list_text as text_of, lists_text as texts_of};
 
 use crate::reporting::{hits_of, line_of};

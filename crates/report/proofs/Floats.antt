@@ -1,5 +1,6 @@
 -- The values that are written have whole numbers alone.
-use Rattle.std.proofs.Common.{◌≡◌, ◌∙◌, Bool, ℤ, pos, negsuc, refl, ap, List, [], ◌∷◌, ◌++◌, map, false, Option, Some, None, string_bytes}
+use Rattle.std.proofs.Common.{◌≡◌, ◌∙◌, Bool, ℤ, pos, negsuc, refl, ap, List, [], ◌∷◌, ◌++◌, map, length, ◌/◌, false, Option, Some, None, string_bytes}
+use Rattle.std.specs.Simd.{first_chunks}
 use Rattle.std.specs.Prelude.{IfOk, Result, Ok, Err, String}
 use Rattle.std.specs.declared.alloc.AllocError.{AllocError}
 use Rattle.std.specs.declared.alloc.Global.{Global}
@@ -17,16 +18,13 @@ use Rattle.lte_types.specs.declared.sib1_reason.Sib1Reason.{Sib1Reason}
 use Rattle.lte_types.specs.declared.entry.Entry.{Entry}
 use Rattle.sss_detect.specs.declared.rank.Choice.{Choice}
 use Rattle.sss_detect.specs.declared.rank.Ranking.{Ranking}
-use Rattle.evidence.specs.declared.shown.PortChannel.{PortChannel}
-use Rattle.evidence.specs.declared.shown.PortChannel.TheVariants.{Lower, Upper}
-use Rattle.evidence.specs.declared.shown.SoftPair.{SoftPair}
 use Rattle.evidence.specs.Shown.{Shown}
 use Rattle.report.specs.HitsJson.{choice_value, ranking_value, id_value}
 use Rattle.report.specs.declared.measured.MeasuredId.{MeasuredId}
-use Rattle.report.specs.Values.{natural, integer, or_null}
+use Rattle.report.specs.Values.{natural, integer, list_of, or_null}
 use Rattle.report.specs.Json.{plmn_value, message_value, tdd_value, sib1_value, system_value, entry_value}
 use Rattle.report.specs.All.{ruled_value, ruled_values, all_value}
-use Rattle.report.specs.EvidenceJson.{complex_value, port_value, soft_value, bits_value, support_value}
+use Rattle.report.specs.EvidenceJson.{complex_value, port_value, pairs_value, bits_value, support_value}
 
 -- a value without floats has its text
 pub written : (seen value : Data) (r : Result (String Global) AllocError) → seen ≡ value → has_float value ≡ false →
@@ -90,12 +88,11 @@ in_all one two long four =
 pub in_complex : (z : Cpx) → has_float (complex_value z) ≡ false
 in_complex z = or_from _ _ (in_integer z.re) (or_from _ _ (in_integer z.im) refl)
 
-in_port : (port : PortChannel) → has_float (port_value port) ≡ false
-in_port (Lower pilots) = in_list complex_value in_complex pilots
-in_port (Upper pilots) = in_list complex_value in_complex pilots
+in_port : (pilots : List Cpx) → has_float (port_value pilots) ≡ false
+in_port pilots = in_list complex_value in_complex pilots
 
-in_soft : (pair : SoftPair) → has_float (soft_value pair) ≡ false
-in_soft pair = or_from _ _ (in_integer pair.re) (or_from _ _ (in_integer pair.im) refl)
+in_pairs : (values : List ℤ) → has_float (pairs_value values) ≡ false
+in_pairs values = in_list (list_of integer) (in_list integer in_integer) (first_chunks 2 (length values / 2) values)
 
 in_bits : (bits : List Bool) → has_float (bits_value bits) ≡ false
 in_bits [] = refl
@@ -103,8 +100,8 @@ in_bits (bit ∷ bits) = refl
 
 pub in_support : (shown : Shown) → has_float (support_value shown) ≡ false
 in_support shown =
-    or_from _ _ (in_list port_value in_port shown.channel)
-    (or_from _ _ (in_bits shown.block) (or_from _ _ (in_list soft_value in_soft shown.values) refl))
+    or_from _ _ (in_list port_value in_port shown.slot.channel)
+    (or_from _ _ (in_bits shown.block) (or_from _ _ (in_pairs shown.slot.values) refl))
 
 in_choice : (choice : Choice) → has_float (choice_value choice) ≡ false
 in_choice choice = or_from _ _ (in_integer choice.score) refl

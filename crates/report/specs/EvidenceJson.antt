@@ -1,13 +1,12 @@
 -- What supports the entries of a list as JSON: one array with an object for each, whose keys are the names of its
 -- numbers, of what its slot shows, and of the bits of its blocks, in the order of their bytes. (own)
-use Rattle.std.specs.Prelude.{ℕ, Bool, List, [], ◌∷◌, codes}
+use Rattle.std.specs.Prelude.{ℕ, ◌/◌, Bool, List, [], ◌∷◌, length, codes, ℤ}
+use Rattle.std.specs.Simd.{first_chunks}
 use Rattle.serde_json.specs.Data.{Data, null, string, object, Members, no_members, put}
 use Rattle.serde_json.specs.Written.{compact_text}
 use Rattle.cs_num.specs.declared.Cpx.{Cpx}
 use Rattle.lte_types.specs.declared.evidence.Evidence.{Evidence}
-use Rattle.evidence.specs.declared.shown.PortChannel.{PortChannel}
-use Rattle.evidence.specs.declared.shown.PortChannel.TheVariants.{Lower, Upper}
-use Rattle.evidence.specs.declared.shown.SoftPair.{SoftPair}
+use Rattle.evidence.specs.Evidence.{SlotShown}
 use Rattle.evidence.specs.Shown.{Shown}
 use Rattle.report.specs.Values.{natural, integer, list_of}
 use Rattle.report.specs.Words.{hex_word}
@@ -46,18 +45,17 @@ abbrev pub complex_value : Cpx → Data
 complex_value z = list_of integer (z.re ∷ z.im ∷ [])
 
 -- the pilots of an antenna port
-abbrev pub port_value : PortChannel → Data
-port_value (Lower pilots) = list_of complex_value pilots
-port_value (Upper pilots) = list_of complex_value pilots
+abbrev pub port_value : List Cpx → Data
+port_value pilots = list_of complex_value pilots
 
--- the two soft values of a resource element
-abbrev pub soft_value : SoftPair → Data
-soft_value pair = list_of integer (pair.re ∷ pair.im ∷ [])
+-- soft values two by two, those of each resource element
+abbrev pub pairs_value : List ℤ → Data
+pairs_value values = list_of (list_of integer) (first_chunks 2 (length values / 2) values)
 
 -- the channel of each port, and the values of the broadcast channel
-abbrev pub slot_members : List PortChannel → List SoftPair → Members → Members
-slot_members channel values members =
-    put (codes "values") (list_of soft_value values) (put (codes "channel") (list_of port_value channel) members)
+abbrev pub slot_members : SlotShown → Members → Members
+slot_members slot members =
+    put (codes "values") (pairs_value slot.values) (put (codes "channel") (list_of port_value slot.channel) members)
 
 -- ---- the bits of its blocks
 
@@ -74,7 +72,7 @@ block_members master block members =
 abbrev pub support_value : Shown → Data
 support_value shown = object (
     block_members shown.master shown.block (
-    slot_members shown.channel shown.values (
+    slot_members shown.slot (
     pilots_members shown.numbers (
     frame_members shown.numbers (
     word_members shown.numbers (entry_members shown.numbers no_members))))))

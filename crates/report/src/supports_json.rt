@@ -3,14 +3,15 @@
 ghost use Rattle.std.specs.Prelude.{◌≡◌, IfOk, OnOk, string_bytes};
 ghost use Rattle.serde_json.specs.View.{view, members_view};
 ghost use Rattle.report.specs.EvidenceJson.{entry_members, word_members, frame_members, pilots_members};
-ghost use Rattle.report.specs.EvidenceJson.{slot_members, complex_value, port_value, soft_value};
+ghost use Rattle.report.specs.Values.{integer, list_of};
+ghost use Rattle.report.specs.EvidenceJson.{slot_members, complex_value, port_value};
 ghost use Rattle.report.specs.EvidenceJson.{block_members, bits_value as bits_value_of};
 ghost use Rattle.report.specs.EvidenceJson.{support_value, evidence_json};
 
 use crate::values::{ToJson, list_text, list_value, pair_value};
 use crate::words::hex_word;
 use cs_num::Cpx;
-use evidence::{PortChannel, SoftPair, Support};
+use evidence::{PortChannel, SlotShown, Support};
 use lte_types::Evidence;
 use serde_json::{Map, Value, put};
 use std::alloc::{AllocError, Global};
@@ -35,7 +36,7 @@ impl ToJson for Support {
         put_word(alloc, numbers, &mut members)?;
         put_frame(alloc, numbers, &mut members)?;
         put_pilots(alloc, numbers, &mut members)?;
-        put_slot(alloc, self.channel(), self.values(), &mut members)?;
+        put_slot(alloc, self.slot(), &mut members)?;
         put_blocks(alloc, self.master().slice(), self.block(), &mut members)?;
         Ok(Value::from(members))
     }
@@ -55,19 +56,25 @@ impl ToJson for PortChannel {
     ghost json_of = { port_value };
 
     fn to_json(&self, alloc: Global) -> Result<Value, AllocError> {
-        match self {
-            PortChannel::Lower(pilots) => list_value(alloc, pilots),
-            PortChannel::Upper(pilots) => list_value(alloc, pilots),
-        }
+        list_value(alloc, self.pilots())
+    }
+}
+
+// A soft value.
+impl ToJson for i16 {
+    ghost json_of = { integer };
+
+    fn to_json(&self, alloc: Global) -> Result<Value, AllocError> {
+        Ok(Value::from(*self))
     }
 }
 
 // The soft values of a resource element.
-impl ToJson for SoftPair {
-    ghost json_of = { soft_value };
+impl ToJson for [i16; 2] {
+    ghost json_of = { list_of integer };
 
     fn to_json(&self, alloc: Global) -> Result<Value, AllocError> {
-        pair_value(alloc, Value::from(self.re), Value::from(self.im))
+        list_value(alloc, self)
     }
 }
 
@@ -130,15 +137,15 @@ fn put_pilots(
 // Adds what the slot of an entry shows.
 fn put_slot(
     alloc: Global,
-    channel: &[PortChannel],
-    values: &[SoftPair],
+    slot: &SlotShown,
     members: &mut Map<String, Value>,
 ) -> Result<(), AllocError>
     ensures { OnOk result (members_view members.new.entries
-        ≡ slot_members channel.now values.now (members_view members.old.entries)) }
+        ≡ slot_members slot.now (members_view members.old.entries)) }
 {
-    put(members, alloc, "channel", list_value(alloc, channel)?)?;
-    put(members, alloc, "values", list_value(alloc, values)?)
+    let (pairs, _) = slot.values().as_chunks::<2>();
+    put(members, alloc, "channel", list_value(alloc, slot.channel())?)?;
+    put(members, alloc, "values", list_value(alloc, pairs)?)
 }
 
 // Adds the bits of its blocks.

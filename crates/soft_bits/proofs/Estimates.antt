@@ -4,7 +4,7 @@ use Rattle.std.specs.Prelude.{if◌then◌else◌}
 use Rattle.std.proofs.lemmas.Bool.{ltb-true}
 use Rattle.cs_num.specs.declared.Cpx.{Cpx}
 use Rattle.cs_num.specs.Complex.{multiple}
-use Rattle.soft_bits.specs.Estimate.{place_by, between_by, line_by, estimate}
+use Rattle.soft_bits.specs.Estimate.{place_by, between_by, line_by}
 
 -- it is that of the pilots up to the last alone
 pub line-same : (step last : ℕ) (f g : ℕ → Cpx) (shift k : ℕ) → (k < place_by step shift last → (k - shift) / step < last) →
@@ -24,10 +24,3 @@ line-same step last f g shift k inside same = first (nat_lt k (place_by step shi
         ≡ (if b then multiple step (g 0) else (if nat_lt k (place_by step shift last) then between_by step g ((k - shift) / step) ((k - shift) % step) else multiple step (g last)))
     first true = ap (multiple step) (same 0 (omega arith))
     first false = second (nat_lt k (place_by step shift last)) refl
-
-pub estimate-same : (f g : ℕ → Cpx) (shift k : ℕ) → ((i : ℕ) → i < 24 → f i ≡ g i) → estimate f shift k ≡ estimate g shift k
-estimate-same f g shift k same = line-same 3 23 f g shift k (λ high. omega (arith, high)) same
-
--- the same of 12 pilots
-pub upper_line-same : (f g : ℕ → Cpx) (shift k : ℕ) → ((i : ℕ) → i < 12 → f i ≡ g i) → line_by 6 11 f shift k ≡ line_by 6 11 g shift k
-upper_line-same f g shift k same = line-same 6 11 f g shift k (λ high. omega (arith, high)) same

@@ -1,23 +1,28 @@
--- The values of one antenna port in the first four symbols of a slot are told by its front.
-use Rattle.std.proofs.Common.{◌≡◌, ℕ, ◌*◌, ◌/◌, ◌%◌, ◌<◌, length, get_or, pos, ap, ap₂, sym, ◌∙◌, arith}
+-- The values of places in the first four symbols of a slot are told by its front.
+use Rattle.std.proofs.Common.{◌≡◌, ℕ, ◌+◌, ◌*◌, ◌/◌, ◌%◌, ◌<◌, length, get_or, pos, ap, ap₂, sym, ◌∙◌, arith}
 use Rattle.std.proofs.lemmas.List.{ext_get_or}
+use Rattle.finite.proofs.Lists.{joined_below_same}
 use Rattle.cs_num.specs.declared.Cpx.{Cpx}
 use Rattle.cs_num.specs.Complex.{times, conjugate}
+use Rattle.lte_types.specs.declared.carrier.Carrier.{Carrier}
+use Rattle.lte_types.specs.declared.carrier.Carrier.TheVariants.{OnePort, TwoPorts, LongPrefix, FourPorts}
 use Rattle.crs.specs.Reference.{port_0}
 use Rattle.grid_map.specs.declared.Place.{Place}
 use Rattle.grid_map.specs.Place.{place}
-use Rattle.soft_bits.specs.Soft.{SeenSlot, soft_pair, soft_values}
+use Rattle.soft_bits.specs.Soft.{SeenSlot, seen_at, soft_pair, soft_values}
+use Rattle.soft_bits.specs.Lines.{port_channel, ports_energy}
+use Rattle.soft_bits.specs.Pairs.{Pairing, point_values, pair_values, pair_at, paired_by, values_over}
 use Rattle.soft_bits.specs.Places.{placed_values}
 use Rattle.soft_bits.specs.Front.{HaveOneFront, LooksAtFront}
 use Rattle.soft_bits.proofs.Channel.{length-placed, placed-at}
-use Rattle.soft_bits.proofs.Lines.{lower_channel_is, lower_energy_is, front_seen, front_channel, front_energy}
+use Rattle.soft_bits.proofs.Lines.{lower_channel_is, lower_energy_is, front_seen, front_channel, front_energy, front_port_channel, front_ports_energy}
 
 front_values : (a b : SeenSlot) → HaveOneFront a b → (symbol k : ℕ) → symbol < 5 → soft_values a symbol k ≡ soft_values b symbol k
 unfolding soft_values
 front_values a b one symbol k below =
     ap₂ soft_pair
-    (ap₂ (λ (x h : Cpx). times x (conjugate h)) (front_seen a b one symbol k below) (lower_channel_is port_0 a k ∙ front_channel a b one 0 k ∙ sym (lower_channel_is port_0 b k)))
-    (lower_energy_is port_0 a ∙ front_energy a b one 0 ∙ sym (lower_energy_is port_0 b))
+    (ap₂ (λ (x h : Cpx). times x (conjugate h)) (front_seen a b one symbol k below) (lower_channel_is port_0 a k ∙ front_channel a b one OnePort 0 k ∙ sym (lower_channel_is port_0 b k)))
+    (lower_energy_is port_0 a ∙ front_energy a b one OnePort 0 ∙ sym (lower_energy_is port_0 b))
 
 pub placed_look_at_front : LooksAtFront placed_values
 placed_look_at_front a b places one inside =
@@ -30,3 +35,31 @@ placed_look_at_front a b places one inside =
     placed-at (λ p. a) places i few
     ∙ ap (λ values. get_or values (i % 2) (pos 0)) (front_values a b one (p.symbol % 7) p.k (let h = inside (i / 2) in omega (arith, h)))
     ∙ sym (placed-at (λ p. b) places i few))
+
+-- ---- pairs
+
+module _ (pairing : Pairing) where
+  front_pair : (i : ℕ) (a b : SeenSlot) (p q : Place) → HaveOneFront a b → p.symbol % 7 < 4 → q.symbol % 7 < 4 → pair_values pairing i a p q ≡ pair_values pairing i b p q
+  unfolding pair_values
+  front_pair i a b p q one first second =
+      let energy : SeenSlot → ℕ = ports_energy pairing.carrier in
+      let lower : SeenSlot → Cpx = λ slot. port_channel pairing.scale pairing.carrier (pairing.lower i) slot p.k in
+      let upper : SeenSlot → Cpx = λ slot. port_channel pairing.scale pairing.carrier (pairing.upper i) slot p.k in
+      let at : SeenSlot → Place → Cpx = λ slot r. seen_at slot (r.symbol % 7) r.k in
+      ap₂ (λ (h k : Cpx). point_values h k (energy a) (at a p) (at a q)) (front_port_channel a b one pairing.scale pairing.carrier (pairing.lower i) p.k) (front_port_channel a b one pairing.scale pairing.carrier (pairing.upper i) p.k)
+      ∙ ap (λ (e : ℕ). point_values (lower b) (upper b) e (at a p) (at a q)) (front_ports_energy a b one pairing.carrier)
+      ∙ ap₂ (λ (x y : Cpx). point_values (lower b) (upper b) (energy b) x y) (front_seen a b one (p.symbol % 7) p.k (omega (arith, first))) (front_seen a b one (q.symbol % 7) q.k (omega (arith, second)))
+
+  pub paired_look_at_front : LooksAtFront (paired_by pairing)
+  unfolding paired_by
+  paired_look_at_front a b places one inside =
+      joined_below_same (length places / 2) (pair_at pairing (λ p. a) places) (pair_at pairing (λ p. b) places)
+      (λ i _. front_pair i a b (get_or places (2 * i) (place 0 0)) (get_or places (2 * i + 1) (place 0 0)) one (inside (2 * i)) (inside (2 * i + 1)))
+
+-- ---- one port or several
+
+pub values_look_at_front : (carrier : Carrier) (pairing : Pairing) → LooksAtFront (values_over carrier pairing)
+values_look_at_front OnePort pairing = placed_look_at_front
+values_look_at_front TwoPorts pairing = paired_look_at_front pairing
+values_look_at_front LongPrefix pairing = paired_look_at_front pairing
+values_look_at_front FourPorts pairing = paired_look_at_front pairing

@@ -1,57 +1,108 @@
--- Lines of pilots: those of the four ports, what they are by patterns and upper ports, and that they look at the front of a slot.
-use Rattle.std.proofs.Common.{◌≡◌, ℕ, zero, suc, ◌+◌, ◌*◌, ◌/◌, ◌<◌, ◌≤◌, Bool, true, false, arith, List, refl, ap, ap₂, ◌∙◌}
-use Rattle.std.specs.Prelude.{if◌then◌else◌}
+-- Lines of pilots: those of the ports of a carrier, what they are by patterns, the channel along them, and that they look at the front of a slot.
+use Rattle.std.proofs.Common.{◌≡◌, ℕ, zero, suc, ◌+◌, ◌-◌, ◌*◌, ◌/◌, ◌<◌, ◌≤◌, ◌⊎◌, inl, inr, Bool, true, false, arith, List, ℤ, pos, refl, ap, ap₂, sym, subst, ◌∙◌}
+use Rattle.std.specs.Prelude.{if◌then◌else◌, nat_eq, ◌*ℤ◌}
 use Rattle.std.proofs.Math.Path.{fun_ext}
+use Rattle.std.proofs.lemmas.Int.{ints}
+use Rattle.finite.specs.Sums.{total_below}
+use Rattle.finite.proofs.Lists.{values_below-length, values_below_at}
 use Rattle.finite.proofs.Sums.{total_below_same}
 use Rattle.cs_num.specs.declared.Cpx.{Cpx}
-use Rattle.cs_num.specs.Complex.{times, conjugate, multiple, square, value_at}
+use Rattle.cs_num.specs.Complex.{times, conjugate, multiple, square, value_at, nothing}
+use Rattle.cs_num.proofs.Complex.{pair}
+use Rattle.lte_types.specs.declared.carrier.Carrier.{Carrier}
+use Rattle.lte_types.specs.declared.carrier.Carrier.TheVariants.{OnePort, TwoPorts, LongPrefix, FourPorts}
+use Rattle.lte_types.specs.Carrier.{ports_of}
 use Rattle.crs.specs.declared.pattern.Pattern.{Pattern}
-use Rattle.crs.specs.declared.upper.UpperPort.{UpperPort}
-use Rattle.crs.specs.declared.upper.UpperPort.TheVariants.{Third, Fourth}
-use Rattle.crs.specs.Reference.{port_0, port_1, upper_first, is_pattern_place}
-use Rattle.soft_bits.specs.Estimate.{line_by}
+use Rattle.crs.specs.Reference.{port_0, port_1, long_prefix, pattern_of, upper_first, is_pattern_place}
+use Rattle.soft_bits.specs.Estimate.{place_by, line_by}
 use Rattle.soft_bits.specs.Soft.{SeenSlot, seen_at, pilot_subcarrier, pattern_symbol, pattern_seen, pattern_pilot, pattern_channel, pattern_energy}
-use Rattle.soft_bits.specs.Upper.{upper_seen, upper_pilot, channel_of_upper, upper_energy}
 use Rattle.soft_bits.specs.Front.{HaveOneFront}
-use Rattle.soft_bits.specs.Lines.{Line, lower_line, upper_line, line_of, line_place, line_seen, line_channel, line_energy, port_channel, port_energy, ports_energy}
+use Rattle.soft_bits.specs.Kept.{seen_line, along}
+use Rattle.soft_bits.specs.Lines.{Line, lower_line, upper_line, line_of, line_place, line_seen, line_pilot, line_pilots, line_channel, line_energy, port_channel, port_energy, ports_energy}
+use Rattle.soft_bits.proofs.Estimates.{line-same}
 
--- ---- by patterns and upper ports
+-- ---- by patterns
 
 pub lower_channel_is : (pattern : Pattern) (slot : SeenSlot) (k : ℕ) → pattern_channel pattern slot k ≡ line_channel (lower_line pattern slot) slot k
 unfolding pattern_channel pattern_pilot pattern_seen line_channel
 lower_channel_is pattern slot k = refl
 
-pub upper_channel_is : (port : UpperPort) (slot : SeenSlot) (k : ℕ) → channel_of_upper port slot k ≡ line_channel (upper_line port slot) slot k
-unfolding channel_of_upper upper_pilot upper_seen line_channel
-upper_channel_is port slot k = refl
-
 pub lower_energy_is : (pattern : Pattern) (slot : SeenSlot) → pattern_energy pattern slot ≡ line_energy (lower_line pattern slot) slot
 unfolding pattern_energy pattern_seen line_energy
 lower_energy_is pattern slot = refl
 
-pub upper_energy_is : (port : UpperPort) (slot : SeenSlot) → upper_energy port slot ≡ line_energy (upper_line port slot) slot
-unfolding upper_energy upper_seen line_energy
-upper_energy_is port slot = refl
+-- the channel along the line of the first port of a carrier
+pub line_channel_is : (carrier : Carrier) (slot : SeenSlot) (k : ℕ) → line_channel (line_of carrier 0 slot) slot k ≡ pattern_channel (pattern_of carrier 0) slot k
+line_channel_is carrier slot k = sym (lower_channel_is (pattern_of carrier 0) slot k)
+
+-- once anything is itself
+pub once : (z : Cpx) → multiple 1 z ≡ z
+once z = pair (one-times z.re) (one-times z.im)
+  where
+    one-times : (x : ℤ) → pos 1 *ℤ x ≡ x
+    one-times x = omega (arith, ints)
+
+-- of one port, the energy of all ports is that of its pilots
+pub energy_of_one : (slot : SeenSlot) → ports_energy OnePort slot ≡ pattern_energy port_0 slot
+unfolding ports_energy total_below
+energy_of_one slot = sums (line_energy (lower_line port_0 slot) slot) ∙ sym (lower_energy_is port_0 slot)
+  where
+    sums : (a : ℕ) → 0 + 1 * a ≡ a
+    sums a = omega arith
+
+-- and of one with the extended prefix
+pub energy_of_long : (slot : SeenSlot) → ports_energy LongPrefix slot ≡ pattern_energy long_prefix slot
+unfolding ports_energy total_below
+energy_of_long slot = sums (line_energy (lower_line long_prefix slot) slot) ∙ sym (lower_energy_is long_prefix slot)
+  where
+    sums : (a : ℕ) → 0 + 1 * a ≡ a
+    sums a = omega arith
+
+-- ---- the ports of a carrier
+
+-- the later symbol of a pattern is one of the first five
+later-early : (carrier : Carrier) (port : ℕ) → (pattern_of carrier port).later < 5
+later-early carrier port = of carrier
+  where
+    either : (b : Bool) → (if b then port_0 else port_1).later < 5
+    either true = omega arith
+    either false = omega arith
+
+    of : (carrier : Carrier) → (pattern_of carrier port).later < 5
+    of OnePort = omega arith
+    of TwoPorts = either (nat_eq port 0)
+    of LongPrefix = omega arith
+    of FourPorts = either (nat_eq port 0)
+
+pub few_ports : (carrier : Carrier) → ports_of carrier ≤ 4
+few_ports OnePort = omega arith
+few_ports TwoPorts = omega arith
+few_ports LongPrefix = omega arith
+few_ports FourPorts = omega arith
 
 -- ---- any port
 
--- its pilots stand in the first five symbols, on subcarriers; there are as many as have room
+-- its pilots stand in the first five symbols, on subcarriers; there are as many as have room, 24 or 12
 pub record IsLine (line : Line) : Type 0 where
   pub some : 1 ≤ line.step
   pub counted : 1 ≤ line.step / 3
   pub room : line.step / 3 * (line.last + 1) ≡ 24
+  pub count : ((line.step ≡ 3) × (line.last ≡ 23)) ⊎ ((line.step ≡ 6) × (line.last ≡ 11))
+  pub first : line.first < line.step
   pub row : (i : ℕ) → line.symbol i < 5
   pub inside : (i : ℕ) → i ≤ line.last → line_place line i < 72
 
-pub is_line : (port : ℕ) (slot : SeenSlot) → IsLine (line_of port slot)
+pub is_line : (carrier : Carrier) (port : ℕ) (slot : SeenSlot) → IsLine (line_of carrier port slot)
 unfolding pattern_symbol
-is_line port slot = by port
+is_line carrier port slot = by port
   where
     low : (pattern : Pattern) → pattern.later < 5 → IsLine (lower_line pattern slot)
     low pattern later = record {
       some = omega arith;
       counted = omega arith;
       room = refl;
+      count = inl (refl, refl);
+      first = omega arith;
       row = λ i. either (is_pattern_place pattern slot.identity 0 (pilot_subcarrier slot.identity i));
       inside = λ i l. omega (arith, l);
     }
@@ -60,14 +111,37 @@ is_line port slot = by port
         either true = omega arith
         either false = later
 
-    high : (port : UpperPort) → upper_first port slot.identity slot.number < 6 → IsLine (upper_line port slot)
-    high port few = record { some = omega arith; counted = omega arith; room = refl; row = λ i. omega arith; inside = λ i l. omega (arith, few, l) }
+    high : (port : ℕ) → upper_first port slot.identity slot.number < 6 → IsLine (upper_line port slot)
+    high port few = record { some = omega arith; counted = omega arith; room = refl; count = inr (refl, refl); first = few; row = λ i. omega arith; inside = λ i l. omega (arith, few, l) }
 
-    by : (port : ℕ) → IsLine (line_of port slot)
-    by zero = low port_0 (omega arith)
-    by (suc zero) = low port_1 (omega arith)
-    by (suc (suc zero)) = high Third (omega arith)
-    by (suc (suc (suc n))) = high Fourth (omega arith)
+    by : (port : ℕ) → IsLine (line_of carrier port slot)
+    by zero = low (pattern_of carrier 0) (later-early carrier 0)
+    by (suc zero) = low (pattern_of carrier 1) (later-early carrier 1)
+    by (suc (suc n)) = high (suc (suc n)) (omega arith)
+
+-- ---- the channel along the pilots that are kept
+
+-- between two of them
+between-last : (step last first k : ℕ) → ((step ≡ 3) × (last ≡ 23)) ⊎ ((step ≡ 6) × (last ≡ 11)) → k < place_by step first last → (k - first) / step < last
+between-last step last first k (inl (s, l)) inside = subst (λ n. (k - first) / n < last) (sym s) (rw l (omega (arith, rw (s, l) at inside)))
+between-last step last first k (inr (s, l)) inside = subst (λ n. (k - first) / n < last) (sym s) (rw l (omega (arith, rw (s, l) at inside)))
+
+pub along_is : (line : Line) → IsLine line → (slot : SeenSlot) (k : ℕ) → along (seen_line line slot) k ≡ line_channel line slot k
+unfolding line_channel
+along_is line is slot k =
+    ap (λ (n : ℕ). line_by line.step (n - 1) (value_at (line_pilots line slot)) line.first k) (values_below-length (line.last + 1) (line_pilot line slot))
+    ∙ ap (λ (n : ℕ). line_by line.step n (value_at (line_pilots line slot)) line.first k) (one_less line.last)
+    ∙ line-same line.step line.last (value_at (line_pilots line slot)) (line_pilot line slot) line.first k (between-last line.step line.last line.first k is.count)
+    (λ i few. values_below_at (line_pilot line slot) (line.last + 1) i nothing few)
+  where
+    one_less : (n : ℕ) → n + 1 - 1 ≡ n
+    one_less n = omega arith
+
+-- along those of a port of a carrier, so many times
+pub port_along : (scale : ℕ) (carrier : Carrier) (port : ℕ) (slot : SeenSlot) (k : ℕ) →
+    multiple (scale / (line_of carrier port slot).step) (along (seen_line (line_of carrier port slot) slot) k) ≡ port_channel scale carrier port slot k
+port_along scale carrier port slot k =
+    ap (multiple (scale / (line_of carrier port slot).step)) (along_is (line_of carrier port slot) (is_line carrier port slot) slot k)
 
 -- ---- they look at the front of a slot
 
@@ -79,11 +153,10 @@ module _ (a b : SeenSlot) (one : HaveOneFront a b) where
   abbrev slot_with : ℕ → ℕ → SeenSlot
   slot_with identity number = record { symbols = a.symbols; number = number; identity = identity }
 
-  same_line : (port : ℕ) → line_of port a ≡ line_of port b
-  same_line zero = ap₂ (λ (identity number : ℕ). lower_line port_0 (slot_with identity number)) one.identity one.number
-  same_line (suc zero) = ap₂ (λ (identity number : ℕ). lower_line port_1 (slot_with identity number)) one.identity one.number
-  same_line (suc (suc zero)) = ap₂ (λ (identity number : ℕ). upper_line Third (slot_with identity number)) one.identity one.number
-  same_line (suc (suc (suc n))) = ap₂ (λ (identity number : ℕ). upper_line Fourth (slot_with identity number)) one.identity one.number
+  same_line : (carrier : Carrier) (port : ℕ) → line_of carrier port a ≡ line_of carrier port b
+  same_line carrier zero = ap₂ (λ (identity number : ℕ). lower_line (pattern_of carrier 0) (slot_with identity number)) one.identity one.number
+  same_line carrier (suc zero) = ap₂ (λ (identity number : ℕ). lower_line (pattern_of carrier 1) (slot_with identity number)) one.identity one.number
+  same_line carrier (suc (suc n)) = ap₂ (λ (identity number : ℕ). upper_line (suc (suc n)) (slot_with identity number)) one.identity one.number
 
   seen_same : (line : Line) → IsLine line → (i : ℕ) → line_seen line a i ≡ line_seen line b i
   seen_same line is i = front_seen (line.symbol i) (line_place line i) (is.row i)
@@ -98,17 +171,19 @@ module _ (a b : SeenSlot) (one : HaveOneFront a b) where
   unfolding line_energy
   energy_same line is = total_below_same (line.last + 1) _ _ (λ i _. ap (λ (z : Cpx). square z) (seen_same line is i))
 
-  pub front_channel : (port k : ℕ) → line_channel (line_of port a) a k ≡ line_channel (line_of port b) b k
-  front_channel port k = ap (λ (line : Line). line_channel line a k) (same_line port) ∙ channel_same (line_of port b) (is_line port b) k
+  pub front_channel : (carrier : Carrier) (port k : ℕ) → line_channel (line_of carrier port a) a k ≡ line_channel (line_of carrier port b) b k
+  front_channel carrier port k =
+      ap (λ (line : Line). line_channel line a k) (same_line carrier port) ∙ channel_same (line_of carrier port b) (is_line carrier port b) k
 
-  pub front_energy : (port : ℕ) → line_energy (line_of port a) a ≡ line_energy (line_of port b) b
-  front_energy port = ap (λ (line : Line). line_energy line a) (same_line port) ∙ energy_same (line_of port b) (is_line port b)
+  pub front_energy : (carrier : Carrier) (port : ℕ) → line_energy (line_of carrier port a) a ≡ line_energy (line_of carrier port b) b
+  front_energy carrier port = ap (λ (line : Line). line_energy line a) (same_line carrier port) ∙ energy_same (line_of carrier port b) (is_line carrier port b)
 
-  pub front_port_channel : (scale port k : ℕ) → port_channel scale port a k ≡ port_channel scale port b k
-  front_port_channel scale port k = ap₂ (λ (step : ℕ) (z : Cpx). multiple (scale / step) z) (ap (λ (line : Line). line.step) (same_line port)) (front_channel port k)
+  pub front_port_channel : (scale : ℕ) (carrier : Carrier) (port k : ℕ) → port_channel scale carrier port a k ≡ port_channel scale carrier port b k
+  front_port_channel scale carrier port k =
+      ap₂ (λ (step : ℕ) (z : Cpx). multiple (scale / step) z) (ap (λ (line : Line). line.step) (same_line carrier port)) (front_channel carrier port k)
 
-  pub front_ports_energy : (ports : ℕ) → ports_energy ports a ≡ ports_energy ports b
+  pub front_ports_energy : (carrier : Carrier) → ports_energy carrier a ≡ ports_energy carrier b
   unfolding ports_energy
-  front_ports_energy ports =
-      total_below_same ports (port_energy a) (port_energy b)
-      (λ port _. ap₂ (λ (step e : ℕ). step / 3 * e) (ap (λ (line : Line). line.step) (same_line port)) (front_energy port))
+  front_ports_energy carrier =
+      total_below_same (ports_of carrier) (port_energy carrier a) (port_energy carrier b)
+      (λ port _. ap₂ (λ (step e : ℕ). step / 3 * e) (ap (λ (line : Line). line.step) (same_line carrier port)) (front_energy carrier port))

@@ -1,19 +1,19 @@
 -- Sizes of what was seen and sent at the pilots.
-use Rattle.std.proofs.Common.{ℕ, ◌*◌, ◌^◌, ◌≤◌, ◌/◌, ◌+◌, arith, inl, inr, List, [], ◌∷◌, All, get_or, slice_index_or, ℤ, zero, suc}
+use Rattle.std.proofs.Common.{◌≡◌, ℕ, ◌*◌, ◌^◌, ◌≤◌, ◌/◌, ◌+◌, ◌⊎◌, arith, inl, inr, List, [], ◌∷◌, All, get_or, slice_index_or, ℤ, zero, suc}
 use Rattle.std.proofs.lemmas.List.Elements.{All-nil, All-head, All-tail}
 use Rattle.std.specs.Prelude.{nat_abs}
-use Rattle.cs_num.specs.Complex.{IsWithin, nothing, conjugate, square}
-use Rattle.cs_num.proofs.Complex.{times-within, conjugate-within, square-within}
-use Rattle.finite.specs.Lists.{values_below}
-use Rattle.finite.proofs.Lists.{values_below-All}
+use Rattle.cs_num.specs.Complex.{IsWithin, nothing, square}
+use Rattle.cs_num.proofs.Complex.{square-within}
 use Rattle.finite.proofs.Sums.{total_below-within}
 use Rattle.crs.specs.Qpsk.{IsFull}
 use Rattle.crs.specs.declared.pattern.Pattern.{Pattern}
-use Rattle.crs.specs.Reference.{reference, upper_first}
-use Rattle.crs.specs.declared.upper.UpperPort.{UpperPort}
-use Rattle.crs.proofs.Values.{pattern_reference-IsPoint, reference-IsPoint}
-use Rattle.soft_bits.specs.Soft.{SeenSlot, AreSmall, seen_at, pilot_subcarrier, pattern_symbol, pattern_seen, pattern_sent, pattern_pilot, pattern_energy}
-use Rattle.soft_bits.specs.Upper.{upper_seen, upper_pilot, upper_energy}
+use Rattle.crs.specs.Reference.{pattern_reference}
+use Rattle.crs.proofs.Values.{pattern_reference-IsPoint}
+use Rattle.soft_bits.specs.Soft.{SeenSlot, AreSmall, seen_at}
+use Rattle.lte_types.specs.declared.carrier.Carrier.{Carrier}
+use Rattle.lte_types.specs.Carrier.{ports_of}
+use Rattle.soft_bits.specs.Lines.{Line, line_of, line_place, line_seen, line_energy, port_energy, ports_energy}
+use Rattle.soft_bits.proofs.Lines.{is_line}
 
 -- what holds of all values and of the one past the end holds at each place
 all_at : {A : Type 0} (P : A → Type 0) (xs : List A) (i : ℕ) (d : A) → P d → All P xs → P (get_or xs i d)
@@ -30,55 +30,33 @@ seen_at-within slot symbol k small =
     all_at (IsWithin (2 ^ 25)) (slice_index_or slot.symbols symbol []) k nothing (record { re = omega arith; im = omega arith })
     (all_at (All (IsWithin (2 ^ 25))) slot.symbols symbol [] (All-nil (IsWithin (2 ^ 25))) small)
 
-pub pattern_seen-within : (pattern : Pattern) (slot : SeenSlot) (i : ℕ) → AreSmall slot.symbols → IsWithin (2 ^ 25) (pattern_seen pattern slot i)
-unfolding pattern_seen
-pattern_seen-within pattern slot i small = seen_at-within slot (pattern_symbol pattern slot.identity i) (pilot_subcarrier slot.identity i) small
-
-pub pattern_sent-within : (pattern : Pattern) (identity number i : ℕ) → IsWithin 90 (pattern_sent pattern identity number i)
-unfolding pattern_sent
-pattern_sent-within pattern identity number i =
-    let full = pattern_reference-IsPoint pattern identity number (pattern_symbol pattern identity i) (pilot_subcarrier identity i / 6) in
+pub pattern_reference-within : (pattern : Pattern) (identity number symbol m : ℕ) → IsWithin 90 (pattern_reference pattern identity number symbol m)
+pattern_reference-within pattern identity number symbol m =
+    let full = pattern_reference-IsPoint pattern identity number symbol m in
     record { re = full_within _ full.re; im = full_within _ full.im }
 
-pub pattern_pilot-within : (pattern : Pattern) (slot : SeenSlot) (i : ℕ) → AreSmall slot.symbols → IsWithin (180 * 2 ^ 25) (pattern_pilot pattern slot i)
-unfolding pattern_pilot
-pattern_pilot-within pattern slot i small =
-    times-within (pattern_seen pattern slot i) (conjugate (pattern_sent pattern slot.identity slot.number i)) (2 ^ 25) 90 (90 * 2 ^ 25)
-    (pattern_seen-within pattern slot i small) (conjugate-within _ 90 (pattern_sent-within pattern slot.identity slot.number i)) (omega arith)
+-- ---- any line
 
-pub pattern_energy-within : (pattern : Pattern) (slot : SeenSlot) → AreSmall slot.symbols → pattern_energy pattern slot ≤ 24 * 2 ^ 51
-unfolding pattern_energy
-pattern_energy-within pattern slot small =
-    total_below-within 24 (2 ^ 51) (λ i. square (pattern_seen pattern slot i))
-    (λ i few. let h = square-within (pattern_seen pattern slot i) (2 ^ 25) (pattern_seen-within pattern slot i small) in omega (arith, h))
+pub line_seen-within : (line : Line) (slot : SeenSlot) (i : ℕ) → AreSmall slot.symbols → IsWithin (2 ^ 25) (line_seen line slot i)
+line_seen-within line slot i small = seen_at-within slot (line.symbol i) (line_place line i) small
 
-pub pattern_pilots-within : (pattern : Pattern) (slot : SeenSlot) → AreSmall slot.symbols → All (IsWithin (180 * 2 ^ 25)) (values_below 24 (pattern_pilot pattern slot))
-pattern_pilots-within pattern slot small =
-    values_below-All (IsWithin (180 * 2 ^ 25)) 24 (pattern_pilot pattern slot) nothing (λ i few. pattern_pilot-within pattern slot i small)
+pub line_energy-within : (line : Line) (slot : SeenSlot) → AreSmall slot.symbols → line_energy line slot ≤ (line.last + 1) * 2 ^ 51
+unfolding line_energy
+line_energy-within line slot small =
+    total_below-within (line.last + 1) (2 ^ 51) (λ i. square (line_seen line slot i))
+    (λ i few. let h = square-within (line_seen line slot i) (2 ^ 25) (line_seen-within line slot i small) in omega (arith, h))
 
--- ---- ports 2 and 3 of four
+-- the energy of a port, as if it had 24 pilots
+pub as_24 : (step last energy : ℕ) → ((step ≡ 3) × (last ≡ 23)) ⊎ ((step ≡ 6) × (last ≡ 11)) → energy ≤ (last + 1) * 2 ^ 51 → step / 3 * energy ≤ 24 * 2 ^ 51
+as_24 step last energy (inl (s, l)) few = rw s (omega (arith, rw l at few))
+as_24 step last energy (inr (s, l)) few = rw s (omega (arith, rw l at few))
 
-pub upper_seen-within : (port : UpperPort) (slot : SeenSlot) (m : ℕ) → AreSmall slot.symbols → IsWithin (2 ^ 25) (upper_seen port slot m)
-unfolding upper_seen
-upper_seen-within port slot m small = seen_at-within slot 1 (upper_first port slot.identity slot.number + 6 * m) small
+pub port_energy-within : (carrier : Carrier) (slot : SeenSlot) (port : ℕ) → AreSmall slot.symbols → port_energy carrier slot port ≤ 24 * 2 ^ 51
+port_energy-within carrier slot port small =
+    let line = line_of carrier port slot in
+    as_24 line.step line.last (line_energy line slot) (is_line carrier port slot).count (line_energy-within line slot small)
 
-pub reference-within : (identity number symbol m : ℕ) → IsWithin 90 (reference identity number symbol m)
-reference-within identity number symbol m =
-    let full = reference-IsPoint identity number symbol m in
-    record { re = full_within _ full.re; im = full_within _ full.im }
-
-pub upper_pilot-within : (port : UpperPort) (slot : SeenSlot) (m : ℕ) → AreSmall slot.symbols → IsWithin (180 * 2 ^ 25) (upper_pilot port slot m)
-unfolding upper_pilot
-upper_pilot-within port slot m small =
-    times-within (upper_seen port slot m) (conjugate (reference slot.identity slot.number 1 m)) (2 ^ 25) 90 (90 * 2 ^ 25)
-    (upper_seen-within port slot m small) (conjugate-within _ 90 (reference-within slot.identity slot.number 1 m)) (omega arith)
-
-pub upper_energy-within : (port : UpperPort) (slot : SeenSlot) → AreSmall slot.symbols → upper_energy port slot ≤ 12 * 2 ^ 51
-unfolding upper_energy
-upper_energy-within port slot small =
-    total_below-within 12 (2 ^ 51) (λ m. square (upper_seen port slot m))
-    (λ m few. let h = square-within (upper_seen port slot m) (2 ^ 25) (upper_seen-within port slot m small) in omega (arith, h))
-
-pub upper_pilots-within : (port : UpperPort) (slot : SeenSlot) → AreSmall slot.symbols → All (IsWithin (180 * 2 ^ 25)) (values_below 12 (upper_pilot port slot))
-upper_pilots-within port slot small =
-    values_below-All (IsWithin (180 * 2 ^ 25)) 12 (upper_pilot port slot) nothing (λ m few. upper_pilot-within port slot m small)
+pub ports_energy-within : (carrier : Carrier) (slot : SeenSlot) → AreSmall slot.symbols → ports_energy carrier slot ≤ ports_of carrier * (24 * 2 ^ 51)
+unfolding ports_energy
+ports_energy-within carrier slot small =
+    total_below-within (ports_of carrier) (24 * 2 ^ 51) (port_energy carrier slot) (λ port few. port_energy-within carrier slot port small)

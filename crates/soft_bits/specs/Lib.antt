@@ -2,6 +2,7 @@ pub mod Estimate
 pub mod Soft
 pub mod Kept
 pub mod Places
-pub mod Upper
 pub mod Front
 pub mod Lines
+pub mod Pairs
+pub mod Layout

@@ -1,13 +1,14 @@
--- The pilots of an antenna port of a slot with the normal prefix as a line of data, and the channel along it, by the
--- port's number (TS 36.211 section 6.10.1.2). (own)
-use Rattle.std.specs.Prelude.{ℕ, zero, suc, ◌+◌, ◌*◌, ◌/◌, ◌%◌}
+-- The pilots of an antenna port of a slot as a line of data, and the channel along it, by the carrier and the port's
+-- number (TS 36.211 section 6.10.1.2). (own)
+use Rattle.std.specs.Prelude.{ℕ, zero, suc, ◌+◌, ◌*◌, ◌/◌, ◌%◌, List}
 use Rattle.finite.specs.Sums.{total_below}
+use Rattle.finite.specs.Lists.{values_below}
 use Rattle.cs_num.specs.declared.Cpx.{Cpx}
 use Rattle.cs_num.specs.Complex.{times, conjugate, multiple, square}
+use Rattle.lte_types.specs.declared.carrier.Carrier.{Carrier}
+use Rattle.lte_types.specs.Carrier.{ports_of}
 use Rattle.crs.specs.declared.pattern.Pattern.{Pattern}
-use Rattle.crs.specs.declared.upper.UpperPort.{UpperPort}
-use Rattle.crs.specs.declared.upper.UpperPort.TheVariants.{Third, Fourth}
-use Rattle.crs.specs.Reference.{port_0, port_1, upper_first, reference}
+use Rattle.crs.specs.Reference.{pattern_of, upper_first, reference}
 use Rattle.soft_bits.specs.Estimate.{place_by, line_by}
 use Rattle.soft_bits.specs.Soft.{SeenSlot, seen_at, pattern_symbol, pattern_sent}
 
@@ -31,7 +32,7 @@ lower_line pattern slot = record {
 }
 
 -- ports 2 and 3 have 12, every sixth subcarrier of the slot's second symbol
-abbrev pub upper_line : UpperPort → SeenSlot → Line
+abbrev pub upper_line : ℕ → SeenSlot → Line
 upper_line port slot = record {
   step = 6;
   last = 11;
@@ -40,12 +41,11 @@ upper_line port slot = record {
   sent = reference slot.identity slot.number 1;
 }
 
--- the line of the port with a number
-abbrev pub line_of : ℕ → SeenSlot → Line
-line_of zero = lower_line port_0
-line_of (suc zero) = lower_line port_1
-line_of (suc (suc zero)) = upper_line Third
-line_of (suc (suc (suc n))) = upper_line Fourth
+-- the line of the port of a carrier with a number
+abbrev pub line_of : Carrier → ℕ → SeenSlot → Line
+line_of carrier zero = lower_line (pattern_of carrier 0)
+line_of carrier (suc zero) = lower_line (pattern_of carrier 1)
+line_of carrier (suc (suc n)) = upper_line (suc (suc n))
 
 -- ---- any line
 
@@ -59,6 +59,10 @@ line_seen line slot i = seen_at slot (line.symbol i) (line_place line i)
 abbrev pub line_pilot : Line → SeenSlot → ℕ → Cpx
 line_pilot line slot i = times (line_seen line slot i) (conjugate (line.sent i))
 
+-- all pilots, in the order of subcarriers
+abbrev pub line_pilots : Line → SeenSlot → List Cpx
+line_pilots line slot = values_below (line.last + 1) (line_pilot line slot)
+
 -- the channel at a subcarrier, as many times as there are subcarriers from pilot to pilot
 unfoldable pub line_channel : Line → SeenSlot → ℕ → Cpx
 line_channel line slot k = line_by line.step line.last (line_pilot line slot) line.first k
@@ -67,16 +71,18 @@ line_channel line slot k = line_by line.step line.last (line_pilot line slot) li
 unfoldable pub line_energy : Line → SeenSlot → ℕ
 line_energy line slot = total_below (line.last + 1) (λ i. square (line_seen line slot i))
 
--- ---- several ports
+-- ---- the ports of a carrier
 
 -- the channel of a port at a subcarrier, so many times
-abbrev pub port_channel : ℕ → ℕ → SeenSlot → ℕ → Cpx
-port_channel scale port slot k = multiple (scale / (line_of port slot).step) (line_channel (line_of port slot) slot k)
+abbrev pub port_channel : ℕ → Carrier → ℕ → SeenSlot → ℕ → Cpx
+port_channel scale carrier port slot k =
+    multiple (scale / (line_of carrier port slot).step) (line_channel (line_of carrier port slot) slot k)
 
 -- the energy of the pilots of a port, as if it had 24: those of ports 2 and 3, which have 12, count twice
-abbrev pub port_energy : SeenSlot → ℕ → ℕ
-port_energy slot port = (line_of port slot).step / 3 * line_energy (line_of port slot) slot
+abbrev pub port_energy : Carrier → SeenSlot → ℕ → ℕ
+port_energy carrier slot port =
+    (line_of carrier port slot).step / 3 * line_energy (line_of carrier port slot) slot
 
--- the energy of the pilots of the first so many ports
-unfoldable pub ports_energy : ℕ → SeenSlot → ℕ
-ports_energy ports slot = total_below ports (port_energy slot)
+-- the energy of the pilots of all ports
+unfoldable pub ports_energy : Carrier → SeenSlot → ℕ
+ports_energy carrier slot = total_below (ports_of carrier) (port_energy carrier slot)

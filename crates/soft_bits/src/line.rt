@@ -1,39 +1,13 @@
 //! The channel between the pilots.
 
-ghost use Rattle.std.specs.Prelude.{◌≡◌, ℕ, ◌+◌, ◌-◌, ◌*◌, ◌^◌, ◌<◌, ◌≤◌, All, length};
-ghost use Rattle.cs_num.specs.Complex.{IsWithin, multiple, value_at};
-ghost use Rattle.soft_bits.specs.Estimate.{between_by, line_by, estimate};
+ghost use Rattle.std.specs.Prelude.{◌≡◌, ◌+◌, ◌-◌, ◌*◌, ◌^◌, ◌<◌, ◌≤◌, All, length};
+ghost use Rattle.cs_num.specs.Complex.{IsWithin, value_at};
+ghost use Rattle.soft_bits.specs.Estimate.{between_by, line_by};
 
 use cs_num::Cpx;
 
-/// Three times the channel at subcarrier `k`, by 24 pilots that stand at every third subcarrier from
-/// `first` on: linear between two of them, and level before the first and from the last on. `first`
-/// is 0 to 2 and `k` 0 to 71; a pilot is what was seen times the conjugate of what was sent.
-pub fn estimate(pilots: &[Cpx; 24], first: u8, k: u8) -> Cpx
-    requires pilots { All (IsWithin (180 * 2 ^ 25)) pilots.now }
-    requires first { first < 3 }
-    requires k { k < 72 }
-    ensures value { result ≡ estimate (value_at pilots.now) first k }
-    ensures small { IsWithin (540 * 2 ^ 25) result }
-{
-    line(pilots, 3, first, k)
-}
-
-/// Six times the channel at subcarrier `k`, by 12 pilots that stand at every sixth subcarrier from `first` on: linear
-/// between two of them, and level before the first and from the last on. `first` is 0 to 5 and `k` 0 to 71; a pilot is
-/// what was seen times the conjugate of what was sent.
-pub fn upper_estimate(pilots: &[Cpx; 12], first: u8, k: u8) -> Cpx
-    requires pilots { All (IsWithin (180 * 2 ^ 25)) pilots.now }
-    requires first { first < 6 }
-    requires k { k < 72 }
-    ensures value { result ≡ line_by 6 11 (value_at pilots.now) first k }
-    ensures small { IsWithin (1080 * 2 ^ 25) result }
-{
-    line(pilots, 6, first, k)
-}
-
-// The line through pilots that stand at every `step` subcarriers of the 72, `step` times.
-fn line(pilots: &[Cpx], step: u8, first: u8, k: u8) -> Cpx
+/// The line through pilots that stand at every `step` subcarriers of the 72, `step` times.
+pub(crate) fn line(pilots: &[Cpx], step: u8, first: u8, k: u8) -> Cpx
     requires pilots { All (IsWithin (180 * 2 ^ 25)) pilots.now }
     requires whole { step * length pilots.now ≡ 72 }
     requires first { first < step }

@@ -1,19 +1,98 @@
-//! The pilots of a slot: what was seen at its reference places, against what was sent.
+//! The pilots of an antenna port in a slot: what was seen at its reference places, against what was sent.
 
-ghost use Rattle.std.specs.Prelude.{◌≡◌, ◌⊎◌, ℕ, ◌%◌, ◌/◌, ◌*◌, ◌^◌, ◌<◌, ◌≤◌, All, IsTrue};
-ghost use Rattle.finite.specs.Lists.{values_below};
-ghost use Rattle.cs_num.specs.Complex.{IsWithin, square};
-ghost use Rattle.crs.specs.Reference.{IsPattern, is_reference, pattern_list};
+ghost use Rattle.std.specs.Prelude.{◌≡◌, ℕ, ◌+◌, ◌/◌, ◌*◌, ◌^◌, ◌<◌, ◌≤◌, All, IsTrue, length, replicate, take};
+ghost use Rattle.cs_num.specs.Complex.{IsWithin, nothing};
+ghost use Rattle.crs.specs.Reference.{is_reference, pattern_list};
+ghost use Rattle.lte_types.specs.Carrier.{ports_of};
 ghost use Rattle.soft_bits.specs.Soft.{pilot_subcarrier, pilot_symbol};
-ghost use Rattle.soft_bits.specs.Soft.{pattern_symbol, pattern_seen, pattern_sent, pattern_pilot, pattern_energy};
-ghost use Rattle.soft_bits.specs.Kept.{slot_of};
+ghost use Rattle.soft_bits.specs.Layout.{IsLayout, laid_out, sent_with};
+ghost use Rattle.soft_bits.specs.Lines.{line_of, line_seen, line_pilot, line_pilots};
+ghost use Rattle.soft_bits.specs.Kept.{slot_of, SeenLine, seen_line, along, IsFilled};
 
 use crate::Seen;
-use crs::{Pattern, first_of_pattern};
+use crate::layout::{Layout, layout_of};
+use crate::line::line;
+use crs::pattern_pilots;
 use cs_num::Cpx;
-use lte_types::CellId;
+use std::marker::Model;
 
-/// The 24 pilots of a slot are reference places of symbols 0 and 4, and each such place is one of
+/// The pilots of an antenna port in a slot, in the order of subcarriers: what was seen at each reference place times
+/// the conjugate of what was sent (TS 36.211 section 6.10.1.2). A port has 24 or 12. Contracts see them as a line:
+/// the subcarriers from one to the next, the first subcarrier, and their list.
+#[derive(Drop)]
+pub struct Pilots {
+    step: u8,
+    first: u8,
+    count: u8,
+    values: [Cpx; 24],
+}
+
+impl Model for Pilots {
+    ghost Value = { SeenLine };
+
+    ghost view = { λ s. record { step = s.step; first = s.first; pilots = take s.count s.values } };
+
+    ghost invariant = { λ s.
+        (s.count ≤ 24) × IsFilled (record { step = s.step; first = s.first; pilots = take s.count s.values }) };
+}
+
+// No pilots that were seen: room that is not used.
+impl Default for Pilots {
+    ghost is_default = { λ s. s ≡ record { step = 3; first = 0; pilots = replicate 24 nothing } };
+
+    fn default() -> Pilots {
+        Pilots {
+            step: 3,
+            first: 0,
+            count: 24,
+            values: [Cpx::ZERO; 24],
+        }
+    }
+}
+
+impl Pilots {
+    /// The pilots, 24 or 12. Components have size at most 180 * 2^25.
+    pub fn values(&self) -> &[Cpx]
+        ensures value { result.now ≡ self.now.pilots }
+        ensures small { All (IsWithin (180 * 2 ^ 25)) result.now }
+        ensures few { length result.now ≤ 24 }
+    {
+        &self.values[..self.count as usize]
+    }
+
+    /// The subcarriers from one pilot to the next: 3 or 6.
+    pub fn step(&self) -> u8
+        ensures value { result ≡ self.now.step }
+        ensures few { result ≤ 6 }
+    {
+        self.step
+    }
+
+    /// These pilots once more.
+    pub fn copied(&self) -> Pilots
+        ensures { result ≡ self.now }
+    {
+        Pilots {
+            step: self.step,
+            first: self.first,
+            count: self.count,
+            values: self.values,
+        }
+    }
+
+    /// The channel at a subcarrier, 0 to 71, times the square of a reference's size, as many times as there are
+    /// subcarriers from one pilot to the next: linear between two pilots, and level before the first and from the
+    /// last on. Components have size at most 1080 * 2^25. (own)
+    pub fn channel(&self, k: u8) -> Cpx
+        requires { k < 72 }
+        ensures value { result ≡ along self.now k }
+        ensures small { IsWithin (self.now.step * (180 * 2 ^ 25)) result }
+    {
+        line(self.values(), self.step, self.first, k)
+    }
+}
+
+/// The 24 pilots of a slot by port 0 are reference places of symbols 0 and 4, and each such place is one of
 /// them (TS 36.211 section 6.10.1.2).
 pub fn pilots_are_the_reference_places()
     ensures inside { (identity i : ℕ) → i < 24 → pilot_subcarrier identity i < 72 }
@@ -23,103 +102,85 @@ pub fn pilots_are_the_reference_places()
         (k / 3 < 24) × (k ≡ pilot_subcarrier identity (k / 3)) × (symbol ≡ pilot_symbol identity (k / 3)) }
 {}
 
-// The subcarrier of pilot i.
-fn subcarrier_of(id: CellId, i: u8) -> u8
-    requires { i < 24 }
-    ensures value { result ≡ pilot_subcarrier id i }
-    ensures fits { result < 72 }
+/// The pilots of an antenna port in a slot. `port` is below the count of the carrier's ports.
+pub fn pilots_of(seen: &Seen, port: u8) -> Pilots
+    requires { port < ports_of seen.now.carrier }
+    ensures { result ≡ seen_line (line_of seen.now.carrier port (slot_of seen.now)) (slot_of seen.now) }
 {
-    id.n2() as u8 + 3 * i
+    let layout = layout_of(seen, port);
+    Pilots {
+        step: layout.step,
+        first: layout.first,
+        count: layout.last + 1,
+        values: values_of(seen, &layout),
+    }
 }
 
-// The symbol that holds pilot i.
-#[tactic(auto, using(std::proofs::lemmas::Bool::Decides::nat_tests), unfolding(crate::specs::Soft::pattern_symbol))]
-fn symbol_of(pattern: Pattern, id: CellId, i: u8) -> u8
-    requires pattern { IsPattern pattern }
-    requires i { i < 24 }
-    ensures value { result ≡ pattern_symbol pattern id i }
-    ensures one { (result ≡ 0) ⊎ (result ≡ pattern.later) }
+// All pilots of a layout, and 0 behind them.
+fn values_of(seen: &Seen, layout: &Layout) -> [Cpx; 24]
+    requires { IsLayout layout.now }
+    ensures value { take (layout.now.last + 1) result
+        ≡ line_pilots (laid_out layout.now (slot_of seen.now)) (slot_of seen.now) }
+    ensures small { All (IsWithin (180 * 2 ^ 25)) result }
 {
-    if subcarrier_of(id, i) % 6 == first_of_pattern(pattern, id, 0) {
-        0
-    } else {
-        pattern.later
+    let early = pattern_pilots(layout.pattern, seen.id, seen.number, layout.early);
+    let late = pattern_pilots(layout.pattern, seen.id, seen.number, layout.late);
+    let mut values = [Cpx::ZERO; 24];
+    for i in 0..layout.last + 1 {
+        values[i as usize] = pilot_of(seen, layout, &early, &late, i);
     }
+    values
+}
+
+// Pilot i, by the values of both symbols.
+fn pilot_of(
+    seen: &Seen,
+    layout: &Layout,
+    early: &[(u8, Cpx); 12],
+    late: &[(u8, Cpx); 12],
+    i: u8,
+) -> Cpx
+    requires valid { IsLayout layout.now }
+    requires early { early.now ≡ pattern_list layout.now.pattern seen.now.id seen.now.number layout.now.early }
+    requires late { late.now ≡ pattern_list layout.now.pattern seen.now.id seen.now.number layout.now.late }
+    requires i { i ≤ layout.now.last }
+    ensures value { result ≡ line_pilot (laid_out layout.now (slot_of seen.now)) (slot_of seen.now) i }
+    ensures small { IsWithin (180 * 2 ^ 25) result }
+{
+    let sent = sent_at(seen, layout, early, late, layout.subcarrier(i));
+    seen_of(seen, layout, i).mul(sent.conj())
 }
 
 // What was seen at pilot i.
-fn seen_of(seen: &Seen, i: u8) -> Cpx
-    requires { i < 24 }
-    ensures value { result ≡ pattern_seen seen.now.pattern (slot_of seen.now) i }
+pub(crate) fn seen_of(seen: &Seen, layout: &Layout, i: u8) -> Cpx
+    requires valid { IsLayout layout.now }
+    requires i { i ≤ layout.now.last }
+    ensures value { result ≡ line_seen (laid_out layout.now (slot_of seen.now)) (slot_of seen.now) i }
     ensures small { IsWithin (2 ^ 25) result }
 {
-    let symbol = symbol_of(seen.pattern, seen.id, i);
-    seen.symbols[symbol as usize][subcarrier_of(seen.id, i) as usize]
+    let k = layout.subcarrier(i);
+    seen.symbols[layout.symbol_at(k) as usize][k as usize]
 }
 
-// What was sent there, by the values of both symbols.
-fn sent_of(seen: &Seen, first: &[(u8, Cpx); 12], second: &[(u8, Cpx); 12], i: u8) -> Cpx
-    requires first { first.now ≡ pattern_list seen.now.pattern seen.now.id seen.now.number 0 }
-    requires second { second.now
-        ≡ pattern_list seen.now.pattern seen.now.id seen.now.number seen.now.pattern.later }
-    requires i { i < 24 }
-    ensures value { result ≡ pattern_sent seen.now.pattern seen.now.id seen.now.number i }
+// What was sent at a subcarrier with a pilot, by the values of both symbols.
+fn sent_at(
+    seen: &Seen,
+    layout: &Layout,
+    early: &[(u8, Cpx); 12],
+    late: &[(u8, Cpx); 12],
+    k: u8,
+) -> Cpx
+    requires valid { IsLayout layout.now }
+    requires early { early.now ≡ pattern_list layout.now.pattern seen.now.id seen.now.number layout.now.early }
+    requires late { late.now ≡ pattern_list layout.now.pattern seen.now.id seen.now.number layout.now.late }
+    requires k { k < 72 }
+    ensures value { result ≡ sent_with layout.now (slot_of seen.now) k }
     ensures small { IsWithin 90 result }
 {
-    let m = subcarrier_of(seen.id, i) as usize / 6;
-    if symbol_of(seen.pattern, seen.id, i) == 0 {
-        first[m].1
+    let m = k as usize / 6;
+    if k % 6 == layout.residue {
+        early[m].1
     } else {
-        second[m].1
+        late[m].1
     }
-}
-
-// Pilot i.
-fn pilot_of(seen: &Seen, first: &[(u8, Cpx); 12], second: &[(u8, Cpx); 12], i: u8) -> Cpx
-    requires first { first.now ≡ pattern_list seen.now.pattern seen.now.id seen.now.number 0 }
-    requires second { second.now
-        ≡ pattern_list seen.now.pattern seen.now.id seen.now.number seen.now.pattern.later }
-    requires i { i < 24 }
-    ensures value { result ≡ pattern_pilot seen.now.pattern (slot_of seen.now) i }
-    ensures small { IsWithin (180 * 2 ^ 25) result }
-{
-    let sent = sent_of(seen, first, second, i);
-    seen_of(seen, i).mul(sent.conj())
-}
-
-/// The 24 pilots of a slot by its pattern, in the order of subcarriers: what was seen at each reference place times
-/// the conjugate of what was sent. Components have size at most 180 * 2^25.
-pub fn pilots_of(seen: &Seen) -> [Cpx; 24]
-    ensures value { result ≡ values_below 24 (pattern_pilot seen.now.pattern (slot_of seen.now)) }
-    ensures small { All (IsWithin (180 * 2 ^ 25)) result }
-{
-    let first = crs::pattern_pilots(seen.pattern, seen.id, seen.number, 0);
-    let second = crs::pattern_pilots(seen.pattern, seen.id, seen.number, seen.pattern.later);
-    let mut pilots = [Cpx::ZERO; 24];
-    for i in 0..24_u8 {
-        pilots[i as usize] = pilot_of(seen, &first, &second, i);
-    }
-    pilots
-}
-
-/// The energy of the pilots of a slot by its pattern: the sum of the squares of the sizes of what was seen at the 24
-/// reference places. It is at most 24 * 2^51.
-pub fn energy_of(seen: &Seen) -> u64
-    ensures value { result ≡ pattern_energy seen.now.pattern (slot_of seen.now) }
-    ensures small { result ≤ 24 * 2 ^ 51 }
-{
-    let mut sum: u64 = 0;
-    for i in 0..24_u8 {
-        sum += energy_part(seen, i);
-    }
-    sum
-}
-
-// What pilot i gives to the energy of the pilots.
-fn energy_part(seen: &Seen, i: u8) -> u64
-    requires { i < 24 }
-    ensures value { result ≡ square (pattern_seen seen.now.pattern (slot_of seen.now) i) }
-    ensures small { result ≤ 2 ^ 51 }
-{
-    seen_of(seen, i).norm() as u64
 }

@@ -2,14 +2,22 @@
 
 ghost use Rattle.std.specs.Prelude.{◌≡◌, ◌*◌, ◌<◌, All, length};
 ghost use Rattle.finite.specs.Sizes.{AllWithin};
+ghost use Rattle.lte_types.specs.declared.carrier.Carrier.TheVariants.{OnePort};
 ghost use Rattle.soft_bits.specs.Places.{slot_with, in_subframe, values_at, placed_values};
 
-use crate::{Slot, soft};
+use crate::value::soft_of;
+use crate::{PortSlot, Ports};
 use grid_map::Place;
 
-/// Writes the soft values of places of a subframe over the whole of `values`, two a place, in the order of the
-/// places. A place in symbols 7 to 13 is one of the subframe's second slot.
-pub(crate) fn fill_soft(first: &Slot, second: &Slot, places: &[Place], values: &mut [i16])
+/// Writes the soft values of places of a subframe of a cell with one antenna port over the whole of `values`, two a
+/// place, in the order of the places. A place in symbols 7 to 13 is one of the subframe's second slot.
+pub(crate) fn fill_soft<K: Ports>(
+    first: &PortSlot<K>,
+    second: &PortSlot<K>,
+    places: &[Place],
+    values: &mut [i16],
+)
+    requires one { K.pairing.carrier ≡ OnePort }
     requires inside { All (λ p. (p.symbol < 14) × (p.k < 72)) places.now }
     requires room { length values.old ≡ 2 * length places.now }
     ensures values { values.new ≡ placed_values (in_subframe first.now second.now) places.now }
@@ -30,10 +38,11 @@ pub fn slot_of<'a, S>(first: &'a S, second: &'a S, symbol: u8) -> &'a S
 }
 
 // The soft values of one place.
-fn soft_at(slot: &Slot, place: &Place) -> [i16; 2]
-    requires { place.now.k < 72 }
+fn soft_at<K: Ports>(slot: &PortSlot<K>, place: &Place) -> [i16; 2]
+    requires one { K.pairing.carrier ≡ OnePort }
+    requires inside { place.now.k < 72 }
     ensures values { result ≡ values_at slot.now place.now }
     ensures sizes { AllWithin 127 result }
 {
-    soft(slot, place.symbol % 7, place.k)
+    soft_of(slot, place.symbol % 7, place.k)
 }

@@ -3,13 +3,14 @@
 ghost use Rattle.std.specs.Prelude.{◌≡◌, ◌*◌, ◌%◌, ◌<◌, All, length};
 ghost use Rattle.finite.specs.Sizes.{AllWithin};
 ghost use Rattle.lte_types.specs.declared.carrier.Carrier.{Carrier as CarrierValue};
-ghost use Rattle.lte_types.specs.declared.carrier.Carrier.TheVariants.{OnePort};
 ghost use Rattle.soft_bits.specs.Soft.{SeenSlot, AreSmall};
 ghost use Rattle.soft_bits.specs.Front.{LooksAtFront};
-ghost use Rattle.soft_bits.specs.Places.{Valuing, in_subframe, placed_values};
+ghost use Rattle.soft_bits.specs.Places.{Valuing, in_subframe};
+ghost use Rattle.soft_bits.specs.Pairs.{valued_by};
 
-use crate::Slot;
+use crate::pairs::fill_pairs;
 use crate::places::fill_soft;
+use crate::{PortSlot, Ports};
 use cs_num::Cpx;
 use grid_map::Place;
 use lte_types::{Carrier, CellId};
@@ -55,19 +56,19 @@ pub trait ReadSlot: Drop {
         ensures { LooksAtFront values_by };
 }
 
-impl ReadSlot for Slot {
+impl<K: Ports> ReadSlot for PortSlot<K> {
     ghost seen_as = { λ s. s };
 
-    ghost carrier = { OnePort };
+    ghost carrier = { K.pairing.carrier };
 
-    ghost values_by = { placed_values };
+    ghost values_by = { valued_by K.pairing };
 
-    fn of(seen: [[Cpx; 72]; 7], number: u8, id: CellId) -> Slot {
-        Slot::new(seen, number, id)
+    fn of(seen: [[Cpx; 72]; 7], number: u8, id: CellId) -> PortSlot<K> {
+        PortSlot::new(seen, number, id)
     }
 
     fn carrier() -> Carrier {
-        Carrier::OnePort
+        K::carrier()
     }
 
     fn cell(&self) -> CellId {
@@ -78,8 +79,11 @@ impl ReadSlot for Slot {
         self.number()
     }
 
-    fn fill(&self, second: &Slot, places: &[Place], values: &mut [i16]) {
-        fill_soft(self, second, places, values);
+    fn fill(&self, second: &PortSlot<K>, places: &[Place], values: &mut [i16]) {
+        match K::carrier() {
+            Carrier::OnePort => fill_soft(self, second, places, values),
+            _ => fill_pairs(self, second, places, values),
+        }
     }
 
     fn looks_at_front() {}

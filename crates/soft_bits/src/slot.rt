@@ -1,19 +1,19 @@
 //! A slot as it was seen.
 
-ghost use Rattle.std.specs.Prelude.{◌≡◌, ℕ, ◌*◌, ◌^◌, ◌<◌, ◌≤◌, List, All};
+ghost use Rattle.std.specs.Prelude.{◌≡◌, ℕ, ◌*◌, ◌^◌, ◌<◌, ◌≤◌, List};
 ghost use Rattle.finite.specs.Lists.{values_below};
 ghost use Rattle.cs_num.specs.declared.Cpx.{Cpx};
 ghost use Rattle.cs_num.specs.Complex.{IsWithin, value_at};
-ghost use Rattle.soft_bits.specs.Soft.{SeenSlot, AreSmall, seen_at, channel, pilot, pilot_energy};
-ghost use Rattle.soft_bits.specs.Kept.{IsKept};
+ghost use Rattle.lte_types.specs.Carrier.{ports_of};
+ghost use Rattle.soft_bits.specs.Soft.{SeenSlot, AreSmall, seen_at};
+ghost use Rattle.soft_bits.specs.Lines.{line_of, port_channel, ports_energy};
+ghost use Rattle.soft_bits.specs.Kept.{slot_of, seen_line, IsKept};
 
-use crate::Seen;
-use crate::line::estimate;
-use crate::pilots::{energy_of, pilots_of};
-use crs::Pattern;
+use crate::{Pilots, Ports, Seen, Single, energy_of, pilots_of};
+use arrayvec::ArrayVec;
 use cs_num::Cpx;
 use lte_types::CellId;
-use std::marker::Model;
+use std::marker::{Model, PhantomData};
 
 // The values of a symbol's subcarriers. Contracts see it as their list.
 #[derive(Drop)]
@@ -57,29 +57,47 @@ fn symbols_of(seen: [[Cpx; 72]; 7]) -> [Symbol; 7]
     ]
 }
 
-/// Seven observed symbols of 72 subcarriers each, with the slot's number, 0 to 19, and the identity
-/// of the cell. Contracts see it as that record. Its pilots are made once.
+// The pilots of each antenna port of a slot.
+fn lines_of(seen: &Seen) -> ArrayVec<Pilots, 4>
+    ensures { result.items
+        ≡ values_below (ports_of seen.now.carrier)
+        (λ port. seen_line (line_of seen.now.carrier port (slot_of seen.now)) (slot_of seen.now)) }
+{
+    let mut lines = ArrayVec::new();
+    for port in 0..seen.carrier.ports() {
+        lines.push(pilots_of(seen, port));
+    }
+    lines
+}
+
+/// Seven observed symbols of 72 subcarriers each, with the slot's number, 0 to 19, the identity of the cell, and the
+/// antenna ports that send. Contracts see it as the record of the first three. The pilots of each port are made once.
 #[derive(Drop)]
-pub struct Slot {
+pub struct PortSlot<K: Ports> {
     symbols: [Symbol; 7],
     number: u8,
     id: CellId,
-    pilots: [Cpx; 24],
+    lines: ArrayVec<Pilots, 4>,
     energy: u64,
+    ports: PhantomData<K>,
 }
 
-impl Model for Slot {
+/// A slot of a cell with one antenna port.
+pub type Slot = PortSlot<Single>;
+
+impl<K: Ports> Model for PortSlot<K> {
     ghost Value = { SeenSlot };
 
     ghost view = { λ s. record { symbols = s.symbols; number = s.number; identity = s.id } };
 
     ghost invariant = { λ s.
-        IsKept (record { symbols = s.symbols; number = s.number; identity = s.id }) s.pilots s.energy };
+        IsKept K.pairing.carrier (record { symbols = s.symbols; number = s.number; identity = s.id })
+        s.lines.items s.energy };
 }
 
-impl Slot {
+impl<K: Ports> PortSlot<K> {
     /// The slot with these symbols. `number` is 0 to 19, and components have size at most 2^25.
-    pub fn new(seen: [[Cpx; 72]; 7], number: u8, id: CellId) -> Slot
+    pub fn new(seen: [[Cpx; 72]; 7], number: u8, id: CellId) -> PortSlot<K>
         requires number { number < 20 }
         requires small { AreSmall seen }
         ensures { result ≡ record { symbols = seen; number = number; identity = id } }
@@ -88,16 +106,17 @@ impl Slot {
             symbols: &seen,
             number,
             id,
-            pattern: Pattern::FIRST_PORT,
+            carrier: K::carrier(),
         };
-        let pilots = pilots_of(&slot);
+        let lines = lines_of(&slot);
         let energy = energy_of(&slot);
-        Slot {
+        PortSlot {
             symbols: symbols_of(seen),
             number,
             id,
-            pilots,
+            lines,
             energy,
+            ports: PhantomData,
         }
     }
 
@@ -126,29 +145,32 @@ impl Slot {
         self.symbols[symbol as usize].at(k)
     }
 
-    /// Three times the channel of antenna port 0 at a subcarrier, 0 to 71, times the square of a reference's size.
-    pub fn channel(&self, k: u8) -> Cpx
-        requires { k < 72 }
-        ensures value { result ≡ channel self.now k }
-        ensures small { IsWithin (540 * 2 ^ 25) result }
+    /// The pilots of an antenna port.
+    pub fn pilots(&self, port: u8) -> &Pilots
+        requires { port < ports_of K.pairing.carrier }
+        ensures { result.now ≡ seen_line (line_of K.pairing.carrier port self.now) self.now }
     {
-        estimate(&self.pilots, self.id.n2() as u8, k)
+        &self.lines[port as usize]
     }
 
-    /// The pilots: at each of the 24 reference places of symbols 0 and 4, by subcarrier, what was seen there times
-    /// the conjugate of what was sent. Components have size at most 180 * 2^25.
-    pub fn pilots(&self) -> &[Cpx; 24]
-        ensures value { result.now ≡ values_below 24 (pilot self.now) }
-        ensures small { All (IsWithin (180 * 2 ^ 25)) result.now }
+    /// The channel of an antenna port at a subcarrier, 0 to 71, times the square of a reference's size, as many times
+    /// as `Ports::scale` says. Components have size at most 180 * 2^25 times it: 540 * 2^25 of one port or two.
+    pub fn channel(&self, port: u8, k: u8) -> Cpx
+        requires port { port < ports_of K.pairing.carrier }
+        requires k { k < 72 }
+        ensures value { result ≡ port_channel K.pairing.scale K.pairing.carrier port self.now k }
+        ensures scaled { IsWithin (K.pairing.scale * (180 * 2 ^ 25)) result }
+        ensures small { IsWithin (1080 * 2 ^ 25) result }
     {
-        &self.pilots
+        let pilots = self.pilots(port);
+        pilots.channel(k).scaled(K::scale() / pilots.step())
     }
 
-    /// The energy of the pilots: the sum of the squares of the sizes of what was seen at the 24 reference places. It is
-    /// at most 24 * 2^51.
+    /// The energy of the pilots of all ports: the sum of the squares of the sizes of what was seen at their reference
+    /// places, where those of ports 2 and 3 count twice. It is at most 24 * 2^51 a port.
     pub fn energy(&self) -> u64
-        ensures value { result ≡ pilot_energy self.now }
-        ensures small { result ≤ 24 * 2 ^ 51 }
+        ensures value { result ≡ ports_energy K.pairing.carrier self.now }
+        ensures few { result ≤ ports_of K.pairing.carrier * (24 * 2 ^ 51) }
     {
         self.energy
     }

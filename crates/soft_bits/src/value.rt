@@ -3,9 +3,10 @@
 ghost use Rattle.std.specs.Prelude.{◌≡◌, ℕ, ◌*◌, ◌^◌, ◌<◌, ◌≤◌, nat_abs};
 ghost use Rattle.finite.specs.Sizes.{AllWithin};
 ghost use Rattle.cs_num.specs.Complex.{IsWithin, conjugate, times};
+ghost use Rattle.lte_types.specs.declared.carrier.Carrier.TheVariants.{OnePort};
 ghost use Rattle.soft_bits.specs.Soft.{soft_pair, soft_value, soft_values};
 
-use crate::Slot;
+use crate::{PortSlot, Ports, Slot};
 use cs_num::{Cpx, clamp_div};
 
 /// The soft values of a place: of the bit in the real part, then of that in the imaginary part. A
@@ -18,7 +19,22 @@ pub fn soft(slot: &Slot, symbol: u8, k: u8) -> [i16; 2]
     ensures values { result ≡ soft_values slot.now symbol k }
     ensures range { AllWithin 127 result }
 {
-    soft_pair(slot.seen(symbol, k), slot.channel(k), slot.energy())
+    soft_of(slot, symbol, k)
+}
+
+// The soft values of a place of a slot of a cell with one antenna port.
+pub(crate) fn soft_of<K: Ports>(slot: &PortSlot<K>, symbol: u8, k: u8) -> [i16; 2]
+    requires one { K.pairing.carrier ≡ OnePort }
+    requires symbol { symbol < 7 }
+    requires k { k < 72 }
+    ensures values { result ≡ soft_values slot.now symbol k }
+    ensures range { AllWithin 127 result }
+{
+    soft_pair(
+        slot.seen(symbol, k),
+        slot.pilots(0).channel(k),
+        slot.energy(),
+    )
 }
 
 /// The soft values of a place at which this was seen, by three times the channel there and the energy of the pilots.

@@ -8,9 +8,11 @@ use Rattle.cs_num.proofs.Complex.{plus-nothing}
 use Rattle.cs_num.proofs.Sums.{complex_sum_below_same, complex_sum_below_plus}
 use Rattle.sizes.specs.Sizes.{energy_below}
 use Rattle.sizes.proofs.Algebra.{plus-nothing_right, times-nothing, sum_of_one}
-use Rattle.crs.specs.Reference.{port_0, port_1, reference}
+use Rattle.lte_types.specs.declared.carrier.Carrier.{Carrier}
+use Rattle.lte_types.specs.Carrier.{ports_of}
+use Rattle.crs.specs.Reference.{pattern_of, reference}
 use Rattle.crs.proofs.Values.{reference-IsPoint}
-use Rattle.soft_bits.specs.Lines.{line_of, line_pilot, line_seen, line_channel, port_channel}
+use Rattle.soft_bits.specs.Lines.{Line, line_of, line_pilot, line_seen, line_channel, port_channel}
 use Rattle.soft_bits.specs.Soft.{SeenSlot}
 use Rattle.soft_bits.proofs.Lines.{is_line}
 use Rattle.budget.specs.Received.{in_parts, received_of}
@@ -45,48 +47,50 @@ received_of_two ports lower upper gains a b l m apart =
 
 -- ---- the pilots of a port
 
-reference-size : (port : ℕ) (slot : SeenSlot) (i : ℕ) → square ((line_of port slot).sent i) ≡ 16200
-reference-size zero slot i = sent-size port_0 slot.identity slot.number i
-reference-size (suc zero) slot i = sent-size port_1 slot.identity slot.number i
-reference-size (suc (suc zero)) slot i = full-size (reference slot.identity slot.number 1 i) (reference-IsPoint slot.identity slot.number 1 i)
-reference-size (suc (suc (suc n))) slot i = full-size (reference slot.identity slot.number 1 i) (reference-IsPoint slot.identity slot.number 1 i)
+reference-size : (carrier : Carrier) (port : ℕ) (slot : SeenSlot) (i : ℕ) → square ((line_of carrier port slot).sent i) ≡ 16200
+reference-size carrier zero slot i = sent-size (pattern_of carrier 0) slot.identity slot.number i
+reference-size carrier (suc zero) slot i = sent-size (pattern_of carrier 1) slot.identity slot.number i
+reference-size carrier (suc (suc n)) slot i = full-size (reference slot.identity slot.number 1 i) (reference-IsPoint slot.identity slot.number 1 i)
 
--- those of a port are seen with its gain, each off by at most t times the root of n
-pub record AreLinePilots (t n port : ℕ) (gain : Cpx) (slot : SeenSlot) : Type 0 where
-  pub each : (i : ℕ) → i ≤ (line_of port slot).last → IsPilot t n gain ((line_of port slot).sent i) (line_seen (line_of port slot) slot i)
+-- those of a line are seen with this gain, each off by at most t times the root of n
+pub record AreLinePilots (t n : ℕ) (gain : Cpx) (line : Line) (slot : SeenSlot) : Type 0 where
+  pub each : (i : ℕ) → i ≤ line.last → IsPilot t n gain (line.sent i) (line_seen line slot i)
 
-pub pilots_alone : (ports most : ℕ) (gains : ℕ → Cpx) (slot : SeenSlot) → ArePortsSeen ports most gains slot → (port : ℕ) → port < ports →
-    AreLinePilots most (energy_below ports gains) port (gains port) slot
+pub pilots_alone : (carrier : Carrier) (most : ℕ) (gains : ℕ → Cpx) (slot : SeenSlot) → ArePortsSeen carrier most gains slot → (port : ℕ) → port < ports_of carrier →
+    AreLinePilots most (energy_below (ports_of carrier) gains) (gains port) (line_of carrier port slot) slot
 unfolding deviation
-pilots_alone ports most gains slot seen port l = record {
-  each = λ i few. record {
-    full = reference-size port slot i;
-    seen = record {
-      sized = subst (λ (z : Cpx). square (minus (in_parts (line_seen (line_of port slot) slot i)) (multiple 64 z)) ≤ most * most * energy_below ports gains)
-          (received_of_one ports port gains ((line_of port slot).sent i) l) (seen.pilots port i l few).off;
-    };
-  };
-}
+pilots_alone carrier most gains slot seen port l =
+    let ports : ℕ = ports_of carrier in
+    let line : Line = line_of carrier port slot in
+    record {
+      each = λ i few. record {
+        full = reference-size carrier port slot i;
+        seen = record {
+          sized = subst (λ (z : Cpx). square (minus (in_parts (line_seen line slot i)) (multiple 64 z)) ≤ most * most * energy_below ports gains)
+              (received_of_one ports port gains (line.sent i) l) (seen.pilots port i l few).off;
+        };
+      };
+    }
 
 -- ---- the channel of a port
 
 scaled : (m step scale c : ℕ) → m * step ≡ scale → m * (step * c) ≡ scale * c
 scaled m step scale c e = let f : m * step * c ≡ scale * c = ap (λ (n : ℕ). n * c) e in omega (arith, f)
 
-line_channel-near : (t n port : ℕ) (gain : Cpx) (slot : SeenSlot) (k : ℕ) → AreLinePilots t n port gain slot →
-    IsNear (16200 * n) gain ((line_of port slot).step * 1036800) ((line_of port slot).step * t) (line_channel (line_of port slot) slot k)
+line_channel-near : (t n : ℕ) (gain : Cpx) (line : Line) (slot : SeenSlot) (k : ℕ) → 1 ≤ line.step → AreLinePilots t n gain line slot →
+    IsNear (16200 * n) gain (line.step * 1036800) (line.step * t) (line_channel line slot k)
 unfolding line_channel
-line_channel-near t n port gain slot k pilots =
-    let line = line_of port slot in
-    line-near (16200 * n) gain 1036800 t (line_pilot line slot) line.step line.last (is_line port slot).some
+line_channel-near t n gain line slot k some pilots =
+    line-near (16200 * n) gain 1036800 t (line_pilot line slot) line.step line.last some
     (λ i l. turned_pilot-near t n gain (line.sent i) (line_seen line slot i) (pilots.each i l)) line.first k
 
 -- 64 * 16200 times the gain, as many times as it is taken
-pub port_channel-near : (t n scale port : ℕ) (gain : Cpx) (slot : SeenSlot) (k : ℕ) → scale / (line_of port slot).step * (line_of port slot).step ≡ scale → AreLinePilots t n port gain slot →
-    IsNear (16200 * n) gain (scale * 1036800) (scale * t) (port_channel scale port slot k)
-port_channel-near t n scale port gain slot k whole pilots =
-    let step = (line_of port slot).step in
-    let m = scale / step in
-    subst (λ (c : ℕ). IsNear (16200 * n) gain c (scale * t) (port_channel scale port slot k)) (scaled m step scale 1036800 whole)
-    (subst (λ (s : ℕ). IsNear (16200 * n) gain (m * (step * 1036800)) s (port_channel scale port slot k)) (scaled m step scale t whole)
-    (near-multiple (16200 * n) gain (line_channel (line_of port slot) slot k) m (step * 1036800) (step * t) (line_channel-near t n port gain slot k pilots)))
+pub port_channel-near : (t n scale : ℕ) (carrier : Carrier) (port : ℕ) (gain : Cpx) (slot : SeenSlot) (k : ℕ) → scale / (line_of carrier port slot).step * (line_of carrier port slot).step ≡ scale →
+    AreLinePilots t n gain (line_of carrier port slot) slot → IsNear (16200 * n) gain (scale * 1036800) (scale * t) (port_channel scale carrier port slot k)
+port_channel-near t n scale carrier port gain slot k whole pilots =
+    let line : Line = line_of carrier port slot in
+    let m = scale / line.step in
+    let channel : Cpx = port_channel scale carrier port slot k in
+    subst (λ (c : ℕ). IsNear (16200 * n) gain c (scale * t) channel) (scaled m line.step scale 1036800 whole)
+    (subst (λ (s : ℕ). IsNear (16200 * n) gain (m * (line.step * 1036800)) s channel) (scaled m line.step scale t whole)
+    (near-multiple (16200 * n) gain (line_channel line slot k) m (line.step * 1036800) (line.step * t) (line_channel-near t n gain line slot k (is_line carrier port slot).some pilots)))

@@ -4,12 +4,12 @@ use Rattle.finite.proofs.Lists.{joined_below_same}
 use Rattle.cs_bits.specs.Signs.{Supports}
 use Rattle.grid_map.specs.declared.Place.{Place}
 use Rattle.grid_map.specs.Place.{place}
+use Rattle.soft_bits.specs.Pairs.{Pairing, pair_values, pair_at, paired_by}
 use Rattle.soft_bits.specs.Soft.{SeenSlot}
 use Rattle.clean_air.specs.Carried.{AreHeard}
-use Rattle.two_ports.specs.Pairs.{Pairing, pair_values, pair_at, paired_by}
 use Rattle.two_ports.specs.Received.{SupportFour}
 use Rattle.finite.specs.Lists.{joined_below}
-use Rattle.two_ports.proofs.Paired.{length-fours, get_or-fours, length-pair_at}
+use Rattle.soft_bits.proofs.Paired.{length-fours, get_or-fours, length-pair_at}
 
 -- four values speak for the bits of points 2i and 2i + 1
 abbrev pub SpeakAs : (ℕ → Bool) → ℕ → List ℤ → Type 0

@@ -1,19 +1,18 @@
 -- A recording that is faithful to both ports of a cell shows it to a receiver of two, whatever else they send.
-use Rattle.std.proofs.Common.{ℕ, ◌≤◌, arith, refl}
+use Rattle.std.proofs.Common.{ℕ, ◌≤◌, false, arith, refl}
 use Rattle.cs_num.specs.Complex.{value_at}
 use Rattle.lte_types.specs.declared.carrier.Carrier.TheVariants.{TwoPorts}
 use Rattle.lte_types.specs.Timing.{number_at_start}
 use Rattle.cell_tx.specs.declared.antenna.Port.TheVariants.{First}
 use Rattle.cell_tx.specs.Block.{port_word}
+use Rattle.soft_bits.specs.Pairs.{over_two, paired_by}
 use Rattle.explain.specs.Receiver.{subframes_by}
 use Rattle.clean_air.specs.Clean.{HoldsCells}
 use Rattle.clean_air.proofs.Held.{sent_place, sent_mib, ShowsCells, number_fits, told_by_frames, shown_are_held}
 use Rattle.clean_air.proofs.SentBlock.{is_block}
-use Rattle.two_ports.specs.Pairs.{over_two, paired_values}
 use Rattle.two_ports.specs.Entries.{two_ports_receiver}
 use Rattle.two_ports.proofs.Master.{word_speaks}
 use Rattle.two_ports.proofs.ReceivedPairs.{received_pair_speaks}
-use Rattle.two_ports.proofs.Senders.{port_of, two_ports_send}
 use Rattle.two_ports.proofs.SentSystem.{fields_read}
 
 shows_cells : ShowsCells two_ports_receiver
@@ -23,10 +22,10 @@ shows_cells recording plan grids sfn offset gains long sendable faithful =
     record {
       word = port_word First plan number;
       block = is_block First plan number sendable.spare fits;
-      speaks = word_speaks over_two 400 TwoPorts port_of two_ports_send recording plan grids sfn offset gains (received_pair_speaks (value_at gains)) faithful fits sendable.spare;
+      speaks = word_speaks false recording plan grids sfn offset gains (received_pair_speaks (value_at gains)) faithful fits sendable.spare;
       single = omega arith;
       taken = refl;
-      system = told_by_frames TwoPorts (subframes_by TwoPorts paired_values) recording (sent_place plan.identity offset) number
+      system = told_by_frames TwoPorts (subframes_by TwoPorts (paired_by over_two)) recording (sent_place plan.identity offset) number
           (sent_mib plan sendable.spare number) plan.sib1 long (omega arith) refl (fields_read recording plan grids sfn offset gains sendable faithful);
     }
 

@@ -3,15 +3,11 @@ pub mod Points
 pub mod Estimates
 pub mod Energies
 pub mod Values
-pub mod Lines
-pub mod Paired
 pub mod ReceivedPairs
 pub mod Heard
-pub mod Sending
 pub mod Slots
 pub mod Master
 pub mod References
 pub mod Senders
 pub mod SentSystem
 pub mod HeldCells
-pub mod Fronts

@@ -1,6 +1,6 @@
 -- The broadcast channel of the first frame of a recording that is faithful to the ports of a cell, whatever else they send: the values of its pairs
 -- speak of the master block of its number.
-use Rattle.std.proofs.Common.{◌≡◌, ℕ, ◌+◌, ◌*◌, ◌/◌, ◌%◌, ◌<◌, ◌≤◌, true, inl, arith, refl, ap, subst, ◌∙◌, List, length}
+use Rattle.std.proofs.Common.{◌≡◌, ℕ, ◌+◌, ◌*◌, ◌/◌, ◌%◌, ◌<◌, ◌≤◌, Bool, true, inl, arith, refl, ap, subst, ◌∙◌, List, length, ℤ}
 use Rattle.std.proofs.Math.Path.{fun_ext}
 use Rattle.std.proofs.lemmas.Bool.Decides.{nat_tests}
 use Rattle.cs_num.specs.declared.Cpx.{Cpx}
@@ -11,9 +11,9 @@ use Rattle.grid_map.specs.Broadcast.{pbch_places, pbch_place, is_pbch}
 use Rattle.grid_map.specs.Scrambling.{pbch_c_init}
 use Rattle.pbch.specs.Values.{received_values_by}
 use Rattle.grid_map.proofs.Points.{length-pbch_places, places_inside}
-use Rattle.lte_types.specs.declared.carrier.Carrier.{Carrier}
 use Rattle.lte_types.specs.Numerology.{normal, useful_start}
 use Rattle.lte_types.specs.Timing.{start_of, number_at_start}
+use Rattle.soft_bits.specs.Pairs.{pair_at, paired_by}
 use Rattle.soft_bits.specs.Soft.{SeenSlot}
 use Rattle.cell_tx.specs.declared.antenna.Port.{Port}
 use Rattle.cell_plan.specs.declared.cell.CellPlan.{CellPlan}
@@ -27,10 +27,9 @@ use Rattle.clean_air.specs.Carried.{SpeakOfWord, AreHeard}
 use Rattle.clean_air.proofs.Speaking.{heard_bits_speak}
 use Rattle.clean_air.proofs.SentBlock.{is_block}
 use Rattle.clean_air.proofs.SentSlots.{slot_grid, points_stand}
-use Rattle.two_ports.specs.Pairs.{Pairing, pair_at, paired_by}
 use Rattle.two_ports.specs.Received.{SpeakReceivedWith}
 use Rattle.two_ports.proofs.Heard.{SpeakAs, paired_heard}
-use Rattle.two_ports.proofs.Sending.{sent_bits, ArePorts, seven, pair_carried}
+use Rattle.two_ports.proofs.Senders.{pairing_of, quota_of, carrier, sender, sent_bits, is_sender, pair_carried}
 use Rattle.two_ports.proofs.Slots.{each_slot_received}
 
 -- a place of the broadcast channel is on a subcarrier
@@ -38,44 +37,50 @@ on_subcarrier : (identity : ℕ) (p : Place) → is_pbch identity p ≡ true →
 unfolding is_pbch
 on_subcarrier identity p e = grind (arith, nat_tests)
 
-module _ (pairing : Pairing) (quota : ℕ) (carrier : Carrier) (port : ℕ → Port) (are : ArePorts pairing quota carrier port)
-    (recording : List Sample) (plan : CellPlan) (grids : Port → Elements) (sfn offset : ℕ) (gains : List Cpx) (speak : SpeakReceivedWith (value_at gains) pairing quota 1)
-    (faithful : IsFaithfulBy carrier recording plan grids sfn offset gains) where
+module _ (four : Bool) (recording : List Sample) (plan : CellPlan) (grids : Port → Elements) (sfn offset : ℕ) (gains : List Cpx) (speak : SpeakReceivedWith (value_at gains) (pairing_of four) (quota_of four) 1)
+    (faithful : IsFaithfulBy (carrier four) recording plan grids sfn offset gains) where
   abbrev number : ℕ
   number = (number_at_start sfn offset + 0) % 1024
 
   abbrev slot : SeenSlot
   slot = broadcast_slot recording plan.identity (start_of offset) 0
 
-  -- what a port sends at the place of point i
-  point_sent : (p i : ℕ) → i < 240 → slot_grid (grids (port p)) number 1 ((pbch_place plan.identity i).symbol % 7) (pbch_place plan.identity i).k ≡ sent_point (port p) (point_of (sent_bits (port 0) plan number)) i
-  point_sent p i inside =
-      points_stand (port p) (seven pairing quota carrier port are p) plan (grids (port p)) (faithful.carries (port p) (are.own p)) number i inside
-      ∙ ap (λ (points : ℕ → Cpx). sent_point (port p) points i) (fun_ext (are.points p plan number))
+  abbrev bits : ℕ → Bool
+  bits = sent_bits (sender four 0) plan number
 
-  values_heard : AreHeard 1 480 (sent_bits (port 0) plan number) (received_values_by (paired_by pairing) slot)
+  abbrev values : List ℤ
+  values = received_values_by (paired_by (pairing_of four)) slot
+
+  -- what a port sends at the place of point i
+  point_sent : (p i : ℕ) → i < 240 → slot_grid (grids (sender four p)) number 1 ((pbch_place plan.identity i).symbol % 7) (pbch_place plan.identity i).k ≡ sent_point (sender four p) (point_of bits) i
+  point_sent p i inside =
+      let is = is_sender four p in
+      points_stand (sender four p) is.seven plan (grids (sender four p)) (faithful.carries (sender four p) is.own) number i inside
+      ∙ ap (λ (points : ℕ → Cpx). sent_point (sender four p) points i) (fun_ext (is.points plan number))
+
+  values_heard : AreHeard 1 480 bits values
   unfolding seen_slot pbch_place
   values_heard =
-      subst (λ n. AreHeard 1 n (sent_bits (port 0) plan number) (received_values_by (paired_by pairing) slot)) (let size = length-pbch_places plan.identity in omega (arith, size))
-      (paired_heard pairing (λ p. slot) (pbch_places plan.identity) (sent_bits (port 0) plan number) (let size = length-pbch_places plan.identity in omega (arith, size)) each)
+      subst (λ n. AreHeard 1 n bits values) (let size = length-pbch_places plan.identity in omega (arith, size))
+      (paired_heard (pairing_of four) (λ p. slot) (pbch_places plan.identity) bits (let size = length-pbch_places plan.identity in omega (arith, size)) each)
     where
-      each : (i : ℕ) → i < length (pbch_places plan.identity) / 2 → SpeakAs (sent_bits (port 0) plan number) i (pair_at pairing (λ p. slot) (pbch_places plan.identity) i)
+      each : (i : ℕ) → i < length (pbch_places plan.identity) / 2 → SpeakAs bits i (pair_at (pairing_of four) (λ p. slot) (pbch_places plan.identity) i)
       each i l =
           let size = length-pbch_places plan.identity in
           let a : 2 * i < 240 = omega (arith, l, size) in
           let b : 2 * i + 1 < 240 = omega (arith, l, size) in
           let p = pbch_place plan.identity (2 * i) in
           let q = pbch_place plan.identity (2 * i + 1) in
-          let points : ℕ → Cpx = point_of (sent_bits (port 0) plan number) in
-          let received = each_slot_received pairing quota carrier port are recording plan grids sfn offset gains faithful 0 1 (omega arith) (λ l start. inl (omega arith, refl)) in
-          let carry = pair_carried pairing quota carrier port are points i (λ p. slot_grid (grids (port p)) number 1) p q (λ n. point_sent n (2 * i) a) (λ n. point_sent n (2 * i + 1) b) in
-          speak recording (useful_start normal (frame_at (start_of offset) 0) 1) (λ p. slot_grid (grids (port p)) number 1) slot i p q _ _ _ _ received
+          let grid : ℕ → ℕ → ℕ → Cpx = λ p. slot_grid (grids (sender four p)) number 1 in
+          let received = each_slot_received four recording plan grids sfn offset gains faithful 0 1 (omega arith) (λ l start. inl (omega arith, refl)) in
+          let carry = pair_carried four (point_of bits) i grid p q (λ n. point_sent n (2 * i) a) (λ n. point_sent n (2 * i + 1) b) in
+          speak recording (useful_start normal (frame_at (start_of offset) 0) 1) grid slot i p q _ _ _ _ received
           (on_subcarrier plan.identity p (places_inside plan.identity (2 * i) a)) (on_subcarrier plan.identity q (places_inside plan.identity (2 * i + 1) b)) carry
 
   -- so they speak of the word of the first frame's number, with the count of ports
   pub word_speaks : number_at_start sfn offset ≤ 1023 → plan.spare ≤ 1023 →
-      SpeakOfWord (pbch_c_init plan.identity) (480 * (number_at_start sfn offset % 4)) (port_word (port 0) plan (number_at_start sfn offset)) (received_values_by (paired_by pairing) slot)
+      SpeakOfWord (pbch_c_init plan.identity) (480 * (number_at_start sfn offset % 4)) (port_word (sender four 0) plan (number_at_start sfn offset)) values
   word_speaks fits spare =
-      let size = (is_block (port 0) plan number spare (omega arith)).size in
-      subst (λ n. SpeakOfWord (pbch_c_init plan.identity) (480 * (n % 4)) (port_word (port 0) plan n) (received_values_by (paired_by pairing) slot)) (let same : number ≡ number_at_start sfn offset = omega (arith, fits) in same)
-      (heard_bits_speak 1 480 (pbch_c_init plan.identity) (480 * (number % 4)) (port_word (port 0) plan number) (received_values_by (paired_by pairing) slot) (omega arith) (omega (arith, size)) values_heard)
+      let size = (is_block (sender four 0) plan number spare (omega arith)).size in
+      subst (λ n. SpeakOfWord (pbch_c_init plan.identity) (480 * (n % 4)) (port_word (sender four 0) plan n) values) (let same : number ≡ number_at_start sfn offset = omega (arith, fits) in same)
+      (heard_bits_speak 1 480 (pbch_c_init plan.identity) (480 * (number % 4)) (port_word (sender four 0) plan number) values (omega arith) (omega (arith, size)) values_heard)

@@ -8,7 +8,7 @@ use Rattle.sizes.proofs.Algebra.{plus-minus, minus-plus, multiple_twice}
 use Rattle.sizes.proofs.Sized.{sized-plus, sized_re, sized_im}
 use Rattle.sizes.proofs.Products.{sized-multiple}
 use Rattle.budget.specs.Received.{in_parts}
-use Rattle.two_ports.specs.Pairs.{second_of}
+use Rattle.soft_bits.specs.Pairs.{second_of}
 use Rattle.two_ports.proofs.Combined.{combined, combined-plus_right, combined-plus_left, combined-multiple_left, combined-multiple_right, combined_cauchy, at_first, at_second, combined_gains, pair_energy, times-negated, square-negated, plus-negated, turned_twice, conjugate-negated, multiple-negated, minus-negated}
 
 -- h and k are c times the gains, each off by a number whose square is at most s times the sum of the gains' squares

@@ -1,76 +1,166 @@
--- Both ports of a cell as ports by their numbers.
-use Rattle.std.proofs.Common.{◌≡◌, ℕ, zero, suc, ◌*◌, ◌^◌, ◌/◌, ◌<◌, ◌≤◌, List, Some, arith, refl, ap, sym}
+-- The two or four ports of a cell by their numbers: what is received of all of them, and what each of them sends.
+use Rattle.std.proofs.Common.{◌≡◌, ℕ, zero, suc, ◌+◌, ◌-◌, ◌*◌, ◌^◌, ◌/◌, ◌%◌, ◌<◌, ◌≤◌, Bool, true, false, List, Option, Some, None, nat_eq, arith, refl, ap, sym, subst, ◌∙◌}
+use Rattle.std.specs.Prelude.{if◌then◌else◌, ◌||◌}
+use Rattle.std.proofs.lemmas.Bool.Decides.{nat_tests}
 use Rattle.finite.specs.Sums.{sum_below}
 use Rattle.cs_num.specs.declared.Cpx.{Cpx}
-use Rattle.cs_num.specs.Complex.{plus, times, value_at}
-use Rattle.cs_num.proofs.Complex.{plus-nothing}
+use Rattle.cs_num.specs.Complex.{nothing, plus, times, conjugate, negated, value_at}
+use Rattle.cs_num.proofs.Complex.{plus-nothing, plus-associates}
 use Rattle.sizes.specs.Sizes.{energy_below}
-use Rattle.lte_types.specs.declared.carrier.Carrier.TheVariants.{TwoPorts}
-use Rattle.soft_bits.specs.Lines.{line_of, line_place}
+use Rattle.grid_map.specs.declared.Place.{Place}
+use Rattle.grid_map.specs.Scrambling.{pbch_c_init}
+use Rattle.lte_types.specs.declared.carrier.Carrier.{Carrier}
+use Rattle.lte_types.specs.declared.carrier.Carrier.TheVariants.{TwoPorts, FourPorts}
+use Rattle.lte_types.specs.Carrier.{ports_of, prefix_of}
+use Rattle.lte_types.specs.Numerology.{normal}
+use Rattle.crs.specs.Reference.{reference_at}
+use Rattle.soft_bits.specs.Lines.{Line, line_of, line_place}
+use Rattle.soft_bits.specs.Pairs.{Pairing, over_two, over_four}
 use Rattle.soft_bits.specs.Soft.{SeenSlot}
 use Rattle.budget.specs.Received.{received_of}
 use Rattle.cell_tx.specs.declared.antenna.Port.{Port}
-use Rattle.cell_tx.specs.declared.antenna.Port.TheVariants.{First, Second}
+use Rattle.cell_tx.specs.declared.antenna.Port.TheVariants.{First, Second, OfFour}
+use Rattle.cell_tx.specs.declared.antenna.PortOfFour.TheVariants.{Zero, One, Two, Three}
 use Rattle.cell_plan.specs.declared.cell.CellPlan.{CellPlan}
-use Rattle.cell_tx.specs.Block.{port_point, port_bit}
+use Rattle.cell_tx.specs.Block.{port_word, port_point, port_bit, scrambled_bit}
 use Rattle.cell_tx.specs.Emission.{mixed}
 use Rattle.cell_tx.specs.Points.{point_of}
-use Rattle.cell_tx.specs.Ports.{carrier_of, crossed_point, sent_point}
+use Rattle.cell_tx.specs.Ports.{carrier_of, port_symbols, crossed_point, sent_point}
 use Rattle.cell_tx.specs.Rows.{port_reference_if}
 use Rattle.clean_air.specs.Faithful.{ArePartGains, IsLittle}
-use Rattle.two_ports.specs.Pairs.{over_two}
-use Rattle.two_ports.specs.Received.{only, over}
-use Rattle.two_ports.proofs.References.{zero_pilot, one_pilot, zero_value, one_value}
-use Rattle.two_ports.proofs.Sending.{sent_bits, ArePorts}
-use Rattle.two_ports.proofs.Values.{squares}
+use Rattle.two_ports.specs.Received.{only, over, CarryPair}
+use Rattle.two_ports.proofs.Energies.{squares, four_squares}
+use Rattle.two_ports.proofs.References.{IsAlone, is_alone, own_value}
+
+-- ---- which ports
+
+-- by what pairing pairs are sent, of two ports or of four, and the quota of errors beside them
+abbrev pub pairing_of : Bool → Pairing
+pairing_of false = over_two
+pairing_of true = over_four
+
+abbrev pub quota_of : Bool → ℕ
+quota_of false = 400
+quota_of true = 7
+
+abbrev pub carrier : Bool → Carrier
+carrier four = (pairing_of four).carrier
 
 -- the port with a number
-abbrev pub port_of : ℕ → Port
-port_of zero = First
-port_of (suc n) = Second
+abbrev pub sender : Bool → ℕ → Port
+sender false zero = First
+sender false (suc n) = Second
+sender true zero = OfFour Zero
+sender true (suc zero) = OfFour One
+sender true (suc (suc zero)) = OfFour Two
+sender true (suc (suc (suc n))) = OfFour Three
 
--- what is received of both
-all : (values : Port → Cpx) (gains : List Cpx) → mixed TwoPorts values gains ≡ received_of 2 (value_at gains) (λ p. values (port_of p))
-unfolding sum_below
-all values gains = ap (λ (z : Cpx). plus z (times (value_at gains 1) (values Second))) (sym (plus-nothing (times (value_at gains 0) (values First))))
+pub is_normal : (four : Bool) → prefix_of (carrier four) ≡ normal
+is_normal false = refl
+is_normal true = refl
 
-pub two_ports_send : ArePorts over_two 400 TwoPorts port_of
+-- the bits that a frame carries
+abbrev pub sent_bits : Port → CellPlan → ℕ → ℕ → Bool
+sent_bits first plan number i = scrambled_bit (pbch_c_init plan.identity) (port_word first plan number) (480 * (number % 4) + i)
+
+-- each is of the carrier, so its slots have seven symbols, and all have one master block
+pub record IsSender (four : Bool) (port : Port) : Type 0 where
+  pub own : carrier_of port ≡ carrier four
+  pub seven : port_symbols port ≡ 7
+  pub points : (plan : CellPlan) (number i : ℕ) → port_point port plan number i ≡ point_of (sent_bits (sender four 0) plan number) i
+
+pub is_sender : (four : Bool) (p : ℕ) → IsSender four (sender four p)
 unfolding port_point port_bit
-two_ports_send = record {
-  own = own;
-  prefix = refl;
-  all = all;
-  sounds = sounds;
-  quiet = quiet;
-  points = same;
-  pairs = pairs;
-  reference = λ slot p q i l m few. reference slot p q i l m;
+is_sender false zero = record { own = refl; seven = refl; points = λ plan number i. refl }
+is_sender false (suc n) = record { own = refl; seven = refl; points = λ plan number i. refl }
+is_sender true zero = record { own = refl; seven = refl; points = λ plan number i. refl }
+is_sender true (suc zero) = record { own = refl; seven = refl; points = λ plan number i. refl }
+is_sender true (suc (suc zero)) = record { own = refl; seven = refl; points = λ plan number i. refl }
+is_sender true (suc (suc (suc n))) = record { own = refl; seven = refl; points = λ plan number i. refl }
+
+-- ---- all of them
+
+-- what is received
+pub all : (four : Bool) (values : Port → Cpx) (gains : List Cpx) → mixed (carrier four) values gains ≡ received_of (ports_of (carrier four)) (value_at gains) (λ p. values (sender four p))
+unfolding sum_below
+all false values gains = ap (λ (z : Cpx). plus z (times (value_at gains 1) (values Second))) (sym (plus-nothing (times (value_at gains 0) (values First))))
+all true values gains =
+    in_turn (times (value_at gains 0) (values (OfFour Zero))) (times (value_at gains 1) (values (OfFour One)))
+    (times (value_at gains 2) (values (OfFour Two))) (times (value_at gains 3) (values (OfFour Three)))
+  where
+    in_turn : (a b c d : Cpx) → plus (plus a b) (plus c d) ≡ plus (plus (plus (plus nothing a) b) c) d
+    in_turn a b c d = sym (plus-associates (plus a b) c d) ∙ ap (λ (z : Cpx). plus (plus (plus z b) c) d) (sym (plus-nothing a))
+
+pub sounds : (four : Bool) (gains : List Cpx) → ArePartGains (carrier four) gains → 2 ^ 28 ≤ energy_below (ports_of (carrier four)) (value_at gains)
+sounds false gains are = let least = are.sounds in let same = squares (value_at gains) in omega (arith, least, same)
+sounds true gains are = let least = are.sounds in let same = four_squares (value_at gains) in omega (arith, least, same)
+
+-- errors that are little have at most the quota
+pub quiet : (four : Bool) (gains : List Cpx) (energy : ℕ) → IsLittle (carrier four) gains energy → energy ≤ quota_of four * energy_below (ports_of (carrier four)) (value_at gains)
+quiet false gains energy (all, one) = let same = squares (value_at gains) in omega (arith, all, same)
+quiet true gains energy (all, one) = let same = four_squares (value_at gains) in omega (arith, all, same)
+
+-- ---- pairs
+
+-- point n of pair i, at one of its ports or another
+point_sent : (four : Bool) (p : ℕ) (points : ℕ → Cpx) (i n : ℕ) → p < ports_of (carrier four) → n / 2 ≡ i →
+    sent_point (sender four p) points n ≡ over ((pairing_of four).lower i) ((pairing_of four).upper i) (points n) (crossed_point points n) p
+point_sent false zero points i n l e = refl
+point_sent false (suc zero) points i n l e = refl
+point_sent false (suc (suc p)) points i n l e = absurd (omega (arith, l))
+point_sent true zero points i n l e = grind (arith, nat_tests)
+point_sent true (suc zero) points i n l e = grind (arith, nat_tests)
+point_sent true (suc (suc zero)) points i n l e = grind (arith, nat_tests)
+point_sent true (suc (suc (suc zero))) points i n l e = grind (arith, nat_tests)
+point_sent true (suc (suc (suc (suc p)))) points i n l e = absurd (omega (arith, l))
+
+-- two places carry a pair, at which the ports send the points 2i and 2i + 1
+pub pair_carried : (four : Bool) (points : ℕ → Cpx) (i : ℕ) (grids : ℕ → ℕ → ℕ → Cpx) (a b : Place) → ((p : ℕ) → grids p (a.symbol % 7) a.k ≡ sent_point (sender four p) points (2 * i)) →
+    ((p : ℕ) → grids p (b.symbol % 7) b.k ≡ sent_point (sender four p) points (2 * i + 1)) → CarryPair (pairing_of four) grids i a b (points (2 * i)) (points (2 * i + 1))
+pair_carried four points i grids a b first second = record {
+  first = λ p below. first p ∙ point_sent four p points i (2 * i) below (omega arith) ∙ ap (λ (z : Cpx). over lower upper (points (2 * i)) z p) even;
+  second = λ p below. second p ∙ point_sent four p points i (2 * i + 1) below (omega arith) ∙ ap (λ (z : Cpx). over lower upper (points (2 * i + 1)) z p) odd;
 }
   where
-    own : (p : ℕ) → carrier_of (port_of p) ≡ TwoPorts
-    own zero = refl
-    own (suc n) = refl
+    lower : ℕ
+    lower = (pairing_of four).lower i
 
-    sounds : (gains : List Cpx) → ArePartGains TwoPorts gains → 2 ^ 28 ≤ energy_below 2 (value_at gains)
-    sounds gains are = let least = are.sounds in let same = squares (value_at gains) in omega (arith, least, same)
+    upper : ℕ
+    upper = (pairing_of four).upper i
 
-    quiet : (gains : List Cpx) (energy : ℕ) → IsLittle TwoPorts gains energy → energy ≤ 400 * energy_below 2 (value_at gains)
-    quiet gains energy (both, one) = let same = squares (value_at gains) in omega (arith, both, same)
+    even : crossed_point points (2 * i) ≡ negated (conjugate (points (2 * i + 1)))
+    even = let e : 2 * i % 2 ≡ 0 = omega arith in rw e refl
 
-    same : (p : ℕ) (plan : CellPlan) (number i : ℕ) → port_point (port_of p) plan number i ≡ point_of (sent_bits First plan number) i
-    same zero plan number i = refl
-    same (suc n) plan number i = refl
+    odd : crossed_point points (2 * i + 1) ≡ conjugate (points (2 * i))
+    odd =
+        let e : (2 * i + 1) % 2 ≡ 1 = omega arith in
+        let f : 2 * i + 1 - 1 ≡ 2 * i = omega arith in
+        rw (e, f) refl
 
-    pairs : (p : ℕ) (points : ℕ → Cpx) (i n : ℕ) → p < 2 → n / 2 ≡ i → sent_point (port_of p) points n ≡ over (over_two.lower i) (over_two.upper i) (points n) (crossed_point points n) p
-    pairs zero points i n l e = refl
-    pairs (suc zero) points i n l e = refl
-    pairs (suc (suc m)) points i n l e = absurd (omega (arith, l))
+-- ---- the reference signals
 
-    reference : (slot : SeenSlot) (p q i : ℕ) → p < 2 → q < 2 →
-        port_reference_if (port_of q) slot.identity slot.number ((line_of p slot).symbol i) (line_place (line_of p slot) i) ≡ Some (only p ((line_of p slot).sent i) q)
-    reference slot zero zero i l m = let at = zero_pilot slot.identity slot.number i in rw (at.of_zero, zero_value slot.identity slot.number i) refl
-    reference slot zero (suc zero) i l m = let at = zero_pilot slot.identity slot.number i in rw (at.of_one, at.of_zero) refl
-    reference slot (suc zero) zero i l m = let at = one_pilot slot.identity slot.number i in rw (at.of_zero, at.of_one) refl
-    reference slot (suc zero) (suc zero) i l m = let at = one_pilot slot.identity slot.number i in rw (at.of_one, one_value slot.identity slot.number i) refl
-    reference slot (suc (suc n)) q i l m = absurd (omega (arith, l))
-    reference slot p (suc (suc n)) i l m = absurd (omega (arith, m))
+-- what a port sends where port p alone has a reference signal
+told : (four : Bool) (q p identity slot l k : ℕ) (here : Cpx) → p < ports_of (carrier four) → q < ports_of (carrier four) → IsAlone p identity slot l k → reference_at identity slot l k ≡ here →
+    port_reference_if (sender four q) identity slot l k ≡ Some (only p here q)
+told false zero p identity slot l k here few inside at value = rw (at.zero, at.one, value) (grind (arith, nat_tests))
+told false (suc zero) p identity slot l k here few inside at value = rw (at.zero, at.one, value) (grind (arith, nat_tests))
+told false (suc (suc q)) p identity slot l k here few inside at value = absurd (omega (arith, inside))
+told true zero p identity slot l k here few inside at value = rw (at.zero, at.one, at.two, at.three, value) (grind (arith, nat_tests))
+told true (suc zero) p identity slot l k here few inside at value = rw (at.zero, at.one, at.two, at.three, value) (grind (arith, nat_tests))
+told true (suc (suc zero)) p identity slot l k here few inside at value = rw (at.zero, at.one, at.two, at.three, value) (grind (arith, nat_tests))
+told true (suc (suc (suc zero))) p identity slot l k here few inside at value = rw (at.zero, at.one, at.two, at.three, value) (grind (arith, nat_tests))
+told true (suc (suc (suc (suc q)))) p identity slot l k here few inside at value = absurd (omega (arith, inside))
+
+-- the lines of two ports are those of the first two of four
+same_line : (p : ℕ) (slot : SeenSlot) → line_of FourPorts p slot ≡ line_of TwoPorts p slot
+same_line zero slot = refl
+same_line (suc zero) slot = refl
+same_line (suc (suc n)) slot = refl
+
+-- at a pilot of a port the others send nothing
+pub reference : (four : Bool) (slot : SeenSlot) (p q i : ℕ) → p < ports_of (carrier four) → q < ports_of (carrier four) → let line : Line = line_of (carrier four) p slot in
+    port_reference_if (sender four q) slot.identity slot.number (line.symbol i) (line_place line i) ≡ Some (only p (line.sent i) q)
+reference false slot p q i few inside =
+    subst (λ (line : Line). port_reference_if (sender false q) slot.identity slot.number (line.symbol i) (line_place line i) ≡ Some (only p (line.sent i) q)) (same_line p slot)
+    (told false q p _ _ _ _ _ few inside (is_alone p slot i (omega (arith, few))) (own_value p slot i))
+reference true slot p q i few inside = told true q p _ _ _ _ _ few inside (is_alone p slot i few) (own_value p slot i)

@@ -17,6 +17,7 @@ use Rattle.grid_map.proofs.Together.{pair_in_one_symbol}
 use Rattle.lte_types.specs.Numerology.{normal, useful_start}
 use Rattle.lte_types.specs.Timing.{start_of, number_at_start}
 use Rattle.dci.specs.Fields.{system_information_rnti}
+use Rattle.soft_bits.specs.Pairs.{over_two, pair_at, paired_by}
 use Rattle.soft_bits.specs.Soft.{SeenSlot}
 use Rattle.pcfich.specs.Indicator.{Speak}
 use Rattle.soft_bits.specs.Places.{in_subframe, descrambled}
@@ -53,18 +54,19 @@ use Rattle.clean_air.proofs.Speaking.{descrambled_bits_are_heard}
 use Rattle.two_tx.specs.Plan.{IsSendableOfTwo}
 use Rattle.clean_air.specs.Load.{CarriesPlan}
 use Rattle.clean_air.specs.Faithful.{IsFaithfulBy}
-use Rattle.two_ports.specs.Pairs.{over_two, pair_at, paired_values}
 use Rattle.two_ports.proofs.Heard.{SpeakAs, paired_heard, paired_same}
 use Rattle.clean_air.proofs.SentSlots.{slot_grid}
 use Rattle.two_ports.proofs.ReceivedPairs.{received_pair_speaks}
-use Rattle.two_ports.proofs.Sending.{pair_carried}
-use Rattle.two_ports.proofs.Senders.{port_of, two_ports_send}
+use Rattle.two_ports.proofs.Senders.{sender, is_sender, pair_carried}
 use Rattle.two_ports.proofs.Slots.{each_slot_received}
 
 -- ---- a frame
 
 module _ (recording : List Sample) (plan : CellPlan) (grids : Port → Elements) (sfn offset : ℕ) (gains : List Cpx) (sendable : IsSendableOfTwo plan)
     (faithful : IsFaithfulBy TwoPorts recording plan grids sfn offset gains) where
+  abbrev port : ℕ → Port
+  port = sender false
+
   abbrev j : ℕ
   j = even_frame (number_at_start sfn offset) 0
 
@@ -106,7 +108,7 @@ module _ (recording : List Sample) (plan : CellPlan) (grids : Port → Elements)
   module _ (c_init : ℕ) (bits : ℕ → Bool) (places : List Place) (even : length places % 2 ≡ 0)
       (placed : (i : ℕ) → i < length places → let p = get_or places i (place 0 0) in (p.symbol < 14) × (p.k < 72))
       (together : (i : ℕ) → i < length places / 2 → (get_or places (2 * i) (place 0 0)).symbol / 7 ≡ (get_or places (2 * i + 1) (place 0 0)).symbol / 7)
-      (carried : (p i : ℕ) → i < length places → let q = get_or places i (place 0 0) in grids (port_of p) number 5 q.symbol q.k ≡ sent_point (port_of p) (point_of (scrambled c_init bits)) i) where
+      (carried : (p i : ℕ) → i < length places → let q = get_or places i (place 0 0) in grids (port p) number 5 q.symbol q.k ≡ sent_point (port p) (point_of (scrambled c_init bits)) i) where
     abbrev item : ℕ → Place
     item i = get_or places i (place 0 0)
 
@@ -114,11 +116,11 @@ module _ (recording : List Sample) (plan : CellPlan) (grids : Port → Elements)
     carry_bits = scrambled c_init bits
 
     -- what a port sends at place i, of the slot that has it
-    in_slot_sent : (p s i : ℕ) → i < length places → s ≡ 10 + (item i).symbol / 7 → slot_grid (grids (port_of p)) number s ((item i).symbol % 7) (item i).k ≡ sent_point (port_of p) (point_of carry_bits) i
+    in_slot_sent : (p s i : ℕ) → i < length places → s ≡ 10 + (item i).symbol / 7 → slot_grid (grids (port p)) number s ((item i).symbol % 7) (item i).k ≡ sent_point (port p) (point_of carry_bits) i
     in_slot_sent p s i l e =
         let (half, row) = in_slot (item i).symbol (placed i l).0 in
-        ap (λ n. slot_grid (grids (port_of p)) number n ((item i).symbol % 7) (item i).k) e
-        ∙ ap₂ (λ (subframe symbol : ℕ). grids (port_of p) number subframe symbol (item i).k) half row ∙ carried p i l
+        ap (λ n. slot_grid (grids (port p)) number n ((item i).symbol % 7) (item i).k) e
+        ∙ ap₂ (λ (subframe symbol : ℕ). grids (port p) number subframe symbol (item i).k) half row ∙ carried p i l
 
     pair_is_heard : (i : ℕ) → i < length places / 2 → SpeakAs carry_bits i (pair_at over_two slot_at places i)
     pair_is_heard i l =
@@ -128,33 +130,33 @@ module _ (recording : List Sample) (plan : CellPlan) (grids : Port → Elements)
         let both : s ≡ 10 + (item (2 * i + 1)).symbol / 7 = ap (λ n. 10 + n) (together i l) in
         let few : s < 20 = let low = (placed (2 * i) a).0 in omega (arith, low) in
         let half : s / 2 ≡ 5 = (in_slot (item (2 * i)).symbol (placed (2 * i) a).0).0 in
-        let received = each_slot_received over_two 400 TwoPorts port_of two_ports_send recording plan grids sfn offset gains faithful j s few (λ l start. inr (inl (omega arith, half))) in
-        let carry = pair_carried over_two 400 TwoPorts port_of two_ports_send (point_of carry_bits) i (λ p. slot_grid (grids (port_of p)) number s) (item (2 * i)) (item (2 * i + 1))
+        let received = each_slot_received false recording plan grids sfn offset gains faithful j s few (λ l start. inr (inl (omega arith, half))) in
+        let carry = pair_carried false (point_of carry_bits) i (λ p. slot_grid (grids (port p)) number s) (item (2 * i)) (item (2 * i + 1))
         (λ p. in_slot_sent p s (2 * i) a refl) (λ p. in_slot_sent p s (2 * i + 1) b both) in
         subst (λ (z : SeenSlot). SpeakAs carry_bits i (pair_at over_two (λ p. z) places i)) (sym (slot_is (item (2 * i)) (placed (2 * i) a).0))
-        (received_pair_speaks (value_at gains) recording (starts s) (λ p. slot_grid (grids (port_of p)) number s) (slot s) i (item (2 * i)) (item (2 * i + 1)) _ _ _ _ received
+        (received_pair_speaks (value_at gains) recording (starts s) (λ p. slot_grid (grids (port p)) number s) (slot s) i (item (2 * i)) (item (2 * i + 1)) _ _ _ _ received
         (placed (2 * i) a).1 (placed (2 * i + 1) b).1 carry)
 
     -- the values of these places speak for the bits before scrambling
-    places_heard : AreHeard 1 (2 * length places) bits (descrambled c_init 0 (paired_values slot_at places))
-    places_heard = descrambled_bits_are_heard 1 (2 * length places) c_init bits (paired_values slot_at places) (paired_heard over_two slot_at places carry_bits even pair_is_heard)
+    places_heard : AreHeard 1 (2 * length places) bits (descrambled c_init 0 (paired_by over_two slot_at places))
+    places_heard = descrambled_bits_are_heard 1 (2 * length places) c_init bits (paired_by over_two slot_at places) (paired_heard over_two slot_at places carry_bits even pair_is_heard)
 
   -- ---- the control region
 
-  carries : (p : ℕ) → CarriesPlan (port_of p) plan (grids (port_of p))
-  carries p = faithful.carries (port_of p) (two_ports_send.own p)
+  carries : (p : ℕ) → CarriesPlan (port p) plan (grids (port p))
+  carries p = faithful.carries (port p) (is_sender false p).own
 
-  controls : (p : ℕ) → has_control (port_of p) ≡ true
+  controls : (p : ℕ) → has_control (port p) ≡ true
   controls zero = refl
   controls (suc n) = refl
 
   -- its places are in the first slot
   region_heard : (c_init count last : ℕ) (bits : ℕ → Bool) (places : List Place) → length places ≡ count → count % 2 ≡ 0 → last ≤ 3 →
       ((i : ℕ) → i < count → IsInRegion plan.identity last (get_or places i (place 0 0))) →
-      ((p i : ℕ) → i < count → let q = get_or places i (place 0 0) in grids (port_of p) number 5 q.symbol q.k ≡ sent_point (port_of p) (point_of (scrambled c_init bits)) i) →
-      AreHeard 1 (2 * count) bits (descrambled c_init 0 (paired_values (λ p. slot 10) places))
+      ((p i : ℕ) → i < count → let q = get_or places i (place 0 0) in grids (port p) number 5 q.symbol q.k ≡ sent_point (port p) (point_of (scrambled c_init bits)) i) →
+      AreHeard 1 (2 * count) bits (descrambled c_init 0 (paired_by over_two (λ p. slot 10) places))
   region_heard c_init count last bits places size even few stands carried =
-      subst (λ n. AreHeard 1 (2 * n) bits (descrambled c_init 0 (paired_values (λ p. slot 10) places))) size
+      subst (λ n. AreHeard 1 (2 * n) bits (descrambled c_init 0 (paired_by over_two (λ p. slot 10) places))) size
       (subst (λ values. AreHeard 1 (2 * length places) bits (descrambled c_init 0 values))
       (paired_same over_two slot_at (λ p. slot 10) places (λ i l. rw (lt-ltb (get_or places (2 * i) (place 0 0)).symbol 7 (low (2 * i) (omega (arith, l)))) refl))
       (places_heard c_init bits places (omega (arith, size, even)) (λ i l. let at = low i l in (omega (arith, at), (stands i (omega (arith, l, size))).k))
@@ -164,29 +166,29 @@ module _ (recording : List Sample) (plan : CellPlan) (grids : Port → Elements)
       low : (i : ℕ) → i < length places → (get_or places i (place 0 0)).symbol < 7
       low i l = let at = (stands i (omega (arith, l, size))).symbol in omega (arith, at, few)
 
-  indicator_heard : Speak (indicator_values_by paired_values (slot 10)) plan.cfi
+  indicator_heard : Speak (indicator_values_by (paired_by over_two) (slot 10)) plan.cfi
   unfolding seen_slot indicator_values_by indicator_point
-  indicator_heard i l = supports-speaks (indicator_bit plan.cfi i) (get_or (indicator_values_by paired_values (slot 10)) i (pos 0)) (all.value i l)
+  indicator_heard i l = supports-speaks (indicator_bit plan.cfi i) (get_or (indicator_values_by (paired_by over_two) (slot 10)) i (pos 0)) (all.value i l)
     where
-      all : AreHeard 1 (2 * 16) (indicator_bit plan.cfi) (indicator_values_by paired_values (slot 10))
+      all : AreHeard 1 (2 * 16) (indicator_bit plan.cfi) (indicator_values_by (paired_by over_two) (slot 10))
       all = region_heard (pcfich_c_init plan.identity 10) 16 0 (indicator_bit plan.cfi) (pcfich_places plan.identity) (length-pcfich_places plan.identity) refl (omega arith)
-          (indicator_stands First plan sendable) (λ p i l. indicator_carried (port_of p) plan (grids (port_of p)) (carries p) sendable (controls p) number is_even i l)
+          (indicator_stands First plan sendable) (λ p i l. indicator_carried (port p) plan (grids (port p)) (carries p) sendable (controls p) number is_even i l)
 
-  control_heard : SpeakInOrder (grant_word (grant_of plan number)) (candidate_values_by paired_values (slot 10) plan.cfi plan.duration plan.resource)
+  control_heard : SpeakInOrder (grant_word (grant_of plan number)) (candidate_values_by (paired_by over_two) (slot 10) plan.cfi plan.duration plan.resource)
   unfolding seen_slot stream_values_by control_point control_word
   control_heard = record {
     enough = let size = (grant_parts (grant_of plan number)).size in let count = all.size in omega (arith, size, count);
     value = λ i l. all.value i (let count = all.size in omega (arith, l, count));
   }
     where
-      all : AreHeard 1 (2 * 144) (coded_bit (grant_word (grant_of plan number))) (candidate_values_by paired_values (slot 10) plan.cfi plan.duration plan.resource)
+      all : AreHeard 1 (2 * 144) (coded_bit (grant_word (grant_of plan number))) (candidate_values_by (paired_by over_two) (slot 10) plan.cfi plan.duration plan.resource)
       all = region_heard (pdcch_c_init plan.identity 10) 144 3 (coded_bit (grant_word (grant_of plan number))) (control_places plan) (control_indexed First plan sendable).size refl (omega arith)
-          (control_stands First plan sendable) (λ p i l. control_carried (port_of p) plan (grids (port_of p)) (carries p) sendable (controls p) number is_even i l)
+          (control_stands First plan sendable) (λ p i l. control_carried (port p) plan (grids (port p)) (carries p) sendable (controls p) number is_even i l)
 
   -- ---- the shared channel
 
   abbrev values : List ℤ
-  values = shared_values_by TwoPorts paired_values (slot 10) (slot 11) plan.cfi plan.start plan.blocks
+  values = shared_values_by TwoPorts (paired_by over_two) (slot 10) (slot 11) plan.cfi plan.start plan.blocks
 
   abbrev places : List Place
   places = assigned_places true plan
@@ -205,7 +207,7 @@ module _ (recording : List Sample) (plan : CellPlan) (grids : Port → Elements)
       (λ i l. let at = assigned_stands First plan sendable i l in (at.symbol, at.k))
       (λ i l. ap (λ (n : ℕ). n / 7) (pair_in_one_symbol plan.identity plan.cfi plan.start plan.blocks (2 * i) sendable.cfi.0 sendable.cfi.1 sendable.assignment.inside (omega arith) (omega (arith, l, paired)))) by
     where
-      by : (p i : ℕ) → i < length places → let q = get_or places i (place 0 0) in grids (port_of p) number 5 q.symbol q.k ≡ sent_point (port_of p) (shared_point plan number) i
+      by : (p i : ℕ) → i < length places → let q = get_or places i (place 0 0) in grids (port p) number 5 q.symbol q.k ≡ sent_point (port p) (shared_point plan number) i
       by zero i l = shared_carried First plan (grids First) (carries 0) sendable refl number is_even i l
       by (suc n) i l = shared_carried Second plan (grids Second) (carries 1) sendable refl number is_even i l
 
@@ -216,9 +218,9 @@ module _ (recording : List Sample) (plan : CellPlan) (grids : Port → Elements)
       (let count = assigned_bits_are First plan sendable in let enough = sendable.enough in let size = of.size in omega (arith, count, enough, size)))
 
   -- so the frame answers with the plan's fields
-  pub fields_read : Reads (subframe_by TwoPorts paired_values (slot 10) (slot 11) plan.duration plan.resource) (Ok plan.sib1)
+  pub fields_read : Reads (subframe_by TwoPorts (paired_by over_two) (slot 10) (slot 11) plan.duration plan.resource) (Ok plan.sib1)
   fields_read =
-      let read = spoken_grant_is_read (subframe_by TwoPorts paired_values (slot 10) (slot 11) plan.duration plan.resource) plan.cfi (grant_of plan number)
+      let read = spoken_grant_is_read (subframe_by TwoPorts (paired_by over_two) (slot 10) (slot 11) plan.duration plan.resource) plan.cfi (grant_of plan number)
       (record {
         range = (let low = sendable.cfi.0 in omega (arith, low), sendable.cfi.1);
         is_grant = grant_is plan sendable number;

@@ -9,7 +9,7 @@ use Rattle.cs_num.specs.Complex.{nothing, value_at}
 use Rattle.sizes.specs.Sizes.{energy_below}
 use Rattle.fold128.specs.Symbol.{useful_at}
 use Rattle.observe.specs.Seen.{seen_symbol}
-use Rattle.soft_bits.specs.Lines.{line_of, line_place}
+use Rattle.soft_bits.specs.Lines.{Line, line_of, line_place}
 use Rattle.soft_bits.specs.Soft.{SeenSlot}
 use Rattle.soft_bits.proofs.Lines.{is_line}
 use Rattle.cell_tx.specs.declared.antenna.Port.{Port}
@@ -25,15 +25,14 @@ use Rattle.clean_air.specs.Load.{CarriesPlan}
 use Rattle.clean_air.proofs.Carrying.{of_own_reference, of_other_reference}
 use Rattle.clean_air.proofs.SentSlots.{slot_grid, frame_is}
 use Rattle.clean_air.proofs.SentSymbols.{symbol_off}
-use Rattle.lte_types.specs.declared.carrier.Carrier.{Carrier}
 use Rattle.lte_types.specs.declared.numerology.Prefix.{Prefix}
+use Rattle.lte_types.specs.Carrier.{ports_of}
 use Rattle.lte_types.specs.Numerology.{normal, symbols_of_slot, useful_start}
 use Rattle.lte_types.specs.Timing.{start_of, number_at_start}
 use Rattle.explain.specs.Frame.{frame_at, seen_slot}
 use Rattle.budget.specs.Received.{off_by, IsReceivedBy, samples_from}
-use Rattle.two_ports.specs.Pairs.{Pairing}
 use Rattle.two_ports.specs.Received.{IsSlotReceived}
-use Rattle.two_ports.proofs.Sending.{ArePorts, seven}
+use Rattle.two_ports.proofs.Senders.{quota_of, carrier, sender, is_normal, is_sender, all, sounds, quiet, reference}
 
 -- ---- the reference signals
 
@@ -70,25 +69,26 @@ carried port plan grid seven carries number slot l k value inside is = same ∙ 
 
 -- ---- the slots
 
-module _ (pairing : Pairing) (quota : ℕ) (carrier : Carrier) (port : ℕ → Port) (are : ArePorts pairing quota carrier port)
-    (recording : List Sample) (plan : CellPlan) (grids : Port → Elements) (sfn offset : ℕ) (gains : List Cpx) (faithful : IsFaithfulBy carrier recording plan grids sfn offset gains) where
+module _ (four : Bool) (recording : List Sample) (plan : CellPlan) (grids : Port → Elements) (sfn offset : ℕ) (gains : List Cpx) (faithful : IsFaithfulBy (carrier four) recording plan grids sfn offset gains) where
+  abbrev IsSymbolReceived : ℕ → ℕ → ℕ → ℕ → Type 0
+  IsSymbolReceived number slot l t = IsReceivedBy (ports_of (carrier four)) (quota_of four) (value_at gains) (λ p. slot_grid (grids (sender four p)) number slot l) (samples_from recording t)
+
   -- a symbol that the list looks at is received from all ports
-  received_at : (t frame slot l : ℕ) → slot < 20 → l < 7 → t + offset ≡ 19200 * frame + useful_start normal 0 slot l → IsLookedAt carrier sfn offset frame slot l t →
-      IsReceivedBy pairing.ports quota (value_at gains) (λ p. slot_grid (grids (port p)) ((sfn + frame) % 1024) slot l) (samples_from recording t)
+  received_at : (t frame slot l : ℕ) → slot < 20 → l < 7 → t + offset ≡ 19200 * frame + useful_start normal 0 slot l → IsLookedAt (carrier four) sfn offset frame slot l t → IsSymbolReceived ((sfn + frame) % 1024) slot l t
   received_at t frame slot l few row place looked = record {
-    sounds = are.sounds gains faithful.gains_are;
-    quiet = are.quiet gains _ (subst Little (fun_ext (λ n. are.all (λ p. useful_at (slot_grid (grids p) ((sfn + frame) % 1024) slot l) n) gains))
+    sounds = sounds four gains faithful.gains_are;
+    quiet = quiet four gains _ (subst Little (fun_ext (λ n. all four (λ p. useful_at (slot_grid (grids p) ((sfn + frame) % 1024) slot l) n) gains))
         (subst (λ (prefix : Prefix). l < symbols_of_slot prefix → t + offset ≡ 19200 * frame + useful_start prefix 0 slot l →
-        Little (λ n. mixed carrier (λ p. useful_at (grids p ((sfn + frame) % 1024) (slot / 2) (symbols_of_slot prefix * (slot % 2) + l)) n) gains)) are.prefix
-        (λ low at. symbol_off carrier recording plan grids sfn offset gains faithful frame slot l t few low at looked) row place));
+        Little (λ n. mixed (carrier four) (λ p. useful_at (grids p ((sfn + frame) % 1024) (slot / 2) (symbols_of_slot prefix * (slot % 2) + l)) n) gains)) (is_normal four)
+        (λ low at. symbol_off (carrier four) recording plan grids sfn offset gains faithful frame slot l t few low at looked) row place));
   }
     where
       Little : (ℕ → Cpx) → Type 0
-      Little values = IsLittle carrier gains (energy_below 128 (off_by (samples_from recording t) values))
+      Little values = IsLittle (carrier four) gains (energy_below 128 (off_by (samples_from recording t) values))
 
   -- a slot that the list looks at is received
-  pub each_slot_received : (j slot : ℕ) → slot < 20 → ((l start : ℕ) → IsLookedAt carrier sfn offset (first_frame_of offset + j) slot l start) →
-      IsSlotReceived pairing.ports quota (value_at gains) recording (useful_start normal (frame_at (start_of offset) j) slot) (λ p. slot_grid (grids (port p)) ((number_at_start sfn offset + j) % 1024) slot)
+  pub each_slot_received : (j slot : ℕ) → slot < 20 → ((l start : ℕ) → IsLookedAt (carrier four) sfn offset (first_frame_of offset + j) slot l start) →
+      IsSlotReceived (carrier four) (quota_of four) (value_at gains) recording (useful_start normal (frame_at (start_of offset) j) slot) (λ p. slot_grid (grids (sender four p)) ((number_at_start sfn offset + j) % 1024) slot)
       (seen_slot recording (frame_at (start_of offset) j) slot plan.identity)
   unfolding seen_slot
   each_slot_received j slot few looked =
@@ -98,11 +98,12 @@ module _ (pairing : Pairing) (quota : ℕ) (carrier : Carrier) (port : ℕ → P
       let seen : SeenSlot = seen_slot recording (frame_at (start_of offset) j) slot plan.identity in
       record {
         seen = λ l inside. values_below_at (λ symbol. seen_symbol recording (start symbol)) 7 l [] inside;
-        amplitudes = λ p l below inside. (faithful.carries (port p) (are.own p)).small number (slot / 2) (7 * (slot % 2) + l);
-        received = λ l inside. subst (λ m. IsReceivedBy pairing.ports quota (value_at gains) (λ p. slot_grid (grids (port p)) m slot l) (samples_from recording (start l))) frame.number
+        amplitudes = λ p l below inside. (faithful.carries (sender four p) (is_sender four p).own).small number (slot / 2) (7 * (slot % 2) + l);
+        received = λ l inside. subst (λ m. IsSymbolReceived m slot l (start l)) frame.number
             (received_at (start l) (first_frame_of offset + j) slot l few inside (omega (arith, frame.place)) (looked l (start l)));
         pilots = λ p i q below last other.
-            let row = (is_line p seen).row i in
-            carried (port q) plan (grids (port q)) (seven pairing quota carrier port are q) (faithful.carries (port q) (are.own q)) number slot ((line_of p seen).symbol i) (line_place (line_of p seen) i) _ (omega (arith, row))
-            (are.reference seen p q i below other last);
+            let line : Line = line_of (carrier four) p seen in
+            let row = (is_line (carrier four) p seen).row i in
+            carried (sender four q) plan (grids (sender four q)) (is_sender four q).seven (faithful.carries (sender four q) (is_sender four q).own) number slot (line.symbol i) (line_place line i) _ (omega (arith, row))
+            (reference four seen p q i below other);
       }

@@ -1,4 +1,2 @@
-pub mod Pairs
-pub mod Kept
 pub mod Received
 pub mod Entries

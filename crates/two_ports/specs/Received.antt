@@ -8,11 +8,13 @@ use Rattle.sizes.specs.Sizes.{energy_below}
 use Rattle.cs_bits.specs.Signs.{Supports}
 use Rattle.crs.specs.Qpsk.{point}
 use Rattle.observe.specs.Seen.{seen_symbol}
+use Rattle.lte_types.specs.declared.carrier.Carrier.{Carrier}
+use Rattle.lte_types.specs.Carrier.{ports_of}
 use Rattle.grid_map.specs.declared.Place.{Place}
 use Rattle.soft_bits.specs.Lines.{line_of, line_place, line_seen}
+use Rattle.soft_bits.specs.Pairs.{Pairing, over_two, seen_by, pair_values}
 use Rattle.soft_bits.specs.Soft.{SeenSlot}
 use Rattle.budget.specs.Received.{AreAmplitudes, IsReceivedBy, IsSeenBy, samples_from}
-use Rattle.two_ports.specs.Pairs.{Pairing, over_two, seen_by, pair_values}
 
 -- ---- what the ports send
 
@@ -34,17 +36,18 @@ second_sent pairing i x y = over (pairing.lower i) (pairing.upper i) y (conjugat
 
 -- ---- seen
 
--- the pilots of so many ports of a slot are seen, each port's with its gain, in parts, and nothing of the others; the
--- sum of the gains' squares is at least that of 1
-pub record ArePortsSeen (ports most : ℕ) (gains : ℕ → Cpx) (slot : SeenSlot) : Type 0 where
-  pub sounds : 2 ^ 28 ≤ energy_below ports gains
-  pub pilots : (port i : ℕ) → port < ports → i ≤ (line_of port slot).last →
-      IsSeenBy ports most gains (only port ((line_of port slot).sent i)) (line_seen (line_of port slot) slot i)
+-- the pilots of all ports of a carrier are seen in a slot, each port's with its gain, in parts, and nothing of the
+-- others; the sum of the gains' squares is at least that of 1
+pub record ArePortsSeen (carrier : Carrier) (most : ℕ) (gains : ℕ → Cpx) (slot : SeenSlot) : Type 0 where
+  pub sounds : 2 ^ 28 ≤ energy_below (ports_of carrier) gains
+  pub pilots : (port i : ℕ) → port < ports_of carrier → i ≤ (line_of carrier port slot).last →
+      IsSeenBy (ports_of carrier) most gains (only port ((line_of carrier port slot).sent i))
+      (line_seen (line_of carrier port slot) slot i)
 
 -- pair number i, of the points x and y, is seen at two places
 pub record IsPairSeen (pairing : Pairing) (most : ℕ) (gains : ℕ → Cpx) (i : ℕ) (x y a b : Cpx) : Type 0 where
-  pub first : IsSeenBy pairing.ports most gains (first_sent pairing i x y) a
-  pub second : IsSeenBy pairing.ports most gains (second_sent pairing i x y) b
+  pub first : IsSeenBy (ports_of pairing.carrier) most gains (first_sent pairing i x y) a
+  pub second : IsSeenBy (ports_of pairing.carrier) most gains (second_sent pairing i x y) b
 
 -- four values speak for four bits
 pub record SupportFour (least : ℕ) (b c d e : Bool) (values : List ℤ) : Type 0 where
@@ -58,28 +61,31 @@ pub record SupportFour (least : ℕ) (b c d e : Bool) (values : List ℤ) : Type
 abbrev pub SpeakWith : (ℕ → Cpx) → Pairing → ℕ → ℕ → Type 0
 SpeakWith gains pairing most least =
     (slot : SeenSlot) (i k : ℕ) (b c d e : Bool) (at_first at_second : Cpx) →
-    ArePortsSeen pairing.ports most gains slot →
+    ArePortsSeen pairing.carrier most gains slot →
     IsPairSeen pairing most gains i (point b c) (point d e) at_first at_second →
     SupportFour least b c d e (seen_by pairing i slot k at_first at_second)
 
 -- ---- slots of a recording
 
--- the seven symbols of a slot are received from so many ports with these gains, each from its place on, and hold the
--- reference signals of all ports; each port sends nothing at those of the others
-pub record IsSlotReceived (ports quota : ℕ) (gains : ℕ → Cpx) (recording : List Sample) (starts : ℕ → ℕ)
-    (grids : ℕ → ℕ → ℕ → Cpx) (slot : SeenSlot) : Type 0 where
+-- the seven symbols of a slot are received from all ports of a carrier with these gains, each from its place on, and
+-- hold the reference signals of all ports; each port sends nothing at those of the others
+pub record IsSlotReceived (carrier : Carrier) (quota : ℕ) (gains : ℕ → Cpx) (recording : List Sample)
+    (starts : ℕ → ℕ) (grids : ℕ → ℕ → ℕ → Cpx) (slot : SeenSlot) : Type 0 where
   pub seen : (l : ℕ) → l < 7 → slice_index_or slot.symbols l [] ≡ seen_symbol recording (starts l)
-  pub amplitudes : (port l : ℕ) → port < ports → l < 7 → AreAmplitudes (grids port l)
+  pub amplitudes : (port l : ℕ) → port < ports_of carrier → l < 7 → AreAmplitudes (grids port l)
   pub received : (l : ℕ) → l < 7 →
-      IsReceivedBy ports quota gains (λ port. grids port l) (samples_from recording (starts l))
-  pub pilots : (port i other : ℕ) → port < ports → i ≤ (line_of port slot).last → other < ports →
-      grids other ((line_of port slot).symbol i) (line_place (line_of port slot) i)
-      ≡ only port ((line_of port slot).sent i) other
+      IsReceivedBy (ports_of carrier) quota gains (λ port. grids port l) (samples_from recording (starts l))
+  pub pilots : (port i other : ℕ) → port < ports_of carrier → i ≤ (line_of carrier port slot).last →
+      other < ports_of carrier →
+      grids other ((line_of carrier port slot).symbol i) (line_place (line_of carrier port slot) i)
+      ≡ only port ((line_of carrier port slot).sent i) other
 
 -- two places carry pair number i, of the points x and y
 pub record CarryPair (pairing : Pairing) (grids : ℕ → ℕ → ℕ → Cpx) (i : ℕ) (p q : Place) (x y : Cpx) : Type 0 where
-  pub first : (port : ℕ) → port < pairing.ports → grids port (p.symbol % 7) p.k ≡ first_sent pairing i x y port
-  pub second : (port : ℕ) → port < pairing.ports → grids port (q.symbol % 7) q.k ≡ second_sent pairing i x y port
+  pub first : (port : ℕ) → port < ports_of pairing.carrier →
+      grids port (p.symbol % 7) p.k ≡ first_sent pairing i x y port
+  pub second : (port : ℕ) → port < ports_of pairing.carrier →
+      grids port (q.symbol % 7) q.k ≡ second_sent pairing i x y port
 
 -- where a slot is received with these gains, the four values of two places that carry a pair of points speak for their
 -- bits
@@ -87,7 +93,7 @@ abbrev pub SpeakReceivedWith : (ℕ → Cpx) → Pairing → ℕ → ℕ → Typ
 SpeakReceivedWith gains pairing quota least =
     (recording : List Sample) (starts : ℕ → ℕ) (grids : ℕ → ℕ → ℕ → Cpx) (slot : SeenSlot) (i : ℕ) (p q : Place)
     (b c d e : Bool) →
-    IsSlotReceived pairing.ports quota gains recording starts grids slot → p.k < 72 → q.k < 72 →
+    IsSlotReceived pairing.carrier quota gains recording starts grids slot → p.k < 72 → q.k < 72 →
     CarryPair pairing grids i p q (point b c) (point d e) →
     SupportFour least b c d e (pair_values pairing i slot p q)
 

@@ -2,10 +2,13 @@ use Rattle.std.proofs.Common.{◌≡◌, ℕ, List, ap, ◌∙◌}
 use Rattle.finite.specs.Lists.{values_below}
 use Rattle.cs_num.specs.declared.Cpx.{Cpx}
 use Rattle.cs_num.specs.declared.Sample.{Sample}
-use Rattle.crs.specs.Reference.{long_prefix}
+use Rattle.lte_types.specs.declared.carrier.Carrier.TheVariants.{LongPrefix}
 use Rattle.lte_types.specs.Numerology.{extended, useful_start}
 use Rattle.observe.specs.Seen.{seen_symbol}
-use Rattle.soft_bits.specs.Soft.{SeenSlot, pattern_pilot, pattern_energy}
+use Rattle.soft_bits.specs.Kept.{seen_line}
+use Rattle.soft_bits.specs.Lines.{line_of, ports_energy}
+use Rattle.soft_bits.specs.Soft.{SeenSlot}
+use Rattle.soft_bits.proofs.Lines.{energy_of_long}
 use Rattle.explain.specs.Frame.{frame_at}
 use Rattle.long_prefix.specs.Entries.{long_slot, long_values}
 use Rattle.long_prefix.proofs.reading.long_frame.Goals as goal
@@ -21,12 +24,18 @@ slot_is recording identity id start at j symbols are same begins =
 
 pub returns-clause-pilots : goal.returns-clause-pilots
 returns-clause-pilots c =
-    c.pilots_of-pilots.ensures.value
-    ∙ ap (λ (s : SeenSlot). values_below 24 (pattern_pilot long_prefix s)) (slot_is _ _ _ _ _ _ _ c.symbols_of-symbols.ensures.values c.id.ensures c.start.ensures.value)
+    c.pilots_of-pilots.ensures
+    ∙ ap (λ (s : SeenSlot). seen_line (line_of LongPrefix 0 s) s) (slot_is _ _ _ _ _ _ _ c.symbols_of-symbols.ensures.values c.id.ensures c.start.ensures.value)
 
 pub returns-clause-energy : goal.returns-clause-energy
-returns-clause-energy c =
-    c.energy_of-energy.ensures.value ∙ ap (pattern_energy long_prefix) (slot_is _ _ _ _ _ _ _ c.symbols_of-symbols.ensures.values c.id.ensures c.start.ensures.value)
+returns-clause-energy c = returns-clause-total c ∙ energy_of_long _
+
+pub returns-clause-total : goal.returns-clause-total
+returns-clause-total c =
+    c.energy_of-energy.ensures.value ∙ ap (ports_energy LongPrefix) (slot_is _ _ _ _ _ _ _ c.symbols_of-symbols.ensures.values c.id.ensures c.start.ensures.value)
+
+pub values_of-requires-clause-energy : goal.values_of-requires-clause-energy
+values_of-requires-clause-energy c = c.energy_of-energy.ensures.value ∙ energy_of_long _
 
 pub returns-clause-values : goal.returns-clause-values
 returns-clause-values c =

@@ -1,26 +1,27 @@
-use Rattle.std.proofs.Common.{◌≡◌, ℕ, ◌%◌, ap, ◌∙◌}
+use Rattle.std.proofs.Common.{◌≡◌, ℕ, ap, ◌∙◌, subst, sym}
 use Rattle.cs_num.specs.declared.Cpx.{Cpx}
-use Rattle.cs_num.specs.Complex.{nothing, value_at, times, conjugate}
-use Rattle.finite.proofs.Lists.{values_below_at}
+use Rattle.cs_num.specs.Complex.{IsWithin, times, conjugate}
+use Rattle.lte_types.specs.declared.carrier.Carrier.TheVariants.{LongPrefix}
 use Rattle.crs.specs.Reference.{long_prefix}
-use Rattle.soft_bits.specs.Estimate.{estimate}
-use Rattle.soft_bits.specs.Soft.{SeenSlot, seen_at, soft_pair, pattern_pilot, pattern_channel}
-use Rattle.soft_bits.specs.Kept.{slot_of}
-use Rattle.soft_bits.proofs.Estimates.{estimate-same}
+use Rattle.soft_bits.specs.Kept.{SeenLine, slot_of, along}
+use Rattle.soft_bits.specs.Lines.{line_of}
+use Rattle.soft_bits.specs.Soft.{SeenSlot, seen_at, soft_pair, pattern_channel}
+use Rattle.soft_bits.proofs.Lines.{is_line, along_is, line_channel_is}
 use Rattle.long_prefix.specs.Entries.{long_pair}
 use Rattle.long_prefix.proofs.reading.pair_at.Goals as goal
 
+pub soft_pair-requires-clause-channel : goal.soft_pair-requires-clause-channel
+soft_pair-requires-clause-channel c =
+    subst (λ (step : ℕ). IsWithin (step * (180 * 2 ^ 25)) c.channel.result) (ap (λ (line : SeenLine). line.step) c.requires.pilots) c.channel.ensures.small
+
 pub returns-clause-values : goal.returns-clause-values
-unfolding long_pair pattern_channel
+unfolding long_pair
 returns-clause-values c =
     let slot : SeenSlot = slot_of c.args.seen.now in
     let k : ℕ = c.args.place.k in
     let seen : Cpx = seen_at slot c.args.place.symbol k in
-    let pilots = c.args.pilots.now in
-    let channel : c.estimate-channel.result ≡ pattern_channel long_prefix slot k = c.estimate-channel.ensures.value
-    ∙ ap (λ (shift : ℕ). estimate (value_at pilots) shift k) c.n2.ensures.value
-    ∙ estimate-same (value_at pilots) (pattern_pilot long_prefix slot) (slot.identity % 3) k
-    (λ i few. ap (λ ps. value_at ps i) c.requires.pilots ∙ values_below_at (pattern_pilot long_prefix slot) 24 i nothing few) in
+    let channel : c.channel.result ≡ pattern_channel long_prefix slot k = c.channel.ensures.value ∙ ap (λ (line : SeenLine). along line k) c.requires.pilots
+    ∙ along_is (line_of LongPrefix 0 slot) (is_line LongPrefix 0 slot) slot k ∙ line_channel_is LongPrefix slot k in
     c.soft_pair.ensures.values
     ∙ ap (λ (z : Cpx). soft_pair (times seen (conjugate z)) c.args.energy) channel
     ∙ ap (λ (n : ℕ). soft_pair (times seen (conjugate (pattern_channel long_prefix slot k))) n) c.requires.energy

@@ -1,4 +1,4 @@
-use Rattle.lte_top.specs.Searching.{receiver_of}
+use Rattle.evidence.specs.Receivers.{receiver_of}
 use Rattle.lte_top.proofs.certificates.certify_recording.Given as goal
 
 abbrev pub ghost-certify_list : goal.ghost-certify_list

@@ -1,4 +1,4 @@
-use Rattle.lte_top.specs.Searching.{receiver_of}
+use Rattle.evidence.specs.Receivers.{receiver_of}
 use Rattle.lte_top.proofs.reporting.evidence_json.Given as goal
 
 abbrev pub ghost-support_of_list : goal.ghost-support_of_list

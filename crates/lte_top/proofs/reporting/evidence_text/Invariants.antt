@@ -1,4 +1,4 @@
-use Rattle.lte_top.specs.Searching.{receiver_of}
+use Rattle.evidence.specs.Receivers.{receiver_of}
 use Rattle.lte_top.proofs.reporting.evidence_text.Given as goal
 
 abbrev pub ghost-evidence_of_list : goal.ghost-evidence_of_list

@@ -8,7 +8,7 @@ use Rattle.soft_bits.proofs.Channel.{length-placed, placed-at, placed-small}
 use Rattle.soft_bits.proofs.places.fill_soft.Goals as goal
 
 pub returns-clause-values : goal.returns-clause-values
-returns-clause-values c =
+returns-clause-values g c =
     let slot : Place → SeenSlot = in_subframe c.args.first.now c.args.second.now in
     let places = c.args.places.now in
     let whole = c.loop-i.invariant.whole in
@@ -16,5 +16,5 @@ returns-clause-values c =
     (λ k below. c.loop-i.invariant.each k (omega (arith, whole, below)) ∙ sym (placed-at slot places k (omega (arith, whole, below))))
 
 pub returns-clause-sizes : goal.returns-clause-sizes
-returns-clause-sizes c =
-    subst (λ values. All (λ value. nat_abs value ≤ 127) values) (sym (returns-clause-values c)) (placed-small (in_subframe c.args.first.now c.args.second.now) c.args.places.now)
+returns-clause-sizes g c =
+    subst (λ values. All (λ value. nat_abs value ≤ 127) values) (sym (returns-clause-values g c)) (placed-small (in_subframe c.args.first.now c.args.second.now) c.args.places.now)

@@ -1,0 +1,41 @@
+use Rattle.std.proofs.Common.{ap, sym, subst, ◌∙◌}
+use Rattle.lte_types.specs.CellPlace.{Place}
+use Rattle.lte_types.specs.declared.carrier.Carrier.{Carrier}
+use Rattle.explain.specs.Entries.{place_of}
+use Rattle.explain.specs.Frame.{IsWhole}
+use Rattle.evidence.specs.Evidence.{shown_in, IsEvidenceFor, IsInRange}
+use Rattle.evidence.proofs.Early.{starts_early, first_is_whole}
+use Rattle.evidence.proofs.Numbers.{has_root, has_energy, is_within, are_numbers, are_in_range}
+use Rattle.evidence.proofs.listing.told_of.Goals as goal
+
+pub place_in-requires : goal.place_in-requires
+place_in-requires g c = starts_early g.receiver c.args.recording.now c.args.entry.now c.requires.1.0
+
+pub shown_in-slot-requires : goal.shown_in-slot-requires
+shown_in-slot-requires g c =
+    subst (λ (p : Place). IsWhole c.args.recording.now p.start c.args.entry.now.frame) (sym c.place_in.ensures)
+    (first_is_whole g.receiver c.args.recording.now c.args.entry.now c.requires.1.0)
+
+pub numbers_of-numbers-requires-clause-root : goal.numbers_of-numbers-requires-clause-root
+numbers_of-numbers-requires-clause-root g c = has_root g.receiver c.args.recording.now c.args.entry.now c.args.reading.now c.requires.1.0 c.requires.1.1
+
+pub numbers_of-numbers-requires-clause-sounds : goal.numbers_of-numbers-requires-clause-sounds
+numbers_of-numbers-requires-clause-sounds g c = has_energy g.receiver c.args.recording.now c.args.entry.now c.args.reading.now c.requires.1.0 c.requires.1.1
+
+pub numbers_of-numbers-requires-clause-within : goal.numbers_of-numbers-requires-clause-within
+numbers_of-numbers-requires-clause-within g c = is_within g.receiver c.args.recording.now c.args.entry.now c.args.reading.now c.requires.1.0 c.requires.1.1
+
+pub returns-clause-evidence : goal.returns-clause-evidence
+returns-clause-evidence g c =
+    subst (IsEvidenceFor g.receiver c.args.recording.now c.args.entry.now) (sym c.numbers_of-numbers.ensures)
+    (are_numbers g.receiver c.args.recording.now c.args.entry.now c.args.reading.now c.requires.1.0 c.requires.1.1 c.shown_in-slot.result (returns-clause-slot g c))
+
+pub returns-clause-range : goal.returns-clause-range
+returns-clause-range g c =
+    subst IsInRange (sym c.numbers_of-numbers.ensures) (are_in_range g.receiver c.args.recording.now c.args.entry.now c.args.reading.now c.requires.1.0 c.requires.1.1 _)
+
+pub returns-clause-slot : goal.returns-clause-slot
+returns-clause-slot g c =
+    let entry = c.args.entry.now in
+    c.shown_in-slot.ensures ∙ ap (λ (p : Place). shown_in c.args.carrier c.args.recording.now p entry.frame) c.place_in.ensures
+    ∙ ap (λ (k : Carrier). shown_in k c.args.recording.now (place_of entry) entry.frame) c.requires.0

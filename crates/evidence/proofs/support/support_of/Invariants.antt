@@ -1,0 +1,4 @@
+use Rattle.evidence.proofs.support.support_of.Given as goal
+
+abbrev pub ghost-told_of : goal.ghost-told_of
+ghost-told_of g a = g.receiver

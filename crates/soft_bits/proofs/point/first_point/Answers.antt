@@ -1,0 +1,32 @@
+use Rattle.std.proofs.Common.{◌≡◌, ℕ, ◌*◌, ◌^◌, arith}
+use Rattle.std.proofs.lemmas.Nat.{mul-le}
+use Rattle.cs_num.specs.declared.Cpx.{Cpx}
+use Rattle.cs_num.specs.Complex.{IsWithin, times, conjugate, size}
+use Rattle.cs_num.proofs.Complex.{size-le, times-within, plus-within, conjugate-within}
+use Rattle.soft_bits.proofs.point.first_point.Goals as goal
+
+turned : (z w : Cpx) (m : ℕ) → w ≡ conjugate z → IsWithin m z → IsWithin m w
+turned z w m e small = rw e (conjugate-within z m small)
+
+product : (h a z : Cpx) → z ≡ times h a → IsWithin (1080 * 2 ^ 25) h → IsWithin (2 ^ 25) a → IsWithin (2160 * 2 ^ 50) z
+product h a z e p q = rw e (times-within h a (1080 * 2 ^ 25) (2 ^ 25) (1080 * 2 ^ 50) p q (omega arith))
+
+pub mul-requires : goal.mul-requires
+mul-requires c =
+    omega (arith, mul-le (size c.conj.result) (size c.args.a) (1080 * 2 ^ 25) (2 ^ 25) (size-le _ _ (turned c.args.h c.conj.result (1080 * 2 ^ 25) c.conj.ensures c.requires.h)) (size-le _ _ c.requires.a))
+
+pub mul-requires-2 : goal.mul-requires-2
+mul-requires-2 c =
+    omega (arith, mul-le (size c.args.g) (size c.conj-2.result) (1080 * 2 ^ 25) (2 ^ 25) (size-le _ _ c.requires.g) (size-le _ _ (turned c.args.b c.conj-2.result (2 ^ 25) c.conj-2.ensures c.requires.b)))
+
+pub add-requires : goal.add-requires
+add-requires c =
+    let x : IsWithin (2160 * 2 ^ 50) c.mul.result = product c.conj.result c.args.a c.mul.result c.mul.ensures (turned c.args.h c.conj.result (1080 * 2 ^ 25) c.conj.ensures c.requires.h) c.requires.a in
+    let y : IsWithin (2160 * 2 ^ 50) c.mul-2.result = product c.args.g c.conj-2.result c.mul-2.result c.mul-2.ensures c.requires.g (turned c.args.b c.conj-2.result (2 ^ 25) c.conj-2.ensures c.requires.b) in
+    omega (arith, size-le _ _ x, size-le _ _ y)
+
+pub returns-clause-small : goal.returns-clause-small
+returns-clause-small c =
+    let x : IsWithin (2160 * 2 ^ 50) c.mul.result = product c.conj.result c.args.a c.mul.result c.mul.ensures (turned c.args.h c.conj.result (1080 * 2 ^ 25) c.conj.ensures c.requires.h) c.requires.a in
+    let y : IsWithin (2160 * 2 ^ 50) c.mul-2.result = product c.args.g c.conj-2.result c.mul-2.result c.mul-2.ensures c.requires.g (turned c.args.b c.conj-2.result (2 ^ 25) c.conj-2.ensures c.requires.b) in
+    rw c.add.ensures (plus-within c.mul.result c.mul-2.result (2160 * 2 ^ 50) (2160 * 2 ^ 50) (4320 * 2 ^ 50) x y (omega arith))

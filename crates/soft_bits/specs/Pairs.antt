@@ -1,0 +1,84 @@
+-- The soft values of pairs of places that antenna ports send by transmit diversity (TS 36.211 section 6.3.4.3, without
+-- its factor; the receiver is own), and those of a carrier's ports, one or several.
+use Rattle.std.specs.Prelude.{ℕ, ◌+◌, ◌*◌, ◌/◌, ◌%◌, List, ◌++◌, ℤ, length, slice_index_or}
+use Rattle.finite.specs.Lists.{joined_below}
+use Rattle.cs_num.specs.declared.Cpx.{Cpx}
+use Rattle.cs_num.specs.Complex.{plus, minus, times, conjugate}
+use Rattle.lte_types.specs.declared.carrier.Carrier.{Carrier}
+use Rattle.lte_types.specs.declared.carrier.Carrier.TheVariants.{OnePort, TwoPorts, FourPorts}
+use Rattle.grid_map.specs.declared.Place.{Place}
+use Rattle.grid_map.specs.Place.{place}
+use Rattle.soft_bits.specs.Lines.{port_channel, ports_energy}
+use Rattle.soft_bits.specs.Places.{Valuing, placed_values}
+use Rattle.soft_bits.specs.Soft.{SeenSlot, seen_at, soft_pair}
+
+-- what stands for the first point of a pair, by the channels h and k of the two ports, where a and b were seen at its
+-- two places
+abbrev pub first_of : Cpx → Cpx → Cpx → Cpx → Cpx
+first_of h k a b = plus (times (conjugate h) a) (times k (conjugate b))
+
+-- what stands for the second point of a pair, by the channels h and k of the two ports, where a and b were seen at
+-- its two places
+abbrev pub second_of : Cpx → Cpx → Cpx → Cpx → Cpx
+second_of h k a b = minus (times (conjugate h) b) (times k (conjugate a))
+
+-- the four values of the points of a pair, by these channels and the energy of the pilots: those of the first point,
+-- then those of the second
+abbrev pub point_values : Cpx → Cpx → ℕ → Cpx → Cpx → List ℤ
+point_values h k energy a b = soft_pair (first_of h k a b) energy ++ soft_pair (second_of h k a b) energy
+
+-- ---- pairings: by which ports pairs are sent
+
+-- the carrier, how many times the channels of its ports are taken, and the two ports that send pair number i
+pub record Pairing : Type 0 where
+  pub carrier : Carrier
+  pub scale : ℕ
+  pub lower : ℕ → ℕ
+  pub upper : ℕ → ℕ
+
+-- one port sends all, and no pairs
+abbrev pub alone : Pairing
+alone = record { carrier = OnePort; scale = 3; lower = λ i. 0; upper = λ i. 0 }
+
+-- two ports send each pair
+abbrev pub over_two : Pairing
+over_two = record { carrier = TwoPorts; scale = 3; lower = λ i. 0; upper = λ i. 1 }
+
+-- four ports send the pairs of even number over ports 0 and 2, those of odd number over ports 1 and 3
+abbrev pub over_four : Pairing
+over_four = record { carrier = FourPorts; scale = 6; lower = λ i. i % 2; upper = λ i. 2 + i % 2 }
+
+-- ---- the values of pairs
+
+-- the four values of pair number i by what was seen at its two places, and by the channels at a subcarrier
+abbrev pub seen_by : Pairing → ℕ → SeenSlot → ℕ → Cpx → Cpx → List ℤ
+seen_by pairing i slot k =
+    point_values (port_channel pairing.scale pairing.carrier (pairing.lower i) slot k)
+    (port_channel pairing.scale pairing.carrier (pairing.upper i) slot k) (ports_energy pairing.carrier slot)
+
+-- the four values of pair number i at two places of the slot's subframe, whose symbols 7 to 13 are those of its second
+-- slot; the channels are those at the first place
+unfoldable pub pair_values : Pairing → ℕ → SeenSlot → Place → Place → List ℤ
+pair_values pairing i slot p q =
+    seen_by pairing i slot p.k (seen_at slot (p.symbol % 7) p.k) (seen_at slot (q.symbol % 7) q.k)
+
+-- pair i of a list of places takes the places 2i and 2i + 1; `slot` says which slot has a place
+abbrev pub pair_at : Pairing → (Place → SeenSlot) → List Place → ℕ → List ℤ
+pair_at pairing slot places i =
+    let first = slice_index_or places (2 * i) (place 0 0) in
+    pair_values pairing i (slot first) first (slice_index_or places (2 * i + 1) (place 0 0))
+
+-- the values of all pairs, one pair after the other
+unfoldable pub paired_by : Pairing → Valuing
+paired_by pairing slot places = joined_below (length places / 2) (pair_at pairing slot places)
+
+-- ---- one port or several
+
+-- the values of places of a carrier: with one port one place after the other, with several one pair after the other
+abbrev pub values_over : Carrier → Pairing → Valuing
+values_over OnePort pairing = placed_values
+values_over carrier pairing = paired_by pairing
+
+-- the values of places by a pairing, of its carrier
+abbrev pub valued_by : Pairing → Valuing
+valued_by pairing = values_over pairing.carrier pairing

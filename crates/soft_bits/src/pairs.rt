@@ -1,0 +1,57 @@
+//! The soft values of lists of places that are sent two by two.
+
+ghost use Rattle.std.specs.Prelude.{◌≡◌, ◌*◌, ◌%◌, ◌<◌, All, length};
+ghost use Rattle.finite.specs.Sizes.{AllWithin};
+ghost use Rattle.soft_bits.specs.Places.{slot_with, in_subframe};
+ghost use Rattle.soft_bits.specs.Pairs.{pair_values, paired_by};
+
+use crate::{PortSlot, Ports, point_values, slot_of};
+use grid_map::Place;
+
+/// Writes the soft values of places of a subframe over the whole of `values`, two a place, in the order of the places,
+/// which are taken two by two. A place in symbols 0 to 6 is one of the subframe's first slot, and one in symbols 7 to
+/// 13 one of its second; both places of a pair are in one slot, that of the first of them. There is an even count of
+/// places.
+pub(crate) fn fill_pairs<K: Ports>(
+    first: &PortSlot<K>,
+    second: &PortSlot<K>,
+    places: &[Place],
+    values: &mut [i16],
+)
+    requires inside { All (λ p. (p.symbol < 14) × (p.k < 72)) places.now }
+    requires even { length places.now % 2 ≡ 0 }
+    requires room { length values.old ≡ 2 * length places.now }
+    ensures values { values.new
+        ≡ paired_by K.pairing (in_subframe first.now second.now) places.now }
+    ensures sizes { AllWithin 127 values.new }
+{
+    for i in 0..places.len() / 2 {
+        let four = pair_at(i, first, second, &places[2 * i], &places[2 * i + 1]);
+        values[4 * i..4 * i + 4].copy_from_slice(&four);
+    }
+}
+
+// The four values of the two places of pair number i.
+fn pair_at<K: Ports>(
+    i: usize,
+    first: &PortSlot<K>,
+    second: &PortSlot<K>,
+    p: &Place,
+    q: &Place,
+) -> [i16; 4]
+    requires p { p.now.k < 72 }
+    requires q { q.now.k < 72 }
+    ensures values { result ≡ pair_values K.pairing i
+        (slot_with first.now second.now p.now.symbol) p.now q.now }
+    ensures sizes { AllWithin 127 result }
+{
+    let slot = slot_of(first, second, p.symbol);
+    let ports = K::pair(i);
+    point_values(
+        slot.channel(ports.0, p.k),
+        slot.channel(ports.1, p.k),
+        slot.energy(),
+        slot.seen(p.symbol % 7, p.k),
+        slot.seen(q.symbol % 7, q.k),
+    )
+}

@@ -1,0 +1,48 @@
+//! How many antenna ports send, and by which of them each pair of points.
+
+ghost use Rattle.std.specs.Prelude.{◌≡◌, ◌<◌, ◌≤◌};
+ghost use Rattle.lte_types.specs.Carrier.{ports_of};
+ghost use Rattle.soft_bits.specs.Pairs.{Pairing, alone};
+
+use lte_types::Carrier;
+
+/// A kind of carrier with the normal prefix, and the ports by which each pair of points is sent (TS 36.211 section
+/// 6.3.4.3).
+pub trait Ports {
+    ghost pairing: { Pairing };
+
+    /// The carrier.
+    fn carrier() -> Carrier
+        ensures { result ≡ pairing.carrier };
+
+    /// How many times the channel of each port is taken: 3, and 6 where a port has 12 pilots.
+    fn scale() -> u8
+        ensures value { result ≡ pairing.scale }
+        ensures few { result ≤ 6 };
+
+    /// The two ports that send pair number `i`; of one port, that port twice.
+    fn pair(i: usize) -> (u8, u8)
+        ensures lower { result.0 ≡ pairing.lower i }
+        ensures upper { result.1 ≡ pairing.upper i }
+        ensures lower_inside { result.0 < ports_of pairing.carrier }
+        ensures upper_inside { result.1 < ports_of pairing.carrier };
+}
+
+/// One antenna port.
+pub struct Single;
+
+impl Ports for Single {
+    ghost pairing = { alone };
+
+    fn carrier() -> Carrier {
+        Carrier::OnePort
+    }
+
+    fn scale() -> u8 {
+        3
+    }
+
+    fn pair(i: usize) -> (u8, u8) {
+        (0, 0)
+    }
+}
