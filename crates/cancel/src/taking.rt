@@ -16,7 +16,7 @@ use crate::leaving::left;
 use cell_plan::{Cell, pair_of};
 use cell_tx::{Port, Sender, sequence};
 use cs_num::{Cpx, Gain, Sample};
-use lte_types::{Sfn, Timing};
+use lte_types::{Carrier, Sfn, Timing};
 use sample_file::Recording;
 use std::alloc::{AllocError, Global};
 
@@ -87,7 +87,10 @@ fn sent_samples(
     let mut sent = vec![in alloc; Sample { re: 0, im: 0 }; count]?;
     let sender = Sender {
         cell,
-        port: Port::Only,
+        port: Port {
+            carrier: Carrier::OnePort,
+            number: 0,
+        },
         timing: Timing::before(start, sfn),
         load: None,
     };

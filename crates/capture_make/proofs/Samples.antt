@@ -1,6 +1,6 @@
 -- The samples of a recording by number.
 use Rattle.std.proofs.Common.{◌≡◌, ℕ, ◌+◌, ◌*◌, ◌%◌, ◌<◌, ◌≤◌, List, length, None, refl, ap, sym, subst, ◌∙◌, arith, ℤ, pos, neg_ℤ, ◌-ℤ◌, get_or, mod-lt}
-use Rattle.std.specs.Prelude.{nat_abs, All}
+use Rattle.std.specs.Prelude.{nat_abs, nat_eq, if◌then◌else◌, Bool, true, false, All}
 use Rattle.std.proofs.lemmas.Int.{ints}
 use Rattle.std.proofs.lemmas.Nat.{mul-le}
 use Rattle.finite.specs.Lists.{values_below}
@@ -12,7 +12,6 @@ use Rattle.cs_num.specs.Gain.{IsGain}
 use Rattle.lte_types.specs.declared.carrier.Carrier.{Carrier}
 use Rattle.lte_types.specs.declared.carrier.Carrier.TheVariants.{OnePort, TwoPorts, LongPrefix, FourPorts}
 use Rattle.sample_file.specs.Recording.{IsRecording}
-use Rattle.cell_tx.specs.declared.antenna.PortOfFour.TheVariants.{Zero, One, Two, Three}
 use Rattle.cell_plan.specs.declared.emission.Emission.{Emission}
 use Rattle.cell_plan.specs.Gains.{AreGains, AreGainsOfFour, HavePairs, AreGainsOf, ArePairedBy}
 use Rattle.cell_tx.specs.Clean.{IsClean}
@@ -61,10 +60,10 @@ both_fit n =
 
 -- the squares of the sizes of four
 pub record AreNearOneAnother (n : ℕ) : Type 0 where
-  pub first : (16 ≤ square (gain_of_four Zero n)) × (square (gain_of_four Zero n) ≤ 25)
-  pub second : (16 ≤ square (gain_of_four One n)) × (square (gain_of_four One n) ≤ 20)
-  pub third : (9 ≤ square (gain_of_four Two n)) × (square (gain_of_four Two n) ≤ 13)
-  pub fourth : (16 ≤ square (gain_of_four Three n)) × (square (gain_of_four Three n) ≤ 17)
+  pub first : (16 ≤ square (gain_of_four 0 n)) × (square (gain_of_four 0 n) ≤ 25)
+  pub second : (16 ≤ square (gain_of_four 1 n)) × (square (gain_of_four 1 n) ≤ 20)
+  pub third : (9 ≤ square (gain_of_four 2 n)) × (square (gain_of_four 2 n) ≤ 13)
+  pub fourth : (16 ≤ square (gain_of_four 3 n)) × (square (gain_of_four 3 n) ≤ 17)
 
 -- a number below twice another one and one more is off from it by no more
 off_by : (x m : ℕ) → x < 2 * m + 1 → nat_abs (pos x -ℤ pos m) ≤ m
@@ -82,6 +81,18 @@ near_one_another n =
       third = (omega arith, omega (arith, d));
       fourth = (omega arith, omega (arith, e));
     }
+
+least_of : (b : Bool) (x y : Cpx) → square x ≤ 25 → square y ≤ 25 → square (if b then x else y) ≤ 25
+least_of true x y e f = e
+least_of false x y e f = f
+
+pub each_small : (port n : ℕ) → square (gain_of_four port n) ≤ 25
+each_small port n =
+    let s = near_one_another n in
+    let second : square (gain_of_four 1 n) ≤ 25 = omega (arith, s.second.1) in
+    let third : square (gain_of_four 2 n) ≤ 25 = omega (arith, s.third.1) in
+    let fourth : square (gain_of_four 3 n) ≤ 25 = omega (arith, s.fourth.1) in
+    least_of (nat_eq port 0) (gain_of_four 0 n) _ s.first.1 (least_of (nat_eq port 1) (gain_of_four 1 n) _ second (least_of (nat_eq port 2) (gain_of_four 2 n) (gain_of_four 3 n) third fourth))
 
 four_fit : (n : ℕ) → AreGainsOfFour (gains FourPorts n)
 four_fit n =

@@ -1,6 +1,6 @@
 -- The recipe of recording number n: which cell is sent, and how. (own)
 use Rattle.std.specs.Prelude.{ℕ, ◌+◌, ◌*◌, ◌%◌, ◌^◌, pos, ℤ, neg_ℤ, ◌-ℤ◌, ◌≤ℤ◌, nat_abs, true, false, List, [], ◌∷◌}
-use Rattle.std.specs.Prelude.{Some, None}
+use Rattle.std.specs.Prelude.{nat_eq, if◌then◌else◌, Some, None}
 use Rattle.cs_num.specs.declared.Cpx.{Cpx}
 use Rattle.cs_num.specs.Complex.{nothing}
 use Rattle.lte_types.specs.declared.carrier.Carrier.{Carrier}
@@ -11,8 +11,6 @@ use Rattle.lte_types.specs.declared.mnc.Mnc.TheVariants.{Two as TwoDigits}
 use Rattle.lte_types.specs.declared.plmn.Plmn.{Plmn}
 use Rattle.lte_types.specs.declared.si_message.SiMessage.{SiMessage}
 use Rattle.lte_types.specs.declared.sib1.Sib1.{Sib1}
-use Rattle.cell_tx.specs.declared.antenna.PortOfFour.{PortOfFour}
-use Rattle.cell_tx.specs.declared.antenna.PortOfFour.TheVariants.{Zero, One, Two, Three}
 use Rattle.cell_plan.specs.declared.cell.CellPlan.{CellPlan}
 use Rattle.cell_plan.specs.Gains.{IsAllowedBy}
 
@@ -88,18 +86,19 @@ abbrev pub second_gain : ℕ → Cpx
 second_gain n = record { re = pos (n % 11); im = neg_ℤ (pos (n % 8)) }
 
 -- the gains of four antenna ports, of sizes near one another, each about its own quarter of a turn
-abbrev pub gain_of_four : PortOfFour → ℕ → Cpx
-gain_of_four Zero n = record { re = pos 4; im = pos (n % 7) -ℤ pos 3 }
-gain_of_four One n = record { re = pos (n % 5) -ℤ pos 2; im = pos 4 }
-gain_of_four Two n = record { re = neg_ℤ (pos 3); im = pos (n % 4) -ℤ pos 2 }
-gain_of_four Three n = record { re = pos (n % 3) -ℤ pos 1; im = neg_ℤ (pos 4) }
+abbrev pub gain_of_four : ℕ → ℕ → Cpx
+gain_of_four port n =
+    if nat_eq port 0 then record { re = pos 4; im = pos (n % 7) -ℤ pos 3 }
+    else (if nat_eq port 1 then record { re = pos (n % 5) -ℤ pos 2; im = pos 4 }
+    else (if nat_eq port 2 then record { re = neg_ℤ (pos 3); im = pos (n % 4) -ℤ pos 2 }
+    else record { re = pos (n % 3) -ℤ pos 1; im = neg_ℤ (pos 4) }))
 
 -- the gains of a carrier's ports, and 0 for each further one of four
 abbrev pub gains : Carrier → ℕ → List Cpx
 gains OnePort n = gain n ∷ nothing ∷ nothing ∷ nothing ∷ []
 gains TwoPorts n = first_gain n ∷ second_gain n ∷ nothing ∷ nothing ∷ []
 gains LongPrefix n = gain n ∷ nothing ∷ nothing ∷ nothing ∷ []
-gains FourPorts n = gain_of_four Zero n ∷ gain_of_four One n ∷ gain_of_four Two n ∷ gain_of_four Three n ∷ []
+gains FourPorts n = gain_of_four 0 n ∷ gain_of_four 1 n ∷ gain_of_four 2 n ∷ gain_of_four 3 n ∷ []
 
 -- the bound of the errors: the greatest that a clean recording with these gains allows
 pub record IsBoundBy (carrier : Carrier) (gains : List Cpx) (bound : ℤ) : Type 0 where

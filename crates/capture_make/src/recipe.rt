@@ -11,7 +11,6 @@ ghost use Rattle.capture_make.specs.Recipe.{plan as plan_of, number, offset, sam
 ghost use Rattle.capture_make.specs.Recipe.{first_gain, second_gain, gain_of_four, gains as gains_of, IsBound};
 
 use cell_plan::{Cell, CellPlan, Emission};
-use cell_tx::PortOfFour;
 use cs_num::{Cpx, Gain};
 use lte_types::{
     Carrier, Duration, Mnc, Plmn, Plmns, Resource, Schedule, Sfn, SiMessage, Sib1, Sibs, Timing,
@@ -158,27 +157,30 @@ fn second_gain(n: u32) -> Cpx
     }
 }
 
-// The gain of a port of four.
-fn gain_of_four(port: PortOfFour, n: u32) -> Cpx
+// The gain of a port of four, by its number.
+fn gain_of_four(port: u8, n: u32) -> Cpx
     ensures { result ≡ gain_of_four port n }
 {
-    match port {
-        PortOfFour::Zero => Cpx {
+    if port == 0 {
+        Cpx {
             re: 4,
             im: (n % 7) as i64 - 3,
-        },
-        PortOfFour::One => Cpx {
+        }
+    } else if port == 1 {
+        Cpx {
             re: (n % 5) as i64 - 2,
             im: 4,
-        },
-        PortOfFour::Two => Cpx {
+        }
+    } else if port == 2 {
+        Cpx {
             re: -3,
             im: (n % 4) as i64 - 2,
-        },
-        PortOfFour::Three => Cpx {
+        }
+    } else {
+        Cpx {
             re: (n % 3) as i64 - 1,
             im: -4,
-        },
+        }
     }
 }
 
@@ -191,10 +193,10 @@ pub fn gains(carrier: Carrier, n: u32) -> [Cpx; 4]
         Carrier::TwoPorts => [first_gain(n), second_gain(n), Cpx::ZERO, Cpx::ZERO],
         Carrier::LongPrefix => [gain(n).value(), Cpx::ZERO, Cpx::ZERO, Cpx::ZERO],
         Carrier::FourPorts => [
-            gain_of_four(PortOfFour::Zero, n),
-            gain_of_four(PortOfFour::One, n),
-            gain_of_four(PortOfFour::Two, n),
-            gain_of_four(PortOfFour::Three, n),
+            gain_of_four(0, n),
+            gain_of_four(1, n),
+            gain_of_four(2, n),
+            gain_of_four(3, n),
         ],
     }
 }
@@ -270,7 +272,7 @@ fn bound_of_two(n: u32) -> u16
 }
 
 // The square of the size of the gain of a port of four.
-fn square_of_four(port: PortOfFour, n: u32) -> u32
+fn square_of_four(port: u8, n: u32) -> u32
     ensures value { result ≡ square (gain_of_four port n) }
     ensures small { result ≤ 25 }
 {
@@ -283,10 +285,10 @@ fn bound_of_four(n: u32) -> u16
     ensures bound { IsBound FourPorts n (pos result) }
     ensures small { result ≤ 56 }
 {
-    let first = square_of_four(PortOfFour::Zero, n);
-    let second = square_of_four(PortOfFour::One, n);
-    let third = square_of_four(PortOfFour::Two, n);
-    let fourth = square_of_four(PortOfFour::Three, n);
+    let first = square_of_four(0, n);
+    let second = square_of_four(1, n);
+    let third = square_of_four(2, n);
+    let fourth = square_of_four(3, n);
     ((first + second + third + fourth) / 64).isqrt() as u16
 }
 

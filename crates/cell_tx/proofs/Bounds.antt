@@ -28,10 +28,10 @@ use Rattle.sync_seq.specs.Secondary.{sss_at}
 use Rattle.sync_seq.proofs.PrimaryValues.{pss_is, pss-within}
 use Rattle.sync_seq.proofs.SecondaryValues.{sss-size}
 use Rattle.cell_tx.specs.declared.antenna.Port.{Port}
-use Rattle.cell_tx.specs.declared.antenna.Port.TheVariants.{Only, First, Second, Long, OfFour}
-use Rattle.cell_tx.specs.declared.antenna.PortOfFour.TheVariants.{Zero, One, Two, Three}
+use Rattle.lte_types.specs.declared.carrier.Carrier.{Carrier}
+use Rattle.lte_types.specs.declared.carrier.Carrier.TheVariants.{OnePort, TwoPorts, LongPrefix, FourPorts}
 use Rattle.cell_plan.specs.declared.cell.CellPlan.{CellPlan}
-use Rattle.cell_tx.specs.Ports.{port_prefix, port_symbols, port_slot, has_control, crossed_point, is_even_pair, sent_point, sent_signal, is_own_reference, is_other_reference, port_reference}
+use Rattle.cell_tx.specs.Ports.{port_prefix, port_symbols, port_slot, has_control, crossed_point, point_by, sent_point, sent_signal, is_own_reference, is_other_reference, reference_by, port_reference}
 use Rattle.cell_tx.specs.Load.{is_loaded, load_c_init, load_point, loaded_element, sent_element}
 use Rattle.cell_tx.specs.Block.{port_bit, port_point, scrambled_bit}
 use Rattle.cell_tx.specs.Grid.{is_primary, is_secondary, has_broadcast, is_indicator, is_control, is_shared, port_channel_value, port_element}
@@ -85,23 +85,26 @@ crossed_full f full i =
     (record { re = before.re; im = negative_full (f (i - 1)).im before.im })
 
 -- what holds of points and of 0 holds of what a port sends of points
+point_all : (P : Cpx → Type 0) → ((z : Cpx) → IsPoint z → P z) → P nothing → (carrier : Carrier) (number : ℕ) (f : ℕ → Cpx) → ((i : ℕ) → IsPoint (f i)) → (i : ℕ) → P (point_by carrier number f i)
+point_all P full none OnePort number f points i = full _ (points i)
+point_all P full none LongPrefix number f points i = full _ (points i)
+point_all P full none TwoPorts number f points i = pick P (nat_lt number 1) _ _ (full _ (points i)) (full _ (crossed_full f points i))
+point_all P full none FourPorts number f points i =
+    pick P (nat_eq (i / 2 % 2) (number % 2)) _ _
+    (pick P (nat_lt number 2) _ _ (full _ (points i)) (full _ (crossed_full f points i))) none
+
 sent_points_all : (P : Cpx → Type 0) → ((z : Cpx) → IsPoint z → P z) → P nothing → (port : Port) (f : ℕ → Cpx) → ((i : ℕ) → IsPoint (f i)) → (i : ℕ) → P (sent_point port f i)
-sent_points_all P full none Only f points i = full _ (points i)
-sent_points_all P full none First f points i = full _ (points i)
-sent_points_all P full none Long f points i = full _ (points i)
-sent_points_all P full none Second f points i = full _ (crossed_full f points i)
-sent_points_all P full none (OfFour Zero) f points i = pick P (is_even_pair i) _ _ (full _ (points i)) none
-sent_points_all P full none (OfFour One) f points i = pick P (is_even_pair i) _ _ none (full _ (points i))
-sent_points_all P full none (OfFour Two) f points i = pick P (is_even_pair i) _ _ (full _ (crossed_full f points i)) none
-sent_points_all P full none (OfFour Three) f points i = pick P (is_even_pair i) _ _ none (full _ (crossed_full f points i))
+sent_points_all P full none port f points i = point_all P full none port.carrier port.number f points i
 
 -- the reference signals
+full_by : (carrier : Carrier) (identity slot symbol k : ℕ) → IsPoint (reference_by carrier identity slot symbol k)
+full_by OnePort identity slot symbol k = subst IsPoint (sym (reference_at_is identity slot symbol k)) (reference-IsPoint identity slot symbol (k / 6))
+full_by TwoPorts identity slot symbol k = subst IsPoint (sym (reference_at_is identity slot symbol k)) (reference-IsPoint identity slot symbol (k / 6))
+full_by LongPrefix identity slot symbol k = pattern_reference-IsPoint long_prefix identity slot symbol (k / 6)
+full_by FourPorts identity slot symbol k = subst IsPoint (sym (reference_at_is identity slot symbol k)) (reference-IsPoint identity slot symbol (k / 6))
+
 pub reference_full : (port : Port) (identity slot symbol k : ℕ) → IsPoint (port_reference port identity slot symbol k)
-reference_full Only identity slot symbol k = subst IsPoint (sym (reference_at_is identity slot symbol k)) (reference-IsPoint identity slot symbol (k / 6))
-reference_full First identity slot symbol k = subst IsPoint (sym (reference_at_is identity slot symbol k)) (reference-IsPoint identity slot symbol (k / 6))
-reference_full Second identity slot symbol k = subst IsPoint (sym (reference_at_is identity slot symbol k)) (reference-IsPoint identity slot symbol (k / 6))
-reference_full Long identity slot symbol k = pattern_reference-IsPoint long_prefix identity slot symbol (k / 6)
-reference_full (OfFour port) identity slot symbol k = subst IsPoint (sym (reference_at_is identity slot symbol k)) (reference-IsPoint identity slot symbol (k / 6))
+reference_full port identity slot symbol k = full_by port.carrier identity slot symbol k
 
 channel_all : (P : Cpx → Type 0) → ((z : Cpx) → IsPoint z → P z) → P nothing → (port : Port) (plan : CellPlan) (sfn subframe symbol k : ℕ) → P (port_channel_value port plan sfn subframe symbol k)
 unfolding port_channel_value
@@ -113,14 +116,7 @@ channel_all P full none port plan sfn subframe symbol k =
     (pick P (is_shared port plan sfn subframe symbol k) _ _ (sent_points_all P full none port (shared_point plan sfn) (shared_full plan sfn) _) none))) none)
 
 signal_all : (P : Cpx → Type 0) (port : Port) (z : Cpx) → P z → P nothing → P (sent_signal port z)
-signal_all P Only z here none = here
-signal_all P First z here none = here
-signal_all P Long z here none = here
-signal_all P Second z here none = none
-signal_all P (OfFour Zero) z here none = here
-signal_all P (OfFour One) z here none = none
-signal_all P (OfFour Two) z here none = none
-signal_all P (OfFour Three) z here none = none
+signal_all P port z here none = pick P (nat_eq port.number 0) _ _ here none
 
 -- what holds of each kind of value holds of every element
 element_all : (P : Cpx → Type 0) → ((z : Cpx) → IsPoint z → P z) → ((n2 n : ℕ) → P (pss_at n2 n))

@@ -16,14 +16,15 @@ use Rattle.grid_map.proofs.Points.{length-pbch_places, index_fits, carries_at_in
 use Rattle.grid_map.proofs.LongOrder.{length-long_places}
 use Rattle.grid_map.proofs.Pieces.{length-pcfich_places}
 use Rattle.cell_tx.specs.declared.antenna.Port.{Port}
-use Rattle.cell_tx.specs.declared.antenna.Port.TheVariants.{Only, First, Second, Long, OfFour}
+use Rattle.lte_types.specs.declared.carrier.Carrier.{Carrier}
+use Rattle.lte_types.specs.declared.carrier.Carrier.TheVariants.{OnePort, TwoPorts, LongPrefix, FourPorts}
 use Rattle.cell_plan.specs.declared.cell.CellPlan.{CellPlan}
-use Rattle.cell_tx.specs.Ports.{is_two, sent_point}
+use Rattle.cell_tx.specs.Ports.{port_by, is_two, sent_point}
 use Rattle.cell_tx.specs.Block.{port_point}
 use Rattle.cell_tx.specs.Control.{indicator_point, control_places, control_point}
 use Rattle.cell_tx.specs.Shared.{assigned_places, shared_point}
 use Rattle.cell_tx.specs.Grid.{is_one_of, is_broadcast, has_system_information, control_value, shared_value}
-use Rattle.cell_tx.specs.Rows.{value_in, broadcast_places, may_broadcast, broadcast_symbol, broadcast_if, indicator_if, control_if, shared_if}
+use Rattle.cell_tx.specs.Rows.{value_in, broadcast_places_by, broadcast_places, may_broadcast_by, may_broadcast, broadcast_symbol_by, broadcast_symbol, broadcast_if, indicator_if, control_if, shared_if}
 use Rattle.cell_tx.proofs.PlaceValues.{values_are}
 use Rattle.cell_tx.proofs.Bounds.{full_size}
 
@@ -59,12 +60,14 @@ pub so_many : (points : List Cpx) (n : ℕ) (f : ℕ → Cpx) → points ≡ val
 so_many points n f e = ap length e ∙ values_below-length n f
 
 -- the places of the broadcast channel are at most 240
+count_by : (carrier : Carrier) (identity : ℕ) → length (broadcast_places_by carrier identity) ≤ 240
+count_by OnePort identity = let n = length-pbch_places identity in omega (arith, n)
+count_by TwoPorts identity = let n = length-pbch_places identity in omega (arith, n)
+count_by LongPrefix identity = let n = length-long_places identity in omega (arith, n)
+count_by FourPorts identity = let n = length-pbch_places identity in omega (arith, n)
+
 pub broadcast_count : (port : Port) (identity : ℕ) → length (broadcast_places port identity) ≤ 240
-broadcast_count Only identity = let n = length-pbch_places identity in omega (arith, n)
-broadcast_count First identity = let n = length-pbch_places identity in omega (arith, n)
-broadcast_count Second identity = let n = length-pbch_places identity in omega (arith, n)
-broadcast_count Long identity = let n = length-long_places identity in omega (arith, n)
-broadcast_count (OfFour port) identity = let n = length-pbch_places identity in omega (arith, n)
+broadcast_count port identity = count_by port.carrier identity
 
 -- what it has in the symbols of its subframe, or slot
 module _ (plan : CellPlan) (sfn subframe symbol k : ℕ) where
@@ -77,17 +80,22 @@ module _ (plan : CellPlan) (sfn subframe symbol k : ℕ) where
   in_subframe : nat_eq subframe 0 ≡ true → is_one_of (pbch_places plan.identity) (place symbol k) ≡ is_broadcast plan.identity subframe symbol k
   in_subframe e = both_true (nat_eq subframe 0) _ (is_pbch plan.identity (place symbol k)) e (is_pbch_place plan.identity (place symbol k))
 
+  by_carrier : (carrier : Carrier) (number : ℕ) (points : List Cpx) → points ≡ values_below 240 (port_point (port_by carrier number) plan sfn) → may_broadcast_by carrier subframe symbol ≡ true →
+      value_in (port_by carrier number) (broadcast_places_by carrier plan.identity) points (place (broadcast_symbol_by carrier symbol) k) ≡ broadcast_if (port_by carrier number) plan sfn subframe symbol k
+  unfolding pbch_index
+  by_carrier OnePort number points is e =
+      by_number (port_by OnePort number) (pbch_places plan.identity) _ points (place symbol k) is (count_by OnePort plan.identity) (in_subframe e)
+  by_carrier TwoPorts number points is e =
+      by_number (port_by TwoPorts number) (pbch_places plan.identity) _ points (place symbol k) is (count_by TwoPorts plan.identity) (in_subframe e)
+  by_carrier FourPorts number points is e =
+      by_number (port_by FourPorts number) (pbch_places plan.identity) _ points (place symbol k) is (count_by FourPorts plan.identity) (in_subframe e)
+  by_carrier LongPrefix number points is e =
+      by_number (port_by LongPrefix number) (long_places plan.identity) _ points (place (symbol % 6) k) is (count_by LongPrefix plan.identity)
+      (both_true (nat_eq (2 * subframe + symbol / 6) 1) _ (is_one_of (long_places plan.identity) (place (symbol % 6) k)) e refl)
+
   pub broadcast_is : (port : Port) (points : List Cpx) → points ≡ values_below 240 (port_point port plan sfn) → may_broadcast port subframe symbol ≡ true →
       value_in port (broadcast_places port plan.identity) points (place (broadcast_symbol port symbol) k) ≡ broadcast_if port plan sfn subframe symbol k
-  unfolding pbch_index
-  broadcast_is Only points is e = by_number Only (pbch_places plan.identity) _ points (place symbol k) is (broadcast_count Only plan.identity) (in_subframe e)
-  broadcast_is First points is e = by_number First (pbch_places plan.identity) _ points (place symbol k) is (broadcast_count First plan.identity) (in_subframe e)
-  broadcast_is Second points is e = by_number Second (pbch_places plan.identity) _ points (place symbol k) is (broadcast_count Second plan.identity) (in_subframe e)
-  broadcast_is (OfFour port) points is e =
-      by_number (OfFour port) (pbch_places plan.identity) _ points (place symbol k) is (broadcast_count (OfFour port) plan.identity) (in_subframe e)
-  broadcast_is Long points is e =
-      by_number Long (long_places plan.identity) _ points (place (symbol % 6) k) is (broadcast_count Long plan.identity)
-      (both_true (nat_eq (2 * subframe + symbol / 6) 1) _ (is_one_of (long_places plan.identity) (place (symbol % 6) k)) e refl)
+  broadcast_is port points is e = by_carrier port.carrier port.number points is e
 
 module _ (port : Port) (plan : CellPlan) (sfn subframe symbol k : ℕ) where
   abbrev here : Place

@@ -1,38 +1,28 @@
 -- The elements of a grid, case by case.
-use Rattle.std.proofs.Common.{◌≡◌, ℕ, ◌+◌, ◌*◌, ◌/◌, ◌%◌, ◌<◌, ◌⊎◌, inl, inr, Bool, true, false, not, ◌&&◌, ◌||◌, nat_eq, Option, Some, None, List, get_or, arith, refl, sym, ap, ◌∙◌, eq-eqb}
+use Rattle.std.proofs.Common.{◌≡◌, ℕ, ◌+◌, ◌*◌, ◌/◌, ◌%◌, ◌<◌, ◌⊎◌, inl, inr, Bool, true, false, not, ◌&&◌, ◌||◌, nat_eq, nat_lt, Option, Some, None, List, get_or, arith, refl, sym, ap, ◌∙◌, eq-eqb, eqb-true}
 use Rattle.std.specs.Prelude.{if◌then◌else◌}
 use Rattle.std.specs.Option.{unwrap_or}
 use Rattle.std.proofs.lemmas.Bool.Decides.{nat_tests}
 use Rattle.cs_num.specs.declared.Cpx.{Cpx}
 use Rattle.cs_num.specs.Complex.{nothing}
 use Rattle.crs.specs.declared.pattern.Pattern.{Pattern}
-use Rattle.crs.specs.Reference.{port_0, long_prefix, has_pilots, pattern_first, pattern_list, pattern_reference, is_pattern_place, first_subcarrier, reference, reference_at, is_reference, is_second_reference, is_upper_reference, upper_first, upper_pair, upper_list}
+use Rattle.crs.specs.Reference.{port_0, pattern_of, long_prefix, has_pilots, pattern_first, pattern_list, pattern_reference, is_pattern_place, first_subcarrier, reference, reference_at, is_reference, is_second_reference, is_upper_reference, upper_first, upper_pair, upper_list}
 use Rattle.crs.proofs.Values.{no_pair, reference-of_port_0, get_or-pattern_list}
 use Rattle.std.proofs.lemmas.List.FromFn.{get_or-map-range_with_len}
 use Rattle.cell_tx.specs.declared.antenna.Port.{Port}
-use Rattle.cell_tx.specs.declared.antenna.Port.TheVariants.{Only, First, Second, Long, OfFour}
-use Rattle.cell_tx.specs.declared.antenna.PortOfFour.{PortOfFour}
-use Rattle.cell_tx.specs.declared.antenna.PortOfFour.TheVariants.{Zero, One, Two, Three}
+use Rattle.lte_types.specs.declared.carrier.Carrier.{Carrier}
+use Rattle.lte_types.specs.declared.carrier.Carrier.TheVariants.{OnePort, TwoPorts, LongPrefix, FourPorts}
 use Rattle.cell_plan.specs.declared.cell.CellPlan.{CellPlan}
-use Rattle.cell_tx.specs.Ports.{port_symbols, port_slot, first_pattern, has_control, sent_signal, is_own_reference, is_other_reference}
+use Rattle.cell_tx.specs.Ports.{port_by, port_of_four, port_symbols, port_slot, first_pattern, has_control, sent_signal, is_lower_reference, is_reference_by, is_reference_of_any, reference_by, is_own_reference, is_other_reference}
 use Rattle.cell_tx.specs.Grid.{is_primary, is_secondary, has_broadcast, is_indicator, is_control, is_shared, has_system_information, reference_value, primary_value, secondary_value, broadcast_value, system_value, port_channel_value, port_element}
 use Rattle.cell_tx.specs.Load.{is_signal_symbol, is_taken, is_loaded, load_point, loaded_element, sent_element}
-use Rattle.cell_tx.specs.Rows.{port_reference_if, test_of_four, indicator_if, control_if, shared_if, system_if, channel_if, open_value}
+use Rattle.cell_tx.specs.Rows.{port_reference_if, lower_test, any_lower_test, upper_test, indicator_if, control_if, shared_if, system_if, channel_if, open_value}
 
 -- ---- reference places
 
--- what the code finds of a port of four, by whether a place is one of each of the four ports, and of any
-abbrev pub found_of_four : PortOfFour → Bool → Bool → Bool → Bool → Bool → Cpx → Option Cpx
-found_of_four port zero one two three any value =
-    if test_of_four port zero one two three then Some value else (if any then Some nothing else None)
-
--- what the code finds at a place, by whether it is one of the first port's twelve or of the second's
-abbrev pub found : Port → Bool → Bool → Cpx → Option Cpx
-found Only first second value = if first then Some value else (if false then Some nothing else None)
-found First first second value = if first then Some value else (if second then Some nothing else None)
-found Second first second value = if second then Some value else (if first then Some nothing else None)
-found Long first second value = if first then Some value else (if false then Some nothing else None)
-found (OfFour port) first second value = found_of_four port first second false false (first || second) value
+-- what the code finds at a place, by whether it is one of the port's own twelve and of any port's
+abbrev pub found : Bool → Bool → Cpx → Option Cpx
+found own any value = if own then Some value else (if any then Some nothing else None)
 
 pub reference_at_is : (identity slot symbol k : ℕ) → reference_at identity slot symbol k ≡ reference identity slot symbol (k / 6)
 unfolding reference_at
@@ -65,41 +55,32 @@ no_upper_reference : (port identity slot symbol k : ℕ) → nat_eq symbol 1 ≡
 unfolding is_upper_reference
 no_upper_reference port identity slot symbol k e = rw e refl
 
--- ---- reference places of four ports
-
--- the own place is found first, so that the others may be those of any port
-any_of : (own any other : Bool) (value : Cpx) → any ≡ (own || other) → (if own then Some value else (if any then Some nothing else None)) ≡ (if own then Some value else (if other then Some nothing else None))
-any_of true any other value e = refl
-any_of false any other value e = rw e refl
-
-zero_first : (a b c d : Bool) → ((a || b) || (c || d)) ≡ (a || (b || (c || d)))
-zero_first true b c d = refl
-zero_first false b c d = refl
-
-one_first : (a b c d : Bool) → ((a || b) || (c || d)) ≡ (b || (a || (c || d)))
-one_first true true c d = refl
-one_first true false c d = refl
-one_first false b c d = refl
-
-two_first : (a b c d : Bool) → ((a || b) || (c || d)) ≡ (c || (a || (b || d)))
-two_first true b true d = refl
-two_first true b false d = refl
-two_first false true true d = refl
-two_first false true false d = refl
-two_first false false c d = refl
+-- ---- tests of places
 
 or-false : (d : Bool) → d ≡ (d || false)
 or-false true = refl
 or-false false = refl
 
-three_first : (a b c d : Bool) → ((a || b) || (c || d)) ≡ (d || (a || (b || c)))
-three_first true b c true = refl
-three_first true b c false = refl
-three_first false true c true = refl
-three_first false true c false = refl
-three_first false false true true = refl
-three_first false false true false = refl
-three_first false false false d = or-false d
+pub both_false : (a b : Bool) → a ≡ false → b ≡ false → (a || b) ≡ false
+both_false a b e f = rw (e, f) refl
+
+either_false : (t a b : Bool) → a ≡ false → b ≡ false → (if t then a else b) ≡ false
+either_false true a b e f = e
+either_false false a b e f = f
+
+alike : (t a b c d : Bool) → a ≡ c → b ≡ d → (if t then a else b) ≡ (if t then c else d)
+alike true a b c d e f = e
+alike false a b c d e f = f
+
+or_alike : (a b c d : Bool) → a ≡ c → b ≡ d → (a || b) ≡ (c || d)
+or_alike a b c d e f = rw (e, f) refl
+
+-- any of four tests, where the last two or the first two fail
+first_two : (a c d : Bool) → c ≡ false → d ≡ false → a ≡ (a || (c || d))
+first_two a c d e f = rw (e, f) (or-false a)
+
+last_two : (a b c : Bool) → a ≡ false → b ≡ false → c ≡ ((a || b) || c)
+last_two a b c e f = rw (e, f) refl
 
 -- one of two tests, where the first is known
 pub by_first : (m n : ℕ) (b : Bool) → m ≡ n → nat_eq m n ≡ (nat_eq m n || b)
@@ -108,32 +89,51 @@ by_first m n b e = rw (eq-eqb m n e) refl
 pub by_second : (m n : ℕ) (b : Bool) → (m ≡ n → ⊥) → b ≡ (nat_eq m n || b)
 by_second m n b other = let no : nat_eq m n ≡ false = grind (arith, nat_tests) in rw no refl
 
--- what the code finds of four tests
-four_is : (port : PortOfFour) (identity slot symbol k : ℕ) (zero one two three any : Bool) → is_reference identity symbol k ≡ zero → is_second_reference identity symbol k ≡ one
-    → is_upper_reference 2 identity slot symbol k ≡ two → is_upper_reference 3 identity slot symbol k ≡ three → any ≡ ((zero || one) || (two || three))
-    → found_of_four port zero one two three any (reference_at identity slot symbol k) ≡ port_reference_if (OfFour port) identity slot symbol k
-four_is Zero identity slot symbol k zero one two three any e f g h is = rw (e, f, g, h) (any_of zero any _ (reference_at identity slot symbol k) (is ∙ zero_first zero one two three))
-four_is One identity slot symbol k zero one two three any e f g h is = rw (e, f, g, h) (any_of one any _ (reference_at identity slot symbol k) (is ∙ one_first zero one two three))
-four_is Two identity slot symbol k zero one two three any e f g h is = rw (e, f, g, h) (any_of two any _ (reference_at identity slot symbol k) (is ∙ two_first zero one two three))
-four_is Three identity slot symbol k zero one two three any e f g h is = rw (e, f, g, h) (any_of three any _ (reference_at identity slot symbol k) (is ∙ three_first zero one two three))
+-- ---- places without reference signals
 
-found_none : (port : PortOfFour) (value : Cpx) → found_of_four port false false false false false value ≡ None
-found_none Zero value = refl
-found_none One value = refl
-found_none Two value = refl
-found_none Three value = refl
+neither_is : (own any : Bool) (value : Cpx) → own ≡ false → any ≡ false → (if own then Some value else (if not own && any then Some nothing else None)) ≡ None
+neither_is own any value e f = rw (e, f) refl
+
+pub none_of : (port : Port) (identity slot symbol k : ℕ) → is_own_reference port identity slot symbol k ≡ false → is_reference_of_any port.carrier identity slot symbol k ≡ false →
+    port_reference_if port identity slot symbol k ≡ None
+none_of port identity slot symbol k e f = neither_is _ _ _ e f
+
+pub no_lower : (number identity symbol k : ℕ) → is_reference identity symbol k ≡ false → is_second_reference identity symbol k ≡ false → is_lower_reference number identity symbol k ≡ false
+no_lower number identity symbol k e f = either_false (nat_eq number 0) _ _ e f
+
+no_own : (carrier : Carrier) (number identity slot symbol k : ℕ) → nat_eq symbol 0 ≡ false → nat_eq symbol 1 ≡ false → nat_eq symbol (pattern_of carrier 0).later ≡ false →
+    is_reference_by carrier number identity slot symbol k ≡ false
+no_own OnePort number identity slot symbol k e g f = no_reference identity symbol k e f
+no_own TwoPorts number identity slot symbol k e g f = no_lower number identity symbol k (no_reference identity symbol k e f) (no_second_reference identity symbol k e f)
+no_own LongPrefix number identity slot symbol k e g f = no_place long_prefix identity symbol k e f
+no_own FourPorts number identity slot symbol k e g f =
+    either_false (nat_lt number 2) _ _ (no_lower number identity symbol k (no_reference identity symbol k e f) (no_second_reference identity symbol k e f)) (no_upper_reference number identity slot symbol k g)
+
+no_any : (carrier : Carrier) (identity slot symbol k : ℕ) → nat_eq symbol 0 ≡ false → nat_eq symbol 1 ≡ false → nat_eq symbol (pattern_of carrier 0).later ≡ false →
+    is_reference_of_any carrier identity slot symbol k ≡ false
+no_any OnePort identity slot symbol k e g f = no_reference identity symbol k e f
+no_any TwoPorts identity slot symbol k e g f = both_false _ _ (no_reference identity symbol k e f) (no_second_reference identity symbol k e f)
+no_any LongPrefix identity slot symbol k e g f = no_place long_prefix identity symbol k e f
+no_any FourPorts identity slot symbol k e g f =
+    both_false _ _ (both_false _ _ (no_reference identity symbol k e f) (no_second_reference identity symbol k e f))
+    (both_false _ _ (no_upper_reference 2 identity slot symbol k g) (no_upper_reference 3 identity slot symbol k g))
 
 -- other symbols have no reference places of any port
 pub no_port_reference : (port : Port) (identity slot symbol k : ℕ) → nat_eq symbol 0 ≡ false → nat_eq symbol 1 ≡ false → nat_eq symbol (first_pattern port).later ≡ false →
     port_reference_if port identity slot symbol k ≡ None
-no_port_reference Only identity slot symbol k e g f = rw (no_reference identity symbol k e f) refl
-no_port_reference First identity slot symbol k e g f = rw (no_reference identity symbol k e f, no_second_reference identity symbol k e f) refl
-no_port_reference Second identity slot symbol k e g f = rw (no_second_reference identity symbol k e f, no_reference identity symbol k e f) refl
-no_port_reference Long identity slot symbol k e g f = rw (no_place long_prefix identity symbol k e f) refl
-no_port_reference (OfFour port) identity slot symbol k e g f =
-    sym (four_is port identity slot symbol k false false false false false (no_reference identity symbol k e f) (no_second_reference identity symbol k e f)
-    (no_upper_reference 2 identity slot symbol k g) (no_upper_reference 3 identity slot symbol k g) refl)
-    ∙ found_none port (reference_at identity slot symbol k)
+no_port_reference port identity slot symbol k e g f =
+    none_of port identity slot symbol k (no_own port.carrier port.number identity slot symbol k e g f) (no_any port.carrier identity slot symbol k e g f)
+
+-- symbol 1 has those of four ports alone
+pub no_second_row : (carrier : Carrier) (number identity slot k : ℕ) → (carrier ≡ FourPorts → ⊥) → port_reference_if (port_by carrier number) identity slot 1 k ≡ None
+no_second_row OnePort number identity slot k other =
+    none_of (port_by OnePort number) identity slot 1 k (no_reference identity 1 k refl refl) (no_reference identity 1 k refl refl)
+no_second_row TwoPorts number identity slot k other =
+    let none = no_reference identity 1 k refl refl in
+    let none_second = no_second_reference identity 1 k refl refl in
+    none_of (port_by TwoPorts number) identity slot 1 k (no_lower number identity 1 k none none_second) (both_false _ _ none none_second)
+no_second_row LongPrefix number identity slot k other = refl
+no_second_row FourPorts number identity slot k other = absurd (other refl)
 
 module _ (pattern : Pattern) (pilots : List (ℕ × Cpx)) (identity slot symbol k : ℕ) (row : (symbol ≡ 0) ⊎ (symbol ≡ pattern.later)) (is : pilots ≡ pattern_list pattern identity slot symbol) where
   first_is : (get_or pilots 0 no_pair).0 % 6 ≡ pattern_first pattern identity symbol
@@ -159,32 +159,67 @@ second : (pilots : List (ℕ × Cpx)) (identity slot symbol k : ℕ) → (symbol
 second pilots identity slot symbol k row is =
     ap (λ (n : ℕ). nat_eq (k % 6) ((n + 3) % 6)) (first_is port_0 pilots identity slot symbol k row is) ∙ sym (second_row identity symbol k row)
 
-chosen : (a b c d : Bool) (x y : Cpx) → a ≡ c → b ≡ d → x ≡ y → (if a then Some x else (if b then Some nothing else None)) ≡ (if c then Some y else (if d then Some nothing else None))
-chosen a b c d x y e f g = rw (e, f, g) refl
+chosen : (a b c d : Bool) (x y : Cpx) → a ≡ c → b ≡ d → x ≡ y → found a b x ≡ (if c then Some y else (if not c && d then Some nothing else None))
+chosen a b c d x y e f g = rw (e, f, g) (by c)
+  where
+    by : (c : Bool) → (if c then Some y else (if d then Some nothing else None)) ≡ (if c then Some y else (if not c && d then Some nothing else None))
+    by true = refl
+    by false = refl
+
+-- a place is one of the twelve of port 0, or of port 1
+abbrev is_zero : List (ℕ × Cpx) → ℕ → Bool
+is_zero pilots k = nat_eq (k % 6) ((get_or pilots 0 no_pair).0 % 6)
+
+abbrev is_one : List (ℕ × Cpx) → ℕ → Bool
+is_one pilots k = nat_eq (k % 6) (((get_or pilots 0 no_pair).0 % 6 + 3) % 6)
+
+single : (symbol : ℕ) → (symbol ≡ 0) ⊎ (symbol ≡ 4) → nat_eq symbol 1 ≡ false
+single symbol row = elim row [ inl e ↦ rw e refl | inr e ↦ rw e refl ]
+
+module _ (pilots : List (ℕ × Cpx)) (identity slot symbol k : ℕ) (row : (symbol ≡ 0) ⊎ (symbol ≡ 4)) (is : pilots ≡ pattern_list port_0 identity slot symbol) where
+  zero_is : is_zero pilots k ≡ is_reference identity symbol k
+  zero_is = own port_0 pilots identity slot symbol k row is ∙ is_reference_of identity symbol k
+
+  lower_is : (number : ℕ) → (if nat_eq number 0 then is_zero pilots k else is_one pilots k) ≡ is_lower_reference number identity symbol k
+  lower_is number = alike (nat_eq number 0) _ _ _ _ zero_is (second pilots identity slot symbol k row is)
+
+  both_are : (is_zero pilots k || is_one pilots k) ≡ (is_reference identity symbol k || is_second_reference identity symbol k)
+  both_are = or_alike _ _ _ _ zero_is (second pilots identity slot symbol k row is)
+
+own_by : (carrier : Carrier) (number : ℕ) (pilots : List (ℕ × Cpx)) (identity slot symbol k : ℕ) → (symbol ≡ 0) ⊎ (symbol ≡ (pattern_of carrier 0).later)
+    → pilots ≡ pattern_list (pattern_of carrier 0) identity slot symbol → lower_test carrier number (is_zero pilots k) (is_one pilots k) ≡ is_reference_by carrier number identity slot symbol k
+own_by OnePort number pilots identity slot symbol k row is = zero_is pilots identity slot symbol k row is
+own_by TwoPorts number pilots identity slot symbol k row is = lower_is pilots identity slot symbol k row is number
+own_by LongPrefix number pilots identity slot symbol k row is = own long_prefix pilots identity slot symbol k row is
+own_by FourPorts number pilots identity slot symbol k row is =
+    alike (nat_lt number 2) _ _ _ _ (lower_is pilots identity slot symbol k row is number) (sym (no_upper_reference number identity slot symbol k (single symbol row)))
+
+any_by : (carrier : Carrier) (pilots : List (ℕ × Cpx)) (identity slot symbol k : ℕ) → (symbol ≡ 0) ⊎ (symbol ≡ (pattern_of carrier 0).later)
+    → pilots ≡ pattern_list (pattern_of carrier 0) identity slot symbol → any_lower_test carrier (is_zero pilots k) (is_one pilots k) ≡ is_reference_of_any carrier identity slot symbol k
+any_by OnePort pilots identity slot symbol k row is = zero_is pilots identity slot symbol k row is
+any_by TwoPorts pilots identity slot symbol k row is = both_are pilots identity slot symbol k row is
+any_by LongPrefix pilots identity slot symbol k row is = own long_prefix pilots identity slot symbol k row is
+any_by FourPorts pilots identity slot symbol k row is =
+    both_are pilots identity slot symbol k row is
+    ∙ first_two _ _ _ (no_upper_reference 2 identity slot symbol k (single symbol row)) (no_upper_reference 3 identity slot symbol k (single symbol row))
+
+value_by : (carrier : Carrier) (pilots : List (ℕ × Cpx)) (identity slot symbol k : ℕ) → (symbol ≡ 0) ⊎ (symbol ≡ (pattern_of carrier 0).later)
+    → pilots ≡ pattern_list (pattern_of carrier 0) identity slot symbol → k < 72 → (get_or pilots (k / 6) no_pair).1 ≡ reference_by carrier identity slot symbol k
+value_by OnePort pilots identity slot symbol k row is inside = value_is port_0 pilots identity slot symbol k row is inside ∙ reference_of_port_0 identity slot symbol k
+value_by TwoPorts pilots identity slot symbol k row is inside = value_is port_0 pilots identity slot symbol k row is inside ∙ reference_of_port_0 identity slot symbol k
+value_by LongPrefix pilots identity slot symbol k row is inside = value_is long_prefix pilots identity slot symbol k row is inside
+value_by FourPorts pilots identity slot symbol k row is inside = value_is port_0 pilots identity slot symbol k row is inside ∙ reference_of_port_0 identity slot symbol k
 
 pub pilot_is : (port : Port) (pilots : List (ℕ × Cpx)) (identity slot symbol k : ℕ) → (symbol ≡ 0) ⊎ (symbol ≡ (first_pattern port).later)
     → pilots ≡ pattern_list (first_pattern port) identity slot symbol → k < 72 →
     (let n = (get_or pilots 0 no_pair).0 % 6 in
-    let first = nat_eq (k % 6) n in
-    let other = nat_eq (k % 6) ((n + 3) % 6) in
+    let zero_test = nat_eq (k % 6) n in
+    let one_test = nat_eq (k % 6) ((n + 3) % 6) in
     let value = (get_or pilots (k / 6) no_pair).1 in
-    found port first other value ≡ port_reference_if port identity slot symbol k)
-pilot_is Only pilots identity slot symbol k row is inside =
-    chosen _ false _ false _ _ (own port_0 pilots identity slot symbol k row is ∙ is_reference_of identity symbol k) refl
-    (value_is port_0 pilots identity slot symbol k row is inside ∙ reference_of_port_0 identity slot symbol k)
-pilot_is First pilots identity slot symbol k row is inside =
-    chosen _ _ _ _ _ _ (own port_0 pilots identity slot symbol k row is ∙ is_reference_of identity symbol k) (second pilots identity slot symbol k row is)
-    (value_is port_0 pilots identity slot symbol k row is inside ∙ reference_of_port_0 identity slot symbol k)
-pilot_is Second pilots identity slot symbol k row is inside =
-    chosen _ _ _ _ _ _ (second pilots identity slot symbol k row is) (own port_0 pilots identity slot symbol k row is ∙ is_reference_of identity symbol k)
-    (value_is port_0 pilots identity slot symbol k row is inside ∙ reference_of_port_0 identity slot symbol k)
-pilot_is Long pilots identity slot symbol k row is inside =
-    chosen _ false _ false _ _ (own long_prefix pilots identity slot symbol k row is) refl (value_is long_prefix pilots identity slot symbol k row is inside)
-pilot_is (OfFour port) pilots identity slot symbol k row is inside =
-    let single : nat_eq symbol 1 ≡ false = elim row [ inl e ↦ rw e refl | inr e ↦ rw e refl ] in
-    ap (found_of_four port _ _ false false _) (value_is port_0 pilots identity slot symbol k row is inside ∙ reference_of_port_0 identity slot symbol k)
-    ∙ four_is port identity slot symbol k _ _ false false _ (sym (own port_0 pilots identity slot symbol k row is ∙ is_reference_of identity symbol k))
-    (sym (second pilots identity slot symbol k row is)) (no_upper_reference 2 identity slot symbol k single) (no_upper_reference 3 identity slot symbol k single) (or-false _)
+    found (lower_test port.carrier port.number zero_test one_test) (any_lower_test port.carrier zero_test one_test) value ≡ port_reference_if port identity slot symbol k)
+pilot_is port pilots identity slot symbol k row is inside =
+    chosen _ _ _ _ _ _ (own_by port.carrier port.number pilots identity slot symbol k row is) (any_by port.carrier pilots identity slot symbol k row is)
+    (value_by port.carrier pilots identity slot symbol k row is inside)
 
 -- the row of ports 2 and 3
 get_or-upper_list : (port identity slot m : ℕ) → m < 12 → get_or (upper_list port identity slot) m no_pair ≡ upper_pair port identity slot m
@@ -201,24 +236,36 @@ upper_value_is pilots identity slot k is inside =
     ap (λ (pair : ℕ × Cpx). pair.1) (ap (λ list. get_or list (k / 6) no_pair) is ∙ get_or-upper_list 2 identity slot (k / 6) (omega (arith, inside)))
     ∙ sym (reference_at_is identity slot 1 k)
 
-third_row : (identity slot k n : ℕ) → n ≡ upper_first 2 identity slot → is_upper_reference 2 identity slot 1 k ≡ nat_eq (k % 6) n
+-- a port of even number has the places of port 2, one of odd number those three subcarriers on
+even_row : (port identity slot k n : ℕ) → n ≡ upper_first 2 identity slot → port % 2 ≡ 0 → nat_eq (k % 6) n ≡ is_upper_reference port identity slot 1 k
 unfolding is_upper_reference
-third_row identity slot k n e = rw e refl
+even_row port identity slot k n e even = let same : n ≡ upper_first port identity slot = omega (arith, e, even) in ap (nat_eq (k % 6)) same
 
-fourth_row : (identity slot k n : ℕ) → n ≡ upper_first 2 identity slot → is_upper_reference 3 identity slot 1 k ≡ nat_eq (k % 6) ((n + 3) % 6)
+odd_row : (port identity slot k n : ℕ) → n ≡ upper_first 2 identity slot → port % 2 ≡ 1 → nat_eq (k % 6) ((n + 3) % 6) ≡ is_upper_reference port identity slot 1 k
 unfolding is_upper_reference
-fourth_row identity slot k n e = let same : upper_first 3 identity slot ≡ (n + 3) % 6 = omega (arith, e) in ap (nat_eq (k % 6)) same
+odd_row port identity slot k n e odd = let same : (n + 3) % 6 ≡ upper_first port identity slot = omega (arith, e, odd) in ap (nat_eq (k % 6)) same
 
-pub upper_is : (port : PortOfFour) (pilots : List (ℕ × Cpx)) (identity slot k : ℕ) → pilots ≡ upper_list 2 identity slot → k < 72 →
+upper_row : (port identity slot k n : ℕ) → n ≡ upper_first 2 identity slot →
+    (if nat_eq (port % 2) 0 then nat_eq (k % 6) n else nat_eq (k % 6) ((n + 3) % 6)) ≡ is_upper_reference port identity slot 1 k
+upper_row port identity slot k n e = by (nat_eq (port % 2) 0) refl
+  where
+    by : (b : Bool) → nat_eq (port % 2) 0 ≡ b → (if b then nat_eq (k % 6) n else nat_eq (k % 6) ((n + 3) % 6)) ≡ is_upper_reference port identity slot 1 k
+    by true even = even_row port identity slot k n e (eqb-true (port % 2) 0 even)
+    by false odd = odd_row port identity slot k n e (let other : port % 2 ≡ 1 = grind (arith, nat_tests) in other)
+
+pub upper_is : (number : ℕ) (pilots : List (ℕ × Cpx)) (identity slot k : ℕ) → pilots ≡ upper_list 2 identity slot → k < 72 →
     (let n = (get_or pilots 0 no_pair).0 % 6 in
     let two = nat_eq (k % 6) n in
     let three = nat_eq (k % 6) ((n + 3) % 6) in
     let value = (get_or pilots (k / 6) no_pair).1 in
-    found_of_four port false false two three (two || three) value ≡ port_reference_if (OfFour port) identity slot 1 k)
-upper_is port pilots identity slot k is inside =
-    ap (found_of_four port false false _ _ _) (upper_value_is pilots identity slot k is inside)
-    ∙ four_is port identity slot 1 k false false _ _ _ (no_reference identity 1 k refl refl) (no_second_reference identity 1 k refl refl)
-    (third_row identity slot k _ (upper_first_is pilots identity slot is)) (fourth_row identity slot k _ (upper_first_is pilots identity slot is)) refl
+    found (upper_test number two three) (two || three) value ≡ port_reference_if (port_of_four number) identity slot 1 k)
+upper_is number pilots identity slot k is inside =
+    let none = no_reference identity 1 k refl refl in
+    let none_second = no_second_reference identity 1 k refl refl in
+    let first = upper_first_is pilots identity slot is in
+    chosen _ _ _ _ _ _ (alike (nat_lt number 2) _ _ _ _ (sym (no_lower number identity 1 k none none_second)) (upper_row number identity slot k _ first))
+    (or_alike _ _ _ _ (even_row 2 identity slot k _ first refl) (odd_row 3 identity slot k _ first refl) ∙ last_two _ _ _ none none_second)
+    (upper_value_is pilots identity slot k is inside)
 
 -- ---- the cases of an element
 

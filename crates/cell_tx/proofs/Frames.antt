@@ -12,11 +12,12 @@ use Rattle.lte_types.specs.Numerology.{normal, IsPrefix, symbols_of_slot, symbol
 use Rattle.grid_map.specs.Place.{place}
 use Rattle.grid_map.specs.Broadcast.{is_pbch}
 use Rattle.cell_tx.specs.declared.antenna.Port.{Port}
-use Rattle.cell_tx.specs.declared.antenna.Port.TheVariants.{Only, First, Second, Long, OfFour}
-use Rattle.cell_tx.specs.declared.antenna.PortOfFour.{PortOfFour}
+use Rattle.lte_types.specs.declared.carrier.Carrier.{Carrier}
+use Rattle.lte_types.specs.declared.carrier.Carrier.TheVariants.{OnePort, TwoPorts, LongPrefix, FourPorts}
+use Rattle.lte_types.specs.Carrier.{prefix_of}
 use Rattle.cell_plan.specs.declared.cell.CellPlan.{CellPlan}
 use Rattle.cell_tx.specs.declared.layout.Carried.{Carried}
-use Rattle.cell_tx.specs.Ports.{port_prefix, has_control}
+use Rattle.cell_tx.specs.Ports.{port_by, port_of_four, port_prefix, has_control_by, has_control}
 use Rattle.cell_tx.specs.Grid.{is_broadcast, port_channel_value, port_element}
 use Rattle.cell_tx.specs.Control.{control_word, control_point}
 use Rattle.cell_tx.specs.Shared.{shared_point}
@@ -63,31 +64,30 @@ abbrev pub AreSameBeside : Elements → ℕ → ℕ → Type 0
 AreSameBeside grid a b =
     (subframe symbol k : ℕ) → (subframe ≡ 0 → (symbol < 7) ⊎ (11 ≤ symbol)) → (subframe ≡ 5 → ⊥) → grid a subframe symbol k ≡ grid b subframe symbol k
 
-pub element_same : (port : Port) (plan : CellPlan) (a b : ℕ) → has_control port ≡ true → AreSameBeside (port_element port plan) a b
+same_by : (carrier : Carrier) (number : ℕ) (plan : CellPlan) (a b : ℕ) → has_control_by carrier ≡ true → AreSameBeside (port_element (port_by carrier number) plan) a b
 unfolding port_element port_channel_value
-element_same Only plan a b control subframe symbol k outside other =
+same_by OnePort number plan a b control subframe symbol k outside other =
     let none = not_broadcast plan.identity subframe symbol k outside in
     let e : nat_eq subframe 5 ≡ false = grind (arith, nat_tests) in
     rw (none, e) refl
-element_same First plan a b control subframe symbol k outside other =
+same_by TwoPorts number plan a b control subframe symbol k outside other =
     let none = not_broadcast plan.identity subframe symbol k outside in
     let e : nat_eq subframe 5 ≡ false = grind (arith, nat_tests) in
     rw (none, e) refl
-element_same Second plan a b control subframe symbol k outside other =
-    let none = not_broadcast plan.identity subframe symbol k outside in
-    let e : nat_eq subframe 5 ≡ false = grind (arith, nat_tests) in
-    rw (none, e) refl
-element_same Long plan a b control subframe symbol k outside other = absurd cc
-element_same (OfFour port) plan a b control subframe symbol k outside other = absurd cc
+same_by LongPrefix number plan a b control subframe symbol k outside other = absurd cc
+same_by FourPorts number plan a b control subframe symbol k outside other = absurd cc
+
+pub element_same : (port : Port) (plan : CellPlan) (a b : ℕ) → has_control port ≡ true → AreSameBeside (port_element port plan) a b
+element_same port plan a b control = same_by port.carrier port.number plan a b control
 
 -- of a port of four, whose system information is not sent, they are the same beside the broadcast channel
 abbrev pub AreSameBesideBroadcast : Elements → ℕ → ℕ → Type 0
 AreSameBesideBroadcast grid a b =
     (subframe symbol k : ℕ) → (subframe ≡ 0 → (symbol < 7) ⊎ (11 ≤ symbol)) → grid a subframe symbol k ≡ grid b subframe symbol k
 
-pub element_of_four_same : (port : PortOfFour) (plan : CellPlan) (a b : ℕ) → AreSameBesideBroadcast (port_element (OfFour port) plan) a b
+pub element_of_four_same : (number : ℕ) (plan : CellPlan) (a b : ℕ) → AreSameBesideBroadcast (port_element (port_of_four number) plan) a b
 unfolding port_element port_channel_value
-element_of_four_same port plan a b subframe symbol k outside = let none = not_broadcast plan.identity subframe symbol k outside in rw none refl
+element_of_four_same number plan a b subframe symbol k outside = let none = not_broadcast plan.identity subframe symbol k outside in rw none refl
 
 -- without a control region they are the same beside slot 1
 abbrev pub AreSameBesideSlot : Prefix → Elements → ℕ → ℕ → Type 0
@@ -103,17 +103,19 @@ beside_slot subframe symbol other first = elim (cases_lt symbol 7) [
   ])
 ]
 
-pub slot_same : (port : Port) (plan : CellPlan) (a b : ℕ) → has_control port ≡ false → AreSameBesideSlot (port_prefix port) (port_element port plan) a b
+slot_by : (carrier : Carrier) (number : ℕ) (plan : CellPlan) (a b : ℕ) → has_control_by carrier ≡ false → AreSameBesideSlot (prefix_of carrier) (port_element (port_by carrier number) plan) a b
 unfolding port_element port_channel_value
-slot_same Only plan a b control subframe symbol k other = absurd cc
-slot_same First plan a b control subframe symbol k other = absurd cc
-slot_same Second plan a b control subframe symbol k other = absurd cc
-slot_same Long plan a b control subframe symbol k other =
+slot_by OnePort number plan a b control subframe symbol k other = absurd cc
+slot_by TwoPorts number plan a b control subframe symbol k other = absurd cc
+slot_by LongPrefix number plan a b control subframe symbol k other =
     let e : nat_eq (2 * subframe + symbol / 6) 1 ≡ false = grind (arith, nat_tests) in
     rw e refl
-slot_same (OfFour port) plan a b control subframe symbol k other =
+slot_by FourPorts number plan a b control subframe symbol k other =
     let none = not_broadcast plan.identity subframe symbol k (beside_slot subframe symbol other) in
     rw none refl
+
+pub slot_same : (port : Port) (plan : CellPlan) (a b : ℕ) → has_control port ≡ false → AreSameBesideSlot (port_prefix port) (port_element port plan) a b
+slot_same port plan a b control = slot_by port.carrier port.number plan a b control
 
 -- ---- samples that do not
 

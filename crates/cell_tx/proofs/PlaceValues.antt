@@ -11,9 +11,9 @@ use Rattle.grid_map.specs.declared.Place.{Place}
 use Rattle.grid_map.specs.Place.{place, same_place, index_in}
 use Rattle.grid_map.proofs.Order.{same_place-refl, same_place-true}
 use Rattle.cell_tx.specs.declared.antenna.Port.{Port}
-use Rattle.cell_tx.specs.declared.antenna.Port.TheVariants.{Only, First, Second, Long, OfFour}
-use Rattle.cell_tx.specs.declared.antenna.PortOfFour.TheVariants.{Zero, One, Two, Three}
-use Rattle.cell_tx.specs.Ports.{crossed_point, is_even_pair, sent_point}
+use Rattle.lte_types.specs.declared.carrier.Carrier.{Carrier}
+use Rattle.lte_types.specs.declared.carrier.Carrier.TheVariants.{OnePort, TwoPorts, LongPrefix, FourPorts}
+use Rattle.cell_tx.specs.Ports.{crossed_point, paired_point, in_turn, point_by, sent_point}
 use Rattle.cell_tx.specs.Grid.{is_one_of}
 use Rattle.cell_tx.specs.Rows.{value_in}
 
@@ -29,22 +29,22 @@ crossed_points n f i even inside = by (nat_eq (i % 2) 0) refl
     by true e = ap (λ (z : Cpx). negated (conjugate z)) (points_there n f (i + 1) (let first = eqb-true (i % 2) 0 e in omega (arith, first, even, inside)))
     by false e = ap conjugate (points_there n f (i - 1) (omega (arith, inside)))
 
-in_even : (i : ℕ) (x y : Cpx) → x ≡ y → (if is_even_pair i then x else nothing) ≡ (if is_even_pair i then y else nothing)
-in_even i x y e = ap (λ (z : Cpx). if is_even_pair i then z else nothing) e
-
-in_odd : (i : ℕ) (x y : Cpx) → x ≡ y → (if is_even_pair i then nothing else x) ≡ (if is_even_pair i then nothing else y)
-in_odd i x y e = ap (λ (z : Cpx). if is_even_pair i then nothing else z) e
+paired_points : (half number n : ℕ) (f : ℕ → Cpx) (i : ℕ) → n % 2 ≡ 0 → i < n → paired_point half number (value_at (values_below n f)) i ≡ paired_point half number f i
+paired_points half number n f i even inside = by (nat_lt number half)
+  where
+    by : (b : Bool) → (if b then value_at (values_below n f) i else crossed_point (value_at (values_below n f)) i) ≡ (if b then f i else crossed_point f i)
+    by true = points_there n f i inside
+    by false = crossed_points n f i even inside
 
 -- nor what a port sends of them, where they are whole pairs
+points_by : (carrier : Carrier) (number n : ℕ) (f : ℕ → Cpx) (i : ℕ) → n % 2 ≡ 0 → i < n → point_by carrier number (value_at (values_below n f)) i ≡ point_by carrier number f i
+points_by OnePort number n f i even inside = points_there n f i inside
+points_by TwoPorts number n f i even inside = paired_points 1 number n f i even inside
+points_by LongPrefix number n f i even inside = points_there n f i inside
+points_by FourPorts number n f i even inside = ap (in_turn number i) (paired_points 2 number n f i even inside)
+
 pub sent_points : (port : Port) (n : ℕ) (f : ℕ → Cpx) (i : ℕ) → n % 2 ≡ 0 → i < n → sent_point port (value_at (values_below n f)) i ≡ sent_point port f i
-sent_points Only n f i even inside = points_there n f i inside
-sent_points First n f i even inside = points_there n f i inside
-sent_points Long n f i even inside = points_there n f i inside
-sent_points Second n f i even inside = crossed_points n f i even inside
-sent_points (OfFour Zero) n f i even inside = in_even i _ _ (points_there n f i inside)
-sent_points (OfFour One) n f i even inside = in_odd i _ _ (points_there n f i inside)
-sent_points (OfFour Two) n f i even inside = in_even i _ _ (crossed_points n f i even inside)
-sent_points (OfFour Three) n f i even inside = in_odd i _ _ (crossed_points n f i even inside)
+sent_points port n f i even inside = points_by port.carrier port.number n f i even inside
 
 module _ (places : List Place) (p : Place) where
   fails : (q : Place) → (q ≡ p → ⊥) → (b : Bool) → same_place p q ≡ b → b ≡ false

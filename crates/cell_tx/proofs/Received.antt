@@ -12,9 +12,7 @@ use Rattle.sizes.proofs.Squares.{re-le, im-le, square-times}
 use Rattle.sizes.proofs.TwoTerms.{two_term_cauchy}
 use Rattle.cell_tx.specs.Clean.{AreNear, received_of_two}
 use Rattle.lte_types.specs.declared.carrier.Carrier.TheVariants.{OnePort, TwoPorts, LongPrefix, FourPorts}
-use Rattle.cell_tx.specs.declared.antenna.Port.TheVariants.{Only, First, Second, Long, OfFour}
-use Rattle.cell_tx.specs.declared.antenna.PortOfFour.{PortOfFour}
-use Rattle.cell_tx.specs.declared.antenna.PortOfFour.TheVariants.{Zero, One, Two, Three}
+use Rattle.cell_tx.specs.Ports.{only_port, first_port, second_port, long_port, port_of_four}
 use Rattle.cell_tx.specs.Emission.{sent_by, received_by}
 use Rattle.cell_tx.proofs.Bounds.{amplified, added, sent_by-square}
 use Rattle.cell_tx.specs.Laws.{values_with, EmittedIsClean, EmittedIsSmall, ReceivedOfTwoIsClean, ReceivedOfTwoIsSmall, ReceivedOfTwoFits}
@@ -105,17 +103,17 @@ sum_fits z n power few most is =
 
 pub received_by-small : EmittedIsSmall
 received_by-small OnePort load plan sfn offset gains i g =
-    (amplified (value_at gains 0) (sent_by load Only plan sfn (i + offset)) g.most (sent_by-square load Only plan sfn (i + offset))).small
+    (amplified (value_at gains 0) (sent_by load only_port plan sfn (i + offset)) g.most (sent_by-square load only_port plan sfn (i + offset))).small
 received_by-small TwoPorts load plan sfn offset gains i g =
-    received-small (sent_by load First plan sfn (i + offset)) (sent_by load Second plan sfn (i + offset)) (value_at gains 0) (value_at gains 1)
-    (sent_by-square load First plan sfn (i + offset)) (sent_by-square load Second plan sfn (i + offset)) g
+    received-small (sent_by load first_port plan sfn (i + offset)) (sent_by load second_port plan sfn (i + offset)) (value_at gains 0) (value_at gains 1)
+    (sent_by-square load first_port plan sfn (i + offset)) (sent_by-square load second_port plan sfn (i + offset)) g
 received_by-small LongPrefix load plan sfn offset gains i g =
-    (amplified (value_at gains 0) (sent_by load Long plan sfn (i + offset)) g.most (sent_by-square load Long plan sfn (i + offset))).small
+    (amplified (value_at gains 0) (sent_by load long_port plan sfn (i + offset)) g.most (sent_by-square load long_port plan sfn (i + offset))).small
 received_by-small FourPorts load plan sfn offset gains i g =
-    let part : (port : PortOfFour) (gain : Cpx) → IsSumOf 1 (square gain) (times gain (sent_by load (OfFour port) plan sfn (i + offset))) =
-    λ port gain. product_is gain _ (sent_by-square load (OfFour port) plan sfn (i + offset)) in
-    let first = sum_is _ _ 1 1 _ _ (part Zero (value_at gains 0)) (part One (value_at gains 1)) in
-    let second = sum_is _ _ 1 1 _ _ (part Two (value_at gains 2)) (part Three (value_at gains 3)) in
+    let part : (number : ℕ) (gain : Cpx) → IsSumOf 1 (square gain) (times gain (sent_by load (port_of_four number) plan sfn (i + offset))) =
+    λ number gain. product_is gain _ (sent_by-square load (port_of_four number) plan sfn (i + offset)) in
+    let first = sum_is _ _ 1 1 _ _ (part 0 (value_at gains 0)) (part 1 (value_at gains 1)) in
+    let second = sum_is _ _ 1 1 _ _ (part 2 (value_at gains 2)) (part 3 (value_at gains 3)) in
     sum_fits _ 4 _ (omega arith) (let m = g.most in omega (arith, m)) (sum_is _ _ 2 2 _ _ first second)
 
 pub emitted_clean : EmittedIsClean

@@ -20,10 +20,13 @@ use Rattle.grid_map.proofs.Order.{same_place-refl, same_place-true}
 use Rattle.grid_map.proofs.Kept.{any-filter}
 use Rattle.grid_map.proofs.Regions.{pcfich_inside, pdcch_inside}
 use Rattle.cell_tx.specs.declared.antenna.Port.{Port}
-use Rattle.cell_tx.specs.declared.antenna.Port.TheVariants.{Only, First, Second, Long, OfFour}
+use Rattle.lte_types.specs.declared.carrier.Carrier.{Carrier}
+use Rattle.lte_types.specs.declared.carrier.Carrier.TheVariants.{OnePort, TwoPorts, LongPrefix, FourPorts}
+use Rattle.lte_types.specs.Carrier.{prefix_of}
+use Rattle.lte_types.specs.Numerology.{symbols_of_slot}
 use Rattle.cell_plan.specs.declared.cell.CellPlan.{CellPlan}
 use Rattle.cell_tx.specs.Control.{control_places}
-use Rattle.cell_tx.specs.Ports.{port_symbols, is_two}
+use Rattle.cell_tx.specs.Ports.{port_by, port_symbols, is_two}
 use Rattle.cell_tx.specs.Shared.{assigned_places}
 use Rattle.cell_tx.specs.Grid.{is_one_of, is_broadcast, is_long_broadcast, is_indicator, has_system_information, control_value, shared_value, system_value, port_channel_value}
 use Rattle.cell_tx.proofs.PlaceValues.{absent_is}
@@ -164,10 +167,13 @@ no_long_broadcast identity subframe symbol k row =
     rw early refl
 
 -- no channel is in the two last symbols of the first slot of a subframe
-pub no_channel : (port : Port) (plan : CellPlan) (sfn subframe symbol k : ℕ) → (symbol ≡ port_symbols port - 2) ⊎ (symbol ≡ port_symbols port - 1) → port_channel_value port plan sfn subframe symbol k ≡ nothing
+no_channel_by : (carrier : Carrier) (number : ℕ) (plan : CellPlan) (sfn subframe symbol k : ℕ) → (symbol ≡ symbols_of_slot (prefix_of carrier) - 2) ⊎ (symbol ≡ symbols_of_slot (prefix_of carrier) - 1) →
+    port_channel_value (port_by carrier number) plan sfn subframe symbol k ≡ nothing
 unfolding port_channel_value
-no_channel Only plan sfn subframe symbol k row = rw (early_broadcast plan.identity subframe symbol k row) (no_system Only plan sfn subframe symbol k row)
-no_channel First plan sfn subframe symbol k row = rw (early_broadcast plan.identity subframe symbol k row) (no_system First plan sfn subframe symbol k row)
-no_channel Second plan sfn subframe symbol k row = rw (early_broadcast plan.identity subframe symbol k row) (no_system Second plan sfn subframe symbol k row)
-no_channel Long plan sfn subframe symbol k row = rw (no_long_broadcast plan.identity subframe symbol k row) refl
-no_channel (OfFour port) plan sfn subframe symbol k row = rw (early_broadcast plan.identity subframe symbol k row) refl
+no_channel_by OnePort number plan sfn subframe symbol k row = rw (early_broadcast plan.identity subframe symbol k row) (no_system (port_by OnePort number) plan sfn subframe symbol k row)
+no_channel_by TwoPorts number plan sfn subframe symbol k row = rw (early_broadcast plan.identity subframe symbol k row) (no_system (port_by TwoPorts number) plan sfn subframe symbol k row)
+no_channel_by LongPrefix number plan sfn subframe symbol k row = rw (no_long_broadcast plan.identity subframe symbol k row) refl
+no_channel_by FourPorts number plan sfn subframe symbol k row = rw (early_broadcast plan.identity subframe symbol k row) refl
+
+pub no_channel : (port : Port) (plan : CellPlan) (sfn subframe symbol k : ℕ) → (symbol ≡ port_symbols port - 2) ⊎ (symbol ≡ port_symbols port - 1) → port_channel_value port plan sfn subframe symbol k ≡ nothing
+no_channel port plan sfn subframe symbol k row = no_channel_by port.carrier port.number plan sfn subframe symbol k row

@@ -13,7 +13,9 @@ use Rattle.lte_types.specs.declared.numerology.Prefix.{Prefix}
 use Rattle.lte_types.specs.Numerology.{normal, extended, IsPrefix, prefix_length, symbols_of_slot, useful_start, symbol_of}
 use Rattle.lte_types.specs.Timing.{number_of, start_of, number_at_start}
 use Rattle.cell_tx.specs.declared.antenna.Port.{Port}
-use Rattle.cell_tx.specs.declared.antenna.Port.TheVariants.{Only, First, Second, Long, OfFour}
+use Rattle.lte_types.specs.declared.carrier.Carrier.{Carrier}
+use Rattle.lte_types.specs.declared.carrier.Carrier.TheVariants.{OnePort, TwoPorts, LongPrefix, FourPorts}
+use Rattle.lte_types.specs.Carrier.{prefix_of}
 use Rattle.cell_tx.specs.Ports.{port_prefix}
 use Rattle.cell_tx.specs.Sent.{Elements, symbol_sample, prefix_slot_sample, prefix_frame_sample, prefix_sent}
 use Rattle.cell_tx.specs.Rows.{useful_place, first_in_slot, first_sample}
@@ -30,12 +32,14 @@ useful_part_at grid n l = values_below_at (useful_at grid) 128 n nothing l
 
 -- ---- the prefix of a port
 
+prefix_known : (carrier : Carrier) → IsPrefix (prefix_of carrier)
+prefix_known OnePort = inl refl
+prefix_known TwoPorts = inl refl
+prefix_known LongPrefix = inr refl
+prefix_known FourPorts = inl refl
+
 pub port_prefix_known : (port : Port) → IsPrefix (port_prefix port)
-port_prefix_known Only = inl refl
-port_prefix_known First = inl refl
-port_prefix_known Second = inl refl
-port_prefix_known Long = inr refl
-port_prefix_known (OfFour port) = inl refl
+port_prefix_known port = prefix_known port.carrier
 
 -- what holds with both prefixes holds with each
 pub with_prefix : (P : Prefix → Type 0) → P normal → P extended → (prefix : Prefix) → IsPrefix prefix → P prefix

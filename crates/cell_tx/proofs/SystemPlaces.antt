@@ -12,17 +12,20 @@ use Rattle.grid_map.proofs.Symbols.{pdsch_count}
 use Rattle.grid_map.proofs.Indexed.{pcfich_indexed, candidate_indexed, pdcch_carry, shared_indexed}
 use Rattle.grid_map.proofs.Apart.{IsInRegion, IsAfterRegion, indicator_place, control_place, control_not_indicator, shared_place}
 use Rattle.cell_tx.specs.declared.antenna.Port.{Port}
-use Rattle.cell_tx.specs.declared.antenna.Port.TheVariants.{Only, First, Second, Long, OfFour}
+use Rattle.lte_types.specs.declared.carrier.Carrier.{Carrier}
+use Rattle.lte_types.specs.declared.carrier.Carrier.TheVariants.{OnePort, TwoPorts, LongPrefix, FourPorts}
+use Rattle.lte_types.specs.Carrier.{prefix_of}
+use Rattle.lte_types.specs.Numerology.{symbols_of_slot}
 use Rattle.cell_plan.specs.declared.cell.CellPlan.{CellPlan}
 use Rattle.cell_plan.specs.Transport.{assigned_bits_of}
 use Rattle.cell_plan.specs.Plan.{IsSendableWith}
-use Rattle.cell_tx.specs.Ports.{port_symbols, has_control, is_two, sent_point}
+use Rattle.cell_tx.specs.Ports.{port_by, port_symbols, has_control_by, has_control, is_two_by, is_two, sent_point}
 use Rattle.cell_tx.specs.Control.{control_places, indicator_point, control_point}
 use Rattle.cell_tx.specs.Shared.{assigned_places, shared_point}
-use Rattle.cell_tx.specs.Grid.{is_one_of, is_synchronised, has_broadcast, is_indicator, is_control, is_shared, has_system_information, port_channel_value, port_element}
+use Rattle.cell_tx.specs.Grid.{is_one_of, is_synchronised, has_broadcast_by, has_broadcast, is_indicator, is_control, is_shared, has_system_information, port_channel_value, port_element}
 use Rattle.cell_tx.specs.Rows.{port_reference_if}
 use Rattle.cell_tx.proofs.PlaceValues.{absent_is}
-use Rattle.cell_tx.proofs.Elements.{element_of_channel}
+use Rattle.cell_tx.proofs.Elements.{both_false, no_lower, none_of, element_of_channel}
 
 -- ---- lists in which each place stands once
 
@@ -42,12 +45,16 @@ record IsChannelPlace (port : Port) (identity : ℕ) (p : Place) : Type 0 where
   free : (slot : ℕ) → port_reference_if port identity slot (p.symbol % 7) p.k ≡ None
   beside : is_synchronisation p.symbol ≡ false
 
+pilot_by : (carrier : Carrier) (number identity slot symbol k : ℕ) → has_control_by carrier ≡ true → is_reference identity symbol k ≡ false → is_second_reference identity symbol k ≡ false →
+    port_reference_if (port_by carrier number) identity slot symbol k ≡ None
+pilot_by OnePort number identity slot symbol k has e f = none_of (port_by OnePort number) identity slot symbol k e e
+pilot_by TwoPorts number identity slot symbol k has e f =
+    none_of (port_by TwoPorts number) identity slot symbol k (no_lower number identity symbol k e f) (both_false _ _ e f)
+pilot_by LongPrefix number identity slot symbol k has e f = absurd cc
+pilot_by FourPorts number identity slot symbol k has e f = absurd cc
+
 pub no_pilot : (port : Port) (identity slot symbol k : ℕ) → has_control port ≡ true → is_reference identity symbol k ≡ false → is_second_reference identity symbol k ≡ false → port_reference_if port identity slot symbol k ≡ None
-no_pilot Only identity slot symbol k has e f = rw e refl
-no_pilot First identity slot symbol k has e f = rw (e, f) refl
-no_pilot Second identity slot symbol k has e f = rw (f, e) refl
-no_pilot Long identity slot symbol k has e f = absurd cc
-no_pilot (OfFour port) identity slot symbol k has e f = absurd cc
+no_pilot port identity slot symbol k has e f = pilot_by port.carrier port.number identity slot symbol k has e f
 
 of_region : (port : Port) (identity last : ℕ) (p : Place) → has_control port ≡ true → last ≤ 3 → IsInRegion identity last p → IsChannelPlace port identity p
 of_region port identity last p has few at = record {
@@ -59,12 +66,16 @@ no_either : (a b : Bool) → (a || b) ≡ false → (a ≡ false) × (b ≡ fals
 no_either true b e = absurd cc
 no_either false b e = (refl, e)
 
+no_pilot_by : (carrier : Carrier) (number identity slot symbol k : ℕ) → has_control_by carrier ≡ true → is_pilot_of (is_two_by carrier) identity symbol k ≡ false →
+    port_reference_if (port_by carrier number) identity slot symbol k ≡ None
+no_pilot_by OnePort number identity slot symbol k has e = none_of (port_by OnePort number) identity slot symbol k e e
+no_pilot_by TwoPorts number identity slot symbol k has e =
+    let both = no_either (is_reference identity symbol k) (is_second_reference identity symbol k) e in pilot_by TwoPorts number identity slot symbol k has both.0 both.1
+no_pilot_by LongPrefix number identity slot symbol k has e = absurd cc
+no_pilot_by FourPorts number identity slot symbol k has e = absurd cc
+
 no_pilot_of : (port : Port) (identity slot symbol k : ℕ) → has_control port ≡ true → is_pilot_of (is_two port) identity symbol k ≡ false → port_reference_if port identity slot symbol k ≡ None
-no_pilot_of Only identity slot symbol k has e = rw e refl
-no_pilot_of First identity slot symbol k has e = let both = no_either (is_reference identity symbol k) (is_second_reference identity symbol k) e in no_pilot First identity slot symbol k has both.0 both.1
-no_pilot_of Second identity slot symbol k has e = let both = no_either (is_reference identity symbol k) (is_second_reference identity symbol k) e in no_pilot Second identity slot symbol k has both.0 both.1
-no_pilot_of Long identity slot symbol k has e = absurd cc
-no_pilot_of (OfFour port) identity slot symbol k has e = absurd cc
+no_pilot_of port identity slot symbol k has e = no_pilot_by port.carrier port.number identity slot symbol k has e
 
 of_shared : (port : Port) (identity last : ℕ) (p : Place) → has_control port ≡ true → IsAfterRegion (is_two port) identity last p → IsChannelPlace port identity p
 of_shared port identity last p has at = record { free = λ slot. no_pilot_of port identity slot (p.symbol % 7) p.k has at.free; beside = at.beside }
@@ -73,12 +84,14 @@ no_signal : (symbol signal : ℕ) (middle : Bool) → is_synchronisation symbol 
 no_signal symbol signal middle e which = let other : nat_eq symbol signal ≡ false = grind (arith, nat_tests) in rw other refl
 
 -- a port with a control region has seven symbols in a slot
+seven_of : (carrier : Carrier) → has_control_by carrier ≡ true → symbols_of_slot (prefix_of carrier) ≡ 7
+seven_of OnePort has = refl
+seven_of TwoPorts has = refl
+seven_of LongPrefix has = absurd cc
+seven_of FourPorts has = absurd cc
+
 pub symbols_are : (port : Port) → has_control port ≡ true → port_symbols port ≡ 7
-symbols_are Only has = refl
-symbols_are First has = refl
-symbols_are Second has = refl
-symbols_are Long has = absurd cc
-symbols_are (OfFour port) has = absurd cc
+symbols_are port has = seven_of port.carrier has
 
 element_is : (port : Port) (plan : CellPlan) (number : ℕ) (p : Place) → has_control port ≡ true → IsChannelPlace port plan.identity p →
     port_element port plan number 5 p.symbol p.k ≡ port_channel_value port plan number 5 p.symbol p.k
@@ -90,12 +103,14 @@ element_is port plan number p has at =
     (subst (λ (n : ℕ). is_synchronised (n - 2) 5 p.symbol p.k ≡ false) seven (no_signal p.symbol 5 _ at.beside (inl refl)))
 
 -- and has no broadcast channel in subframe 5
+broadcast_by : (carrier : Carrier) (identity symbol k : ℕ) → has_control_by carrier ≡ true → has_broadcast_by carrier identity 5 symbol k ≡ false
+broadcast_by OnePort identity symbol k has = refl
+broadcast_by TwoPorts identity symbol k has = refl
+broadcast_by LongPrefix identity symbol k has = absurd cc
+broadcast_by FourPorts identity symbol k has = absurd cc
+
 no_broadcast : (port : Port) (identity symbol k : ℕ) → has_control port ≡ true → has_broadcast port identity 5 symbol k ≡ false
-no_broadcast Only identity symbol k has = refl
-no_broadcast First identity symbol k has = refl
-no_broadcast Second identity symbol k has = refl
-no_broadcast Long identity symbol k has = absurd cc
-no_broadcast (OfFour port) identity symbol k has = absurd cc
+no_broadcast port identity symbol k has = broadcast_by port.carrier identity symbol k has
 
 module _ (port : Port) (plan : CellPlan) (number symbol k : ℕ) (has : has_control port ≡ true) where
   of_indicator : is_indicator plan symbol k ≡ true →

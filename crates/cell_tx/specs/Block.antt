@@ -12,9 +12,8 @@ use Rattle.conv_code.specs.Code.{coded_word}
 use Rattle.conv_code.specs.Reading.{bit_of_item, item_of}
 use Rattle.grid_map.specs.Scrambling.{pbch_c_init}
 use Rattle.cell_tx.specs.declared.antenna.Port.{Port}
-use Rattle.cell_tx.specs.declared.antenna.Port.TheVariants.{Only}
 use Rattle.cell_plan.specs.declared.cell.CellPlan.{CellPlan}
-use Rattle.cell_tx.specs.Ports.{port_mask, port_block_bits}
+use Rattle.cell_tx.specs.Ports.{only_port, port_mask, port_block_bits}
 use Rattle.cell_tx.specs.Points.{scrambled, point_of}
 
 -- the 24 bits of a master block in the frame with this number: dl-Bandwidth n6, phich-Config, the upper 8 bits of the
@@ -58,4 +57,4 @@ port_point port plan sfn i = point_of (port_bit port plan sfn) i
 -- ---- the broadcast channel with one antenna port
 
 abbrev pub broadcast_word : CellPlan → ℕ → List Bool
-broadcast_word plan sfn = port_word Only plan sfn
+broadcast_word plan sfn = port_word only_port plan sfn

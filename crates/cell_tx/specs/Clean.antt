@@ -8,9 +8,7 @@ use Rattle.cs_num.specs.Gain.{IsGain}
 use Rattle.lte_types.specs.Timing.{IsOffset}
 use Rattle.cell_plan.specs.declared.cell.CellPlan.{CellPlan}
 use Rattle.cell_plan.specs.Gains.{AreGains, IsAllowed}
-use Rattle.cell_tx.specs.declared.antenna.Port.TheVariants.{First, Second}
-use Rattle.cell_tx.specs.declared.antenna.PortOfFour.{PortOfFour}
-use Rattle.cell_tx.specs.declared.antenna.PortOfFour.TheVariants.{Zero, One, Two, Three}
+use Rattle.cell_tx.specs.Ports.{first_port, second_port}
 use Rattle.cell_tx.specs.Grid.{port_element, element}
 use Rattle.cell_tx.specs.Sent.{sent}
 
@@ -49,23 +47,24 @@ pub record IsCleanOfTwo (first second : ℕ → Cpx) (recording : List Sample) (
   pub near : AreNear recording (received_of_two first second offset gain other) eps
 
 -- what a port of a cell sends from the frame numbered sfn on
-abbrev pub first_port : CellPlan → ℕ → ℕ → Cpx
-first_port plan sfn = sent (port_element First plan) sfn
+abbrev pub first_sequence : CellPlan → ℕ → ℕ → Cpx
+first_sequence plan sfn = sent (port_element first_port plan) sfn
 
-abbrev pub second_port : CellPlan → ℕ → ℕ → Cpx
-second_port plan sfn = sent (port_element Second plan) sfn
+abbrev pub second_sequence : CellPlan → ℕ → ℕ → Cpx
+second_sequence plan sfn = sent (port_element second_port plan) sfn
 
 -- a recording is clean of what both ports of a cell send from the frame numbered sfn on
 pub record IsCleanOfPorts (recording : List Sample) (plan : CellPlan) (sfn offset : ℕ) (gain other : Cpx) (eps : ℕ) :
     Type 0 where
   pub number : sfn ≤ 1023
-  pub samples : IsCleanOfTwo (first_port plan sfn) (second_port plan sfn) recording offset gain other eps
+  pub samples : IsCleanOfTwo (first_sequence plan sfn) (second_sequence plan sfn) recording offset gain other eps
 
 -- ---- four antenna ports
 
--- what is received of four sequences, from their samples at offset on, by a channel that is one number for each
-abbrev pub received_of_four : (PortOfFour → ℕ → Cpx) → ℕ → List Cpx → ℕ → Cpx
+-- what is received of four sequences, those of ports 0 to 3, from their samples at offset on, by a channel that is one
+-- number for each
+abbrev pub received_of_four : (ℕ → ℕ → Cpx) → ℕ → List Cpx → ℕ → Cpx
 received_of_four sequences offset gains i =
     plus
-    (received_of_two (sequences Zero) (sequences One) offset (value_at gains 0) (value_at gains 1) i)
-    (received_of_two (sequences Two) (sequences Three) offset (value_at gains 2) (value_at gains 3) i)
+    (received_of_two (sequences 0) (sequences 1) offset (value_at gains 0) (value_at gains 1) i)
+    (received_of_two (sequences 2) (sequences 3) offset (value_at gains 2) (value_at gains 3) i)

@@ -9,11 +9,9 @@ use Rattle.lte_types.specs.Timing.{IsOffset}
 use Rattle.lte_types.specs.declared.carrier.Carrier.{Carrier}
 use Rattle.lte_types.specs.declared.carrier.Carrier.TheVariants.{OnePort, TwoPorts, LongPrefix, FourPorts}
 use Rattle.cell_tx.specs.declared.antenna.Port.{Port}
-use Rattle.cell_tx.specs.declared.antenna.Port.TheVariants.{Only, First, Second, Long, OfFour}
-use Rattle.cell_tx.specs.declared.antenna.PortOfFour.TheVariants.{Zero, One, Two, Three}
 use Rattle.cell_plan.specs.declared.cell.CellPlan.{CellPlan}
 use Rattle.cell_plan.specs.declared.emission.Emission.{Emission}
-use Rattle.cell_tx.specs.Ports.{port_prefix}
+use Rattle.cell_tx.specs.Ports.{only_port, first_port, second_port, long_port, port_of_four, port_prefix}
 use Rattle.cell_tx.specs.Load.{sent_element}
 use Rattle.cell_tx.specs.Sent.{prefix_sent}
 use Rattle.cell_plan.specs.Gains.{AreGainsOf, IsAllowedBy}
@@ -25,13 +23,14 @@ sent_by load port plan sfn i = prefix_sent (port_prefix port) (sent_element load
 
 -- what is received of all ports of a carrier that send these values, by a channel that is one number for each
 abbrev pub mixed : Carrier → (Port → Cpx) → List Cpx → Cpx
-mixed OnePort values gains = times (value_at gains 0) (values Only)
-mixed TwoPorts values gains = plus (times (value_at gains 0) (values First)) (times (value_at gains 1) (values Second))
-mixed LongPrefix values gains = times (value_at gains 0) (values Long)
+mixed OnePort values gains = times (value_at gains 0) (values only_port)
+mixed TwoPorts values gains =
+    plus (times (value_at gains 0) (values first_port)) (times (value_at gains 1) (values second_port))
+mixed LongPrefix values gains = times (value_at gains 0) (values long_port)
 mixed FourPorts values gains =
     plus
-    (plus (times (value_at gains 0) (values (OfFour Zero))) (times (value_at gains 1) (values (OfFour One))))
-    (plus (times (value_at gains 2) (values (OfFour Two))) (times (value_at gains 3) (values (OfFour Three))))
+    (plus (times (value_at gains 0) (values (port_of_four 0))) (times (value_at gains 1) (values (port_of_four 1))))
+    (plus (times (value_at gains 2) (values (port_of_four 2))) (times (value_at gains 3) (values (port_of_four 3))))
 
 -- what is received of all ports of a carrier, from the sample at offset on, by a channel that is one number for each
 abbrev pub received_by : Carrier → Option ℕ → CellPlan → ℕ → ℕ → List Cpx → ℕ → Cpx

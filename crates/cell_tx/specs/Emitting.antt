@@ -14,7 +14,7 @@ use Rattle.cell_tx.specs.declared.antenna.Port.{Port}
 use Rattle.cell_plan.specs.declared.cell.CellPlan.{CellPlan}
 use Rattle.cell_tx.specs.declared.source.Source.{Source}
 use Rattle.cell_tx.specs.declared.frame_symbols.Symbols.{Symbols}
-use Rattle.cell_tx.specs.Ports.{carrier_of, port_prefix}
+use Rattle.cell_tx.specs.Ports.{port_prefix}
 use Rattle.cell_tx.specs.Emission.{sent_by}
 use Rattle.cell_tx.specs.Mixing.{mixed_by}
 use Rattle.cell_tx.specs.Load.{sent_element}
@@ -70,7 +70,7 @@ AreAll prefix symbols = (i : ℕ) → i < frame_length → is_made_anew prefix s
 -- no sample of a port of the carrier outside these symbols depends on which frame it is in
 abbrev pub AreOwn : Carrier → Option ℕ → Symbols → Type 0
 AreOwn carrier load symbols =
-    (port : Port) (plan : CellPlan) (a b i : ℕ) → carrier_of port ≡ carrier → i < frame_length →
+    (port : Port) (plan : CellPlan) (a b i : ℕ) → port.carrier ≡ carrier → i < frame_length →
     is_made_anew (prefix_of carrier) symbols i ≡ false →
     sent_in_frame load port plan a i ≡ sent_in_frame load port plan b i
 

@@ -13,8 +13,10 @@ use Rattle.grid_map.specs.Broadcast.{is_pbch, pbch_index}
 use Rattle.grid_map.specs.LongBroadcast.{long_places}
 use Rattle.grid_map.specs.Control.{pcfich_places}
 use Rattle.cell_tx.specs.declared.antenna.Port.{Port}
-use Rattle.cell_tx.specs.declared.antenna.Port.TheVariants.{Only, First, Second, Long, OfFour}
+use Rattle.lte_types.specs.declared.carrier.Carrier.{Carrier}
+use Rattle.lte_types.specs.declared.carrier.Carrier.TheVariants.{OnePort, TwoPorts, LongPrefix, FourPorts}
 use Rattle.cell_plan.specs.declared.cell.CellPlan.{CellPlan}
+use Rattle.cell_tx.specs.Ports.{only_port, long_port}
 use Rattle.cell_tx.specs.Ports.{port_symbols, port_slot, has_control, is_two, sent_point, sent_signal, is_own_reference}
 use Rattle.cell_tx.specs.Ports.{is_other_reference, port_reference}
 use Rattle.cell_tx.specs.Block.{port_point}
@@ -47,22 +49,29 @@ is_broadcast identity subframe symbol k = nat_eq subframe 0 && is_pbch identity 
 -- the broadcast channel with the extended prefix is in slot 1, by whose symbols its places are numbered
 abbrev pub is_long_broadcast : ℕ → ℕ → ℕ → ℕ → Bool
 is_long_broadcast identity subframe symbol k =
-    nat_eq (port_slot Long subframe symbol) 1 && is_one_of (long_places identity) (place (symbol % port_symbols Long) k)
+    nat_eq (port_slot long_port subframe symbol) 1
+    && is_one_of (long_places identity) (place (symbol % port_symbols long_port) k)
+
+-- a place of a subframe is one of the broadcast channel's, by carrier
+abbrev pub has_broadcast_by : Carrier → ℕ → ℕ → ℕ → ℕ → Bool
+has_broadcast_by OnePort identity subframe symbol k = is_broadcast identity subframe symbol k
+has_broadcast_by TwoPorts identity subframe symbol k = is_broadcast identity subframe symbol k
+has_broadcast_by LongPrefix identity subframe symbol k = is_long_broadcast identity subframe symbol k
+has_broadcast_by FourPorts identity subframe symbol k = is_broadcast identity subframe symbol k
 
 abbrev pub has_broadcast : Port → ℕ → ℕ → ℕ → ℕ → Bool
-has_broadcast Only identity subframe symbol k = is_broadcast identity subframe symbol k
-has_broadcast First identity subframe symbol k = is_broadcast identity subframe symbol k
-has_broadcast Second identity subframe symbol k = is_broadcast identity subframe symbol k
-has_broadcast Long identity subframe symbol k = is_long_broadcast identity subframe symbol k
-has_broadcast (OfFour port) identity subframe symbol k = is_broadcast identity subframe symbol k
+has_broadcast port identity subframe symbol k = has_broadcast_by port.carrier identity subframe symbol k
 
 -- the number of the point of the broadcast channel at a place
+abbrev pub broadcast_index_by : Carrier → ℕ → ℕ → ℕ → ℕ
+broadcast_index_by OnePort identity symbol k = pbch_index identity (place symbol k)
+broadcast_index_by TwoPorts identity symbol k = pbch_index identity (place symbol k)
+broadcast_index_by LongPrefix identity symbol k =
+    index_in (long_places identity) (place (symbol % port_symbols long_port) k)
+broadcast_index_by FourPorts identity symbol k = pbch_index identity (place symbol k)
+
 abbrev pub broadcast_index : Port → ℕ → ℕ → ℕ → ℕ
-broadcast_index Only identity symbol k = pbch_index identity (place symbol k)
-broadcast_index First identity symbol k = pbch_index identity (place symbol k)
-broadcast_index Second identity symbol k = pbch_index identity (place symbol k)
-broadcast_index Long identity symbol k = index_in (long_places identity) (place (symbol % port_symbols Long) k)
-broadcast_index (OfFour port) identity symbol k = pbch_index identity (place symbol k)
+broadcast_index port identity symbol k = broadcast_index_by port.carrier identity symbol k
 
 -- the control format indicator is in every subframe (TS 36.211 section 6.7)
 abbrev pub is_indicator : CellPlan → ℕ → ℕ → Bool
@@ -149,4 +158,4 @@ port_element port plan sfn subframe symbol k =
 -- ---- the element with one antenna port
 
 abbrev pub element : CellPlan → ℕ → ℕ → ℕ → ℕ → Cpx
-element plan sfn subframe symbol k = port_element Only plan sfn subframe symbol k
+element plan sfn subframe symbol k = port_element only_port plan sfn subframe symbol k

@@ -6,7 +6,7 @@ use Rattle.cs_num.specs.declared.Cpx.{Cpx}
 use Rattle.gold.specs.Gold.{gold_bit}
 use Rattle.cell_tx.specs.declared.antenna.Port.{Port}
 use Rattle.cell_plan.specs.declared.cell.CellPlan.{CellPlan}
-use Rattle.cell_tx.specs.Ports.{port_symbols, port_slot, has_control, port_number, is_own_reference, is_other_reference}
+use Rattle.cell_tx.specs.Ports.{port_symbols, port_slot, has_control, is_own_reference, is_other_reference}
 use Rattle.cell_tx.specs.Points.{point_of}
 use Rattle.cell_tx.specs.Grid.{has_system_information, has_broadcast, is_indicator, is_control, is_shared, port_element}
 use Rattle.cell_tx.specs.Sent.{Elements}
@@ -56,7 +56,7 @@ is_loaded port plan sfn subframe symbol k =
 -- c_init of the load with this number: each port, frame and subframe has its own; numbers that differ by 2^18 have
 -- one c_init
 abbrev pub load_c_init : ℕ → Port → ℕ → ℕ → ℕ
-load_c_init load port sfn subframe = (40960 * load + 10240 * port_number port + 10 * sfn + subframe) % 2 ^ 31
+load_c_init load port sfn subframe = (40960 * load + 10240 * port.number + 10 * sfn + subframe) % 2 ^ 31
 
 -- the point of the load with a number at a place (TS 36.211 sections 7.2 and 7.1.2)
 unfoldable pub load_point : ℕ → Port → ℕ → ℕ → ℕ → ℕ → Cpx

@@ -6,23 +6,22 @@ use Rattle.cs_num.specs.Complex.{square, times, value_at}
 use Rattle.lte_types.specs.declared.carrier.Carrier.{Carrier}
 use Rattle.lte_types.specs.declared.carrier.Carrier.TheVariants.{OnePort, TwoPorts, LongPrefix, FourPorts}
 use Rattle.cell_tx.specs.declared.antenna.Port.{Port}
-use Rattle.cell_tx.specs.declared.antenna.Port.TheVariants.{Only, Long}
 use Rattle.cell_tx.specs.declared.source.Ports.{Ports}
 use Rattle.cell_tx.specs.declared.source.Ports.TheVariants.{Alone, Both, AllFour}
-use Rattle.cell_tx.specs.Ports.{carrier_of}
+use Rattle.cell_tx.specs.Ports.{only_port, long_port}
 use Rattle.cell_plan.specs.Gains.{power_of_four}
 use Rattle.cell_tx.specs.Emission.{mixed}
 
 -- the ports of a carrier
 abbrev pub ports_of : Carrier → Ports
-ports_of OnePort = Alone Only
+ports_of OnePort = Alone only_port
 ports_of TwoPorts = Both
-ports_of LongPrefix = Alone Long
+ports_of LongPrefix = Alone long_port
 ports_of FourPorts = AllFour
 
 -- the carrier of ports
 abbrev pub carrier_by : Ports → Carrier
-carrier_by (Alone port) = carrier_of port
+carrier_by (Alone port) = port.carrier
 carrier_by Both = TwoPorts
 carrier_by AllFour = FourPorts
 

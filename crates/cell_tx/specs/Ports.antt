@@ -1,33 +1,49 @@
 -- What an antenna port sends of the points of a channel and of the signals: a cell has one port, with either cyclic
 -- prefix, or two or four with transmit diversity (TS 36.211 sections 6.3.3, 6.3.4, 6.10.1, 6.11 and 6.12).
-use Rattle.std.specs.Prelude.{ℕ, ◌+◌, ◌-◌, ◌*◌, ◌/◌, ◌%◌, Bool, true, false, ◌||◌, nat_eq, if◌then◌else◌}
+use Rattle.std.specs.Prelude.{◌≡◌, ℕ, ◌+◌, ◌-◌, ◌*◌, ◌/◌, ◌%◌, ◌<◌, Bool, true, false, not, ◌&&◌, ◌||◌, nat_eq, nat_lt}
+use Rattle.std.specs.Prelude.{if◌then◌else◌}
 use Rattle.cs_num.specs.declared.Cpx.{Cpx}
 use Rattle.cs_num.specs.Complex.{nothing, negated, conjugate}
 use Rattle.lte_types.specs.declared.carrier.Carrier.{Carrier}
 use Rattle.lte_types.specs.declared.carrier.Carrier.TheVariants.{OnePort, TwoPorts, LongPrefix, FourPorts}
 use Rattle.lte_types.specs.declared.numerology.Prefix.{Prefix}
-use Rattle.lte_types.specs.Carrier.{prefix_of}
+use Rattle.lte_types.specs.Carrier.{prefix_of, ports_of}
 use Rattle.lte_types.specs.Numerology.{symbols_of_slot}
 use Rattle.crs.specs.declared.pattern.Pattern.{Pattern}
 use Rattle.crs.specs.Reference.{pattern_of, long_prefix, is_reference, is_second_reference, is_upper_reference}
 use Rattle.crs.specs.Reference.{is_pattern_place, reference_at, pattern_reference}
 use Rattle.cell_tx.specs.declared.antenna.Port.{Port}
-use Rattle.cell_tx.specs.declared.antenna.Port.TheVariants.{Only, First, Second, Long, OfFour}
-use Rattle.cell_tx.specs.declared.antenna.PortOfFour.{PortOfFour}
-use Rattle.cell_tx.specs.declared.antenna.PortOfFour.TheVariants.{Zero, One, Two, Three}
 
--- ---- the carrier of a port
+-- ---- the ports of each carrier
 
-abbrev pub carrier_of : Port → Carrier
-carrier_of Only = OnePort
-carrier_of First = TwoPorts
-carrier_of Second = TwoPorts
-carrier_of Long = LongPrefix
-carrier_of (OfFour port) = FourPorts
+-- the port of a carrier with this number
+abbrev pub port_by : Carrier → ℕ → Port
+port_by carrier number = record { carrier = carrier; number = number }
+
+-- a port is one of a carrier's
+abbrev pub IsPortOf : Carrier → Port → Type 0
+IsPortOf carrier port = (port.carrier ≡ carrier) × (port.number < ports_of carrier)
+
+abbrev pub only_port : Port
+only_port = port_by OnePort 0
+
+abbrev pub first_port : Port
+first_port = port_by TwoPorts 0
+
+abbrev pub second_port : Port
+second_port = port_by TwoPorts 1
+
+abbrev pub long_port : Port
+long_port = port_by LongPrefix 0
+
+abbrev pub port_of_four : ℕ → Port
+port_of_four number = port_by FourPorts number
+
+-- ---- what hangs on the carrier alone
 
 -- the cyclic prefix of a port
 abbrev pub port_prefix : Port → Prefix
-port_prefix port = prefix_of (carrier_of port)
+port_prefix port = prefix_of port.carrier
 
 -- the symbols of a slot: 7, and 6 with the extended prefix
 abbrev pub port_symbols : Port → ℕ
@@ -39,52 +55,43 @@ port_slot port subframe symbol = 2 * subframe + symbol / port_symbols port
 
 -- what the reference signals of port 0 of its carrier differ in (TS 36.211 section 6.10.1)
 abbrev pub first_pattern : Port → Pattern
-first_pattern port = pattern_of (carrier_of port) 0
+first_pattern port = pattern_of port.carrier 0
 
 -- the bits of the broadcast channel in a frame (TS 36.211 section 6.6.1)
+abbrev pub block_bits_by : Carrier → ℕ
+block_bits_by OnePort = 480
+block_bits_by TwoPorts = 480
+block_bits_by LongPrefix = 432
+block_bits_by FourPorts = 480
+
 abbrev pub port_block_bits : Port → ℕ
-port_block_bits Only = 480
-port_block_bits First = 480
-port_block_bits Second = 480
-port_block_bits Long = 432
-port_block_bits (OfFour port) = 480
+port_block_bits port = block_bits_by port.carrier
 
 -- the control region and system information are sent; with the extended prefix, and of four ports, they are not (own)
+abbrev pub has_control_by : Carrier → Bool
+has_control_by OnePort = true
+has_control_by TwoPorts = true
+has_control_by LongPrefix = false
+has_control_by FourPorts = false
+
 abbrev pub has_control : Port → Bool
-has_control Only = true
-has_control First = true
-has_control Second = true
-has_control Long = false
-has_control (OfFour port) = false
-
--- the number of a port
-abbrev pub port_number : Port → ℕ
-port_number Only = 0
-port_number First = 0
-port_number Second = 1
-port_number Long = 0
-port_number (OfFour Zero) = 0
-port_number (OfFour One) = 1
-port_number (OfFour Two) = 2
-port_number (OfFour Three) = 3
-
--- ---- what a port sends
+has_control port = has_control_by port.carrier
 
 -- the cell has two ports
-abbrev pub is_two : Port → Bool
-is_two Only = false
-is_two First = true
-is_two Second = true
-is_two Long = false
-is_two (OfFour port) = false
+abbrev pub is_two_by : Carrier → Bool
+is_two_by carrier = nat_eq (ports_of carrier) 2
 
--- the mask of the check of the master block that a port sends (TS 36.212 section 5.3.1.1)
+abbrev pub is_two : Port → Bool
+is_two port = is_two_by port.carrier
+
+-- the mask of the check of the master block, by the count of ports (TS 36.212 section 5.3.1.1)
+abbrev pub mask_by : Carrier → ℕ
+mask_by carrier = if nat_eq (ports_of carrier) 1 then 0 else (if nat_eq (ports_of carrier) 2 then 65535 else 21845)
+
 abbrev pub port_mask : Port → ℕ
-port_mask Only = 0
-port_mask First = 65535
-port_mask Second = 65535
-port_mask Long = 0
-port_mask (OfFour port) = 21845
+port_mask port = mask_by port.carrier
+
+-- ---- what a port sends
 
 -- points that are taken two by two, x and y, as another port sends them: the negative conjugate of y, and the
 -- conjugate of x
@@ -92,73 +99,73 @@ abbrev pub crossed_point : (ℕ → Cpx) → ℕ → Cpx
 crossed_point points i =
     if nat_eq (i % 2) 0 then negated (conjugate (points (i + 1))) else conjugate (points (i - 1))
 
--- the pair that point i is in has an even number
-abbrev pub is_even_pair : ℕ → Bool
-is_even_pair i = nat_eq (i / 2 % 2) 0
+-- the first ports, as many as `half` says, send the points as they are, and the others crossed
+abbrev pub paired_point : ℕ → ℕ → (ℕ → Cpx) → ℕ → Cpx
+paired_point half number points i = if nat_lt number half then points i else crossed_point points i
+
+-- a port of four of even number sends the pairs of even number alone, and one of odd number the others
+abbrev pub in_turn : ℕ → ℕ → Cpx → Cpx
+in_turn number i z = if nat_eq (i / 2 % 2) (number % 2) then z else nothing
 
 -- what a port sends at place i of a channel with these points. With two ports the points are taken two by two, in the
--- order of their places: of x and y at two places the first port sends x and y, and the second port the negative
--- conjugate of y and the conjugate of x. With four ports the pairs of even number go over ports 0 and 2 so, and those
--- of odd number over ports 1 and 3, and of the pairs of the other two a port sends nothing (TS 36.211 section 6.3.4.3;
--- own: without its factor)
+-- order of their places: of x and y at two places port 0 sends x and y, and port 1 the negative conjugate of y and the
+-- conjugate of x. With four ports the pairs of even number go over ports 0 and 2 so, and those of odd number over ports
+-- 1 and 3, and of the pairs of the other two a port sends nothing (TS 36.211 section 6.3.4.3; own: without its factor)
+abbrev pub point_by : Carrier → ℕ → (ℕ → Cpx) → ℕ → Cpx
+point_by OnePort number points i = points i
+point_by TwoPorts number points i = paired_point 1 number points i
+point_by LongPrefix number points i = points i
+point_by FourPorts number points i = in_turn number i (paired_point 2 number points i)
+
 abbrev pub sent_point : Port → (ℕ → Cpx) → ℕ → Cpx
-sent_point Only points i = points i
-sent_point First points i = points i
-sent_point Long points i = points i
-sent_point Second points i = crossed_point points i
-sent_point (OfFour Zero) points i = if is_even_pair i then points i else nothing
-sent_point (OfFour One) points i = if is_even_pair i then nothing else points i
-sent_point (OfFour Two) points i = if is_even_pair i then crossed_point points i else nothing
-sent_point (OfFour Three) points i = if is_even_pair i then nothing else crossed_point points i
+sent_point port points i = point_by port.carrier port.number points i
 
--- what a port sends of a synchronisation signal, which the first port alone has (own)
+-- what a port sends of a synchronisation signal, which port 0 alone has (own)
 abbrev pub sent_signal : Port → Cpx → Cpx
-sent_signal Only z = z
-sent_signal First z = z
-sent_signal Second z = nothing
-sent_signal Long z = z
-sent_signal (OfFour Zero) z = z
-sent_signal (OfFour One) z = nothing
-sent_signal (OfFour Two) z = nothing
-sent_signal (OfFour Three) z = nothing
+sent_signal port z = if nat_eq port.number 0 then z else nothing
 
--- a place of a slot is one of the reference signals of a port of four (TS 36.211 section 6.10.1.2)
-abbrev pub is_reference_of_four : PortOfFour → ℕ → ℕ → ℕ → ℕ → Bool
-is_reference_of_four Zero identity slot symbol k = is_reference identity symbol k
-is_reference_of_four One identity slot symbol k = is_second_reference identity symbol k
-is_reference_of_four Two identity slot symbol k = is_upper_reference 2 identity slot symbol k
-is_reference_of_four Three identity slot symbol k = is_upper_reference 3 identity slot symbol k
+-- ---- reference signals
 
--- a place of a slot is one of the reference signals of one of three of four ports
-abbrev pub is_reference_of_three : PortOfFour → PortOfFour → PortOfFour → ℕ → ℕ → ℕ → ℕ → Bool
-is_reference_of_three one two three identity slot symbol k =
-    is_reference_of_four one identity slot symbol k
-    || (is_reference_of_four two identity slot symbol k || is_reference_of_four three identity slot symbol k)
+-- a place of a slot is one of the reference signals of port 0, or, for any other number, of port 1
+abbrev pub is_lower_reference : ℕ → ℕ → ℕ → ℕ → Bool
+is_lower_reference number identity symbol k =
+    if nat_eq number 0 then is_reference identity symbol k else is_second_reference identity symbol k
+
+-- a place of a slot is one of the reference signals of the port with a number (TS 36.211 section 6.10.1.2)
+abbrev pub is_reference_by : Carrier → ℕ → ℕ → ℕ → ℕ → ℕ → Bool
+is_reference_by OnePort number identity slot symbol k = is_reference identity symbol k
+is_reference_by TwoPorts number identity slot symbol k = is_lower_reference number identity symbol k
+is_reference_by LongPrefix number identity slot symbol k = is_pattern_place long_prefix identity symbol k
+is_reference_by FourPorts number identity slot symbol k =
+    if nat_lt number 2 then is_lower_reference number identity symbol k
+    else is_upper_reference number identity slot symbol k
+
+-- a place of a slot is one of the reference signals of any port of a carrier
+abbrev pub is_reference_of_any : Carrier → ℕ → ℕ → ℕ → ℕ → Bool
+is_reference_of_any OnePort identity slot symbol k = is_reference identity symbol k
+is_reference_of_any TwoPorts identity slot symbol k =
+    is_reference identity symbol k || is_second_reference identity symbol k
+is_reference_of_any LongPrefix identity slot symbol k = is_pattern_place long_prefix identity symbol k
+is_reference_of_any FourPorts identity slot symbol k =
+    (is_reference identity symbol k || is_second_reference identity symbol k)
+    || (is_upper_reference 2 identity slot symbol k || is_upper_reference 3 identity slot symbol k)
 
 -- a place of a slot is one of a port's own reference signals
 abbrev pub is_own_reference : Port → ℕ → ℕ → ℕ → ℕ → Bool
-is_own_reference Only identity slot symbol k = is_reference identity symbol k
-is_own_reference First identity slot symbol k = is_reference identity symbol k
-is_own_reference Second identity slot symbol k = is_second_reference identity symbol k
-is_own_reference Long identity slot symbol k = is_pattern_place long_prefix identity symbol k
-is_own_reference (OfFour port) identity slot symbol k = is_reference_of_four port identity slot symbol k
+is_own_reference port identity slot symbol k = is_reference_by port.carrier port.number identity slot symbol k
 
 -- a place of a slot is one of the reference signals of the cell's other ports, where a port sends nothing
 abbrev pub is_other_reference : Port → ℕ → ℕ → ℕ → ℕ → Bool
-is_other_reference Only identity slot symbol k = false
-is_other_reference First identity slot symbol k = is_second_reference identity symbol k
-is_other_reference Second identity slot symbol k = is_reference identity symbol k
-is_other_reference Long identity slot symbol k = false
-is_other_reference (OfFour Zero) identity slot symbol k = is_reference_of_three One Two Three identity slot symbol k
-is_other_reference (OfFour One) identity slot symbol k = is_reference_of_three Zero Two Three identity slot symbol k
-is_other_reference (OfFour Two) identity slot symbol k = is_reference_of_three Zero One Three identity slot symbol k
-is_other_reference (OfFour Three) identity slot symbol k = is_reference_of_three Zero One Two identity slot symbol k
+is_other_reference port identity slot symbol k =
+    not (is_own_reference port identity slot symbol k) && is_reference_of_any port.carrier identity slot symbol k
 
--- the value of a port's reference signal at a place; all ports with the normal prefix take it from one sequence (TS
--- 36.211 section 6.10.1.1)
+-- the value of a reference signal at a place; all ports with the normal prefix take it from one sequence (TS 36.211
+-- section 6.10.1.1)
+abbrev pub reference_by : Carrier → ℕ → ℕ → ℕ → ℕ → Cpx
+reference_by OnePort identity slot symbol k = reference_at identity slot symbol k
+reference_by TwoPorts identity slot symbol k = reference_at identity slot symbol k
+reference_by LongPrefix identity slot symbol k = pattern_reference long_prefix identity slot symbol (k / 6)
+reference_by FourPorts identity slot symbol k = reference_at identity slot symbol k
+
 abbrev pub port_reference : Port → ℕ → ℕ → ℕ → ℕ → Cpx
-port_reference Only identity slot symbol k = reference_at identity slot symbol k
-port_reference First identity slot symbol k = reference_at identity slot symbol k
-port_reference Second identity slot symbol k = reference_at identity slot symbol k
-port_reference Long identity slot symbol k = pattern_reference long_prefix identity slot symbol (k / 6)
-port_reference (OfFour port) identity slot symbol k = reference_at identity slot symbol k
+port_reference port identity slot symbol k = reference_by port.carrier identity slot symbol k

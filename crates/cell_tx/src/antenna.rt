@@ -2,52 +2,19 @@
 
 use lte_types::Carrier;
 
-/// An antenna port of a cell: its only one, with either cyclic prefix, or one of two or four with transmit diversity
-/// (TS 36.211 sections 6.3.4.3 and 6.12).
+/// An antenna port of a cell: the cell's carrier, and the port's number there, 0 to 3 (TS 36.211 sections 6.3.4.3 and
+/// 6.12). What any other number sends is fixed too, but no cell has it.
 #[derive(Clone, Copy, Debug, PartialEq, Eq)]
-pub enum Port {
-    /// Port 0 of a cell with one port and the normal cyclic prefix.
-    Only,
-    /// Port 0 of a cell with two ports.
-    First,
-    /// Port 1 of a cell with two ports.
-    Second,
-    /// Port 0 of a cell with the extended cyclic prefix.
-    Long,
-    /// A port of a cell with four ports.
-    OfFour(PortOfFour),
-}
-
-/// A port of a cell with four antenna ports and the normal cyclic prefix.
-#[derive(Clone, Copy, Debug, PartialEq, Eq)]
-pub enum PortOfFour {
-    /// Port 0.
-    Zero,
-    /// Port 1.
-    One,
-    /// Port 2, which has reference signals in one symbol of a slot alone, as port 3 has.
-    Two,
-    /// Port 3.
-    Three,
+pub struct Port {
+    /// The carrier of the cell, which has as many ports as `Carrier::ports` says.
+    pub carrier: Carrier,
+    /// The number of the port, below that count.
+    pub number: u8,
 }
 
 impl Port {
     ghost use Rattle.std.specs.Prelude.{◌≡◌, ◌≤◌};
-    ghost use Rattle.cell_tx.specs.Ports.{carrier_of, port_symbols, port_block_bits, has_control, port_number};
-    ghost use Rattle.cell_tx.specs.Ports.{is_two, port_mask};
-
-    /// The carrier of the port.
-    pub fn carrier(self) -> Carrier
-        ensures { result ≡ carrier_of self }
-    {
-        match self {
-            Port::Only => Carrier::OnePort,
-            Port::First => Carrier::TwoPorts,
-            Port::Second => Carrier::TwoPorts,
-            Port::Long => Carrier::LongPrefix,
-            Port::OfFour(_) => Carrier::FourPorts,
-        }
-    }
+    ghost use Rattle.cell_tx.specs.Ports.{port_symbols, port_block_bits, has_control, is_two, port_mask};
 
     // The symbols of a slot: half of those of a subframe.
     pub(crate) fn symbols(self) -> u8
@@ -55,12 +22,9 @@ impl Port {
         ensures low { 6 ≤ result }
         ensures high { result ≤ 7 }
     {
-        match self {
-            Port::Only => 7,
-            Port::First => 7,
-            Port::Second => 7,
-            Port::Long => 6,
-            Port::OfFour(_) => 7,
+        match self.carrier {
+            Carrier::OnePort | Carrier::TwoPorts | Carrier::FourPorts => 7,
+            Carrier::LongPrefix => 6,
         }
     }
 
@@ -69,12 +33,9 @@ impl Port {
         ensures value { result ≡ port_block_bits self }
         ensures bound { result ≤ 480 }
     {
-        match self {
-            Port::Only => 480,
-            Port::First => 480,
-            Port::Second => 480,
-            Port::Long => 432,
-            Port::OfFour(_) => 480,
+        match self.carrier {
+            Carrier::OnePort | Carrier::TwoPorts | Carrier::FourPorts => 480,
+            Carrier::LongPrefix => 432,
         }
     }
 
@@ -82,29 +43,9 @@ impl Port {
     pub(crate) fn has_control(self) -> bool
         ensures { result ≡ has_control self }
     {
-        match self {
-            Port::Only => true,
-            Port::First => true,
-            Port::Second => true,
-            Port::Long => false,
-            Port::OfFour(_) => false,
-        }
-    }
-
-    // The number of the port.
-    pub(crate) fn number(self) -> u8
-        ensures value { result ≡ port_number self }
-        ensures bound { result ≤ 3 }
-    {
-        match self {
-            Port::Only => 0,
-            Port::First => 0,
-            Port::Second => 1,
-            Port::Long => 0,
-            Port::OfFour(PortOfFour::Zero) => 0,
-            Port::OfFour(PortOfFour::One) => 1,
-            Port::OfFour(PortOfFour::Two) => 2,
-            Port::OfFour(PortOfFour::Three) => 3,
+        match self.carrier {
+            Carrier::OnePort | Carrier::TwoPorts => true,
+            Carrier::LongPrefix | Carrier::FourPorts => false,
         }
     }
 
@@ -112,12 +53,9 @@ impl Port {
     pub(crate) fn is_two(self) -> bool
         ensures { result ≡ is_two self }
     {
-        match self {
-            Port::Only => false,
-            Port::First => true,
-            Port::Second => true,
-            Port::Long => false,
-            Port::OfFour(_) => false,
+        match self.carrier {
+            Carrier::TwoPorts => true,
+            Carrier::OnePort | Carrier::LongPrefix | Carrier::FourPorts => false,
         }
     }
 
@@ -125,12 +63,10 @@ impl Port {
     pub(crate) fn mask(self) -> u16
         ensures { result ≡ port_mask self }
     {
-        match self {
-            Port::Only => 0,
-            Port::First => 0xffff,
-            Port::Second => 0xffff,
-            Port::Long => 0,
-            Port::OfFour(_) => 0x5555,
+        match self.carrier {
+            Carrier::OnePort | Carrier::LongPrefix => 0,
+            Carrier::TwoPorts => 0xffff,
+            Carrier::FourPorts => 0x5555,
         }
     }
 }

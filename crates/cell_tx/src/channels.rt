@@ -11,7 +11,7 @@ use crate::grid::Signals;
 use crate::points::value_at;
 use cs_num::Cpx;
 use grid_map::Place;
-use lte_types::Sfn;
+use lte_types::{Carrier, Sfn};
 
 // Whether a subframe carries system information.
 fn has_system_information(sfn: Sfn, subframe: u8) -> bool
@@ -26,12 +26,9 @@ fn may_broadcast(port: Port, subframe: u8, symbol: u8) -> bool
     requires symbol { symbol < 14 }
     ensures { result ≡ may_broadcast port subframe symbol }
 {
-    match port {
-        Port::Only => subframe == 0,
-        Port::First => subframe == 0,
-        Port::Second => subframe == 0,
-        Port::Long => 2 * subframe + symbol / 6 == 1,
-        Port::OfFour(_) => subframe == 0,
+    match port.carrier {
+        Carrier::OnePort | Carrier::TwoPorts | Carrier::FourPorts => subframe == 0,
+        Carrier::LongPrefix => 2 * subframe + symbol / 6 == 1,
     }
 }
 
@@ -41,12 +38,9 @@ fn broadcast_symbol(port: Port, symbol: u8) -> u8
     ensures value { result ≡ broadcast_symbol port symbol }
     ensures small { result < 14 }
 {
-    match port {
-        Port::Only => symbol,
-        Port::First => symbol,
-        Port::Second => symbol,
-        Port::Long => symbol % 6,
-        Port::OfFour(_) => symbol,
+    match port.carrier {
+        Carrier::OnePort | Carrier::TwoPorts | Carrier::FourPorts => symbol,
+        Carrier::LongPrefix => symbol % 6,
     }
 }
 

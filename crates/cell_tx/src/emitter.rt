@@ -5,16 +5,16 @@ ghost use Rattle.cs_num.specs.Complex.{IsWithin, square, value_at};
 ghost use Rattle.lte_types.specs.declared.carrier.Carrier.TheVariants.{TwoPorts, FourPorts};
 ghost use Rattle.lte_types.specs.Carrier.{prefix_of};
 ghost use Rattle.cell_tx.specs.declared.source.Ports.TheVariants.{Both, AllFour};
-ghost use Rattle.cell_tx.specs.Ports.{carrier_of, has_control};
+ghost use Rattle.cell_tx.specs.Ports.{has_control};
 ghost use Rattle.cell_tx.specs.Rows.{IsLayout, AreVersions};
 ghost use Rattle.cell_tx.specs.Emission.{emitted, emitted_samples};
 ghost use Rattle.cell_tx.specs.Mixing.{carrier_by};
 
+use crate::Port;
 use crate::frame_symbols::{SILENCE, Symbols, add_symbols, clear_symbols, symbols_at};
 use crate::grid::Signals;
 use crate::layout::{Layout, Versions, layout_of, versions_of};
-use crate::source::{Ports, Source};
-use crate::{Port, PortOfFour};
+use crate::source::{OF_FOUR, OF_TWO, Ports, Source};
 use cell_plan::Emission;
 use cs_num::Sample;
 use lte_types::{FRAME_LENGTH, Sfn};
@@ -27,7 +27,7 @@ struct FrameMaker<'a> {
     port: Port,
     layout: Layout,
     versions: Versions,
-    ghost port_is: { carrier_of port ≡ carrier_by source.ports },
+    ghost port_is: { port.carrier ≡ carrier_by source.ports },
     ghost layout_is: { IsLayout port source.cell.now layout },
     ghost versions_are: { has_control port ≡ true → AreVersions source.cell.now versions },
 }
@@ -57,7 +57,7 @@ impl<'a> FrameMaker<'a> {
 
     // Adds what a port sends in some symbols of a frame, times its gain.
     fn add(&self, port: Port, number: usize, sfn: Sfn, symbols: &Symbols, frame: &mut [Sample])
-        requires port { carrier_of port ≡ carrier_by self.now.source.ports }
+        requires port { port.carrier ≡ carrier_by self.now.source.ports }
         requires number { number < 4 }
         requires gain { square (value_at self.now.source.gains number) ≤ 784 }
         requires order { AreSpans (port_prefix port) symbols.now }
@@ -84,8 +84,9 @@ impl<'a> FrameMaker<'a> {
         ensures { AreChanged (is_made_anew (prefix_of TwoPorts) symbols.now)
             (λ i before. sample_of (framed self.now.source sfn i)) frame.old frame.new }
     {
-        self.add(Port::First, 0, sfn, symbols, frame);
-        self.add(Port::Second, 1, sfn, symbols, frame);
+        let first = OF_TWO;
+        self.add(first, 0, sfn, symbols, frame);
+        self.add(Port { number: 1, ..first }, 1, sfn, symbols, frame);
     }
 
     // Adds to silence what all ports of a cell with four send.
@@ -97,10 +98,11 @@ impl<'a> FrameMaker<'a> {
         ensures { AreChanged (is_made_anew (prefix_of FourPorts) symbols.now)
             (λ i before. sample_of (framed self.now.source sfn i)) frame.old frame.new }
     {
-        self.add(Port::OfFour(PortOfFour::Zero), 0, sfn, symbols, frame);
-        self.add(Port::OfFour(PortOfFour::One), 1, sfn, symbols, frame);
-        self.add(Port::OfFour(PortOfFour::Two), 2, sfn, symbols, frame);
-        self.add(Port::OfFour(PortOfFour::Three), 3, sfn, symbols, frame);
+        let port = OF_FOUR;
+        self.add(port, 0, sfn, symbols, frame);
+        self.add(Port { number: 1, ..port }, 1, sfn, symbols, frame);
+        self.add(Port { number: 2, ..port }, 2, sfn, symbols, frame);
+        self.add(Port { number: 3, ..port }, 3, sfn, symbols, frame);
     }
 
     // Adds to silence what the ports of a source send.
@@ -139,7 +141,7 @@ impl<'a> FrameMaker<'a> {
     {
         let source = &self.source;
         let sfn = source.timing.number_at(at as u64);
-        let symbols = symbols_at(self.port.carrier(), source.load, at == 0);
+        let symbols = symbols_at(self.port.carrier, source.load, at == 0);
         self.make(sfn, &symbols, frame);
     }
 }

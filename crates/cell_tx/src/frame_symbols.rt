@@ -128,7 +128,7 @@ fn first_in_slot(port: Port, l: usize) -> usize
     ensures value { result ≡ first_in_slot (port_prefix port) l }
     ensures inside { result < slot_length }
 {
-    let prefix = port.carrier().prefix();
+    let prefix = port.carrier.prefix();
     if l == 0 {
         0
     } else {

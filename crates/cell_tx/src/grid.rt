@@ -1,7 +1,7 @@
 //! The resource grid of a frame, symbol by symbol.
 
 ghost use Rattle.std.specs.Prelude.{ℕ, ◌≡◌, ◌⊎◌, ◌+◌, ◌*◌, ◌/◌, ◌%◌, ◌<◌, ◌≤◌, true, Some, None, All, nat_abs};
-ghost use Rattle.std.specs.Prelude.{if◌then◌else◌};
+ghost use Rattle.std.specs.Prelude.{if◌then◌else◌, nat_eq};
 ghost use Rattle.finite.specs.Lists.{values_below};
 ghost use Rattle.cs_num.specs.Complex.{nothing};
 ghost use Rattle.lte_types.specs.Numerology.{half_of};
@@ -10,25 +10,24 @@ ghost use Rattle.crs.specs.Reference.{IsPattern, pattern_list, upper_list};
 ghost use Rattle.fold128.specs.Symbol.{useful_part};
 ghost use Rattle.std.specs.Option.{unwrap_or};
 ghost use Rattle.cell_tx.specs.declared.antenna.Port.{Port as Antenna};
-ghost use Rattle.cell_tx.specs.declared.antenna.Port.TheVariants.{OfFour};
 ghost use Rattle.cell_tx.specs.Grid.{is_synchronised, secondary_value};
-ghost use Rattle.cell_tx.specs.Ports.{port_symbols, port_slot, first_pattern, sent_signal, has_control};
+ghost use Rattle.cell_tx.specs.Ports.{port_of_four, port_symbols, port_slot, first_pattern, sent_signal, has_control};
 ghost use Rattle.cell_tx.specs.Load.{is_signal_symbol, load_point, sent_element};
 ghost use Rattle.cell_tx.specs.Block.{port_point};
-ghost use Rattle.cell_tx.specs.Rows.{port_reference_if, test_of_four, channel_if, open_value};
-ghost use Rattle.cell_tx.specs.Rows.{load_bits as bits_of_load, IsLayout, IsCarried};
+ghost use Rattle.cell_tx.specs.Rows.{port_reference_if, lower_test, any_lower_test, upper_test, channel_if};
+ghost use Rattle.cell_tx.specs.Rows.{open_value, load_bits as bits_of_load, IsLayout, IsCarried};
 
+use crate::Port;
 use crate::block::broadcast_points;
 use crate::channels::channel_at;
 use crate::layout::{Carried, Layout};
 use crate::load::{LOAD_BITS, load_bits};
-use crate::{Port, PortOfFour};
 use cell_plan::Cell;
 use crs::{Pattern, pattern_pilots, point, upper_pilots};
 use cs_num::Cpx;
 use fold128::synth;
 use grid_map::Place;
-use lte_types::{CellId, Sfn};
+use lte_types::{Carrier, CellId, Sfn};
 use sync_seq::{MIDDLE, amplitude, is_middle};
 
 // What a frame of a cell sends, made once for all its symbols.
@@ -89,45 +88,65 @@ fn reference_of(port: Port, pilots: &[(u8, Cpx); 12], k: usize) -> Option<Cpx>
         result ≡ port_reference_if port identity slot symbol k }
 {
     let first = pilots[0].0 as usize % 6;
-    let second = (first + 3) % 6;
-    match port {
-        Port::Only => value_or(k % 6 == first, false, pilots[k / 6].1),
-        Port::First => value_or(k % 6 == first, k % 6 == second, pilots[k / 6].1),
-        Port::Second => value_or(k % 6 == second, k % 6 == first, pilots[k / 6].1),
-        Port::Long => value_or(k % 6 == first, false, pilots[k / 6].1),
-        Port::OfFour(four) => {
-            let zero = k % 6 == first;
-            let one = k % 6 == second;
-            let own = test_of_four(four, zero, one, false, false);
-            value_or(own, zero || one, pilots[k / 6].1)
-        }
+    let zero = k % 6 == first;
+    let one = k % 6 == (first + 3) % 6;
+    value_or(
+        lower_test(port, zero, one),
+        any_lower_test(port.carrier, zero, one),
+        pilots[k / 6].1,
+    )
+}
+
+// The test of a port in the symbols with reference places of ports 0 and 1, by the tests of these two.
+fn lower_test(port: Port, zero: bool, one: bool) -> bool
+    ensures { result ≡ lower_test port.carrier port.number zero one }
+{
+    match port.carrier {
+        Carrier::OnePort | Carrier::LongPrefix => zero,
+        Carrier::TwoPorts => own_test(port.number, zero, one),
+        Carrier::FourPorts => port.number < 2 && own_test(port.number, zero, one),
     }
 }
 
-// The test of a port, of four tests, one for each port of four.
-fn test_of_four(port: PortOfFour, zero: bool, one: bool, two: bool, three: bool) -> bool
-    ensures { result ≡ test_of_four port zero one two three }
+// The first of two tests for port 0, and the second for any other.
+fn own_test(number: u8, zero: bool, one: bool) -> bool
+    ensures { result ≡ (if nat_eq number 0 then zero else one) }
 {
-    match port {
-        PortOfFour::Zero => zero,
-        PortOfFour::One => one,
-        PortOfFour::Two => two,
-        PortOfFour::Three => three,
+    if number == 0 { zero } else { one }
+}
+
+// Whether a place of a symbol with reference places of ports 0 and 1 is one of any port of a carrier.
+fn any_lower_test(carrier: Carrier, zero: bool, one: bool) -> bool
+    ensures { result ≡ any_lower_test carrier zero one }
+{
+    match carrier {
+        Carrier::OnePort | Carrier::LongPrefix => zero,
+        Carrier::TwoPorts | Carrier::FourPorts => zero || one,
     }
+}
+
+// The test of a port of four in the symbol with reference places of ports 2 and 3, by the tests of these two.
+fn upper_test(number: u8, two: bool, three: bool) -> bool
+    ensures { result ≡ upper_test number two three }
+{
+    number >= 2 && own_test(number % 2, two, three)
 }
 
 // What a port of four sends at a reference place of symbol 1 by the twelve of port 2 there; `None` at every other
 // place. Port 3 has its own three subcarriers on.
-fn upper_of(port: PortOfFour, pilots: &[(u8, Cpx); 12], k: usize) -> Option<Cpx>
+fn upper_of(number: u8, pilots: &[(u8, Cpx); 12], k: usize) -> Option<Cpx>
     requires { k < 72 }
     ensures { (identity slot : ℕ) → pilots.now ≡ upper_list 2 identity slot →
-        result ≡ port_reference_if (OfFour port) identity slot 1 k }
+        result ≡ port_reference_if (port_of_four number) identity slot 1 k }
 {
     let first = pilots[0].0 as usize % 6;
     let two = k % 6 == first;
     let three = k % 6 == (first + 3) % 6;
-    let own = test_of_four(port, false, false, two, three);
-    value_or(own, two || three, pilots[k / 6].1)
+    value_or(
+        upper_test(number, two, three),
+        two || three,
+        pilots[k / 6].1,
+    )
 }
 
 // The value at a port's own place, 0 at another port's, and `None` at neither.
@@ -148,13 +167,7 @@ fn pattern_of(port: Port) -> Pattern
     ensures pattern { result ≡ first_pattern port }
     ensures is { IsPattern result }
 {
-    match port {
-        Port::Only => Pattern::FIRST_PORT,
-        Port::First => Pattern::FIRST_PORT,
-        Port::Second => Pattern::FIRST_PORT,
-        Port::Long => Pattern::LONG_PREFIX,
-        Port::OfFour(_) => Pattern::FIRST_PORT,
-    }
+    Pattern::of(port.carrier, 0)
 }
 
 // What a port sends at the reference places of a symbol of a slot, by subcarriers.
@@ -182,24 +195,22 @@ fn second_row(id: CellId, port: Port, slot: u8) -> [Option<Cpx>; 72]
     requires { slot < 20 }
     ensures { result ≡ values_below 72 (port_reference_if port id slot 1) }
 {
-    match port {
-        Port::Only => [None; 72],
-        Port::First => [None; 72],
-        Port::Second => [None; 72],
-        Port::Long => [None; 72],
-        Port::OfFour(four) => upper_row(id, four, slot),
+    if let Carrier::FourPorts = port.carrier {
+        upper_row(id, port.number, slot)
+    } else {
+        [None; 72]
     }
 }
 
 // What a port of four sends at the reference places of symbol 1 of a slot.
-fn upper_row(id: CellId, port: PortOfFour, slot: u8) -> [Option<Cpx>; 72]
+fn upper_row(id: CellId, number: u8, slot: u8) -> [Option<Cpx>; 72]
     requires { slot < 20 }
-    ensures { result ≡ values_below 72 (port_reference_if (OfFour port) id slot 1) }
+    ensures { result ≡ values_below 72 (port_reference_if (port_of_four number) id slot 1) }
 {
     let mut row = [None; 72];
     let pilots = upper_pilots(2, id, slot);
     for k in 0..72 {
-        row[k] = upper_of(port, &pilots, k);
+        row[k] = upper_of(number, &pilots, k);
     }
     row
 }
@@ -238,14 +249,7 @@ fn secondary_of(signals: &Signals, subframe: u8, k: u8) -> Cpx
 fn sent_signal(port: Port, value: Cpx) -> Cpx
     ensures { result ≡ sent_signal port value }
 {
-    match port {
-        Port::Only => value,
-        Port::First => value,
-        Port::Second => Cpx::ZERO,
-        Port::Long => value,
-        Port::OfFour(PortOfFour::Zero) => value,
-        Port::OfFour(_) => Cpx::ZERO,
-    }
+    if port.number == 0 { value } else { Cpx::ZERO }
 }
 
 // Whether a symbol of a subframe is one of those of the synchronisation signals.

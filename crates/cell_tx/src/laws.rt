@@ -1,7 +1,8 @@
 //! Laws of what a cell sends.
 
 ghost use Rattle.cell_tx.specs.Laws.{UsefulPartsStand, PrefixesRepeat, FramesFollow, FramesBeginAtStart};
-ghost use Rattle.cell_tx.specs.Laws.{ElementsAreWithin, ElementsAreSmall, SmallElementsMakeSmallSamples, SamplesAreSmall};
+ghost use Rattle.cell_tx.specs.Laws.{ElementsAreWithin, ElementsAreSmall};
+ghost use Rattle.cell_tx.specs.Laws.{SmallElementsMakeSmallSamples, SamplesAreSmall};
 ghost use Rattle.cell_tx.specs.Laws.{ReceivedWithErrorsIsClean, ReceivedWithErrorsFits, ReceivedIsClean};
 ghost use Rattle.cell_tx.specs.Laws.{ReceivedOfTwoIsClean, ReceivedOfTwoIsSmall, ReceivedOfTwoFits};
 ghost use Rattle.cell_tx.specs.Laws.{EmittedIsClean, EmittedIsSmall};

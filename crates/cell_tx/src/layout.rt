@@ -11,7 +11,7 @@ use crate::shared::{shared_places, shared_points};
 use cell_plan::Cell;
 use cs_num::Cpx;
 use grid_map::{long_places, pbch_places, pcfich_places};
-use lte_types::{CellId, Half, Sfn};
+use lte_types::{Carrier, CellId, Half, Sfn};
 use sync_seq::{pss, sss};
 
 /// What is the same in every frame: the synchronisation signals, where the channels stand, and the
@@ -67,12 +67,9 @@ impl Layout {
 fn broadcast_table(id: CellId, port: Port) -> PlaceTable
     ensures { IsTableOf (broadcast_places port id) result }
 {
-    match port {
-        Port::Only => table_of(&pbch_places(id)),
-        Port::First => table_of(&pbch_places(id)),
-        Port::Second => table_of(&pbch_places(id)),
-        Port::Long => table_of(&long_places(id)),
-        Port::OfFour(_) => table_of(&pbch_places(id)),
+    match port.carrier {
+        Carrier::OnePort | Carrier::TwoPorts | Carrier::FourPorts => table_of(&pbch_places(id)),
+        Carrier::LongPrefix => table_of(&long_places(id)),
     }
 }
 

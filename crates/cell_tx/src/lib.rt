@@ -19,7 +19,7 @@ mod samples;
 mod shared;
 mod source;
 
-pub use antenna::{Port, PortOfFour};
+pub use antenna::Port;
 pub use cell_plan::{
     Cell, CellError, CellPlan, Emission, Transmission, accepted_are_sendable, gain_of_pair, pair_of,
 };

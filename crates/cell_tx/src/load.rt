@@ -21,7 +21,7 @@ fn c_init(load: u32, port: Port, sfn: Sfn, subframe: u8) -> u32
     ensures fits { result < 2 ^ 31 }
 {
     let number = 40_960 * load as u64
-        + 10_240 * port.number() as u64
+        + 10_240 * port.number as u64
         + 10 * sfn.value() as u64
         + subframe as u64;
     (number % (1 << 31)) as u32

@@ -6,17 +6,17 @@ ghost use Rattle.finite.specs.Lists.{values_below};
 ghost use Rattle.finite.specs.Bits.{xor};
 ghost use Rattle.gold.specs.Gold.{gold_bits};
 ghost use Rattle.cell_tx.specs.Points.{scrambled, point_of};
-ghost use Rattle.cs_num.specs.Complex.{IsWithin, nothing, value_at};
-ghost use Rattle.cell_tx.specs.declared.antenna.Port.TheVariants.{Second, OfFour};
-ghost use Rattle.cell_tx.specs.Ports.{sent_point};
+ghost use Rattle.cs_num.specs.Complex.{IsWithin, value_at};
+ghost use Rattle.cell_tx.specs.Ports.{port_of_four, crossed_point, paired_point, sent_point};
 ghost use Rattle.cell_tx.specs.Rows.{value_in, IsTableOf};
 ghost use Rattle.grid_map.specs.declared.Place.{Place};
 ghost use Rattle.grid_map.specs.Place.{place};
 
-use crate::{Port, PortOfFour};
+use crate::Port;
 use crs::point;
 use cs_num::Cpx;
 use grid_map::Place;
+use lte_types::Carrier;
 
 // The most bits of a channel: those of the shared channel over six resource blocks.
 const MOST: usize = 1224;
@@ -105,46 +105,49 @@ fn sent_point(port: Port, points: &[Cpx], i: usize) -> Cpx
     requires small { All (IsWithin 90) points.now }
     ensures { result ≡ sent_point port (value_at points.now) i }
 {
-    match port {
-        Port::Only => points[i],
-        Port::First => points[i],
-        Port::Second => crossed_point(points, i),
-        Port::Long => points[i],
-        Port::OfFour(four) => point_of_four(four, points, i),
+    match port.carrier {
+        Carrier::OnePort | Carrier::LongPrefix => points[i],
+        Carrier::TwoPorts => paired_point(1, port.number, points, i),
+        Carrier::FourPorts => point_of_four(port.number, points, i),
     }
 }
 
-// What a port of four sends at place i of a channel: of the pairs of even number ports 0 and 2 send as two ports do,
-// and ports 1 and 3 of the others.
-fn point_of_four(port: PortOfFour, points: &[Cpx], i: usize) -> Cpx
+// What a port of four sends at place i of a channel: the pairs of even number go over ports 0 and 2 as over two ports,
+// and those of odd number over ports 1 and 3.
+fn point_of_four(number: u8, points: &[Cpx], i: usize) -> Cpx
     requires i { i < length points.now }
     requires pairs { length points.now % 2 ≡ 0 }
     requires small { All (IsWithin 90) points.now }
-    ensures { result ≡ sent_point (OfFour port) (value_at points.now) i }
+    ensures { result ≡ sent_point (port_of_four number) (value_at points.now) i }
 {
-    let even = i / 2 % 2 == 0;
-    match port {
-        PortOfFour::Zero => value_if(even, points[i]),
-        PortOfFour::One => value_if(!even, points[i]),
-        PortOfFour::Two => value_if(even, crossed_point(points, i)),
-        PortOfFour::Three => value_if(!even, crossed_point(points, i)),
+    if i / 2 % 2 == number as usize % 2 {
+        paired_point(2, number, points, i)
+    } else {
+        Cpx::ZERO
     }
 }
 
-// A value, or 0 in its place.
-fn value_if(sent: bool, value: Cpx) -> Cpx
-    ensures { result ≡ (if sent then value else nothing) }
+// The point at place i as the first ports send it, as many as `half` says, or as the others do.
+fn paired_point(half: u8, number: u8, points: &[Cpx], i: usize) -> Cpx
+    requires i { i < length points.now }
+    requires pairs { length points.now % 2 ≡ 0 }
+    requires small { All (IsWithin 90) points.now }
+    ensures { result ≡ paired_point half number (value_at points.now) i }
 {
-    if sent { value } else { Cpx::ZERO }
+    if number < half {
+        points[i]
+    } else {
+        crossed_point(points, i)
+    }
 }
 
-// What the second port sends at place i of a channel: of a pair the negative conjugate of the other point at the
-// first place, and the conjugate of the other at the second.
+// What the second of two ports sends at place i of a channel: of a pair the negative conjugate of the other point at
+// the first place, and the conjugate of the other at the second.
 fn crossed_point(points: &[Cpx], i: usize) -> Cpx
     requires i { i < length points.now }
     requires pairs { length points.now % 2 ≡ 0 }
     requires small { All (IsWithin 90) points.now }
-    ensures { result ≡ sent_point Second (value_at points.now) i }
+    ensures { result ≡ crossed_point (value_at points.now) i }
 {
     if i % 2 == 0 {
         -points[i + 1].conj()

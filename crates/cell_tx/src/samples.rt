@@ -20,10 +20,16 @@ use crate::source::Source;
 use crate::{Emitter, Port};
 use cell_plan::{Cell, Transmission};
 use cs_num::{Cpx, Gain, Sample};
-use lte_types::{FRAME_LENGTH, SLOT_LENGTH, Sfn, Timing, USEFUL_LENGTH};
+use lte_types::{Carrier, FRAME_LENGTH, SLOT_LENGTH, Sfn, Timing, USEFUL_LENGTH};
 
 // The samples of a frame.
 const FRAME: u64 = FRAME_LENGTH as u64;
+
+// The only port of a cell with the normal cyclic prefix.
+const ONLY: Port = Port {
+    carrier: Carrier::OnePort,
+    number: 0,
+};
 
 // The gain by which nothing changes.
 const ONE: Cpx = Cpx { re: 1, im: 0 };
@@ -34,7 +40,7 @@ fn place_at(port: Port, i: usize) -> usize
     ensures value { result ≡ useful_place (port_prefix port) i }
     ensures small { result < useful_length }
 {
-    let prefix = port.carrier().prefix();
+    let prefix = port.carrier.prefix();
     let first = USEFUL_LENGTH - prefix.first as usize;
     (i + first - prefix.step() * prefix.symbol_of(i)) % USEFUL_LENGTH
 }
@@ -45,7 +51,7 @@ fn symbol_at(port: Port, i: usize) -> u8
     ensures value { result ≡ symbol_of (port_prefix port) i }
     ensures small { result < port_symbols port }
 {
-    port.carrier().prefix().symbol_of(i) as u8
+    port.carrier.prefix().symbol_of(i) as u8
 }
 
 // Sample i of a slot, from the useful part of its symbol.
@@ -93,7 +99,7 @@ pub fn sample(cell: &Cell, sfn: Sfn, i: u64) -> Sample
     ensures value { result ≡ sample_of (sent (element cell.now) sfn i) }
     ensures size { square (sent (element cell.now) sfn i) ≤ 1153 * 1153 }
 {
-    port_sample(cell, Port::Only, sfn, i)
+    port_sample(cell, ONLY, sfn, i)
 }
 
 /// The whole frame numbered `sfn`, over 19,200 samples: those of `sample` from 0 on. Sample `i` is
@@ -106,7 +112,7 @@ pub fn frame(cell: &Cell, sfn: Sfn, out: &mut [Sample])
     prove!(number <= 1023);
     let sender = Sender {
         cell,
-        port: Port::Only,
+        port: ONLY,
         timing: Timing { sfn, offset: 0 },
         load: None,
     };
@@ -162,7 +168,7 @@ pub fn send_all(t: &Transmission, out: &mut [Sample])
 {
     let sender = Sender {
         cell: &t.cell,
-        port: Port::Only,
+        port: ONLY,
         timing: t.timing(),
         load: None,
     };

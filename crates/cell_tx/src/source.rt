@@ -4,10 +4,22 @@ ghost use Rattle.std.specs.Prelude.{◌≤◌};
 ghost use Rattle.lte_types.specs.Numerology.{most_samples};
 ghost use Rattle.cell_tx.specs.Mixing.{AreGainsBy, gains_by_prop};
 
-use crate::{Port, PortOfFour, Sender};
+use crate::{Port, Sender};
 use cell_plan::{Cell, Emission};
 use cs_num::Cpx;
 use lte_types::{Carrier, Timing};
+
+/// Port 0 of two.
+pub(crate) const OF_TWO: Port = Port {
+    carrier: Carrier::TwoPorts,
+    number: 0,
+};
+
+/// Port 0 of four.
+pub(crate) const OF_FOUR: Port = Port {
+    carrier: Carrier::FourPorts,
+    number: 0,
+};
 
 /// The antenna ports that send at once: one alone, both of a cell with two, or all of a cell with four.
 #[derive(Clone, Copy)]
@@ -88,28 +100,26 @@ impl<'a> Source<'a> {
 impl Ports {
     ghost use Rattle.std.specs.Prelude.{◌≡◌};
     ghost use Rattle.cell_tx.specs.Mixing.{ports_of, carrier_by};
-    ghost use Rattle.cell_tx.specs.Ports.{carrier_of};
 
     // The ports of a carrier.
     fn of(carrier: Carrier) -> Ports
         ensures { result ≡ ports_of carrier }
     {
         match carrier {
-            Carrier::OnePort => Ports::Alone(Port::Only),
+            Carrier::OnePort | Carrier::LongPrefix => Ports::Alone(Port { carrier, number: 0 }),
             Carrier::TwoPorts => Ports::Both,
-            Carrier::LongPrefix => Ports::Alone(Port::Long),
             Carrier::FourPorts => Ports::AllFour,
         }
     }
 
     /// The first port.
     pub(crate) fn first(self) -> Port
-        ensures { carrier_of result ≡ carrier_by self }
+        ensures { result.carrier ≡ carrier_by self }
     {
         match self {
             Ports::Alone(port) => port,
-            Ports::Both => Port::First,
-            Ports::AllFour => Port::OfFour(PortOfFour::Zero),
+            Ports::Both => OF_TWO,
+            Ports::AllFour => OF_FOUR,
         }
     }
 }

@@ -1,24 +1,25 @@
 -- Elements that carry a plan: what they are at the places of its signals and channels.
-use Rattle.std.proofs.Common.{◌≡◌, ℕ, ◌-◌, ◌%◌, ◌<◌, ◌≤◌, Bool, true, false, ◌&&◌, ◌||◌, nat_eq, None, List, length, get_or, arith, refl, ◌∙◌}
+use Rattle.std.proofs.Common.{◌≡◌, ℕ, ◌-◌, ◌%◌, ◌<◌, ◌≤◌, Bool, true, false, not, ◌&&◌, ◌||◌, nat_eq, None, List, length, get_or, arith, refl, sym, subst, ap₂, ◌∙◌}
 use Rattle.std.specs.Prelude.{if◌then◌else◌}
 use Rattle.std.proofs.lemmas.Bool.{lt-ltb, or_left, or_right, or_parts}
 use Rattle.cs_num.specs.declared.Cpx.{Cpx}
 use Rattle.cs_num.specs.declared.Sample.{Sample}
 use Rattle.cs_num.specs.Complex.{nothing, value_at}
-use Rattle.lte_types.specs.declared.carrier.Carrier.TheVariants.{OnePort}
+use Rattle.lte_types.specs.declared.carrier.Carrier.TheVariants.{OnePort, TwoPorts, LongPrefix, FourPorts}
+use Rattle.lte_types.specs.declared.carrier.Carrier.{Carrier}
+use Rattle.lte_types.specs.Carrier.{prefix_of}
 use Rattle.lte_types.specs.declared.frame.Half.{Half}
 use Rattle.lte_types.specs.declared.frame.Half.TheVariants.{Zero, Five}
-use Rattle.lte_types.specs.Numerology.{subframe_of}
+use Rattle.lte_types.specs.Numerology.{subframe_of, symbols_of_slot}
 use Rattle.sync_seq.specs.Middle.{is_middle}
 use Rattle.grid_map.specs.declared.Place.{Place}
 use Rattle.grid_map.specs.Place.{place, index_in}
 use Rattle.grid_map.specs.Control.{pcfich_places}
 use Rattle.grid_map.specs.Laws.{IsIndexed}
 use Rattle.cell_tx.specs.declared.antenna.Port.{Port}
-use Rattle.cell_tx.specs.declared.antenna.Port.TheVariants.{Only, First, Second, Long, OfFour}
 use Rattle.cell_plan.specs.declared.cell.CellPlan.{CellPlan}
 use Rattle.cell_plan.specs.Plan.{IsSendableWith}
-use Rattle.cell_tx.specs.Ports.{carrier_of, port_symbols, port_slot, has_control, is_two, sent_point, is_own_reference, is_other_reference}
+use Rattle.cell_tx.specs.Ports.{port_by, IsPortOf, only_port, port_symbols, port_slot, has_control, is_two, sent_point, is_reference_of_any, is_own_reference, is_other_reference}
 use Rattle.cell_tx.specs.Control.{control_places, indicator_point, control_point}
 use Rattle.cell_tx.specs.Shared.{assigned_places, shared_point}
 use Rattle.cell_tx.specs.Grid.{is_one_of, has_system_information, has_broadcast, is_indicator, is_control, is_shared, port_channel_value, port_element}
@@ -45,28 +46,24 @@ own_elements_carry = sent_elements_carry None
 
 -- ---- a recording of a cell's only port
 
--- a property of the ports of a carrier is one of its only port
-pub of_only : (P : Port → Type 0) → P Only → (port : Port) → carrier_of port ≡ OnePort → P port
-of_only P at Only e = at
-of_only P at First e = absurd (cc e)
-of_only P at Second e = absurd (cc e)
-of_only P at Long e = absurd (cc e)
-of_only P at (OfFour port) e = absurd (cc e)
+-- the only port of a carrier with one
+pub of_only : (P : Port → Type 0) → P only_port → (port : Port) → IsPortOf OnePort port → P port
+of_only P at port is = let number : port.number ≡ 0 = omega (arith, is.1) in subst P (sym (ap₂ port_by is.0 number)) at
 
 -- a recording that is clean of elements by one port is so of those of this port
 pub only_loaded : (recording : List Sample) (plan : CellPlan) (grids : Port → Elements) (sfn offset : ℕ) (gains : List Cpx) (eps : ℕ) →
-    IsLoadedBy OnePort recording plan grids sfn offset gains eps → IsLoaded recording plan (grids Only) sfn offset (value_at gains 0) eps
+    IsLoadedBy OnePort recording plan grids sfn offset gains eps → IsLoaded recording plan (grids only_port) sfn offset (value_at gains 0) eps
 only_loaded recording plan grids sfn offset gains eps clean = record {
   number = clean.number;
   within = clean.within;
-  carries = of_only (λ port. CarriesPlan port plan (grids Only)) (clean.carries Only refl);
+  carries = of_only (λ port. CarriesPlan port plan (grids only_port)) (clean.carries only_port (refl, omega arith));
   gains_are = clean.gains_are;
   bound = clean.bound;
   near = clean.near;
 }
 
 -- and one that is clean of a sequence of elements that carry the plan is loaded
-pub loaded_of : (recording : List Sample) (plan : CellPlan) (grid : Elements) (sfn offset : ℕ) (gain : Cpx) (eps : ℕ) → sfn ≤ 1023 → CarriesPlan Only plan grid →
+pub loaded_of : (recording : List Sample) (plan : CellPlan) (grid : Elements) (sfn offset : ℕ) (gain : Cpx) (eps : ℕ) → sfn ≤ 1023 → CarriesPlan only_port plan grid →
     IsCleanOf (sent grid sfn) recording offset gain eps → IsLoaded recording plan grid sfn offset gain eps
 loaded_of recording plan grid sfn offset gain eps known carries samples = record {
   number = known;
@@ -79,9 +76,9 @@ loaded_of recording plan grid sfn offset gain eps known carries samples = record
 
 -- so a clean recording is one without load
 pub clean_is_loaded : (recording : List Sample) (plan : CellPlan) (sfn offset : ℕ) (gain : Cpx) (eps : ℕ) → IsClean recording plan sfn offset gain eps →
-    IsLoaded recording plan (port_element Only plan) sfn offset gain eps
+    IsLoaded recording plan (port_element only_port plan) sfn offset gain eps
 clean_is_loaded recording plan sfn offset gain eps clean =
-    loaded_of recording plan (port_element Only plan) sfn offset gain eps clean.number (own_elements_carry Only plan) clean.samples
+    loaded_of recording plan (port_element only_port plan) sfn offset gain eps clean.number (own_elements_carry only_port plan) clean.samples
 
 -- ---- which places are taken
 
@@ -96,31 +93,33 @@ in_even_frame : (number : ℕ) (here : Bool) → number % 2 ≡ 0 → here ≡ t
 in_even_frame number here even e = rw (even, e) refl
 
 -- the symbols of the synchronisation signals are
-primary_taken : (port : Port) (plan : CellPlan) (half : Half) (sfn k : ℕ) → is_taken port plan sfn (subframe_of half) (port_symbols port - 1) k ≡ true
+primary_by : (carrier : Carrier) (number : ℕ) (plan : CellPlan) (half : Half) (sfn k : ℕ) → is_taken (port_by carrier number) plan sfn (subframe_of half) (symbols_of_slot (prefix_of carrier) - 1) k ≡ true
 unfolding is_taken
-primary_taken Only plan Zero sfn k = refl
-primary_taken Only plan Five sfn k = refl
-primary_taken First plan Zero sfn k = refl
-primary_taken First plan Five sfn k = refl
-primary_taken Second plan Zero sfn k = refl
-primary_taken Second plan Five sfn k = refl
-primary_taken Long plan Zero sfn k = refl
-primary_taken Long plan Five sfn k = refl
-primary_taken (OfFour own) plan Zero sfn k = refl
-primary_taken (OfFour own) plan Five sfn k = refl
+primary_by OnePort number plan Zero sfn k = refl
+primary_by OnePort number plan Five sfn k = refl
+primary_by TwoPorts number plan Zero sfn k = refl
+primary_by TwoPorts number plan Five sfn k = refl
+primary_by LongPrefix number plan Zero sfn k = refl
+primary_by LongPrefix number plan Five sfn k = refl
+primary_by FourPorts number plan Zero sfn k = refl
+primary_by FourPorts number plan Five sfn k = refl
+
+primary_taken : (port : Port) (plan : CellPlan) (half : Half) (sfn k : ℕ) → is_taken port plan sfn (subframe_of half) (port_symbols port - 1) k ≡ true
+primary_taken port plan half sfn k = primary_by port.carrier port.number plan half sfn k
+
+secondary_by : (carrier : Carrier) (number : ℕ) (plan : CellPlan) (half : Half) (sfn k : ℕ) → is_taken (port_by carrier number) plan sfn (subframe_of half) (symbols_of_slot (prefix_of carrier) - 2) k ≡ true
+unfolding is_taken
+secondary_by OnePort number plan Zero sfn k = refl
+secondary_by OnePort number plan Five sfn k = refl
+secondary_by TwoPorts number plan Zero sfn k = refl
+secondary_by TwoPorts number plan Five sfn k = refl
+secondary_by LongPrefix number plan Zero sfn k = refl
+secondary_by LongPrefix number plan Five sfn k = refl
+secondary_by FourPorts number plan Zero sfn k = refl
+secondary_by FourPorts number plan Five sfn k = refl
 
 secondary_taken : (port : Port) (plan : CellPlan) (half : Half) (sfn k : ℕ) → is_taken port plan sfn (subframe_of half) (port_symbols port - 2) k ≡ true
-unfolding is_taken
-secondary_taken Only plan Zero sfn k = refl
-secondary_taken Only plan Five sfn k = refl
-secondary_taken First plan Zero sfn k = refl
-secondary_taken First plan Five sfn k = refl
-secondary_taken Second plan Zero sfn k = refl
-secondary_taken Second plan Five sfn k = refl
-secondary_taken Long plan Zero sfn k = refl
-secondary_taken Long plan Five sfn k = refl
-secondary_taken (OfFour own) plan Zero sfn k = refl
-secondary_taken (OfFour own) plan Five sfn k = refl
+secondary_taken port plan half sfn k = secondary_by port.carrier port.number plan half sfn k
 
 -- what the elements are there
 module _ (port : Port) (plan : CellPlan) (grid : Elements) (carries : CarriesPlan port plan grid) where
@@ -202,6 +201,11 @@ no_channels true true false true shared x y z e none = absurd cc
 no_channels true false false false true x y z e none = absurd cc
 no_channels true true false false true x y z e none = absurd cc
 
+-- where it is not the port's own reference signal, and not another's, it is none
+pub left_false : (own any : Bool) → own ≡ false → (not own && any) ≡ false → any ≡ false
+left_false false any e f = f
+left_false true any e f = absurd cc
+
 -- there the plan sends nothing
 pub open_is_silent : (port : Port) (plan : CellPlan) (sfn subframe symbol k : ℕ) → is_taken port plan sfn subframe symbol k ≡ false → (has_control port && is_indicator plan symbol k) ≡ false →
     port_element port plan sfn subframe symbol k ≡ nothing
@@ -210,7 +214,8 @@ open_is_silent port plan sfn subframe symbol k e none =
     let signals = or_parts (is_signal_symbol port subframe symbol) _ e in
     let references = or_parts (is_any_reference port plan subframe symbol k) _ signals.1 in
     let reference = or_parts (is_own_reference port plan.identity (port_slot port subframe symbol) (symbol % port_symbols port) k) _ references.0 in
+    let none_left = left_false _ (is_reference_of_any port.carrier plan.identity (port_slot port subframe symbol) (symbol % port_symbols port) k) reference.0 reference.1 in
     let channels = or_parts (has_broadcast port plan.identity subframe symbol k) _ references.1 in
     let signal = no_signal (nat_eq subframe 0 || nat_eq subframe 5) (nat_eq symbol (port_symbols port - 2)) (nat_eq symbol (port_symbols port - 1)) (is_middle k) signals.0 in
-    rw (reference.0, reference.1, signal.0, signal.1, channels.0)
+    rw (reference.0, none_left, signal.0, signal.1, channels.0)
     (no_channels (has_control port) (has_system_information sfn subframe) (is_indicator plan symbol k) (is_control plan sfn subframe symbol k) (is_shared port plan sfn subframe symbol k) _ _ _ channels.1 none)

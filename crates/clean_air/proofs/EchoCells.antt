@@ -27,7 +27,7 @@ use Rattle.budget.proofs.SeenOver.{arriving_is_received}
 use Rattle.budget.proofs.BendsOver.{paths_leave_room, paths_are_through, paths_are_read, place-seen, pilot-seen}
 use Rattle.budget.proofs.SignalPaths.{signals_over_are_through, primary_over_is_within}
 use Rattle.cell_tx.specs.declared.antenna.Port.{Port}
-use Rattle.cell_tx.specs.declared.antenna.Port.TheVariants.{Only}
+use Rattle.cell_tx.specs.Ports.{only_port}
 use Rattle.cell_plan.specs.declared.cell.CellPlan.{CellPlan}
 use Rattle.cell_tx.specs.Sent.{Elements, sent}
 use Rattle.cell_tx.proofs.Symbols.{frames_follow, prefixes_repeat}
@@ -76,7 +76,7 @@ has_prefix grid sfn frame slot symbol few row =
 
 module _ (sizes : ℕ → ℕ) (paths : Paths) (recording : List Sample) (plan : CellPlan) (grids : Port → Elements) (sfn offset : ℕ) (echoed : IsEchoedBy sizes paths recording plan grids sfn offset) where
   abbrev grid : Elements
-  grid = grids Only
+  grid = grids only_port
 
   symbol_over : (frame slot symbol start : ℕ) → slot < 20 → symbol < 7 → start + offset ≡ 19200 * frame + useful_start normal 0 slot symbol → IsLookedAt OnePort sfn offset frame slot symbol start →
       IsReceivedOver 1024 paths (slot_grid grid ((sfn + frame) % 1024) slot symbol) (samples_from recording start)
@@ -135,12 +135,12 @@ module _ (sizes : ℕ → ℕ) (paths : Paths) (recording : List Sample) (plan :
     primary_is : (k : ℕ) → slot_grid grid number slot 6 k ≡ pss_grid (plan.identity % 3) k
     primary_is k =
         ap₂ (λ (subframe symbol : ℕ). grid number subframe symbol k) (whole_slot (subframe_of half)) (first_slot (subframe_of half) 7 6)
-        ∙ of_primary_symbol Only plan grid echoed.carries half number k ∙ primary_symbol Only plan number k half
+        ∙ of_primary_symbol only_port plan grid echoed.carries half number k ∙ primary_symbol only_port plan number k half
 
     secondary_is : (k : ℕ) → slot_grid grid number slot 5 k ≡ sss_grid (plan.identity / 3) (plan.identity % 3) half k
     secondary_is k =
         ap₂ (λ (subframe symbol : ℕ). grid number subframe symbol k) (whole_slot (subframe_of half)) (first_slot (subframe_of half) 7 5)
-        ∙ of_secondary_symbol Only plan grid echoed.carries half number k ∙ secondary_symbol Only plan number k half
+        ∙ of_secondary_symbol only_port plan grid echoed.carries half number k ∙ secondary_symbol only_port plan number k half
 
     primary_over : symbol_step normal ≤ t + 9 → t ≤ 19345 → IsReceivedOver 1024 paths (pss_grid (plan.identity % 3)) (samples_from recording t)
     primary_over low high =
@@ -188,7 +188,7 @@ unfolding sum_below total_below
 loaded_is_echoed recording plan grid sfn offset gain eps long clean = record {
   number = clean.number;
   within = clean.within;
-  carries = clean.carries Only refl;
+  carries = clean.carries only_port (refl, omega arith);
   sounds = some (square gain) (square (in_parts gain)) (square_in_parts gain) clean.gains_are.least;
   faint = record { late = λ path l. absurd (omega (arith, l)); near = λ path l. omega arith; sized = λ path l. absurd (omega (arith, l)); faint = omega arith };
   near = λ frame slot symbol start few row place looked.

@@ -16,7 +16,7 @@ use Rattle.budget.specs.Peak.{IsPrimaryAt}
 use Rattle.budget.specs.Score.{sss_grid, AreSignals}
 use Rattle.budget.proofs.SignalPaths.{signals_are_through}
 use Rattle.cell_tx.specs.declared.antenna.Port.{Port}
-use Rattle.cell_tx.specs.declared.antenna.Port.TheVariants.{Only}
+use Rattle.cell_tx.specs.Ports.{only_port}
 use Rattle.cell_plan.specs.declared.cell.CellPlan.{CellPlan}
 use Rattle.cell_tx.specs.Sent.{Elements}
 use Rattle.clean_air.specs.Faithful.{first_frame_of}
@@ -34,27 +34,27 @@ module _ (quota bend : ℕ) (recording : List Sample) (plan : CellPlan) (grids :
   -- a slot that is read has its symbols received, each with its gain
   slot_fading : (j slot : ℕ) → slot < 20 → IsRead sfn offset (first_frame_of offset + j) slot →
       IsSlotFading quota bend recording (useful_start normal (frame_at (start_of offset) j) slot) (gains (first_frame_of offset + j) slot)
-      (slot_grid (grids Only) ((number_at_start sfn offset + j) % 1024) slot) (seen_slot recording (frame_at (start_of offset) j) slot plan.identity)
+      (slot_grid (grids only_port) ((number_at_start sfn offset + j) % 1024) slot) (seen_slot recording (frame_at (start_of offset) j) slot plan.identity)
   unfolding seen_slot
   slot_fading j slot few read =
       let n : ℕ = first_frame_of offset + j in
       let number : ℕ = (number_at_start sfn offset + j) % 1024 in
-      let carries = fading.carries Only refl in
+      let carries = fading.carries only_port (refl, omega arith) in
       let frame = frame_is sfn offset j fading.number fading.within in
       record {
         shown = λ l inside. symbol_shown recording plan.identity (frame_at (start_of offset) j) slot l inside;
         amplitudes = λ l inside. carries.small number (slot / 2) (7 * (slot % 2) + l);
         received = λ l inside. symbol_with_errors quota recording grids sfn offset (gains n slot l ∷ []) fading.number fading.within (fading.sounds n slot l) j slot l few inside
             (fading.near n slot l (useful_start normal (frame_at (start_of offset) j) slot l) few inside (omega (arith, frame.place)) read);
-        references = λ i inside. references_stand plan (grids Only) carries number slot i;
+        references = λ i inside. references_stand plan (grids only_port) carries number slot i;
         slow = fading.slow n slot read;
       }
 
   slot_through : LeaveFadingRoom quota bend → (j slot : ℕ) → slot < 20 → IsRead sfn offset (first_frame_of offset + j) slot →
-      IsFrameSlotThrough recording plan.identity (grids Only) sfn offset j slot
+      IsFrameSlotThrough recording plan.identity (grids only_port) sfn offset j slot
   slot_through leave j slot few read =
       let through = fading_slot_is_through quota bend leave recording (useful_start normal (frame_at (start_of offset) j) slot) (gains (first_frame_of offset + j) slot)
-      (slot_grid (grids Only) ((number_at_start sfn offset + j) % 1024) slot) (seen_slot recording (frame_at (start_of offset) j) slot plan.identity) (slot_fading j slot few read) in
+      (slot_grid (grids only_port) ((number_at_start sfn offset + j) % 1024) slot) (seen_slot recording (frame_at (start_of offset) j) slot plan.identity) (slot_fading j slot few read) in
       record {
         bounds = fading_bounds leave.most bend;
         size = square (gains (first_frame_of offset + j) slot through.weakest);
@@ -109,7 +109,7 @@ pub fading_is_through : FadingIsThrough
 fading_is_through quota bend recording plan grids sfn offset gains signal_gains leave known fading = record {
   number = fading.number;
   within = fading.within;
-  carries = fading.carries Only refl;
+  carries = fading.carries only_port (refl, omega arith);
   signals = signals_stand quota bend recording plan grids sfn offset gains signal_gains fading known;
   master = slot_through quota bend recording plan grids sfn offset gains signal_gains fading leave 0 1 (omega arith) (inl (omega arith, refl));
   system = λ slot five. slot_through quota bend recording plan grids sfn offset gains signal_gains fading leave (even_frame (number_at_start sfn offset) 0) slot (omega (arith, five)) (inr (omega arith, five));

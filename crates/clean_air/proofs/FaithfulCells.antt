@@ -15,7 +15,7 @@ use Rattle.budget.specs.Through.{level, level_bounds}
 use Rattle.budget.proofs.Seen.{amplitude_is_seen_in_recording}
 use Rattle.budget.proofs.Through.{one_gain_leaves_room, one_gain_is_through, one_gain_is_read}
 use Rattle.cell_tx.specs.declared.antenna.Port.{Port}
-use Rattle.cell_tx.specs.declared.antenna.Port.TheVariants.{Only}
+use Rattle.cell_tx.specs.Ports.{only_port}
 use Rattle.cell_plan.specs.declared.cell.CellPlan.{CellPlan}
 use Rattle.cell_tx.specs.Sent.{Elements}
 use Rattle.clean_air.specs.Faithful.{IsOfMaster, IsOfSystem, IsFaithfulBy, first_frame_of}
@@ -42,14 +42,14 @@ received_slot_is_through recording starts grids slot is =
 module _ (recording : List Sample) (plan : CellPlan) (grids : Port → Elements) (sfn offset : ℕ) (gains : List Cpx) (faithful : IsFaithfulBy OnePort recording plan grids sfn offset gains) where
   -- a slot that is looked at
   slot_through : (j slot : ℕ) → slot < 20 → IsOfMaster offset (first_frame_of offset + j) slot ⊎ IsOfSystem OnePort sfn offset (first_frame_of offset + j) slot →
-      IsFrameSlotThrough recording plan.identity (grids Only) sfn offset j slot
+      IsFrameSlotThrough recording plan.identity (grids only_port) sfn offset j slot
   slot_through j slot few read =
       let received = each_slot_received recording plan grids sfn offset gains faithful j slot few (λ l inside. elim read [ inl master ↦ inl master | inr system ↦ inr (inl system) ]) in
       record {
         bounds = level_bounds;
         size = square received.gain;
         channel = level received.gain;
-        through = received_slot_is_through recording (useful_start normal (frame_at (start_of offset) j) slot) (slot_grid (grids Only) ((number_at_start sfn offset + j) % 1024) slot)
+        through = received_slot_is_through recording (useful_start normal (frame_at (start_of offset) j) slot) (slot_grid (grids only_port) ((number_at_start sfn offset + j) % 1024) slot)
             (seen_slot recording (frame_at (start_of offset) j) slot plan.identity) received;
       }
 
@@ -57,7 +57,7 @@ pub faithful_is_through : FaithfulIsThrough
 faithful_is_through recording plan grids sfn offset gains known faithful = record {
   number = faithful.number;
   within = faithful.within;
-  carries = faithful.carries Only refl;
+  carries = faithful.carries only_port (refl, omega arith);
   signals = signals_shown OnePort recording plan grids sfn offset gains faithful known;
   master = slot_through recording plan grids sfn offset gains faithful 0 1 (omega arith) (inl (omega arith, refl));
   system = λ slot five. slot_through recording plan grids sfn offset gains faithful (even_frame (number_at_start sfn offset) 0) slot (omega (arith, five)) (inr (omega arith, five));

@@ -8,7 +8,7 @@ use Rattle.soft_bits.specs.Soft.{SeenSlot, seen_at, soft_values}
 use Rattle.explain.specs.Frame.{frame_at, seen_slot, broadcast_slot}
 use Rattle.explain.specs.System.{even_frame}
 use Rattle.budget.proofs.Through.{values_speak_through}
-use Rattle.cell_tx.specs.declared.antenna.Port.TheVariants.{Only}
+use Rattle.cell_tx.specs.Ports.{only_port}
 use Rattle.cell_plan.specs.declared.cell.CellPlan.{CellPlan}
 use Rattle.cell_tx.specs.Sent.{Elements}
 use Rattle.clean_air.specs.Load.{CarriesPlan}
@@ -19,7 +19,7 @@ use Rattle.clean_air.proofs.SentSlots.{slot_grid, first_number}
 pub record IsCellHeard (recording : List Sample) (plan : CellPlan) (grid : Elements) (sfn offset : ℕ) : Type 0 where
   pub number : sfn ≤ 1023
   pub within : offset < 19200
-  pub carries : CarriesPlan Only plan grid
+  pub carries : CarriesPlan only_port plan grid
   pub master : IsSlotHeard (slot_grid grid (number_at_start sfn offset) 1) (broadcast_slot recording plan.identity (start_of offset) 0)
   pub system : (slot : ℕ) → slot / 2 ≡ 5 →
       IsSlotHeard (slot_grid grid ((number_at_start sfn offset + even_frame (number_at_start sfn offset) 0) % 1024) slot)

@@ -44,7 +44,7 @@ use Rattle.explain.proofs.Late.{are_taken}
 use Rattle.explain.proofs.Information.{told_at_first, one_system}
 use Rattle.explain.proofs.Listed.{sound_of, complete_of}
 use Rattle.cell_tx.specs.declared.antenna.Port.{Port}
-use Rattle.cell_tx.specs.declared.antenna.Port.TheVariants.{Only}
+use Rattle.cell_tx.specs.Ports.{only_port}
 use Rattle.cell_plan.specs.declared.cell.CellPlan.{CellPlan}
 use Rattle.cell_tx.specs.Load.{sent_element}
 use Rattle.cell_plan.specs.Plan.{IsSendableBy}
@@ -100,7 +100,7 @@ pub record IsPlaced (carrier : Carrier) (recording : List Sample) (identity sfn 
 
 -- a recording is faithful to a cell, or the cell is seen in it through channels, which is more where a law of these is known
 abbrev pub IsSentIn : Carrier → List Sample → CellPlan → (Port → Elements) → ℕ → ℕ → List Cpx → Type 0
-IsSentIn OnePort recording plan grids sfn offset gains = IsCellThrough recording plan (grids Only) sfn offset
+IsSentIn OnePort recording plan grids sfn offset gains = IsCellThrough recording plan (grids only_port) sfn offset
 IsSentIn TwoPorts recording plan grids sfn offset gains = IsFaithfulBy TwoPorts recording plan grids sfn offset gains
 IsSentIn LongPrefix recording plan grids sfn offset gains = IsFaithfulBy LongPrefix recording plan grids sfn offset gains
 IsSentIn FourPorts recording plan grids sfn offset gains = IsFaithfulBy FourPorts recording plan grids sfn offset gains

@@ -4,7 +4,7 @@ use Rattle.cs_num.specs.declared.Sample.{Sample}
 use Rattle.lte_types.specs.declared.carrier.Carrier.TheVariants.{OnePort}
 use Rattle.lte_types.specs.Timing.{start_of, number_at_start}
 use Rattle.soft_bits.specs.Places.{placed_values}
-use Rattle.cell_tx.specs.declared.antenna.Port.TheVariants.{Only}
+use Rattle.cell_tx.specs.Ports.{only_port}
 use Rattle.cell_tx.specs.Block.{broadcast_word}
 use Rattle.cell_tx.specs.Sent.{Elements}
 use Rattle.cell_plan.specs.declared.cell.CellPlan.{CellPlan}
@@ -24,7 +24,7 @@ heard_is_shown : (recording : List Sample) (plan : CellPlan) (grid : Elements) (
 unfolding seen_slot
 heard_is_shown recording plan grid sfn offset long sendable heard =
     let number = number_at_start sfn offset in
-    let block = is_block Only plan number sendable.spare (number_fits sfn offset heard.number heard.within) in
+    let block = is_block only_port plan number sendable.spare (number_fits sfn offset heard.number heard.within) in
     record {
       word = broadcast_word plan number;
       block = block;
@@ -38,7 +38,7 @@ heard_is_shown recording plan grid sfn offset long sendable heard =
 
 shows_cells : ShowsCells one_port_receiver
 shows_cells recording plan grids sfn offset gains long sendable through =
-    heard_is_shown recording plan (grids Only) sfn offset long sendable (through_is_heard recording plan (grids Only) sfn offset through)
+    heard_is_shown recording plan (grids only_port) sfn offset long sendable (through_is_heard recording plan (grids only_port) sfn offset through)
 
 -- so the list holds it
 pub holds_cells : HoldsCells one_port_receiver

@@ -13,8 +13,7 @@ use Rattle.lte_types.specs.declared.carrier.Carrier.TheVariants.{OnePort, TwoPor
 use Rattle.lte_types.specs.Carrier.{prefix_of}
 use Rattle.lte_types.specs.Numerology.{symbols_of_slot, useful_start}
 use Rattle.cell_tx.specs.declared.antenna.Port.{Port}
-use Rattle.cell_tx.specs.declared.antenna.Port.TheVariants.{Only, First, Second, Long, OfFour}
-use Rattle.cell_tx.specs.declared.antenna.PortOfFour.TheVariants.{Zero, One, Two, Three}
+use Rattle.cell_tx.specs.Ports.{only_port, first_port, second_port, long_port, port_of_four}
 use Rattle.cell_plan.specs.Gains.{AreGainsOf, IsAllowedBy}
 use Rattle.cell_tx.specs.Emission.{mixed}
 use Rattle.cell_tx.proofs.Symbols.{in_useful}
@@ -46,12 +45,12 @@ module _ (values : Port → Cpx) (gains : List Cpx) where
 
   -- with gains in parts, what is received is so
   mixed_in_parts : (carrier : Carrier) → mixed carrier values (map in_parts gains) ≡ in_parts (mixed carrier values gains)
-  mixed_in_parts OnePort = port_in_parts 0 Only
-  mixed_in_parts TwoPorts = ports_in_parts 0 1 First Second
-  mixed_in_parts LongPrefix = port_in_parts 0 Long
+  mixed_in_parts OnePort = port_in_parts 0 only_port
+  mixed_in_parts TwoPorts = ports_in_parts 0 1 first_port second_port
+  mixed_in_parts LongPrefix = port_in_parts 0 long_port
   mixed_in_parts FourPorts =
-      both_in_parts _ _ (plus (of_port 0 (OfFour Zero)) (of_port 1 (OfFour One))) (plus (of_port 2 (OfFour Two)) (of_port 3 (OfFour Three)))
-      (ports_in_parts 0 1 (OfFour Zero) (OfFour One)) (ports_in_parts 2 3 (OfFour Two) (OfFour Three))
+      both_in_parts _ _ (plus (of_port 0 (port_of_four 0)) (of_port 1 (port_of_four 1))) (plus (of_port 2 (port_of_four 2)) (of_port 3 (port_of_four 3)))
+      (ports_in_parts 0 1 (port_of_four 0) (port_of_four 1)) (ports_in_parts 2 3 (port_of_four 2) (port_of_four 3))
 
 -- ---- the energy of errors
 

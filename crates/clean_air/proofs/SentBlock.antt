@@ -10,10 +10,12 @@ use Rattle.lte_types.specs.Codes.{duration, duration_code, resource, resource_co
 use Rattle.lte_types.proofs.RoundTrips.{duration-code, duration_code_fits, resource-code, resource_code_fits}
 use Rattle.pbch.specs.Master.{PassesWith}
 use Rattle.cell_tx.specs.declared.antenna.Port.{Port}
-use Rattle.cell_tx.specs.declared.antenna.Port.TheVariants.{Only, First, Second, Long, OfFour}
+use Rattle.lte_types.specs.declared.carrier.Carrier.{Carrier}
+use Rattle.lte_types.specs.declared.carrier.Carrier.TheVariants.{OnePort, TwoPorts, LongPrefix, FourPorts}
+use Rattle.lte_types.specs.Carrier.{ports_of as count_of}
 use Rattle.cell_plan.specs.declared.cell.CellPlan.{CellPlan}
 use Rattle.cell_tx.specs.Block.{master_bits, master_word, port_word}
-use Rattle.cell_tx.specs.Ports.{port_mask}
+use Rattle.cell_tx.specs.Ports.{mask_by, port_mask}
 
 -- ---- the parts of a word
 
@@ -44,18 +46,16 @@ pub record IsMasterWord (ports : ℕ) (lasting : Duration) (share : Resource) (s
 
 -- the count of antenna ports of which a port is one
 abbrev pub ports_of : Port → ℕ
-ports_of Only = 1
-ports_of First = 2
-ports_of Second = 2
-ports_of Long = 1
-ports_of (OfFour own) = 4
+ports_of port = count_of port.carrier
+
+passes_by : (carrier : Carrier) (bits : List Bool) → PassesWith (count_of carrier) (with_check_16 (mask_by carrier) bits)
+passes_by OnePort bits = record { count = inl refl; check = checked_16 0 bits (omega arith) }
+passes_by TwoPorts bits = record { count = inr (inl refl); check = checked_16 65535 bits (omega arith) }
+passes_by LongPrefix bits = record { count = inl refl; check = checked_16 0 bits (omega arith) }
+passes_by FourPorts bits = record { count = inr (inr refl); check = checked_16 21845 bits (omega arith) }
 
 passes : (port : Port) (bits : List Bool) → PassesWith (ports_of port) (with_check_16 (port_mask port) bits)
-passes Only bits = record { count = inl refl; check = checked_16 0 bits (omega arith) }
-passes First bits = record { count = inr (inl refl); check = checked_16 65535 bits (omega arith) }
-passes Second bits = record { count = inr (inl refl); check = checked_16 65535 bits (omega arith) }
-passes (OfFour own) bits = record { count = inr (inr refl); check = checked_16 21845 bits (omega arith) }
-passes Long bits = record { count = inl refl; check = checked_16 0 bits (omega arith) }
+passes port bits = passes_by port.carrier bits
 
 pub is_master_word : (port : Port) (lasting : Duration) (share : Resource) (sfn spare : ℕ) → spare ≤ 1023 → sfn ≤ 1023 →
     IsMasterWord (ports_of port) lasting share sfn spare (master_word (port_mask port) lasting share sfn spare)

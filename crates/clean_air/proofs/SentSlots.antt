@@ -1,6 +1,6 @@
 -- The slots of a recording that is faithful to a cell of one port, whatever else the cell sends: each that is looked at is received as it was sent, and the
 -- broadcast channel carries the cell's word.
-use Rattle.std.proofs.Common.{◌≡◌, ℕ, ◌+◌, ◌-◌, ◌*◌, ◌/◌, ◌%◌, ◌^◌, ◌<◌, ◌≤◌, arith, refl, ap, sym, subst, ◌∙◌, List, [], ◌∷◌, nat_eq, Bool, true, false, None}
+use Rattle.std.proofs.Common.{◌≡◌, ℕ, zero, suc, ◌+◌, ◌-◌, ◌*◌, ◌/◌, ◌%◌, ◌^◌, ◌<◌, ◌≤◌, arith, refl, ap, sym, subst, ◌∙◌, List, [], ◌∷◌, nat_eq, nat_lt, mod-lt, Bool, true, false, None}
 use Rattle.std.specs.Prelude.{if◌then◌else◌, ◌&&◌, slice_index_or}
 use Rattle.std.proofs.lemmas.Bool.Decides.{nat_tests}
 use Rattle.cs_num.specs.declared.Cpx.{Cpx}
@@ -9,7 +9,6 @@ use Rattle.cs_num.specs.Complex.{times, minus, square, value_at}
 use Rattle.sizes.proofs.Cauchy.{energy_same}
 use Rattle.fold128.specs.Symbol.{useful_at}
 use Rattle.finite.proofs.Lists.{values_below_at}
-use Rattle.cell_tx.specs.declared.antenna.PortOfFour.TheVariants.{Zero, One, Two, Three}
 use Rattle.crs.specs.Reference.{port_0, is_reference, is_second_reference, is_upper_reference, first_subcarrier, pattern_reference, reference, reference_c_init, reference_at}
 use Rattle.observe.specs.Seen.{seen_symbol}
 use Rattle.sync_seq.specs.Middle.{is_middle}
@@ -21,19 +20,20 @@ use Rattle.grid_map.specs.Scrambling.{pbch_c_init}
 use Rattle.grid_map.proofs.Points.{length-pbch_places, places_inside, index_of_place}
 use Rattle.cell_plan.specs.declared.cell.CellPlan.{CellPlan}
 use Rattle.cell_tx.specs.declared.antenna.Port.{Port}
-use Rattle.cell_tx.specs.declared.antenna.Port.TheVariants.{Only, First, Second, Long, OfFour}
-use Rattle.cell_tx.specs.Ports.{port_symbols, sent_point}
+use Rattle.lte_types.specs.declared.carrier.Carrier.TheVariants.{OnePort, TwoPorts, LongPrefix, FourPorts}
+use Rattle.cell_tx.specs.Ports.{port_by, only_port, port_of_four, port_symbols, sent_point}
 use Rattle.cell_tx.specs.Block.{port_point, port_bit, broadcast_word}
-use Rattle.cell_tx.specs.Grid.{is_synchronised, is_broadcast, has_broadcast, broadcast_index, port_element, element}
+use Rattle.cell_tx.specs.Grid.{is_synchronised, is_broadcast, has_broadcast_by, has_broadcast, broadcast_index_by, broadcast_index, port_element, element}
 use Rattle.cell_tx.specs.Sent.{Elements}
 use Rattle.clean_air.specs.Load.{CarriesPlan, IsLoaded, received_from}
 use Rattle.clean_air.specs.Faithful.{IsLookedAt, IsFaithfulBy, errors_from, first_frame_of}
 use Rattle.clean_air.specs.Through.{slot_elements}
 use Rattle.cell_tx.specs.Rows.{port_reference_if}
-use Rattle.cell_tx.proofs.Elements.{element_of_channel, channel_of_broadcast}
+use Rattle.cell_tx.proofs.Elements.{both_false, no_lower, none_of, element_of_channel, channel_of_broadcast}
 use Rattle.clean_air.proofs.Carrying.{of_own_reference, of_broadcast}
-use Rattle.lte_types.specs.declared.carrier.Carrier.TheVariants.{OnePort}
-use Rattle.lte_types.specs.Numerology.{normal, useful_start}
+use Rattle.lte_types.specs.declared.carrier.Carrier.{Carrier}
+use Rattle.lte_types.specs.Carrier.{prefix_of}
+use Rattle.lte_types.specs.Numerology.{normal, symbols_of_slot, useful_start}
 use Rattle.lte_types.specs.Timing.{start_of, number_at_start}
 use Rattle.explain.specs.Frame.{IsWhole, frame_at, seen_slot}
 use Rattle.budget.specs.Received.{in_parts, off_by, IsReceived, samples_from}
@@ -76,13 +76,13 @@ reference_here plan number slot l k inside is =
     let place : 2 * (slot / 2) + (7 * (slot % 2) + l) / 7 ≡ slot = omega (arith, inside) in
     rw (symbol, place, is) refl
 
-reference_carried : (plan : CellPlan) (grid : Elements) → CarriesPlan Only plan grid → (number slot l k : ℕ) → l < 7 → is_reference plan.identity l k ≡ true →
+reference_carried : (plan : CellPlan) (grid : Elements) → CarriesPlan only_port plan grid → (number slot l k : ℕ) → l < 7 → is_reference plan.identity l k ≡ true →
     slot_grid grid number slot l k ≡ slot_grid (element plan) number slot l k
 reference_carried plan grid carries number slot l k inside is =
     let symbol : (7 * (slot % 2) + l) % 7 ≡ l = omega (arith, inside) in
-    of_own_reference Only plan grid carries number (slot / 2) (7 * (slot % 2) + l) k (rw symbol is)
+    of_own_reference only_port plan grid carries number (slot / 2) (7 * (slot % 2) + l) k (rw symbol is)
 
-pub references_stand : (plan : CellPlan) (grid : Elements) → CarriesPlan Only plan grid → (number slot i : ℕ) →
+pub references_stand : (plan : CellPlan) (grid : Elements) → CarriesPlan only_port plan grid → (number slot i : ℕ) →
     slot_grid grid number slot (pilot_symbol plan.identity i) (pilot_subcarrier plan.identity i) ≡ pilot_sent plan.identity slot i
 unfolding pattern_sent pattern_reference reference_at reference reference_c_init
 references_stand plan grid carries number slot i =
@@ -117,31 +117,51 @@ not_there : (symbol row : ℕ) (a : Bool) → 7 ≤ symbol → row < 7 → (nat_
 not_there symbol row a low small = let e : nat_eq symbol row ≡ false = grind (arith, nat_tests) in rw e refl
 
 -- no port has a reference signal there
+either_false : (t a b : Bool) → a ≡ false → b ≡ false → (if t then a else b) ≡ false
+either_false true a b e f = e
+either_false false a b e f = f
+
+upper_free : (number identity slot symbol k : ℕ) → is_upper_reference 2 identity slot symbol k ≡ false → is_upper_reference 3 identity slot symbol k ≡ false → is_upper_reference number identity slot symbol k ≡ false
+unfolding is_upper_reference
+upper_free number identity slot symbol k e f = by (number % 2) (mod-lt number (omega arith))
+  where
+    by : (n : ℕ) → n < 2 → (nat_eq symbol 1 && nat_eq (k % 6) ((3 * n + 3 * (slot % 2) + identity) % 6)) ≡ false
+    by zero inside = e
+    by (suc zero) inside = f
+    by (suc (suc n)) inside = absurd (omega (arith, inside))
+
+none_by : (carrier : Carrier) (number : ℕ) → symbols_of_slot (prefix_of carrier) ≡ 7 → (identity slot symbol k : ℕ) → IsBroadcastPlace identity symbol k → port_reference_if (port_by carrier number) identity slot (symbol % 7) k ≡ None
+none_by OnePort number normal identity slot symbol k at = none_of (port_by OnePort number) identity slot (symbol % 7) k at.free at.free
+none_by TwoPorts number normal identity slot symbol k at =
+    none_of (port_by TwoPorts number) identity slot (symbol % 7) k (no_lower number identity (symbol % 7) k at.free at.second_free) (both_false _ _ at.free at.second_free)
+none_by LongPrefix number normal identity slot symbol k at = absurd (omega (arith, normal))
+none_by FourPorts number normal identity slot symbol k at =
+    none_of (port_of_four number) identity slot (symbol % 7) k
+    (either_false (nat_lt number 2) _ _ (no_lower number identity (symbol % 7) k at.free at.second_free) (upper_free number identity slot (symbol % 7) k (at.third_free slot) (at.fourth_free slot)))
+    (both_false _ _ (both_false _ _ at.free at.second_free) (both_false _ _ (at.third_free slot) (at.fourth_free slot)))
+
 none_there : (port : Port) → port_symbols port ≡ 7 → (identity slot symbol k : ℕ) → IsBroadcastPlace identity symbol k → port_reference_if port identity slot (symbol % 7) k ≡ None
-none_there Only normal identity slot symbol k at = rw at.free refl
-none_there First normal identity slot symbol k at = rw (at.free, at.second_free) refl
-none_there Second normal identity slot symbol k at = rw (at.free, at.second_free) refl
-none_there Long normal identity slot symbol k at = absurd (omega (arith, normal))
-none_there (OfFour Zero) normal identity slot symbol k at = rw (at.free, at.second_free, at.third_free slot, at.fourth_free slot) refl
-none_there (OfFour One) normal identity slot symbol k at = rw (at.free, at.second_free, at.third_free slot, at.fourth_free slot) refl
-none_there (OfFour Two) normal identity slot symbol k at = rw (at.free, at.second_free, at.third_free slot, at.fourth_free slot) refl
-none_there (OfFour Three) normal identity slot symbol k at = rw (at.free, at.second_free, at.third_free slot, at.fourth_free slot) refl
+none_there port normal identity slot symbol k at = none_by port.carrier port.number normal identity slot symbol k at
+
+broadcast_by : (carrier : Carrier) → symbols_of_slot (prefix_of carrier) ≡ 7 → (identity subframe symbol k : ℕ) → has_broadcast_by carrier identity subframe symbol k ≡ is_broadcast identity subframe symbol k
+broadcast_by OnePort normal identity subframe symbol k = refl
+broadcast_by TwoPorts normal identity subframe symbol k = refl
+broadcast_by LongPrefix normal identity subframe symbol k = absurd (omega (arith, normal))
+broadcast_by FourPorts normal identity subframe symbol k = refl
+
+index_by : (carrier : Carrier) → symbols_of_slot (prefix_of carrier) ≡ 7 → (identity symbol k : ℕ) → broadcast_index_by carrier identity symbol k ≡ pbch_index identity (place symbol k)
+index_by OnePort normal identity symbol k = refl
+index_by TwoPorts normal identity symbol k = refl
+index_by LongPrefix normal identity symbol k = absurd (omega (arith, normal))
+index_by FourPorts normal identity symbol k = refl
 
 -- with the normal prefix, whichever the port
 module _ (port : Port) (normal : port_symbols port ≡ 7) where
   broadcast_is : (port : Port) → port_symbols port ≡ 7 → (identity subframe symbol k : ℕ) → has_broadcast port identity subframe symbol k ≡ is_broadcast identity subframe symbol k
-  broadcast_is Only normal identity subframe symbol k = refl
-  broadcast_is First normal identity subframe symbol k = refl
-  broadcast_is Second normal identity subframe symbol k = refl
-  broadcast_is (OfFour own) normal identity subframe symbol k = refl
-  broadcast_is Long normal identity subframe symbol k = absurd (omega (arith, normal))
+  broadcast_is port normal identity subframe symbol k = broadcast_by port.carrier normal identity subframe symbol k
 
   index_is : (port : Port) → port_symbols port ≡ 7 → (identity symbol k : ℕ) → broadcast_index port identity symbol k ≡ pbch_index identity (place symbol k)
-  index_is Only normal identity symbol k = refl
-  index_is First normal identity symbol k = refl
-  index_is Second normal identity symbol k = refl
-  index_is (OfFour own) normal identity symbol k = refl
-  index_is Long normal identity symbol k = absurd (omega (arith, normal))
+  index_is port normal identity symbol k = index_by port.carrier normal identity symbol k
 
   point_here : (plan : CellPlan) (number symbol k i : ℕ) → IsBroadcastPlace plan.identity symbol k → i ≡ pbch_index plan.identity (place symbol k) →
       port_element port plan number 0 symbol k ≡ sent_point port (port_point port plan number) i
@@ -164,10 +184,10 @@ module _ (port : Port) (normal : port_symbols port ≡ 7) where
       ap (λ n. grid number 0 n p.k) symbol ∙ of_broadcast port plan grid carries number 0 p.symbol p.k (broadcast_is port normal plan.identity 0 p.symbol p.k ∙ at.here)
       ∙ point_here plan number p.symbol p.k i at (sym (index_of_place plan.identity i inside))
 
-pub carries_word : (plan : CellPlan) (grid : Elements) → CarriesPlan Only plan grid → (number : ℕ) →
+pub carries_word : (plan : CellPlan) (grid : Elements) → CarriesPlan only_port plan grid → (number : ℕ) →
     CarryWord (slot_grid grid number 1) (pbch_places plan.identity) (pbch_c_init plan.identity) (480 * (number % 4)) (broadcast_word plan number)
 unfolding pbch_place port_point port_bit
-carries_word plan grid carries number i inside = points_stand Only refl plan grid carries number i (omega (arith, inside, length-pbch_places plan.identity))
+carries_word plan grid carries number i inside = points_stand only_port refl plan grid carries number i (omega (arith, inside, length-pbch_places plan.identity))
 
 -- ---- the slots
 
@@ -188,10 +208,10 @@ first_number sfn offset known = grind (arith, nat_tests)
 pub symbol_with_errors : (quota : ℕ) (recording : List Sample) (grids : Port → Elements) (sfn offset : ℕ) (gains : List Cpx) → sfn ≤ 1023 → offset < 19200 → 2 ^ 28 ≤ square (value_at gains 0) →
     (j slot l : ℕ) → slot < 20 → l < 7 →
     errors_from OnePort recording grids sfn offset gains (useful_start normal (frame_at (start_of offset) j) slot l) ≤ quota * square (value_at gains 0) →
-    IsReceived quota (value_at gains 0) (slot_grid (grids Only) ((number_at_start sfn offset + j) % 1024) slot l)
+    IsReceived quota (value_at gains 0) (slot_grid (grids only_port) ((number_at_start sfn offset + j) % 1024) slot l)
     (samples_from recording (useful_start normal (frame_at (start_of offset) j) slot l))
 symbol_with_errors quota recording grids sfn offset gains known within sounds j slot l few inside quiet =
-    let grid : Elements = grids Only in
+    let grid : Elements = grids only_port in
     let gain : Cpx = value_at gains 0 in
     let start : ℕ = useful_start normal (frame_at (start_of offset) j) slot l in
     let n : ℕ = first_frame_of offset + j in
@@ -211,10 +231,10 @@ unfolding seen_slot
 symbol_shown recording identity f slot l inside = values_below_at (λ symbol. seen_symbol recording (useful_start normal f slot symbol)) 7 l [] inside
 
 -- a slot of which the errors of each symbol are at most this share is received
-pub slot_with_errors : (quota : ℕ) (recording : List Sample) (plan : CellPlan) (grids : Port → Elements) (sfn offset : ℕ) (gains : List Cpx) → sfn ≤ 1023 → offset < 19200 → CarriesPlan Only plan (grids Only) →
+pub slot_with_errors : (quota : ℕ) (recording : List Sample) (plan : CellPlan) (grids : Port → Elements) (sfn offset : ℕ) (gains : List Cpx) → sfn ≤ 1023 → offset < 19200 → CarriesPlan only_port plan (grids only_port) →
     2 ^ 28 ≤ square (value_at gains 0) → (j slot : ℕ) → slot < 20 →
     ((l : ℕ) → l < 7 → errors_from OnePort recording grids sfn offset gains (useful_start normal (frame_at (start_of offset) j) slot l) ≤ quota * square (value_at gains 0)) →
-    IsPatternReceived quota port_0 7 recording (useful_start normal (frame_at (start_of offset) j) slot) (slot_grid (grids Only) ((number_at_start sfn offset + j) % 1024) slot)
+    IsPatternReceived quota port_0 7 recording (useful_start normal (frame_at (start_of offset) j) slot) (slot_grid (grids only_port) ((number_at_start sfn offset + j) % 1024) slot)
     (seen_slot recording (frame_at (start_of offset) j) slot plan.identity)
 unfolding seen_slot
 slot_with_errors quota recording plan grids sfn offset gains known within carries sounds j slot few quiet =
@@ -224,17 +244,17 @@ slot_with_errors quota recording plan grids sfn offset gains known within carrie
       seen = λ l inside. symbol_shown recording plan.identity (frame_at (start_of offset) j) slot l inside;
       amplitudes = λ l inside. carries.small number (slot / 2) (7 * (slot % 2) + l);
       received = λ l inside. symbol_with_errors quota recording grids sfn offset gains known within sounds j slot l few inside (quiet l inside);
-      references = λ i inside. references_stand plan (grids Only) carries number slot i;
+      references = λ i inside. references_stand plan (grids only_port) carries number slot i;
     }
 
 module _ (recording : List Sample) (plan : CellPlan) (grids : Port → Elements) (sfn offset : ℕ) (gains : List Cpx) (faithful : IsFaithfulBy OnePort recording plan grids sfn offset gains) where
   -- a slot of which all symbols are looked at is received
   pub each_slot_received : (j slot : ℕ) → slot < 20 →
       ((l : ℕ) → l < 7 → IsLookedAt OnePort sfn offset (first_frame_of offset + j) slot l (useful_start normal (frame_at (start_of offset) j) slot l)) →
-      IsSlotReceived recording (useful_start normal (frame_at (start_of offset) j) slot) (slot_grid (grids Only) ((number_at_start sfn offset + j) % 1024) slot)
+      IsSlotReceived recording (useful_start normal (frame_at (start_of offset) j) slot) (slot_grid (grids only_port) ((number_at_start sfn offset + j) % 1024) slot)
       (seen_slot recording (frame_at (start_of offset) j) slot plan.identity)
   each_slot_received j slot few looked =
-      slot_with_errors 1800 recording plan grids sfn offset gains faithful.number faithful.within (faithful.carries Only refl) faithful.gains_are.sounds j slot few
+      slot_with_errors 1800 recording plan grids sfn offset gains faithful.number faithful.within (faithful.carries only_port (refl, omega arith)) faithful.gains_are.sounds j slot few
       (λ l inside. let frame = frame_is sfn offset j faithful.number faithful.within in
       faithful.near (first_frame_of offset + j) slot l (useful_start normal (frame_at (start_of offset) j) slot l) few inside (omega (arith, frame.place)) (looked l inside))
 
@@ -256,7 +276,7 @@ loaded_pilots_seen recording plan grid sfn offset gain eps clean j slot whole fe
     quiet n p q energy same bound small = omega (arith, same, bound, small)
 
     received : IsPatternReceived 1024 port_0 7 recording start (slot_grid grid ((number_at_start sfn offset + j) % 1024) slot) (seen_slot recording (frame_at (start_of offset) j) slot plan.identity)
-    received = slot_with_errors 1024 recording plan (λ port. grid) sfn offset (in_parts gain ∷ []) clean.number clean.within (clean.carries Only refl)
+    received = slot_with_errors 1024 recording plan (λ port. grid) sfn offset (in_parts gain ∷ []) clean.number clean.within (clean.carries only_port (refl, omega arith))
         (some (square gain) (square (in_parts gain)) (square_in_parts gain) clean.gains_are.least) j slot few
         (λ l inside. quiet (square gain) (square (in_parts gain)) (eps * eps) (errors_from OnePort recording (λ port. grid) sfn offset (in_parts gain ∷ []) (start l)) (square_in_parts gain) clean.bound
         (loaded_has_little_errors OnePort recording plan (λ port. grid) sfn offset (gain ∷ []) eps (start l) clean (omega (arith, whole, few, inside))))

@@ -16,11 +16,9 @@ use Rattle.lte_types.specs.Carrier.{prefix_of}
 use Rattle.lte_types.specs.Numerology.{IsPrefix, symbols_of_slot, useful_start}
 use Rattle.lte_types.specs.Timing.{start_of, number_at_start}
 use Rattle.cell_tx.specs.declared.antenna.Port.{Port}
-use Rattle.cell_tx.specs.declared.antenna.Port.TheVariants.{Only, First, Second, Long, OfFour}
-use Rattle.cell_tx.specs.declared.antenna.PortOfFour.TheVariants.{Zero, One, Two, Three}
 use Rattle.cell_plan.specs.declared.cell.CellPlan.{CellPlan}
 use Rattle.cell_tx.specs.Emission.{mixed}
-use Rattle.cell_tx.specs.Ports.{carrier_of, port_prefix}
+use Rattle.cell_tx.specs.Ports.{IsPortOf, only_port, first_port, second_port, long_port, port_of_four, port_prefix}
 use Rattle.cell_tx.specs.Sent.{Elements, prefix_sent}
 use Rattle.cell_tx.proofs.Symbols.{frames_follow, useful_parts_stand, in_useful}
 use Rattle.clean_air.specs.Load.{received_from}
@@ -37,14 +35,14 @@ prefix_sent_symbol prefix grid sfn j slot l n known a b c =
     frames_follow prefix grid sfn j (useful_start prefix 0 slot l + n) (omega (arith, a, inside)) ∙ useful_parts_stand prefix grid ((sfn + j) % 1024) slot l n known b c
 
 -- values that are the same at the ports of a carrier are received as the same
-pub mixed_same : (carrier : Carrier) (a b : Port → Cpx) (gains : List Cpx) → ((port : Port) → carrier_of port ≡ carrier → a port ≡ b port) → mixed carrier a gains ≡ mixed carrier b gains
-mixed_same OnePort a b gains same = ap (times (value_at gains 0)) (same Only refl)
-mixed_same TwoPorts a b gains same = ap₂ (λ (x y : Cpx). plus (times (value_at gains 0) x) (times (value_at gains 1) y)) (same First refl) (same Second refl)
-mixed_same LongPrefix a b gains same = ap (times (value_at gains 0)) (same Long refl)
+pub mixed_same : (carrier : Carrier) (a b : Port → Cpx) (gains : List Cpx) → ((port : Port) → IsPortOf carrier port → a port ≡ b port) → mixed carrier a gains ≡ mixed carrier b gains
+mixed_same OnePort a b gains same = ap (times (value_at gains 0)) (same only_port (refl, omega arith))
+mixed_same TwoPorts a b gains same = ap₂ (λ (x y : Cpx). plus (times (value_at gains 0) x) (times (value_at gains 1) y)) (same first_port (refl, omega arith)) (same second_port (refl, omega arith))
+mixed_same LongPrefix a b gains same = ap (times (value_at gains 0)) (same long_port (refl, omega arith))
 mixed_same FourPorts a b gains same =
     ap₂ plus
-    (ap₂ (λ (x y : Cpx). plus (times (value_at gains 0) x) (times (value_at gains 1) y)) (same (OfFour Zero) refl) (same (OfFour One) refl))
-    (ap₂ (λ (x y : Cpx). plus (times (value_at gains 2) x) (times (value_at gains 3) y)) (same (OfFour Two) refl) (same (OfFour Three) refl))
+    (ap₂ (λ (x y : Cpx). plus (times (value_at gains 0) x) (times (value_at gains 1) y)) (same (port_of_four 0) (refl, omega arith)) (same (port_of_four 1) (refl, omega arith)))
+    (ap₂ (λ (x y : Cpx). plus (times (value_at gains 2) x) (times (value_at gains 3) y)) (same (port_of_four 2) (refl, omega arith)) (same (port_of_four 3) (refl, omega arith)))
 
 pub prefix_known : (carrier : Carrier) → IsPrefix (prefix_of carrier)
 prefix_known OnePort = inl refl
@@ -68,11 +66,11 @@ module _ (carrier : Carrier) (grids : Port → Elements) (sfn offset : ℕ) (gai
           prefix_sent (prefix_of carrier) grid sfn (start + n + offset) ≡ useful_at (grid ((sfn + frame) % 1024) (slot / 2) (symbols_of_slot (prefix_of carrier) * (slot % 2) + symbol)) n
       own grid = ap (prefix_sent (prefix_of carrier) grid sfn) there ∙ prefix_sent_symbol (prefix_of carrier) grid sfn frame slot symbol n (prefix_known carrier) few row c
 
-      each : (port : Port) → carrier_of port ≡ carrier →
+      each : (port : Port) → IsPortOf carrier port →
           prefix_sent (port_prefix port) (grids port) sfn (start + n + offset) ≡ useful_at (grids port ((sfn + frame) % 1024) (slot / 2) (symbols_of_slot (prefix_of carrier) * (slot % 2) + symbol)) n
       each port same =
           subst (λ (c : Carrier). prefix_sent (prefix_of c) (grids port) sfn (start + n + offset) ≡ useful_at (grids port ((sfn + frame) % 1024) (slot / 2) (symbols_of_slot (prefix_of carrier) * (slot % 2) + symbol)) n)
-          (sym same) (own (grids port))
+          (sym same.0) (own (grids port))
 
 -- the errors of a symbol that is looked at are little
 pub symbol_off : (carrier : Carrier) (recording : List Sample) (plan : CellPlan) (grids : Port → Elements) (sfn offset : ℕ) (gains : List Cpx) → IsFaithfulBy carrier recording plan grids sfn offset gains →

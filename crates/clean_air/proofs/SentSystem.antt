@@ -9,7 +9,7 @@ use Rattle.system_block.specs.Subframe.{one_port}
 use Rattle.system_block.specs.Block.{BlockSays}
 use Rattle.system_block.specs.Attempt.{Reads}
 use Rattle.pdsch.specs.Values.{shared_values}
-use Rattle.cell_tx.specs.declared.antenna.Port.TheVariants.{Only}
+use Rattle.cell_tx.specs.Ports.{only_port}
 use Rattle.cell_plan.specs.declared.cell.CellPlan.{CellPlan}
 use Rattle.cell_plan.specs.Plan.{IsSendable}
 use Rattle.cell_tx.specs.Control.{version_of, grant_of, control_word, indicator_point, control_point}
@@ -60,16 +60,16 @@ module _ (recording : List Sample) (plan : CellPlan) (grid : Elements) (sfn offs
   -- they carry the indicator and the grant
   carries_indicator : CarryInSubframe (grid number 5) (pcfich_places (slot 10).identity) (indicator_scrambled (slot 10) plan.cfi)
   unfolding seen_slot indicator_point
-  carries_indicator i inside = indicator_carried Only plan grid heard.carries sendable refl number even i (let size = (indicator_indexed Only plan sendable).size in omega (arith, size, inside))
+  carries_indicator i inside = indicator_carried only_port plan grid heard.carries sendable refl number even i (let size = (indicator_indexed only_port plan sendable).size in omega (arith, size, inside))
 
   carries_grant : CarryInSubframe (grid number 5) (grant_places (slot 10) plan.cfi plan.duration plan.resource) (grant_scrambled (slot 10) (grant_of plan number))
   unfolding seen_slot control_point control_word
-  carries_grant i inside = control_carried Only plan grid heard.carries sendable refl number even i (let size = (control_indexed Only plan sendable).size in omega (arith, size, inside))
+  carries_grant i inside = control_carried only_port plan grid heard.carries sendable refl number even i (let size = (control_indexed only_port plan sendable).size in omega (arith, size, inside))
 
   -- and the block
   carries_block : CarryInSubframe (grid number 5) (shared_places plan) (shared_scrambled (slot 10) (shared_bit plan number))
   unfolding seen_slot shared_point
-  carries_block i inside = shared_carried Only plan grid heard.carries sendable refl number even i inside
+  carries_block i inside = shared_carried only_port plan grid heard.carries sendable refl number even i inside
 
   -- the values of its resource blocks say the fields
   says_fields : BlockSays (shared_values (slot 10) (slot 11) plan.cfi plan.start plan.blocks) (grant_of plan number) (Ok plan.sib1)
@@ -77,7 +77,7 @@ module _ (recording : List Sample) (plan : CellPlan) (grid : Elements) (sfn offs
   says_fields =
       fields_said plan sendable number (2 * length (shared_places plan)) (shared_values (slot 10) (slot 11) plan.cfi plan.start plan.blocks)
       (carried_blocks_are_heard (grid number 5) (slot 10) (slot 11) plan.cfi plan.start plan.blocks (shared_bit plan number) both_heard carries_block)
-      (λ row same of. resolvable_at plan (version_of number) (2 * length (shared_places plan)) row sendable.enough (version-fits number) same of.size (sym (assigned_bits_are Only plan sendable)))
+      (λ row same of. resolvable_at plan (version_of number) (2 * length (shared_places plan)) row sendable.enough (version-fits number) same of.size (sym (assigned_bits_are only_port plan sendable)))
 
   -- so the frame is read with the plan's indicator and grant
   pub grant_read : IsReadWith (one_port (slot 10) (slot 11) plan.duration plan.resource) plan.cfi (grant_of plan number)

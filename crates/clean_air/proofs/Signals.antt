@@ -20,18 +20,14 @@ use Rattle.lte_types.specs.declared.frame.Half.TheVariants.{Zero, Five}
 use Rattle.lte_types.specs.declared.numerology.Prefix.{Prefix}
 use Rattle.lte_types.specs.Carrier.{prefix_of}
 use Rattle.lte_types.specs.Numerology.{IsPrefix, symbols_of_slot, symbol_step, useful_start, subframe_of, primary_start}
-use Rattle.crs.specs.Reference.{is_reference, is_second_reference, is_upper_reference}
 use Rattle.pss_search.specs.Correlation.{pss_grid}
 use Rattle.cell_tx.specs.declared.antenna.Port.{Port}
-use Rattle.cell_tx.specs.declared.antenna.Port.TheVariants.{Only, First, Second, Long, OfFour}
-use Rattle.cell_tx.specs.declared.antenna.PortOfFour.{PortOfFour}
-use Rattle.cell_tx.specs.declared.antenna.PortOfFour.TheVariants.{Zero as P0, One as P1, Two as P2, Three as P3}
 use Rattle.cell_plan.specs.declared.cell.CellPlan.{CellPlan}
-use Rattle.cell_tx.specs.Ports.{carrier_of, port_symbols, sent_signal, is_own_reference, is_other_reference}
+use Rattle.cell_tx.specs.Ports.{port_by, IsPortOf, port_symbols, sent_signal}
 use Rattle.cell_tx.specs.Grid.{port_element}
 use Rattle.cell_tx.specs.Sent.{Elements}
 use Rattle.cell_tx.specs.Emission.{mixed}
-use Rattle.cell_tx.proofs.Elements.{no_reference, no_second_reference}
+use Rattle.cell_tx.proofs.Elements.{no_port_reference, element_elsewhere}
 use Rattle.cell_tx.proofs.SignalSymbols.{no_channel}
 use Rattle.cell_tx.proofs.Symbols.{with_prefix}
 use Rattle.budget.specs.Received.{in_parts, off_by, IsReceived, samples_from}
@@ -66,19 +62,16 @@ unfolding useful_at
 nothing_sent n = ap (λ (z : Cpx). rounded z 17) (sum_zero 72 (useful_term (λ k. nothing) n) (λ k l. times-nothing_left (w_at (frequency k * n))))
 
 signal_sent : (port : Port) (signal : ℕ → Cpx) (n : ℕ) → useful_at (λ k. sent_signal port (signal k)) n ≡ sent_signal port (useful_at signal n)
-signal_sent Only signal n = refl
-signal_sent First signal n = refl
-signal_sent Second signal n = nothing_sent n
-signal_sent Long signal n = refl
-signal_sent (OfFour P0) signal n = refl
-signal_sent (OfFour P1) signal n = nothing_sent n
-signal_sent (OfFour P2) signal n = nothing_sent n
-signal_sent (OfFour P3) signal n = nothing_sent n
+signal_sent port signal n = by (nat_eq port.number 0)
+  where
+    by : (first : Bool) → useful_at (λ k. if first then signal k else nothing) n ≡ (if first then useful_at signal n else nothing)
+    by true = refl
+    by false = nothing_sent n
 
 -- where the ports send a signal in a symbol, it is received as from the first port alone
 signal_received : (carrier : Carrier) (grids : Port → Elements) (sfn offset : ℕ) (gains : List Cpx) (t j slot l : ℕ) (signal : ℕ → Cpx) → slot < 20 → l < symbols_of_slot (prefix_of carrier) →
     t + offset ≡ 19200 * j + useful_start (prefix_of carrier) 0 slot l →
-    ((port : Port) → carrier_of port ≡ carrier → (k : ℕ) → grids port ((sfn + j) % 1024) (slot / 2) (symbols_of_slot (prefix_of carrier) * (slot % 2) + l) k ≡ sent_signal port (signal k)) →
+    ((port : Port) → IsPortOf carrier port → (k : ℕ) → grids port ((sfn + j) % 1024) (slot / 2) (symbols_of_slot (prefix_of carrier) * (slot % 2) + l) k ≡ sent_signal port (signal k)) →
     (n : ℕ) → n < 128 → received_from carrier grids sfn offset gains (t + n) ≡ times (value_at gains 0) (useful_at signal n)
 signal_received carrier grids sfn offset gains t j slot l signal few row place sends n c =
     symbol_received carrier grids sfn offset gains j slot l t few row place n c
@@ -95,28 +88,8 @@ little_beside FourPorts gains energy little = little.1
 
 -- ---- what a port sends of the signals
 
-no_upper : (port identity slot symbol k : ℕ) → nat_eq symbol 1 ≡ false → is_upper_reference port identity slot symbol k ≡ false
-unfolding is_upper_reference
-no_upper port identity slot symbol k e = rw e refl
-
 middle : (k : ℕ) (a b : Cpx) → (if nat_le 5 k && nat_lt k 67 then a else b) ≡ (if nat_lt k 5 then b else if nat_lt k 67 then a else b)
 middle k a b = grind (arith, nat_tests)
-
--- no port of four has a reference signal in a symbol
-record HasNone (port : PortOfFour) (identity slot symbol k : ℕ) : Type 0 where
-  own : is_own_reference (OfFour port) identity slot symbol k ≡ false
-  other : is_other_reference (OfFour port) identity slot symbol k ≡ false
-
-none_in : (port : PortOfFour) (identity slot symbol k : ℕ) → nat_eq symbol 0 ≡ false → nat_eq symbol 4 ≡ false → nat_eq symbol 1 ≡ false → HasNone port identity slot symbol k
-none_in port identity slot symbol k e f g =
-    by port (no_reference identity symbol k e f) (no_second_reference identity symbol k e f) (no_upper 2 identity slot symbol k g) (no_upper 3 identity slot symbol k g)
-  where
-    by : (port : PortOfFour) → is_reference identity symbol k ≡ false → is_second_reference identity symbol k ≡ false → is_upper_reference 2 identity slot symbol k ≡ false →
-        is_upper_reference 3 identity slot symbol k ≡ false → HasNone port identity slot symbol k
-    by P0 a b c d = record { own = a; other = rw (b, c, d) refl }
-    by P1 a b c d = record { own = b; other = rw (a, c, d) refl }
-    by P2 a b c d = record { own = c; other = rw (a, b, d) refl }
-    by P3 a b c d = record { own = d; other = rw (a, b, c) refl }
 
 either : (b : Bool) → (if b then nothing else nothing) ≡ nothing
 either true = refl
@@ -124,43 +97,74 @@ either false = refl
 
 -- a port sends the middle of a symbol, or nothing
 in_signal : (port : Port) (k : ℕ) (z : Cpx) → (if nat_le 5 k && nat_lt k 67 then sent_signal port z else nothing) ≡ sent_signal port (if nat_lt k 5 then nothing else if nat_lt k 67 then z else nothing)
-in_signal Only k z = middle k z nothing
-in_signal First k z = middle k z nothing
-in_signal Second k z = either (nat_le 5 k && nat_lt k 67)
-in_signal Long k z = middle k z nothing
-in_signal (OfFour P0) k z = middle k z nothing
-in_signal (OfFour P1) k z = either (nat_le 5 k && nat_lt k 67)
-in_signal (OfFour P2) k z = either (nat_le 5 k && nat_lt k 67)
-in_signal (OfFour P3) k z = either (nat_le 5 k && nat_lt k 67)
+in_signal port k z = by (nat_eq port.number 0)
+  where
+    by : (first : Bool) → (if nat_le 5 k && nat_lt k 67 then (if first then z else nothing) else nothing) ≡ (if first then (if nat_lt k 5 then nothing else if nat_lt k 67 then z else nothing) else nothing)
+    by true = middle k z nothing
+    by false = either (nat_le 5 k && nat_lt k 67)
 
 -- the last symbol of slots 0 and 10 holds the primary signal alone
+primary_by : (carrier : Carrier) (number : ℕ) (plan : CellPlan) (sfn k : ℕ) (half : Half) →
+    port_element (port_by carrier number) plan sfn (subframe_of half) (symbols_of_slot (prefix_of carrier) - 1) k ≡ sent_signal (port_by carrier number) (pss_grid (plan.identity % 3) k)
+primary_by OnePort number plan sfn k Zero =
+    let port : Port = port_by OnePort number in
+    element_elsewhere port plan sfn 0 6 k (no_port_reference port plan.identity 0 6 k refl refl refl) ∙ rw (no_channel port plan sfn 0 6 k (inr refl)) (in_signal port k _)
+primary_by OnePort number plan sfn k Five =
+    let port : Port = port_by OnePort number in
+    element_elsewhere port plan sfn 5 6 k (no_port_reference port plan.identity 10 6 k refl refl refl) ∙ rw (no_channel port plan sfn 5 6 k (inr refl)) (in_signal port k _)
+primary_by TwoPorts number plan sfn k Zero =
+    let port : Port = port_by TwoPorts number in
+    element_elsewhere port plan sfn 0 6 k (no_port_reference port plan.identity 0 6 k refl refl refl) ∙ rw (no_channel port plan sfn 0 6 k (inr refl)) (in_signal port k _)
+primary_by TwoPorts number plan sfn k Five =
+    let port : Port = port_by TwoPorts number in
+    element_elsewhere port plan sfn 5 6 k (no_port_reference port plan.identity 10 6 k refl refl refl) ∙ rw (no_channel port plan sfn 5 6 k (inr refl)) (in_signal port k _)
+primary_by LongPrefix number plan sfn k Zero =
+    let port : Port = port_by LongPrefix number in
+    element_elsewhere port plan sfn 0 5 k (no_port_reference port plan.identity 0 5 k refl refl refl) ∙ rw (no_channel port plan sfn 0 5 k (inr refl)) (in_signal port k _)
+primary_by LongPrefix number plan sfn k Five =
+    let port : Port = port_by LongPrefix number in
+    element_elsewhere port plan sfn 5 5 k (no_port_reference port plan.identity 10 5 k refl refl refl) ∙ rw (no_channel port plan sfn 5 5 k (inr refl)) (in_signal port k _)
+primary_by FourPorts number plan sfn k Zero =
+    let port : Port = port_by FourPorts number in
+    element_elsewhere port plan sfn 0 6 k (no_port_reference port plan.identity 0 6 k refl refl refl) ∙ rw (no_channel port plan sfn 0 6 k (inr refl)) (in_signal port k _)
+primary_by FourPorts number plan sfn k Five =
+    let port : Port = port_by FourPorts number in
+    element_elsewhere port plan sfn 5 6 k (no_port_reference port plan.identity 10 6 k refl refl refl) ∙ rw (no_channel port plan sfn 5 6 k (inr refl)) (in_signal port k _)
+
 pub primary_symbol : (port : Port) (plan : CellPlan) (sfn k : ℕ) (half : Half) → port_element port plan sfn (subframe_of half) (port_symbols port - 1) k ≡ sent_signal port (pss_grid (plan.identity % 3) k)
-unfolding port_element
-primary_symbol Only plan sfn k Zero = rw (no_reference plan.identity 6 k refl refl, no_channel Only plan sfn 0 6 k (inr refl)) (in_signal Only k _)
-primary_symbol Only plan sfn k Five = rw (no_reference plan.identity 6 k refl refl, no_channel Only plan sfn 5 6 k (inr refl)) (in_signal Only k _)
-primary_symbol First plan sfn k Zero = rw (no_reference plan.identity 6 k refl refl, no_second_reference plan.identity 6 k refl refl, no_channel First plan sfn 0 6 k (inr refl)) (in_signal First k _)
-primary_symbol First plan sfn k Five = rw (no_reference plan.identity 6 k refl refl, no_second_reference plan.identity 6 k refl refl, no_channel First plan sfn 5 6 k (inr refl)) (in_signal First k _)
-primary_symbol Second plan sfn k Zero = rw (no_reference plan.identity 6 k refl refl, no_second_reference plan.identity 6 k refl refl, no_channel Second plan sfn 0 6 k (inr refl)) (either _)
-primary_symbol Second plan sfn k Five = rw (no_reference plan.identity 6 k refl refl, no_second_reference plan.identity 6 k refl refl, no_channel Second plan sfn 5 6 k (inr refl)) (either _)
-primary_symbol Long plan sfn k Zero = rw (no_channel Long plan sfn 0 5 k (inr refl)) (in_signal Long k _)
-primary_symbol Long plan sfn k Five = rw (no_channel Long plan sfn 5 5 k (inr refl)) (in_signal Long k _)
-primary_symbol (OfFour p) plan sfn k Zero = let none = none_in p plan.identity 0 6 k refl refl refl in rw (none.own, none.other, no_channel (OfFour p) plan sfn 0 6 k (inr refl)) (in_signal (OfFour p) k _)
-primary_symbol (OfFour p) plan sfn k Five = let none = none_in p plan.identity 10 6 k refl refl refl in rw (none.own, none.other, no_channel (OfFour p) plan sfn 5 6 k (inr refl)) (in_signal (OfFour p) k _)
+primary_symbol port plan sfn k half = primary_by port.carrier port.number plan sfn k half
 
 -- and the symbol before it the secondary one
+secondary_by : (carrier : Carrier) (number : ℕ) (plan : CellPlan) (sfn k : ℕ) (half : Half) →
+    port_element (port_by carrier number) plan sfn (subframe_of half) (symbols_of_slot (prefix_of carrier) - 2) k ≡ sent_signal (port_by carrier number) (sss_grid (plan.identity / 3) (plan.identity % 3) half k)
+secondary_by OnePort number plan sfn k Zero =
+    let port : Port = port_by OnePort number in
+    element_elsewhere port plan sfn 0 5 k (no_port_reference port plan.identity 0 5 k refl refl refl) ∙ rw (no_channel port plan sfn 0 5 k (inl refl)) (in_signal port k _)
+secondary_by OnePort number plan sfn k Five =
+    let port : Port = port_by OnePort number in
+    element_elsewhere port plan sfn 5 5 k (no_port_reference port plan.identity 10 5 k refl refl refl) ∙ rw (no_channel port plan sfn 5 5 k (inl refl)) (in_signal port k _)
+secondary_by TwoPorts number plan sfn k Zero =
+    let port : Port = port_by TwoPorts number in
+    element_elsewhere port plan sfn 0 5 k (no_port_reference port plan.identity 0 5 k refl refl refl) ∙ rw (no_channel port plan sfn 0 5 k (inl refl)) (in_signal port k _)
+secondary_by TwoPorts number plan sfn k Five =
+    let port : Port = port_by TwoPorts number in
+    element_elsewhere port plan sfn 5 5 k (no_port_reference port plan.identity 10 5 k refl refl refl) ∙ rw (no_channel port plan sfn 5 5 k (inl refl)) (in_signal port k _)
+secondary_by LongPrefix number plan sfn k Zero =
+    let port : Port = port_by LongPrefix number in
+    element_elsewhere port plan sfn 0 4 k (no_port_reference port plan.identity 0 4 k refl refl refl) ∙ rw (no_channel port plan sfn 0 4 k (inl refl)) (in_signal port k _)
+secondary_by LongPrefix number plan sfn k Five =
+    let port : Port = port_by LongPrefix number in
+    element_elsewhere port plan sfn 5 4 k (no_port_reference port plan.identity 10 4 k refl refl refl) ∙ rw (no_channel port plan sfn 5 4 k (inl refl)) (in_signal port k _)
+secondary_by FourPorts number plan sfn k Zero =
+    let port : Port = port_by FourPorts number in
+    element_elsewhere port plan sfn 0 5 k (no_port_reference port plan.identity 0 5 k refl refl refl) ∙ rw (no_channel port plan sfn 0 5 k (inl refl)) (in_signal port k _)
+secondary_by FourPorts number plan sfn k Five =
+    let port : Port = port_by FourPorts number in
+    element_elsewhere port plan sfn 5 5 k (no_port_reference port plan.identity 10 5 k refl refl refl) ∙ rw (no_channel port plan sfn 5 5 k (inl refl)) (in_signal port k _)
+
 pub secondary_symbol : (port : Port) (plan : CellPlan) (sfn k : ℕ) (half : Half) →
     port_element port plan sfn (subframe_of half) (port_symbols port - 2) k ≡ sent_signal port (sss_grid (plan.identity / 3) (plan.identity % 3) half k)
-unfolding port_element
-secondary_symbol Only plan sfn k Zero = rw (no_reference plan.identity 5 k refl refl, no_channel Only plan sfn 0 5 k (inl refl)) (in_signal Only k _)
-secondary_symbol Only plan sfn k Five = rw (no_reference plan.identity 5 k refl refl, no_channel Only plan sfn 5 5 k (inl refl)) (in_signal Only k _)
-secondary_symbol First plan sfn k Zero = rw (no_reference plan.identity 5 k refl refl, no_second_reference plan.identity 5 k refl refl, no_channel First plan sfn 0 5 k (inl refl)) (in_signal First k _)
-secondary_symbol First plan sfn k Five = rw (no_reference plan.identity 5 k refl refl, no_second_reference plan.identity 5 k refl refl, no_channel First plan sfn 5 5 k (inl refl)) (in_signal First k _)
-secondary_symbol Second plan sfn k Zero = rw (no_reference plan.identity 5 k refl refl, no_second_reference plan.identity 5 k refl refl, no_channel Second plan sfn 0 5 k (inl refl)) (either _)
-secondary_symbol Second plan sfn k Five = rw (no_reference plan.identity 5 k refl refl, no_second_reference plan.identity 5 k refl refl, no_channel Second plan sfn 5 5 k (inl refl)) (either _)
-secondary_symbol Long plan sfn k Zero = rw (no_channel Long plan sfn 0 4 k (inl refl)) (in_signal Long k _)
-secondary_symbol Long plan sfn k Five = rw (no_channel Long plan sfn 5 4 k (inl refl)) (in_signal Long k _)
-secondary_symbol (OfFour p) plan sfn k Zero = let none = none_in p plan.identity 0 5 k refl refl refl in rw (none.own, none.other, no_channel (OfFour p) plan sfn 0 5 k (inl refl)) (in_signal (OfFour p) k _)
-secondary_symbol (OfFour p) plan sfn k Five = let none = none_in p plan.identity 10 5 k refl refl refl in rw (none.own, none.other, no_channel (OfFour p) plan sfn 5 5 k (inl refl)) (in_signal (OfFour p) k _)
+secondary_symbol port plan sfn k half = secondary_by port.carrier port.number plan sfn k half
 
 -- ---- the synchronisation signals
 
@@ -189,7 +193,7 @@ whole_slot s = omega arith
 pub first_slot : (s m l : ℕ) → m * (2 * s % 2) + l ≡ l
 first_slot s m l = let even : 2 * s % 2 ≡ 0 = omega arith in rw even (omega arith)
 
-module _ (carrier : Carrier) (plan : CellPlan) (grids : Port → Elements) (carries : (port : Port) → carrier_of port ≡ carrier → CarriesPlan port plan (grids port))
+module _ (carrier : Carrier) (plan : CellPlan) (grids : Port → Elements) (carries : (port : Port) → IsPortOf carrier port → CarriesPlan port plan (grids port))
     (sfn offset : ℕ) (gains : List Cpx) (t : ℕ) where
   abbrev prefix : Prefix
   prefix = prefix_of carrier
@@ -203,7 +207,7 @@ module _ (carrier : Carrier) (plan : CellPlan) (grids : Port → Elements) (carr
       (omega (arith, at.place, place))
       (λ port same k.
       ap₂ (λ (subframe symbol : ℕ). grids port ((sfn + at.frame) % 1024) subframe symbol k) (whole_slot (subframe_of half)) (first_slot (subframe_of half) (symbols_of_slot prefix) (symbols_of_slot prefix - 1))
-      ∙ subst (λ (c : Carrier). grids port ((sfn + at.frame) % 1024) (subframe_of half) (symbols_of_slot (prefix_of c) - 1) k ≡ sent_signal port (pss_grid (plan.identity % 3) k)) same
+      ∙ subst (λ (c : Carrier). grids port ((sfn + at.frame) % 1024) (subframe_of half) (symbols_of_slot (prefix_of c) - 1) k ≡ sent_signal port (pss_grid (plan.identity % 3) k)) same.0
       (of_primary_symbol port plan (grids port) (carries port same) half ((sfn + at.frame) % 1024) k ∙ primary_symbol port plan ((sfn + at.frame) % 1024) k half))
 
   -- and one symbol before it
@@ -216,7 +220,7 @@ module _ (carrier : Carrier) (plan : CellPlan) (grids : Port → Elements) (carr
       (sss_grid (plan.identity / 3) (plan.identity % 3) half) (slot_few half) rows.before (omega (arith, at.place, place, first))
       (λ port same k.
       ap₂ (λ (subframe symbol : ℕ). grids port ((sfn + at.frame) % 1024) subframe symbol k) (whole_slot (subframe_of half)) (first_slot (subframe_of half) (symbols_of_slot prefix) (symbols_of_slot prefix - 2))
-      ∙ subst (λ (c : Carrier). grids port ((sfn + at.frame) % 1024) (subframe_of half) (symbols_of_slot (prefix_of c) - 2) k ≡ sent_signal port (sss_grid (plan.identity / 3) (plan.identity % 3) half k)) same
+      ∙ subst (λ (c : Carrier). grids port ((sfn + at.frame) % 1024) (subframe_of half) (symbols_of_slot (prefix_of c) - 2) k ≡ sent_signal port (sss_grid (plan.identity / 3) (plan.identity % 3) half k)) same.0
       (of_secondary_symbol port plan (grids port) (carries port same) half ((sfn + at.frame) % 1024) k ∙ secondary_symbol port plan ((sfn + at.frame) % 1024) k half))
 
 -- what is received as of one symbol, with errors of this share

@@ -1,5 +1,5 @@
 -- At each place that a plan takes it sends a point, but for the synchronisation signals and what is silent for others.
-use Rattle.std.proofs.Common.{◌≡◌, ℕ, ◌+◌, ◌-◌, ◌/◌, ◌%◌, Bool, true, false, ◌&&◌, ◌||◌, nat_eq, not, arith, refl, ap, ◌∙◌, neg_ℤ, nat_abs}
+use Rattle.std.proofs.Common.{◌≡◌, ℕ, ◌+◌, ◌-◌, ◌/◌, ◌%◌, Bool, true, false, ◌&&◌, ◌||◌, nat_eq, nat_lt, not, arith, refl, ap, ◌∙◌, neg_ℤ, nat_abs}
 use Rattle.std.specs.Prelude.{if◌then◌else◌}
 use Rattle.std.proofs.lemmas.Int.{ints}
 use Rattle.cs_num.specs.declared.Cpx.{Cpx}
@@ -10,9 +10,9 @@ use Rattle.crs.specs.Qpsk.{IsPoint}
 use Rattle.crs.specs.Reference.{long_prefix, reference_at}
 use Rattle.crs.proofs.Values.{reference-IsPoint, pattern_reference-IsPoint}
 use Rattle.cell_tx.specs.declared.antenna.Port.{Port}
-use Rattle.cell_tx.specs.declared.antenna.Port.TheVariants.{Only, First, Second, Long, OfFour}
-use Rattle.cell_tx.specs.declared.antenna.PortOfFour.TheVariants.{Zero, One, Two, Three}
-use Rattle.cell_tx.specs.Ports.{port_symbols, port_slot, has_control, is_even_pair, crossed_point, sent_point, is_own_reference, port_reference}
+use Rattle.lte_types.specs.declared.carrier.Carrier.{Carrier}
+use Rattle.lte_types.specs.declared.carrier.Carrier.TheVariants.{OnePort, TwoPorts, LongPrefix, FourPorts}
+use Rattle.cell_tx.specs.Ports.{port_symbols, port_slot, has_control_by, has_control, crossed_point, paired_point, point_by, sent_point, is_reference_of_any, is_own_reference, reference_by, port_reference}
 use Rattle.cell_tx.specs.Block.{port_point}
 use Rattle.cell_tx.specs.Control.{indicator_point, control_point}
 use Rattle.cell_tx.specs.Shared.{shared_point}
@@ -20,13 +20,9 @@ use Rattle.cell_tx.specs.Grid.{has_system_information, has_broadcast, is_indicat
 use Rattle.cell_tx.proofs.Bounds.{pick, broadcast_full, indicator_full, control_full, shared_full}
 use Rattle.cell_tx.proofs.Elements.{reference_at_is}
 use Rattle.cell_tx.specs.Load.{is_any_reference, has_channel, is_taken}
-use Rattle.clean_air.specs.Load.{is_of_others, TakenPlacesAreSent}
+use Rattle.clean_air.specs.Load.{is_of_others_by, is_of_others, TakenPlacesAreSent}
 use Rattle.budget.proofs.Pilots.{full-size}
-use Rattle.clean_air.proofs.Carrying.{no_signal}
-
-clash : (b : Bool) → b ≡ false → not b ≡ false → ⊥
-clash true e f = absurd cc
-clash false e f = absurd cc
+use Rattle.clean_air.proofs.Carrying.{no_signal, left_false}
 
 square-negated : (z : Cpx) → square (negated z) ≡ square z
 square-negated z =
@@ -40,44 +36,47 @@ crossed-size f full i =
     (square-negated (conjugate (f (i + 1))) ∙ square-conjugate (f (i + 1)) ∙ full-size (f (i + 1)) (full (i + 1)))
     (square-conjugate (f (i - 1)) ∙ full-size (f (i - 1)) (full (i - 1)))
 
+-- what is sent in turn has it too, in the own pairs
+in-turn-size : (t : Bool) (z : Cpx) → square z ≡ 16200 → not t ≡ false → square (if t then z else nothing) ≡ 16200
+in-turn-size true z size own = size
+in-turn-size false z size own = absurd cc
+
+paired-size : (half number : ℕ) (f : ℕ → Cpx) → ((i : ℕ) → IsPoint (f i)) → (i : ℕ) → square (paired_point half number f i) ≡ 16200
+paired-size half number f full i = pick (λ z. square z ≡ 16200) (nat_lt number half) _ _ (full-size (f i) (full i)) (crossed-size f full i)
+
 -- what a port sends of points has their size, but for the pairs of others
+size-by : (carrier : Carrier) (number : ℕ) (f : ℕ → Cpx) → ((i : ℕ) → IsPoint (f i)) → (i : ℕ) → is_of_others_by carrier number i ≡ false → square (point_by carrier number f i) ≡ 16200
+size-by OnePort number f full i own = full-size (f i) (full i)
+size-by TwoPorts number f full i own = paired-size 1 number f full i
+size-by LongPrefix number f full i own = full-size (f i) (full i)
+size-by FourPorts number f full i own = in-turn-size (nat_eq (i / 2 % 2) (number % 2)) _ (paired-size 2 number f full i) own
+
 sent-size : (port : Port) (f : ℕ → Cpx) → ((i : ℕ) → IsPoint (f i)) → (i : ℕ) → is_of_others port i ≡ false → square (sent_point port f i) ≡ 16200
-sent-size Only f full i own = full-size (f i) (full i)
-sent-size First f full i own = full-size (f i) (full i)
-sent-size Long f full i own = full-size (f i) (full i)
-sent-size Second f full i own = crossed-size f full i
-sent-size (OfFour Zero) f full i own = settle (is_even_pair i) refl
-  where
-    settle : (b : Bool) → is_even_pair i ≡ b → square (sent_point (OfFour Zero) f i) ≡ 16200
-    settle true e = rw e (full-size (f i) (full i))
-    settle false e = absurd (clash (is_even_pair i) e own)
-sent-size (OfFour One) f full i own = rw own (full-size (f i) (full i))
-sent-size (OfFour Two) f full i own = settle (is_even_pair i) refl
-  where
-    settle : (b : Bool) → is_even_pair i ≡ b → square (sent_point (OfFour Two) f i) ≡ 16200
-    settle true e = rw e (crossed-size f full i)
-    settle false e = absurd (clash (is_even_pair i) e own)
-sent-size (OfFour Three) f full i own = rw own (crossed-size f full i)
+sent-size port f full i own = size-by port.carrier port.number f full i own
 
 -- a port that sends a control region sends all pairs
+none_by : (carrier : Carrier) (number : ℕ) → has_control_by carrier ≡ true → (i : ℕ) → is_of_others_by carrier number i ≡ false
+none_by OnePort number has i = refl
+none_by TwoPorts number has i = refl
+none_by LongPrefix number has i = refl
+none_by FourPorts number has i = absurd cc
+
 none_of_others : (port : Port) → has_control port ≡ true → (i : ℕ) → is_of_others port i ≡ false
-none_of_others Only has i = refl
-none_of_others First has i = refl
-none_of_others Second has i = refl
-none_of_others Long has i = refl
-none_of_others (OfFour own) has i = absurd cc
+none_of_others port has i = none_by port.carrier port.number has i
 
 -- so has its reference signal
 first-size : (identity slot symbol k : ℕ) → square (reference_at identity slot symbol k) ≡ 16200
 first-size identity slot symbol k =
     ap (λ (z : Cpx). square z) (reference_at_is identity slot symbol k) ∙ full-size _ (reference-IsPoint identity slot symbol (k / 6))
 
+reference-size-by : (carrier : Carrier) (identity slot symbol k : ℕ) → square (reference_by carrier identity slot symbol k) ≡ 16200
+reference-size-by OnePort identity slot symbol k = first-size identity slot symbol k
+reference-size-by TwoPorts identity slot symbol k = first-size identity slot symbol k
+reference-size-by LongPrefix identity slot symbol k = full-size _ (pattern_reference-IsPoint long_prefix identity slot symbol (k / 6))
+reference-size-by FourPorts identity slot symbol k = first-size identity slot symbol k
+
 reference-size : (port : Port) (identity slot symbol k : ℕ) → square (port_reference port identity slot symbol k) ≡ 16200
-reference-size Only identity slot symbol k = first-size identity slot symbol k
-reference-size First identity slot symbol k = first-size identity slot symbol k
-reference-size Second identity slot symbol k = first-size identity slot symbol k
-reference-size (OfFour own) identity slot symbol k = first-size identity slot symbol k
-reference-size Long identity slot symbol k = full-size _ (pattern_reference-IsPoint long_prefix identity slot symbol (k / 6))
+reference-size port identity slot symbol k = reference-size-by port.carrier identity slot symbol k
 
 -- the first channel that is there, where one is: broadcast, or, where these are sent, indicator, control or shared
 first_there : (b n i h c s : Bool) (x y z w : Cpx) → (b || (n && ((h && i) || (c || s)))) ≡ true → (b ≡ true → square x ≡ 16200) → (n ≡ true → square y ≡ 16200) → (n ≡ true → square z ≡ 16200) →
@@ -101,8 +100,9 @@ taken_places_are_sent port plan sfn subframe symbol k taken outside own pair = s
     settle true e = rw e (reference-size port plan.identity (port_slot port subframe symbol) (symbol % port_symbols port) k)
     settle false e =
         let signal = no_signal (nat_eq subframe 0 || nat_eq subframe 5) (nat_eq symbol (port_symbols port - 2)) (nat_eq symbol (port_symbols port - 1)) (is_middle k) outside in
-        rw (e, own, signal.0, signal.1) (first_there (has_broadcast port plan.identity subframe symbol k) (has_control port) (is_indicator plan symbol k) (has_system_information sfn subframe)
-        (is_control plan sfn subframe symbol k) (is_shared port plan sfn subframe symbol k) _ _ _ _ (rw (e, own) at there)
+        let none_left = left_false _ (is_reference_of_any port.carrier plan.identity (port_slot port subframe symbol) (symbol % port_symbols port) k) e own in
+        rw (e, none_left, signal.0, signal.1) (first_there (has_broadcast port plan.identity subframe symbol k) (has_control port) (is_indicator plan symbol k) (has_system_information sfn subframe)
+        (is_control plan sfn subframe symbol k) (is_shared port plan sfn subframe symbol k) _ _ _ _ (rw (e, none_left) at there)
         (λ here. sent-size port (port_point port plan sfn) (broadcast_full port plan sfn) _ (rw here at pair))
         (λ has. sent-size port (indicator_point plan subframe) (indicator_full plan subframe) _ (none_of_others port has _))
         (λ has. sent-size port (control_point plan sfn) (control_full plan sfn) _ (none_of_others port has _))

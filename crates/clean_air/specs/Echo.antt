@@ -13,7 +13,7 @@ use Rattle.soft_bits.specs.Soft.{SeenSlot}
 use Rattle.budget.specs.Received.{in_parts, off_by, samples_from}
 use Rattle.budget.specs.Paths.{Paths, AreFaint, only_path, arriving, over, path_bounds, IsSlotReceivedOver}
 use Rattle.cell_tx.specs.declared.antenna.Port.{Port}
-use Rattle.cell_tx.specs.declared.antenna.Port.TheVariants.{Only}
+use Rattle.cell_tx.specs.Ports.{only_port}
 use Rattle.cell_plan.specs.declared.cell.CellPlan.{CellPlan}
 use Rattle.cell_tx.specs.Sent.{Elements, sent}
 use Rattle.clean_air.specs.Load.{CarriesPlan, IsLoaded}
@@ -42,13 +42,13 @@ pub record IsEchoedBy (sizes : ℕ → ℕ) (paths : Paths) (recording : List Sa
     (grids : Port → Elements) (sfn offset : ℕ) : Type 0 where
   pub number : sfn ≤ 1023
   pub within : IsOffset offset
-  pub carries : CarriesPlan Only plan (grids Only)
+  pub carries : CarriesPlan only_port plan (grids only_port)
   pub sounds : 2 ^ 28 ≤ square paths.first
   pub faint : AreFaint sizes paths
   pub near : (frame slot symbol start : ℕ) → slot < 20 → symbol < 7 →
       start + offset ≡ frame_length * frame + useful_start normal 0 slot symbol →
       IsLookedAt OnePort sfn offset frame slot symbol start →
-      errors_over recording (grids Only) sfn offset paths start ≤ 1024 * square paths.first
+      errors_over recording (grids only_port) sfn offset paths start ≤ 1024 * square paths.first
 
 -- a law: such a cell is seen through channels
 abbrev pub EchoesAreThrough : Type 0

@@ -14,7 +14,7 @@ use Rattle.budget.specs.Received.{AreAmplitudes, IsReceived, samples_from}
 use Rattle.budget.specs.Budget.{AreUnitsOf}
 use Rattle.budget.specs.Through.{Channel, Bounds, LeaveRoom}
 use Rattle.cell_tx.specs.declared.antenna.Port.{Port}
-use Rattle.cell_tx.specs.Ports.{carrier_of}
+use Rattle.cell_tx.specs.Ports.{IsPortOf}
 use Rattle.cell_plan.specs.declared.cell.CellPlan.{CellPlan}
 use Rattle.cell_tx.specs.Sent.{Elements}
 use Rattle.clean_air.specs.Load.{CarriesPlan}
@@ -83,7 +83,7 @@ pub record IsFadingBy (quota bend : ℕ) (recording : List Sample) (plan : CellP
     (sfn offset : ℕ) (gains : ℕ → ℕ → ℕ → Cpx) (signal_gains : ℕ → ℕ → Cpx) : Type 0 where
   pub number : sfn ≤ 1023
   pub within : IsOffset offset
-  pub carries : (port : Port) → carrier_of port ≡ OnePort → CarriesPlan port plan (grids port)
+  pub carries : (port : Port) → IsPortOf OnePort port → CarriesPlan port plan (grids port)
   pub sounds : (frame slot symbol : ℕ) → 2 ^ 28 ≤ square (gains frame slot symbol)
   pub signals_sound : (frame slot : ℕ) → 2 ^ 28 ≤ square (signal_gains frame slot)
   pub slow : (frame slot : ℕ) → IsRead sfn offset frame slot → AreSlow bend (gains frame slot)

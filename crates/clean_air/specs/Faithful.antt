@@ -18,7 +18,7 @@ use Rattle.lte_types.specs.Timing.{IsOffset, number_at_start}
 use Rattle.pss_search.specs.Hits.{last_place}
 use Rattle.budget.specs.Received.{in_parts, off_by, samples_from}
 use Rattle.cell_tx.specs.declared.antenna.Port.{Port}
-use Rattle.cell_tx.specs.Ports.{carrier_of}
+use Rattle.cell_tx.specs.Ports.{IsPortOf}
 use Rattle.cell_plan.specs.declared.cell.CellPlan.{CellPlan}
 use Rattle.cell_plan.specs.Gains.{ArePairedBy}
 use Rattle.cell_tx.specs.Sent.{Elements}
@@ -102,7 +102,7 @@ pub record IsFaithfulBy (carrier : Carrier) (recording : List Sample) (plan : Ce
     (sfn offset : ℕ) (gains : List Cpx) : Type 0 where
   pub number : sfn ≤ 1023
   pub within : IsOffset offset
-  pub carries : (port : Port) → carrier_of port ≡ carrier → CarriesPlan port plan (grids port)
+  pub carries : (port : Port) → IsPortOf carrier port → CarriesPlan port plan (grids port)
   pub gains_are : ArePartGains carrier gains
   pub near : (frame slot symbol start : ℕ) → slot < 20 → symbol < symbols_of_slot (prefix_of carrier) →
       start + offset ≡ frame_length * frame + useful_start (prefix_of carrier) 0 slot symbol →

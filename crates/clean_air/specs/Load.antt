@@ -1,18 +1,15 @@
 -- What else a cell may send: any elements at the places that its plan leaves open, as the traffic of a live cell. (own)
-use Rattle.std.specs.Prelude.{◌≡◌, ℕ, ◌+◌, ◌%◌, ◌≤◌, Bool, true, false, not, ◌&&◌, Option, List, [], ◌∷◌}
+use Rattle.std.specs.Prelude.{◌≡◌, ℕ, ◌+◌, ◌/◌, ◌%◌, ◌≤◌, Bool, true, false, not, ◌&&◌, nat_eq, Option, List, [], ◌∷◌}
 use Rattle.cs_num.specs.declared.Cpx.{Cpx}
 use Rattle.cs_num.specs.declared.Sample.{Sample}
 use Rattle.cs_num.specs.Complex.{nothing, square}
 use Rattle.lte_types.specs.declared.carrier.Carrier.{Carrier}
-use Rattle.lte_types.specs.declared.carrier.Carrier.TheVariants.{OnePort}
+use Rattle.lte_types.specs.declared.carrier.Carrier.TheVariants.{OnePort, TwoPorts, LongPrefix, FourPorts}
 use Rattle.lte_types.specs.Timing.{IsOffset}
 use Rattle.budget.specs.Received.{AreAmplitudes}
 use Rattle.cell_tx.specs.declared.antenna.Port.{Port}
-use Rattle.cell_tx.specs.declared.antenna.Port.TheVariants.{Only, First, Second, Long, OfFour}
-use Rattle.cell_tx.specs.declared.antenna.PortOfFour.TheVariants.{Zero, One, Two, Three}
 use Rattle.cell_plan.specs.declared.cell.CellPlan.{CellPlan}
-use Rattle.cell_tx.specs.Ports.{carrier_of, port_prefix, port_symbols, port_slot, has_control, is_even_pair}
-use Rattle.cell_tx.specs.Ports.{is_other_reference}
+use Rattle.cell_tx.specs.Ports.{IsPortOf, port_prefix, port_symbols, port_slot, has_control, is_other_reference}
 use Rattle.cell_tx.specs.Grid.{has_broadcast, broadcast_index, is_indicator, port_element}
 use Rattle.cell_tx.specs.Load.{is_signal_symbol, is_taken, sent_element}
 use Rattle.cell_tx.specs.Sent.{Elements, prefix_sent}
@@ -39,7 +36,7 @@ pub record IsLoadedBy (carrier : Carrier) (recording : List Sample) (plan : Cell
     (sfn offset : ℕ) (gains : List Cpx) (eps : ℕ) : Type 0 where
   pub number : sfn ≤ 1023
   pub within : IsOffset offset
-  pub carries : (port : Port) → carrier_of port ≡ carrier → CarriesPlan port plan (grids port)
+  pub carries : (port : Port) → IsPortOf carrier port → CarriesPlan port plan (grids port)
   pub gains_are : AreGainsOf carrier gains
   pub bound : IsAllowedBy carrier gains eps
   pub near : AreNear recording (received_from carrier grids sfn offset gains) eps
@@ -60,16 +57,16 @@ OpenPlacesAreSilent =
     (port : Port) (plan : CellPlan) (sfn subframe symbol k : ℕ) → is_taken port plan sfn subframe symbol k ≡ false →
     (has_control port && is_indicator plan symbol k) ≡ false → port_element port plan sfn subframe symbol k ≡ nothing
 
--- point i of a channel is in a pair that two other ports of four send (TS 36.211 section 6.3.4.3)
+-- point i of a channel is in a pair that two other ports of four send: the number of the pair is even and the port's
+-- odd, or the other way round (TS 36.211 section 6.3.4.3)
+abbrev pub is_of_others_by : Carrier → ℕ → ℕ → Bool
+is_of_others_by OnePort number i = false
+is_of_others_by TwoPorts number i = false
+is_of_others_by LongPrefix number i = false
+is_of_others_by FourPorts number i = not (nat_eq (i / 2 % 2) (number % 2))
+
 abbrev pub is_of_others : Port → ℕ → Bool
-is_of_others Only i = false
-is_of_others First i = false
-is_of_others Second i = false
-is_of_others Long i = false
-is_of_others (OfFour Zero) i = not (is_even_pair i)
-is_of_others (OfFour One) i = is_even_pair i
-is_of_others (OfFour Two) i = not (is_even_pair i)
-is_of_others (OfFour Three) i = is_even_pair i
+is_of_others port i = is_of_others_by port.carrier port.number i
 
 -- a place of the broadcast channel has a point that two other ports of four send
 abbrev pub is_other_pair : Port → CellPlan → ℕ → ℕ → ℕ → Bool

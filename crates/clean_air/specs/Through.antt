@@ -23,7 +23,7 @@ use Rattle.budget.specs.SignalPaths.{AreSignalsThrough}
 use Rattle.budget.specs.Through.{Channel, Bounds, ArePilotsThrough, IsReadThrough, LeaveRoom}
 use Rattle.budget.specs.Through.{level, level_bounds}
 use Rattle.cell_tx.specs.declared.antenna.Port.{Port}
-use Rattle.cell_tx.specs.declared.antenna.Port.TheVariants.{Only}
+use Rattle.cell_tx.specs.Ports.{only_port}
 use Rattle.cell_plan.specs.declared.cell.CellPlan.{CellPlan}
 use Rattle.cell_tx.specs.Sent.{Elements}
 use Rattle.clean_air.specs.Load.{CarriesPlan}
@@ -100,7 +100,7 @@ IsFrameSlotThrough recording identity grid sfn offset j slot =
 pub record IsCellThrough (recording : List Sample) (plan : CellPlan) (grid : Elements) (sfn offset : ℕ) : Type 0 where
   pub number : sfn ≤ 1023
   pub within : IsOffset offset
-  pub carries : CarriesPlan Only plan grid
+  pub carries : CarriesPlan only_port plan grid
   pub signals : ShowsSignals OnePort recording plan.identity offset
   pub master : IsFrameSlotThrough recording plan.identity grid sfn offset 0 1
   pub system : (slot : ℕ) → slot / 2 ≡ 5 →
@@ -108,7 +108,7 @@ pub record IsCellThrough (recording : List Sample) (plan : CellPlan) (grid : Ele
 
 -- a cell of a carrier is seen through channels; of one port with the normal prefix, since of others no law is known
 abbrev pub IsSeenThroughBy : Carrier → List Sample → CellPlan → (Port → Elements) → ℕ → ℕ → Type 0
-IsSeenThroughBy OnePort recording plan grids sfn offset = IsCellThrough recording plan (grids Only) sfn offset
+IsSeenThroughBy OnePort recording plan grids sfn offset = IsCellThrough recording plan (grids only_port) sfn offset
 IsSeenThroughBy TwoPorts recording plan grids sfn offset = ⊥
 IsSeenThroughBy LongPrefix recording plan grids sfn offset = ⊥
 IsSeenThroughBy FourPorts recording plan grids sfn offset = ⊥

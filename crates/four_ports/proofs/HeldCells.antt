@@ -2,8 +2,7 @@
 use Rattle.std.proofs.Common.{ℕ, ◌≤◌, true, arith, refl}
 use Rattle.cs_num.specs.Complex.{value_at}
 use Rattle.lte_types.specs.Timing.{number_at_start}
-use Rattle.cell_tx.specs.declared.antenna.Port.TheVariants.{OfFour}
-use Rattle.cell_tx.specs.declared.antenna.PortOfFour.TheVariants.{Zero}
+use Rattle.cell_tx.specs.Ports.{port_of_four}
 use Rattle.cell_tx.specs.Block.{port_word}
 use Rattle.clean_air.specs.Clean.{HoldsCells}
 use Rattle.clean_air.proofs.Held.{ShowsCells, number_fits, shown_are_held}
@@ -17,8 +16,8 @@ shows_cells recording plan grids sfn offset gains long known faithful =
     let number : ℕ = number_at_start sfn offset in
     let fits : number ≤ 1023 = number_fits sfn offset faithful.number faithful.within in
     record {
-      word = port_word (OfFour Zero) plan number;
-      block = is_block (OfFour Zero) plan number known.spare fits;
+      word = port_word (port_of_four 0) plan number;
+      block = is_block (port_of_four 0) plan number known.spare fits;
       speaks = word_speaks true recording plan grids sfn offset gains (received_pair_speaks (value_at gains) faithful.gains_are.paired) faithful fits known.spare;
       single = omega arith;
       taken = refl;

@@ -4,7 +4,7 @@ ghost use Rattle.std.specs.Prelude.{◌≡◌, IfOk, length};
 
 use crate::ports::{is_of, is_pair, of_port, opposed, symbols, values_of, with_port};
 use capture_make::{make_by, plan};
-use cell_tx::{Cell, Port, PortOfFour};
+use cell_tx::Cell;
 use cs_num::Sample;
 use explain::EntryList;
 use four_ports::{FourSlot, Workspace4, explain_clean};
@@ -98,10 +98,10 @@ fn receive(samples: &mut [Sample], one: &[Sample], two: &[Sample], three: &[Samp
 fn all_ports(alloc: Global, cell: &Cell) -> Result<Vec<Sample>, AllocError>
     ensures { IfOk result (λ samples. length samples.items ≡ 57600) }
 {
-    let mut samples = of_port(alloc, cell, Port::OfFour(PortOfFour::Zero))?;
-    let one = of_port(alloc, cell, Port::OfFour(PortOfFour::One))?;
-    let two = of_port(alloc, cell, Port::OfFour(PortOfFour::Two))?;
-    let three = of_port(alloc, cell, Port::OfFour(PortOfFour::Three))?;
+    let mut samples = of_port(alloc, cell, Carrier::FourPorts, 0)?;
+    let one = of_port(alloc, cell, Carrier::FourPorts, 1)?;
+    let two = of_port(alloc, cell, Carrier::FourPorts, 2)?;
+    let three = of_port(alloc, cell, Carrier::FourPorts, 3)?;
     receive(&mut samples, &one, &two, &three);
     Ok(samples)
 }

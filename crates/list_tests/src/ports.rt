@@ -8,7 +8,7 @@ use capture_make::plan;
 use cell_tx::{Cell, Port, Sender, sequence};
 use cs_num::{Cpx, Sample};
 use grid_map::Place;
-use lte_types::{Entry, Sfn, Timing};
+use lte_types::{Carrier, Entry, Sfn, Timing};
 use soft_bits::{ReadSlot, fill_slot};
 use std::alloc::{AllocError, Global};
 use test_support::silent;
@@ -117,13 +117,18 @@ pub(crate) fn is_of(entry: &Entry, n: u32, start: u32, sfn: u16, ports: u8) -> b
 }
 
 // 30 ms of a port of a cell, from frame 512 on.
-pub(crate) fn of_port(alloc: Global, cell: &Cell, port: Port) -> Result<Vec<Sample>, AllocError>
+pub(crate) fn of_port(
+    alloc: Global,
+    cell: &Cell,
+    carrier: Carrier,
+    number: u8,
+) -> Result<Vec<Sample>, AllocError>
     ensures { IfOk result (λ samples. length samples.items ≡ 57600) }
 {
     let mut samples = silent(alloc, 57_600)?;
     let sender = Sender {
         cell,
-        port,
+        port: Port { carrier, number },
         timing: Timing {
             sfn: Sfn::modulo(512),
             offset: 0,

@@ -8,7 +8,7 @@ use cancel::{
 };
 use cell_tx::{CellPlan, Port, Sender, sequence};
 use cs_num::{Cpx, Sample, clamp_div};
-use lte_types::{Duration, Resource, Sfn, Timing};
+use lte_types::{Carrier, Duration, Resource, Sfn, Timing};
 use sample_file::Recording;
 use std::alloc::Global;
 use std::test::Fail;
@@ -78,7 +78,10 @@ fn add(
     let mut sent = silent(alloc, 57_600)?;
     let sender = Sender {
         cell: &cell,
-        port: Port::Only,
+        port: Port {
+            carrier: Carrier::OnePort,
+            number: 0,
+        },
         timing,
         load: None,
     };

@@ -4,10 +4,10 @@ ghost use Rattle.std.specs.Prelude.{◌≡◌, IfOk, length};
 
 use crate::ports::{is_of, is_pair, of_port, opposed, symbols, values_of, with_port};
 use capture_make::plan;
-use cell_tx::{Cell, Port};
+use cell_tx::Cell;
 use cs_num::Sample;
 use explain::EntryList;
-use lte_types::{CellId, Entry, Sib1};
+use lte_types::{Carrier, CellId, Entry, Sib1};
 use sample_file::Recording;
 use std::alloc::{AllocError, Global};
 use std::test::Fail;
@@ -96,8 +96,8 @@ fn receive(samples: &mut [Sample], second: &[Sample])
 fn both_ports(alloc: Global, cell: &Cell) -> Result<Vec<Sample>, AllocError>
     ensures { IfOk result (λ samples. length samples.items ≡ 57600) }
 {
-    let mut samples = of_port(alloc, cell, Port::First)?;
-    let second = of_port(alloc, cell, Port::Second)?;
+    let mut samples = of_port(alloc, cell, Carrier::TwoPorts, 0)?;
+    let second = of_port(alloc, cell, Carrier::TwoPorts, 1)?;
     receive(&mut samples, &second);
     Ok(samples)
 }

@@ -11,7 +11,7 @@ use Rattle.lte_types.specs.Numerology.{extended, useful_start}
 use Rattle.lte_types.specs.Timing.{start_of, number_at_start}
 use Rattle.grid_map.specs.Scrambling.{pbch_c_init}
 use Rattle.soft_bits.specs.Soft.{SeenSlot}
-use Rattle.cell_tx.specs.declared.antenna.Port.TheVariants.{Long}
+use Rattle.cell_tx.specs.Ports.{long_port}
 use Rattle.cell_tx.specs.Block.{port_word, port_bit, port_point}
 use Rattle.cell_tx.specs.Clean.{IsCleanOf}
 use Rattle.capture_make.specs.Recipe.{plan as plan_of_number}
@@ -34,15 +34,15 @@ shows_cells recording plan grids sfn offset gains long known faithful =
     let number : ℕ = number_at_start sfn offset in
     -- the slot of the cell's first frame that carries the broadcast channel
     let slot : SeenSlot = long_slot recording plan.identity (start_of offset) 0 in
-    let block = is_block Long plan number known.spare (number_fits sfn offset faithful.number faithful.within) in
+    let block = is_block long_port plan number known.spare (number_fits sfn offset faithful.number faithful.within) in
     let size = block.size in
     let received = slot_received recording plan grids sfn offset gains faithful in
     record {
-      word = port_word Long plan number;
+      word = port_word long_port plan number;
       block = block;
-      speaks = heard_bits_speak 1 432 (pbch_c_init plan.identity) (432 * (number % 4)) (port_word Long plan number) (long_values slot) (omega arith) (omega (arith, size))
-          (values_heard recording (useful_start extended (frame_at (start_of offset) 0) 1) (slot_row (grids Long) number) slot received (port_bit Long plan number)
-          (points_stand plan (grids Long) (faithful.carries Long refl) number));
+      speaks = heard_bits_speak 1 432 (pbch_c_init plan.identity) (432 * (number % 4)) (port_word long_port plan number) (long_values slot) (omega arith) (omega (arith, size))
+          (values_heard recording (useful_start extended (frame_at (start_of offset) 0) 1) (slot_row (grids long_port) number) slot received (port_bit long_port plan number)
+          (points_stand plan (grids long_port) (faithful.carries long_port (refl, omega arith)) number));
       single = omega arith;
       taken = refl;
       system = refl;

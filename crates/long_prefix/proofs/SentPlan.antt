@@ -1,11 +1,13 @@
 -- With the extended cyclic prefix a cell sends what is sent of the plan that its own has.
-use Rattle.std.proofs.Common.{◌≡◌, ℕ, inl, arith, refl, ap, None}
+use Rattle.std.specs.Prelude.{if◌then◌else◌}
+use Rattle.cs_num.specs.Complex.{nothing}
+use Rattle.std.proofs.Common.{◌≡◌, ℕ, ◌%◌, ◌∙◌, Bool, true, false, not, ◌&&◌, inl, arith, refl, ap, None}
 use Rattle.std.proofs.Math.Path.{fun_ext}
 use Rattle.cs_num.specs.declared.Cpx.{Cpx}
 use Rattle.lte_types.specs.Numerology.{extended}
 use Rattle.lte_types.specs.declared.carrier.Carrier.TheVariants.{LongPrefix}
 use Rattle.dci.specs.Sizes.{column_2}
-use Rattle.cell_tx.specs.declared.antenna.Port.TheVariants.{Long}
+use Rattle.cell_tx.specs.Ports.{long_port, port_slot, port_symbols, is_own_reference}
 use Rattle.cell_plan.specs.declared.cell.CellPlan.{CellPlan}
 use Rattle.cell_tx.specs.Block.{port_bit, port_point}
 use Rattle.cell_tx.specs.Grid.{port_channel_value, port_element}
@@ -21,14 +23,20 @@ use Rattle.long_prefix.specs.Sent.{long_element, long_sent, HasPlan, IsKnownLong
 
 -- ---- what is sent
 
-at_place : (cell : CellPlan) (plan : LongPlan) → HasPlan cell plan → (sfn subframe symbol k : ℕ) → port_element Long cell sfn subframe symbol k ≡ long_element plan sfn subframe symbol k
-unfolding port_element port_channel_value port_point port_bit long_element
-at_place cell plan has sfn subframe symbol k = rw (has.identity, has.duration, has.resource, has.spare) refl
+-- a place is another's only where it is not the port's own
+once : (own : Bool) (x z : Cpx) → (if own then x else (if not own && own then nothing else z)) ≡ (if own then x else z)
+once true x z = refl
+once false x z = refl
 
-pub same_elements : (cell : CellPlan) (plan : LongPlan) → HasPlan cell plan → ◌≡◌ {A = Elements} (port_element Long cell) (long_element plan)
+at_place : (cell : CellPlan) (plan : LongPlan) → HasPlan cell plan → (sfn subframe symbol k : ℕ) → port_element long_port cell sfn subframe symbol k ≡ long_element plan sfn subframe symbol k
+unfolding port_element port_channel_value port_point port_bit long_element
+at_place cell plan has sfn subframe symbol k =
+    once (is_own_reference long_port cell.identity (port_slot long_port subframe symbol) (symbol % port_symbols long_port) k) _ _ ∙ rw (has.identity, has.duration, has.resource, has.spare) refl
+
+pub same_elements : (cell : CellPlan) (plan : LongPlan) → HasPlan cell plan → ◌≡◌ {A = Elements} (port_element long_port cell) (long_element plan)
 same_elements cell plan has = fun_ext (λ sfn. fun_ext (λ subframe. fun_ext (λ symbol. fun_ext (λ k. at_place cell plan has sfn subframe symbol k))))
 
-pub same_sent : (cell : CellPlan) (plan : LongPlan) → HasPlan cell plan → (sfn : ℕ) → ◌≡◌ {A = ℕ → Cpx} (sent_by None Long cell sfn) (long_sent plan sfn)
+pub same_sent : (cell : CellPlan) (plan : LongPlan) → HasPlan cell plan → (sfn : ℕ) → ◌≡◌ {A = ℕ → Cpx} (sent_by None long_port cell sfn) (long_sent plan sfn)
 same_sent cell plan has sfn =
     let sequence : Elements → ℕ → Cpx = λ grid i. prefix_sent extended grid sfn i in
     ap sequence (same_elements cell plan has)

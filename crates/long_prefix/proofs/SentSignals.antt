@@ -17,7 +17,7 @@ use Rattle.grid_map.specs.Place.{place, index_in}
 use Rattle.sync_seq.specs.Middle.{is_middle}
 use Rattle.soft_bits.specs.Soft.{pilot_subcarrier, pattern_symbol, pattern_sent}
 use Rattle.cell_tx.specs.declared.antenna.Port.{Port}
-use Rattle.cell_tx.specs.declared.antenna.Port.TheVariants.{Long}
+use Rattle.cell_tx.specs.Ports.{long_port}
 use Rattle.cell_plan.specs.declared.cell.CellPlan.{CellPlan}
 use Rattle.cell_tx.specs.Block.{port_point}
 use Rattle.cell_tx.specs.Grid.{has_broadcast, port_element}
@@ -58,20 +58,20 @@ pilot_place identity i = settle (is_pattern_place long_prefix identity 0 (pilot_
     settle true e = record { is = e; inside = omega arith }
     settle false e = record { is = other_symbol identity i (pilot_subcarrier identity i) refl e; inside = omega arith }
 
-reference_here : (plan : CellPlan) (number l k : ℕ) → l < 6 → is_pattern_place long_prefix plan.identity l k ≡ true → slot_row (port_element Long plan) number l k ≡ pattern_reference long_prefix plan.identity 1 l (k / 6)
+reference_here : (plan : CellPlan) (number l k : ℕ) → l < 6 → is_pattern_place long_prefix plan.identity l k ≡ true → slot_row (port_element long_port plan) number l k ≡ pattern_reference long_prefix plan.identity 1 l (k / 6)
 unfolding port_element
 reference_here plan number l k inside is =
     let symbol : (6 + l) % 6 ≡ l = omega (arith, inside) in
     let slot : 2 * 0 + (6 + l) / 6 ≡ 1 = omega (arith, inside) in
     rw (symbol, slot, is) refl
 
-reference_carried : (plan : CellPlan) (grid : Elements) → CarriesPlan Long plan grid → (number l k : ℕ) → l < 6 → is_pattern_place long_prefix plan.identity l k ≡ true →
-    slot_row grid number l k ≡ slot_row (port_element Long plan) number l k
+reference_carried : (plan : CellPlan) (grid : Elements) → CarriesPlan long_port plan grid → (number l k : ℕ) → l < 6 → is_pattern_place long_prefix plan.identity l k ≡ true →
+    slot_row grid number l k ≡ slot_row (port_element long_port plan) number l k
 reference_carried plan grid carries number l k inside is =
     let symbol : (6 + l) % 6 ≡ l = omega (arith, inside) in
-    of_own_reference Long plan grid carries number 0 (6 + l) k (rw symbol is)
+    of_own_reference long_port plan grid carries number 0 (6 + l) k (rw symbol is)
 
-references_stand : (plan : CellPlan) (grid : Elements) → CarriesPlan Long plan grid → (number i : ℕ) → slot_row grid number (pattern_symbol long_prefix plan.identity i) (pilot_subcarrier plan.identity i) ≡ pattern_sent long_prefix plan.identity 1 i
+references_stand : (plan : CellPlan) (grid : Elements) → CarriesPlan long_port plan grid → (number i : ℕ) → slot_row grid number (pattern_symbol long_prefix plan.identity i) (pilot_subcarrier plan.identity i) ≡ pattern_sent long_prefix plan.identity 1 i
 unfolding pattern_sent
 references_stand plan grid carries number i =
     let p = pilot_place plan.identity i in
@@ -86,8 +86,8 @@ not_there : (signal l : ℕ) (a : Bool) → signal < 6 → (nat_eq (6 + l) signa
 not_there signal l a few = let e : nat_eq (6 + l) signal ≡ false = grind (arith, nat_tests) in rw e refl
 
 -- each place of the broadcast channel has its point
-pub points_stand : (plan : CellPlan) (grid : Elements) → CarriesPlan Long plan grid → (number i : ℕ) → i < 216 →
-    let p = slice_index_or (long_places plan.identity) i (place 0 0) in slot_row grid number p.symbol p.k ≡ port_point Long plan number i
+pub points_stand : (plan : CellPlan) (grid : Elements) → CarriesPlan long_port plan grid → (number i : ℕ) → i < 216 →
+    let p = slice_index_or (long_places plan.identity) i (place 0 0) in slot_row grid number p.symbol p.k ≡ port_point long_port plan number i
 points_stand plan grid carries number i inside =
     let p : Place = slice_index_or (long_places plan.identity) i (place 0 0) in
     let at = long_place_is plan.identity i inside in
@@ -95,20 +95,20 @@ points_stand plan grid carries number i inside =
     let symbol : (6 + p.symbol) % 6 ≡ p.symbol = omega (arith, few) in
     let slot : 2 * 0 + (6 + p.symbol) / 6 ≡ 1 = omega (arith, few) in
     let free = free_place plan.identity p at.symbol at.free in
-    let none : port_reference_if Long plan.identity (2 * 0 + (6 + p.symbol) / 6) ((6 + p.symbol) % 6) p.k ≡ None = rw (symbol, free) refl in
+    let none : port_reference_if long_port plan.identity (2 * 0 + (6 + p.symbol) / 6) ((6 + p.symbol) % 6) p.k ≡ None = rw (symbol, free) refl in
     let there : nat_lt i (length (long_places plan.identity)) ≡ true = lt-ltb i (length (long_places plan.identity)) (let n = length-long_places plan.identity in omega (arith, inside, n)) in
-    let here : has_broadcast Long plan.identity 0 (6 + p.symbol) p.k ≡ true = rw (symbol, slot, at.index, there) refl in
-    of_broadcast Long plan grid carries number 0 (6 + p.symbol) p.k here
-    ∙ element_of_channel Long plan number 0 (6 + p.symbol) p.k none (not_there 5 p.symbol (is_middle p.k) (omega arith)) (not_there 4 p.symbol (is_middle p.k) (omega arith))
-    ∙ channel_of_broadcast Long plan number 0 (6 + p.symbol) p.k here
-    ∙ ap (λ (n : ℕ). port_point Long plan number (index_in (long_places plan.identity) (place n p.k))) symbol ∙ ap (port_point Long plan number) at.index
+    let here : has_broadcast long_port plan.identity 0 (6 + p.symbol) p.k ≡ true = rw (symbol, slot, at.index, there) refl in
+    of_broadcast long_port plan grid carries number 0 (6 + p.symbol) p.k here
+    ∙ element_of_channel long_port plan number 0 (6 + p.symbol) p.k none (not_there 5 p.symbol (is_middle p.k) (omega arith)) (not_there 4 p.symbol (is_middle p.k) (omega arith))
+    ∙ channel_of_broadcast long_port plan number 0 (6 + p.symbol) p.k here
+    ∙ ap (λ (n : ℕ). port_point long_port plan number (index_in (long_places plan.identity) (place n p.k))) symbol ∙ ap (port_point long_port plan number) at.index
 
 -- the slot of the first frame is received
 pub slot_received : (recording : List Sample) (plan : CellPlan) (grids : Port → Elements) (sfn offset : ℕ) (gains : List Cpx) → IsFaithfulBy LongPrefix recording plan grids sfn offset gains →
-    IsPatternReceived 1800 long_prefix 6 recording (useful_start extended (frame_at (start_of offset) 0) 1) (slot_row (grids Long) (number_at_start sfn offset)) (long_slot recording plan.identity (start_of offset) 0)
+    IsPatternReceived 1800 long_prefix 6 recording (useful_start extended (frame_at (start_of offset) 0) 1) (slot_row (grids long_port) (number_at_start sfn offset)) (long_slot recording plan.identity (start_of offset) 0)
 unfolding long_slot
 slot_received recording plan grids sfn offset gains faithful =
-    let grid = grids Long in
+    let grid = grids long_port in
     let gain = value_at gains 0 in
     let number : ℕ = number_at_start sfn offset in
     let start : ℕ → ℕ = useful_start extended (frame_at (start_of offset) 0) 1 in
@@ -117,10 +117,10 @@ slot_received recording plan grids sfn offset gains faithful =
     record {
       gain = gain;
       seen = λ l inside. values_below_at (λ symbol. seen_symbol recording (start symbol)) 6 l [] inside;
-      amplitudes = λ l inside. (faithful.carries Long refl).small number 0 (6 + l);
+      amplitudes = λ l inside. (faithful.carries long_port (refl, omega arith)).small number 0 (6 + l);
       received = λ l inside. subst (λ m. IsReceived 1800 gain (slot_row grid m l) (samples_from recording (start l))) first.number (record {
         sounds = faithful.gains_are.sounds;
         quiet = symbol_off LongPrefix recording plan grids sfn offset gains faithful n 1 l (start l) (omega arith) inside (omega (arith, first.place)) (inl (refl, refl));
       });
-      references = λ i inside. references_stand plan grid (faithful.carries Long refl) number i;
+      references = λ i inside. references_stand plan grid (faithful.carries long_port (refl, omega arith)) number i;
     }

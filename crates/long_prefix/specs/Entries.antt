@@ -1,5 +1,5 @@
 -- The list of the cells that a recording explains by the extended cyclic prefix, to the master block. (own)
-use Rattle.std.specs.Prelude.{ℕ, ◌/◌, ◌%◌, true, List, slice_index_or, ℤ, pos, Err}
+use Rattle.std.specs.Prelude.{◌≡◌, ℕ, ◌/◌, ◌%◌, true, List, slice_index_or, ℤ, pos, Err}
 use Rattle.cs_num.specs.declared.Sample.{Sample}
 use Rattle.cs_num.specs.Complex.{times, conjugate}
 use Rattle.finite.specs.Lists.{values_below}
@@ -11,6 +11,8 @@ use Rattle.observe.specs.Seen.{seen_symbol}
 use Rattle.crs.specs.Reference.{long_prefix}
 use Rattle.grid_map.specs.declared.Place.{Place as GridPlace}
 use Rattle.grid_map.specs.Place.{place}
+use Rattle.soft_bits.specs.Kept.{SeenLine, seen_line}
+use Rattle.soft_bits.specs.Lines.{line_of}
 use Rattle.soft_bits.specs.Soft.{SeenSlot, seen_at, pattern_channel, pattern_energy, soft_pair}
 use Rattle.explain.specs.Frame.{frame_at}
 use Rattle.explain.specs.Receiver.{Receiver}
@@ -29,6 +31,10 @@ long_slot recording identity start j =
       number = 1;
       identity = identity;
     }
+
+-- the pilots of a slot with this prefix
+unfoldable pub ArePilots : SeenSlot → SeenLine → Type 0
+ArePilots slot pilots = pilots ≡ seen_line (line_of LongPrefix 0 slot) slot
 
 -- the soft values of a place of slot 1, by the reference signals of symbols 0 and 3
 unfoldable pub long_pair : SeenSlot → GridPlace → List ℤ

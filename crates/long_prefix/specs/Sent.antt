@@ -6,7 +6,7 @@ use Rattle.lte_types.specs.Numerology.{extended, half_of}
 use Rattle.sync_seq.specs.Primary.{pss_at}
 use Rattle.sync_seq.specs.Secondary.{sss_amplitude}
 use Rattle.grid_map.specs.Scrambling.{pbch_c_init}
-use Rattle.cell_tx.specs.declared.antenna.Port.TheVariants.{Long}
+use Rattle.cell_tx.specs.Ports.{long_port}
 use Rattle.cell_plan.specs.declared.cell.CellPlan.{CellPlan}
 use Rattle.cell_tx.specs.Ports.{port_symbols, port_slot, port_mask, is_own_reference, port_reference}
 use Rattle.cell_tx.specs.Points.{point_of}
@@ -18,7 +18,7 @@ use Rattle.long_prefix.specs.declared.plan.LongPlan.{LongPlan}
 -- the master block of a plan in the frame with this number, and its check: it tells n6, one antenna port and the upper
 -- bits of this number (TS 36.331 section 6.2.2, TS 36.212 section 5.3.1.1)
 abbrev pub long_word : LongPlan → ℕ → List Bool
-long_word plan sfn = master_word (port_mask Long) plan.mib.duration plan.mib.resource sfn plan.mib.spare
+long_word plan sfn = master_word (port_mask long_port) plan.mib.duration plan.mib.resource sfn plan.mib.spare
 
 -- bit i of the 432 that the broadcast channel carries in this frame, and point i of the 216 (TS 36.211 section 6.6)
 abbrev pub long_bit : LongPlan → ℕ → ℕ → Bool
@@ -31,13 +31,13 @@ long_point plan sfn i = point_of (long_bit plan sfn) i
 -- channel, and nothing elsewhere
 unfoldable pub long_element : LongPlan → Elements
 long_element plan sfn subframe symbol k =
-    if is_own_reference Long plan.id (port_slot Long subframe symbol) (symbol % port_symbols Long) k
-    then port_reference Long plan.id (port_slot Long subframe symbol) (symbol % port_symbols Long) k
-    else (if is_primary Long subframe symbol k then pss_at (plan.id % 3) (k - 5)
-    else (if is_secondary Long subframe symbol k
+    if is_own_reference long_port plan.id (port_slot long_port subframe symbol) (symbol % port_symbols long_port) k
+    then port_reference long_port plan.id (port_slot long_port subframe symbol) (symbol % port_symbols long_port) k
+    else (if is_primary long_port subframe symbol k then pss_at (plan.id % 3) (k - 5)
+    else (if is_secondary long_port subframe symbol k
     then sss_amplitude (plan.id / 3) (plan.id % 3) (half_of subframe) (k - 5)
-    else (if has_broadcast Long plan.id subframe symbol k
-    then long_point plan sfn (broadcast_index Long plan.id symbol k)
+    else (if has_broadcast long_port plan.id subframe symbol k
+    then long_point plan sfn (broadcast_index long_port plan.id symbol k)
     else nothing)))
 
 -- sample i of the endless sequence of frames that begins with the frame numbered sfn (TS 36.211 section 6.12)

@@ -12,7 +12,7 @@ ghost use Rattle.soft_bits.specs.Soft.{AreSmall, pattern_energy};
 ghost use Rattle.soft_bits.specs.Lines.{line_of, ports_energy};
 ghost use Rattle.soft_bits.specs.Kept.{slot_of, seen_line};
 ghost use Rattle.explain.specs.Frame.{IsWhole};
-ghost use Rattle.long_prefix.specs.Entries.{long_slot, long_pair, long_values, long_prefix_receiver};
+ghost use Rattle.long_prefix.specs.Entries.{long_slot, ArePilots, long_pair, long_values, long_prefix_receiver};
 
 use cs_num::Cpx;
 use explain::{FrameReader, Informed};
@@ -138,7 +138,7 @@ pub fn long_frame(recording: &Recording, place: CellPlace, j: u8) -> LongFrame
 // The soft values of a slot, by its pilots and their energy.
 fn values_of(seen: &Seen, pilots: &Pilots, energy: u64) -> [i16; 432]
     requires symbols { length seen.now.symbols.now ≡ 6 }
-    requires pilots { pilots.now ≡ seen_line (line_of LongPrefix 0 (slot_of seen.now)) (slot_of seen.now) }
+    requires pilots { ArePilots (slot_of seen.now) pilots.now }
     requires energy { energy ≡ pattern_energy long_prefix (slot_of seen.now) }
     requires few { energy ≤ 24 * 2 ^ 51 }
     ensures values { result ≡ long_values (slot_of seen.now) }
@@ -157,7 +157,7 @@ fn values_of(seen: &Seen, pilots: &Pilots, energy: u64) -> [i16; 432]
 // The two soft values of a place, by the pilots of the slot and their energy.
 fn pair_at(seen: &Seen, pilots: &Pilots, energy: u64, place: Place) -> [i16; 2]
     requires symbols { length seen.now.symbols.now ≡ 6 }
-    requires pilots { pilots.now ≡ seen_line (line_of LongPrefix 0 (slot_of seen.now)) (slot_of seen.now) }
+    requires pilots { ArePilots (slot_of seen.now) pilots.now }
     requires energy { energy ≡ pattern_energy long_prefix (slot_of seen.now) }
     requires few { energy ≤ 24 * 2 ^ 51 }
     requires symbol { place.symbol < 4 }

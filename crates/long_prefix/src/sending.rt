@@ -43,5 +43,9 @@ pub fn sample(plan: &LongPlan, sfn: Sfn, i: u64) -> Sample
     ensures value { result ≡ sample_of (long_sent plan.now sfn i) }
     ensures size { square (long_sent plan.now sfn i) ≤ 1153 * 1153 }
 {
-    port_sample(&cell_of(plan), Port::Long, sfn, i)
+    let port = Port {
+        carrier: Carrier::LongPrefix,
+        number: 0,
+    };
+    port_sample(&cell_of(plan), port, sfn, i)
 }

@@ -6,7 +6,7 @@ use Rattle.cs_num.specs.declared.Sample.{Sample}
 use Rattle.lte_types.specs.declared.entry.Entry.{Entry}
 use Rattle.lte_types.specs.Timing.{start_of, number_at_start}
 use Rattle.sample_file.specs.Recording.{IsRecording}
-use Rattle.cell_tx.specs.declared.antenna.Port.TheVariants.{Only}
+use Rattle.cell_tx.specs.Ports.{only_port}
 use Rattle.cell_plan.specs.declared.cell.CellPlan.{CellPlan}
 use Rattle.cell_plan.specs.Plan.{IsSendable}
 use Rattle.cell_tx.specs.Grid.{element}
@@ -158,7 +158,7 @@ module _ (one_plan : IsOnePlan) (has_plan : SentEntryHasPlan) (some_answer : IsS
   pub clean_next : AnswerTakesCleanOff → SentElementsCarry → CleanCellIsTakenNext
   clean_next leaves carry fewer recording list rounds ended plan sfn offset gain eps long is are sendable clean =
       first_round recording plan (element plan) sfn offset gain eps eps long sendable
-      (loaded_of recording plan (element plan) sfn offset gain eps clean.number (carry None Only plan) clean.samples)
+      (loaded_of recording plan (element plan) sfn offset gain eps clean.number (carry None only_port plan) clean.samples)
       (λ taken subtracted. leaves recording plan (start_of offset) (number_at_start sfn offset) (Some taken) long subtracted sfn offset gain eps clean refl refl)
       (λ none. leaves recording plan (start_of offset) (number_at_start sfn offset) None long none sfn offset gain eps clean refl refl)
       fewer list rounds ended is are

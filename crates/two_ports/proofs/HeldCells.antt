@@ -3,7 +3,7 @@ use Rattle.std.proofs.Common.{ℕ, ◌≤◌, false, arith, refl}
 use Rattle.cs_num.specs.Complex.{value_at}
 use Rattle.lte_types.specs.declared.carrier.Carrier.TheVariants.{TwoPorts}
 use Rattle.lte_types.specs.Timing.{number_at_start}
-use Rattle.cell_tx.specs.declared.antenna.Port.TheVariants.{First}
+use Rattle.cell_tx.specs.Ports.{first_port}
 use Rattle.cell_tx.specs.Block.{port_word}
 use Rattle.soft_bits.specs.Pairs.{over_two, paired_by}
 use Rattle.explain.specs.Receiver.{subframes_by}
@@ -20,8 +20,8 @@ shows_cells recording plan grids sfn offset gains long sendable faithful =
     let number : ℕ = number_at_start sfn offset in
     let fits : number ≤ 1023 = number_fits sfn offset faithful.number faithful.within in
     record {
-      word = port_word First plan number;
-      block = is_block First plan number sendable.spare fits;
+      word = port_word first_port plan number;
+      block = is_block first_port plan number sendable.spare fits;
       speaks = word_speaks false recording plan grids sfn offset gains (received_pair_speaks (value_at gains)) faithful fits sendable.spare;
       single = omega arith;
       taken = refl;

@@ -2,10 +2,9 @@
 use Rattle.std.proofs.Common.{◌≡◌, ℕ, zero, suc, ◌+◌, ◌*◌, ◌/◌, ◌<◌, Bool, true, false, nat_eq, arith, refl, ap}
 use Rattle.std.specs.Prelude.{if◌then◌else◌}
 use Rattle.std.proofs.lemmas.Bool.Decides.{nat_tests}
-use Rattle.cs_num.specs.declared.Cpx.{Cpx}
 use Rattle.lte_types.specs.declared.carrier.Carrier.TheVariants.{FourPorts}
 use Rattle.crs.specs.Reference.{pattern_of, is_reference, is_second_reference, is_upper_reference, is_pattern_place, first_subcarrier, pattern_reference, reference, reference_c_init, reference_at, upper_first}
-use Rattle.soft_bits.specs.Lines.{Line, line_of, line_place}
+use Rattle.soft_bits.specs.Lines.{line_of, line_place}
 use Rattle.soft_bits.specs.Soft.{SeenSlot, pattern_symbol, pattern_sent, pilot_subcarrier}
 
 -- of four ports, port p alone has a reference signal at a place of a slot

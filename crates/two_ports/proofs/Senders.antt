@@ -1,6 +1,5 @@
 -- The two or four ports of a cell by their numbers: what is received of all of them, and what each of them sends.
-use Rattle.std.proofs.Common.{◌≡◌, ℕ, zero, suc, ◌+◌, ◌-◌, ◌*◌, ◌^◌, ◌/◌, ◌%◌, ◌<◌, ◌≤◌, Bool, true, false, List, Option, Some, None, nat_eq, arith, refl, ap, sym, subst, ◌∙◌}
-use Rattle.std.specs.Prelude.{if◌then◌else◌, ◌||◌}
+use Rattle.std.proofs.Common.{◌≡◌, ℕ, zero, suc, ◌+◌, ◌-◌, ◌*◌, ◌^◌, ◌/◌, ◌%◌, ◌<◌, ◌≤◌, Bool, true, false, List, Some, arith, refl, ap, sym, subst, ◌∙◌}
 use Rattle.std.proofs.lemmas.Bool.Decides.{nat_tests}
 use Rattle.finite.specs.Sums.{sum_below}
 use Rattle.cs_num.specs.declared.Cpx.{Cpx}
@@ -19,13 +18,11 @@ use Rattle.soft_bits.specs.Pairs.{Pairing, over_two, over_four}
 use Rattle.soft_bits.specs.Soft.{SeenSlot}
 use Rattle.budget.specs.Received.{received_of}
 use Rattle.cell_tx.specs.declared.antenna.Port.{Port}
-use Rattle.cell_tx.specs.declared.antenna.Port.TheVariants.{First, Second, OfFour}
-use Rattle.cell_tx.specs.declared.antenna.PortOfFour.TheVariants.{Zero, One, Two, Three}
 use Rattle.cell_plan.specs.declared.cell.CellPlan.{CellPlan}
 use Rattle.cell_tx.specs.Block.{port_word, port_point, port_bit, scrambled_bit}
 use Rattle.cell_tx.specs.Emission.{mixed}
 use Rattle.cell_tx.specs.Points.{point_of}
-use Rattle.cell_tx.specs.Ports.{carrier_of, port_symbols, crossed_point, sent_point}
+use Rattle.cell_tx.specs.Ports.{IsPortOf, first_port, second_port, port_of_four, port_symbols, crossed_point, sent_point}
 use Rattle.cell_tx.specs.Rows.{port_reference_if}
 use Rattle.clean_air.specs.Faithful.{ArePartGains, IsLittle}
 use Rattle.two_ports.specs.Received.{only, over, CarryPair}
@@ -48,12 +45,12 @@ carrier four = (pairing_of four).carrier
 
 -- the port with a number
 abbrev pub sender : Bool → ℕ → Port
-sender false zero = First
-sender false (suc n) = Second
-sender true zero = OfFour Zero
-sender true (suc zero) = OfFour One
-sender true (suc (suc zero)) = OfFour Two
-sender true (suc (suc (suc n))) = OfFour Three
+sender false zero = first_port
+sender false (suc n) = second_port
+sender true zero = port_of_four 0
+sender true (suc zero) = port_of_four 1
+sender true (suc (suc zero)) = port_of_four 2
+sender true (suc (suc (suc n))) = port_of_four 3
 
 pub is_normal : (four : Bool) → prefix_of (carrier four) ≡ normal
 is_normal false = refl
@@ -65,28 +62,28 @@ sent_bits first plan number i = scrambled_bit (pbch_c_init plan.identity) (port_
 
 -- each is of the carrier, so its slots have seven symbols, and all have one master block
 pub record IsSender (four : Bool) (port : Port) : Type 0 where
-  pub own : carrier_of port ≡ carrier four
+  pub own : IsPortOf (carrier four) port
   pub seven : port_symbols port ≡ 7
   pub points : (plan : CellPlan) (number i : ℕ) → port_point port plan number i ≡ point_of (sent_bits (sender four 0) plan number) i
 
 pub is_sender : (four : Bool) (p : ℕ) → IsSender four (sender four p)
 unfolding port_point port_bit
-is_sender false zero = record { own = refl; seven = refl; points = λ plan number i. refl }
-is_sender false (suc n) = record { own = refl; seven = refl; points = λ plan number i. refl }
-is_sender true zero = record { own = refl; seven = refl; points = λ plan number i. refl }
-is_sender true (suc zero) = record { own = refl; seven = refl; points = λ plan number i. refl }
-is_sender true (suc (suc zero)) = record { own = refl; seven = refl; points = λ plan number i. refl }
-is_sender true (suc (suc (suc n))) = record { own = refl; seven = refl; points = λ plan number i. refl }
+is_sender false zero = record { own = (refl, omega arith); seven = refl; points = λ plan number i. refl }
+is_sender false (suc n) = record { own = (refl, omega arith); seven = refl; points = λ plan number i. refl }
+is_sender true zero = record { own = (refl, omega arith); seven = refl; points = λ plan number i. refl }
+is_sender true (suc zero) = record { own = (refl, omega arith); seven = refl; points = λ plan number i. refl }
+is_sender true (suc (suc zero)) = record { own = (refl, omega arith); seven = refl; points = λ plan number i. refl }
+is_sender true (suc (suc (suc n))) = record { own = (refl, omega arith); seven = refl; points = λ plan number i. refl }
 
 -- ---- all of them
 
 -- what is received
 pub all : (four : Bool) (values : Port → Cpx) (gains : List Cpx) → mixed (carrier four) values gains ≡ received_of (ports_of (carrier four)) (value_at gains) (λ p. values (sender four p))
 unfolding sum_below
-all false values gains = ap (λ (z : Cpx). plus z (times (value_at gains 1) (values Second))) (sym (plus-nothing (times (value_at gains 0) (values First))))
+all false values gains = ap (λ (z : Cpx). plus z (times (value_at gains 1) (values second_port))) (sym (plus-nothing (times (value_at gains 0) (values first_port))))
 all true values gains =
-    in_turn (times (value_at gains 0) (values (OfFour Zero))) (times (value_at gains 1) (values (OfFour One)))
-    (times (value_at gains 2) (values (OfFour Two))) (times (value_at gains 3) (values (OfFour Three)))
+    in_turn (times (value_at gains 0) (values (port_of_four 0))) (times (value_at gains 1) (values (port_of_four 1)))
+    (times (value_at gains 2) (values (port_of_four 2))) (times (value_at gains 3) (values (port_of_four 3)))
   where
     in_turn : (a b c d : Cpx) → plus (plus a b) (plus c d) ≡ plus (plus (plus (plus nothing a) b) c) d
     in_turn a b c d = sym (plus-associates (plus a b) c d) ∙ ap (λ (z : Cpx). plus (plus (plus z b) c) d) (sym (plus-nothing a))

@@ -29,7 +29,7 @@ use Rattle.system_block.specs.Subframe.{subframe_by}
 use Rattle.system_block.specs.Block.{BlockSays}
 use Rattle.system_block.specs.Attempt.{Reads}
 use Rattle.cell_tx.specs.declared.antenna.Port.{Port}
-use Rattle.cell_tx.specs.declared.antenna.Port.TheVariants.{First, Second}
+use Rattle.cell_tx.specs.Ports.{first_port, second_port}
 use Rattle.cell_plan.specs.declared.cell.CellPlan.{CellPlan}
 use Rattle.cell_tx.specs.Ports.{has_control, sent_point}
 use Rattle.cell_plan.specs.Transport.{shared_word}
@@ -172,7 +172,7 @@ module _ (recording : List Sample) (plan : CellPlan) (grids : Port → Elements)
     where
       all : AreHeard 1 (2 * 16) (indicator_bit plan.cfi) (indicator_values_by (paired_by over_two) (slot 10))
       all = region_heard (pcfich_c_init plan.identity 10) 16 0 (indicator_bit plan.cfi) (pcfich_places plan.identity) (length-pcfich_places plan.identity) refl (omega arith)
-          (indicator_stands First plan sendable) (λ p i l. indicator_carried (port p) plan (grids (port p)) (carries p) sendable (controls p) number is_even i l)
+          (indicator_stands first_port plan sendable) (λ p i l. indicator_carried (port p) plan (grids (port p)) (carries p) sendable (controls p) number is_even i l)
 
   control_heard : SpeakInOrder (grant_word (grant_of plan number)) (candidate_values_by (paired_by over_two) (slot 10) plan.cfi plan.duration plan.resource)
   unfolding seen_slot stream_values_by control_point control_word
@@ -182,8 +182,8 @@ module _ (recording : List Sample) (plan : CellPlan) (grids : Port → Elements)
   }
     where
       all : AreHeard 1 (2 * 144) (coded_bit (grant_word (grant_of plan number))) (candidate_values_by (paired_by over_two) (slot 10) plan.cfi plan.duration plan.resource)
-      all = region_heard (pdcch_c_init plan.identity 10) 144 3 (coded_bit (grant_word (grant_of plan number))) (control_places plan) (control_indexed First plan sendable).size refl (omega arith)
-          (control_stands First plan sendable) (λ p i l. control_carried (port p) plan (grids (port p)) (carries p) sendable (controls p) number is_even i l)
+      all = region_heard (pdcch_c_init plan.identity 10) 144 3 (coded_bit (grant_word (grant_of plan number))) (control_places plan) (control_indexed first_port plan sendable).size refl (omega arith)
+          (control_stands first_port plan sendable) (λ p i l. control_carried (port p) plan (grids (port p)) (carries p) sendable (controls p) number is_even i l)
 
   -- ---- the shared channel
 
@@ -194,7 +194,7 @@ module _ (recording : List Sample) (plan : CellPlan) (grids : Port → Elements)
   places = assigned_places true plan
 
   paired : length places % 2 ≡ 0
-  paired = by (nat_eq plan.cfi 2) (assigned_size First plan sendable)
+  paired = by (nat_eq plan.cfi 2) (assigned_size first_port plan sendable)
     where
       by : (b : Bool) → length places ≡ (if b then 96 else 84) * plan.blocks → length places % 2 ≡ 0
       by true e = omega (arith, e)
@@ -204,18 +204,18 @@ module _ (recording : List Sample) (plan : CellPlan) (grids : Port → Elements)
   unfolding seen_slot shared_values_by shared_point shared_place_of
   shared_heard =
       places_heard (pdsch_c_init plan.identity 10 system_information_rnti) (shared_bit plan number) places paired
-      (λ i l. let at = assigned_stands First plan sendable i l in (at.symbol, at.k))
+      (λ i l. let at = assigned_stands first_port plan sendable i l in (at.symbol, at.k))
       (λ i l. ap (λ (n : ℕ). n / 7) (pair_in_one_symbol plan.identity plan.cfi plan.start plan.blocks (2 * i) sendable.cfi.0 sendable.cfi.1 sendable.assignment.inside (omega arith) (omega (arith, l, paired)))) by
     where
       by : (p i : ℕ) → i < length places → let q = get_or places i (place 0 0) in grids (port p) number 5 q.symbol q.k ≡ sent_point (port p) (shared_point plan number) i
-      by zero i l = shared_carried First plan (grids First) (carries 0) sendable refl number is_even i l
-      by (suc n) i l = shared_carried Second plan (grids Second) (carries 1) sendable refl number is_even i l
+      by zero i l = shared_carried first_port plan (grids first_port) (carries 0) sendable refl number is_even i l
+      by (suc n) i l = shared_carried second_port plan (grids second_port) (carries 1) sendable refl number is_even i l
 
   says_fields : BlockSays values (grant_of plan number) (Ok plan.sib1)
   says_fields =
       fields_said plan sendable number (2 * length places) values shared_heard
       (λ row same of. whole_block_is_resolvable row (version_of number) (2 * length places) (shared_word plan) of.is (version-fits number)
-      (let count = assigned_bits_are First plan sendable in let enough = sendable.enough in let size = of.size in omega (arith, count, enough, size)))
+      (let count = assigned_bits_are first_port plan sendable in let enough = sendable.enough in let size = of.size in omega (arith, count, enough, size)))
 
   -- so the frame answers with the plan's fields
   pub fields_read : Reads (subframe_by TwoPorts (paired_by over_two) (slot 10) (slot 11) plan.duration plan.resource) (Ok plan.sib1)

@@ -1,9 +1,12 @@
 -- What a cell with two antenna ports sends at each of them. (own)
-use Rattle.std.specs.Prelude.{ℕ, nat_eq, if◌then◌else◌}
+use Rattle.std.specs.Prelude.{ℕ}
 use Rattle.cs_num.specs.declared.Cpx.{Cpx}
+use Rattle.lte_types.specs.declared.carrier.Carrier.TheVariants.{TwoPorts}
 use Rattle.cell_plan.specs.declared.cell.CellPlan.{CellPlan}
-use Rattle.cell_tx.specs.Clean.{first_port, second_port}
+use Rattle.cell_tx.specs.Ports.{port_by}
+use Rattle.cell_tx.specs.Grid.{port_element}
+use Rattle.cell_tx.specs.Sent.{sent}
 
 -- sample i of what antenna port 0 or 1 sends from the frame numbered sfn on
 abbrev pub sent_at_port : ℕ → CellPlan → ℕ → ℕ → Cpx
-sent_at_port port plan sfn i = if nat_eq port 0 then first_port plan sfn i else second_port plan sfn i
+sent_at_port port plan sfn i = sent (port_element (port_by TwoPorts port) plan) sfn i

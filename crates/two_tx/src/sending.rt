@@ -7,7 +7,7 @@ ghost use Rattle.two_tx.specs.Sent.{sent_at_port};
 use crate::Cell2;
 use cell_tx::{Port, port_sample};
 use cs_num::Sample;
-use lte_types::Sfn;
+use lte_types::{Carrier, Sfn};
 
 /// Sample `i` of the endless sequence of frames that antenna port `port` of a cell sends, 0 or 1, which begins with the
 /// frame numbered `sfn` (TS 36.211 sections 6.3.4.3 and 6.12, in whole numbers). The size of a sample is at most 1,153.
@@ -16,9 +16,9 @@ pub fn sample(cell: &Cell2, port: u8, sfn: Sfn, i: u64) -> Sample
     ensures value { result ≡ sample_of (sent_at_port port cell.now sfn i) }
     ensures size { square (sent_at_port port cell.now sfn i) ≤ 1153 * 1153 }
 {
-    if port == 0 {
-        port_sample(cell.cell(), Port::First, sfn, i)
-    } else {
-        port_sample(cell.cell(), Port::Second, sfn, i)
-    }
+    let port = Port {
+        carrier: Carrier::TwoPorts,
+        number: port,
+    };
+    port_sample(cell.cell(), port, sfn, i)
 }

@@ -9,4 +9,4 @@ returns c identity slot is =
     let n : ℕ = (get_or c.args.pilots.now 0 no_pair).0 % 6 in
     let any : c.if-two.value_or ≡ (nat_eq (c.args.k % 6) n || nat_eq (c.args.k % 6) ((n + 3) % 6)) =
     elim c.if-two.branch [ then-two w ↦ w.value_or-is ∙ by_first _ _ _ w.if-two.true | else-two w ↦ w.value_or-is ∙ by_second _ _ _ w.if-two.false ] in
-    c.value_or.ensures ∙ rw (c.test_of_four-own.ensures, any) refl ∙ upper_is c.args.port c.args.pilots.now identity slot c.args.k is c.requires
+    c.value_or.ensures ∙ rw (c.upper_test.ensures, any) refl ∙ upper_is c.args.number c.args.pilots.now identity slot c.args.k is c.requires

@@ -10,7 +10,7 @@ use Rattle.soft_bits.specs.Lines.{line_of, ports_energy}
 use Rattle.soft_bits.specs.Soft.{SeenSlot}
 use Rattle.soft_bits.proofs.Lines.{energy_of_long}
 use Rattle.explain.specs.Frame.{frame_at}
-use Rattle.long_prefix.specs.Entries.{long_slot, long_values}
+use Rattle.long_prefix.specs.Entries.{long_slot, ArePilots, long_values}
 use Rattle.long_prefix.proofs.reading.long_frame.Goals as goal
 
 -- the slot of these symbols is that of the frame
@@ -27,12 +27,16 @@ returns-clause-pilots c =
     c.pilots_of-pilots.ensures
     ∙ ap (λ (s : SeenSlot). seen_line (line_of LongPrefix 0 s) s) (slot_is _ _ _ _ _ _ _ c.symbols_of-symbols.ensures.values c.id.ensures c.start.ensures.value)
 
-pub returns-clause-energy : goal.returns-clause-energy
-returns-clause-energy c = returns-clause-total c ∙ energy_of_long _
-
 pub returns-clause-total : goal.returns-clause-total
 returns-clause-total c =
     c.energy_of-energy.ensures.value ∙ ap (ports_energy LongPrefix) (slot_is _ _ _ _ _ _ _ c.symbols_of-symbols.ensures.values c.id.ensures c.start.ensures.value)
+
+pub returns-clause-energy : goal.returns-clause-energy
+returns-clause-energy c = returns-clause-total c ∙ energy_of_long _
+
+pub values_of-requires-clause-pilots : goal.values_of-requires-clause-pilots
+unfolding ArePilots
+values_of-requires-clause-pilots c = c.pilots_of-pilots.ensures
 
 pub values_of-requires-clause-energy : goal.values_of-requires-clause-energy
 values_of-requires-clause-energy c = c.energy_of-energy.ensures.value ∙ energy_of_long _

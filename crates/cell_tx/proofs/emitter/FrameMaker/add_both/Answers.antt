@@ -2,7 +2,7 @@ use Rattle.std.proofs.Common.{sym, subst}
 use Rattle.lte_types.specs.declared.carrier.Carrier.TheVariants.{TwoPorts}
 use Rattle.lte_types.specs.Carrier.{prefix_of}
 use Rattle.cs_num.specs.Complex.{sample_of}
-use Rattle.cell_tx.specs.declared.antenna.Port.TheVariants.{First}
+use Rattle.cell_tx.specs.Ports.{first_port}
 use Rattle.cell_tx.specs.declared.source.Ports.{Ports}
 use Rattle.cell_tx.specs.Mixing.{mixed_by}
 use Rattle.cell_tx.specs.Emitting.{is_made_anew, AreChanged}
@@ -10,7 +10,7 @@ use Rattle.cell_tx.proofs.Mixing.{heard, room_alone, room_for_second, two_made}
 use Rattle.cell_tx.proofs.emitter.FrameMaker.add_both.Goals as goal
 
 pub add-requires-clause-small : goal.add-requires-clause-small
-add-requires-clause-small c = room_alone c.args.self.now.source c.args.sfn (is_made_anew (prefix_of TwoPorts) c.args.symbols.now) First c.args.frame.now c.requires.silent
+add-requires-clause-small c = room_alone c.args.self.now.source c.args.sfn (is_made_anew (prefix_of TwoPorts) c.args.symbols.now) first_port c.args.frame.now c.requires.silent
 
 pub add-requires-2-clause-small : goal.add-requires-2-clause-small
 add-requires-2-clause-small c =

@@ -2,8 +2,7 @@ use Rattle.std.proofs.Common.{sym, subst}
 use Rattle.lte_types.specs.declared.carrier.Carrier.TheVariants.{FourPorts}
 use Rattle.lte_types.specs.Carrier.{prefix_of}
 use Rattle.cs_num.specs.Complex.{sample_of}
-use Rattle.cell_tx.specs.declared.antenna.Port.TheVariants.{OfFour}
-use Rattle.cell_tx.specs.declared.antenna.PortOfFour.TheVariants.{Zero}
+use Rattle.cell_tx.specs.Ports.{port_of_four}
 use Rattle.cell_tx.specs.declared.source.Ports.{Ports}
 use Rattle.cell_tx.specs.Mixing.{mixed_by}
 use Rattle.cell_tx.specs.Emitting.{is_made_anew, AreChanged}
@@ -11,7 +10,7 @@ use Rattle.cell_tx.proofs.Mixing.{heard, room_alone, room_for_one, room_for_two,
 use Rattle.cell_tx.proofs.emitter.FrameMaker.add_four.Goals as goal
 
 pub add-requires-clause-small : goal.add-requires-clause-small
-add-requires-clause-small c = room_alone c.args.self.now.source c.args.sfn (is_made_anew (prefix_of FourPorts) c.args.symbols.now) (OfFour Zero) c.args.frame.now c.requires.silent
+add-requires-clause-small c = room_alone c.args.self.now.source c.args.sfn (is_made_anew (prefix_of FourPorts) c.args.symbols.now) (port_of_four 0) c.args.frame.now c.requires.silent
 
 pub add-requires-2-clause-small : goal.add-requires-2-clause-small
 add-requires-2-clause-small c =
