@@ -1,5 +1,5 @@
 -- The pilots of the slot of the first frame that carries the broadcast channel, in a recording that is faithful to a cell: they are seen with the gain.
-use Rattle.std.proofs.Common.{ℕ, ◌+◌, ◌%◌, ◌<◌, arith, inl, refl, List, [], ◌∷◌}
+use Rattle.std.proofs.Common.{ℕ, ◌+◌, ◌%◌, arith, inl, refl, List, [], ◌∷◌}
 use Rattle.cs_num.specs.declared.Cpx.{Cpx}
 use Rattle.cs_num.specs.declared.Sample.{Sample}
 use Rattle.crs.specs.Reference.{port_0}

@@ -1,5 +1,5 @@
 -- The numbers of an entry, by how it was read and by what its slot shows.
-use Rattle.std.proofs.Common.{◌≡◌, ℕ, ◌*◌, ◌<◌, ◌≤◌, List, arith, refl, ap}
+use Rattle.std.proofs.Common.{◌≡◌, ◌*◌, List, arith, refl, ap}
 use Rattle.cs_num.specs.declared.Sample.{Sample}
 use Rattle.lte_types.specs.declared.entry.Entry.{Entry}
 use Rattle.pss_search.specs.Correlation.{wave_power}
@@ -9,7 +9,7 @@ use Rattle.explain.specs.Entries.{IsEntryFor, place_of, frames_of}
 use Rattle.explain.specs.Laws.{IsEntryOfSome}
 use Rattle.explain.specs.Readings.{IsReadingFor}
 use Rattle.explain.specs.Receiver.{Receiver, hits_by, sums_by}
-use Rattle.evidence.specs.Evidence.{SlotShown, shown_in, noise_of, numbers_by, IsEvidenceFor, IsInRange, IsHitOfEntry}
+use Rattle.evidence.specs.Evidence.{SlotShown, shown_in, noise_of, numbers_by, IsEvidenceFor, IsInRange, IsHitOfEntry, HasFraction}
 use Rattle.evidence.proofs.Fractions.{at_most_whole, hit_sounds, hit_within, hit_is_clear, hit_fraction}
 use Rattle.evidence.proofs.Least.{first_tells}
 
@@ -19,15 +19,12 @@ module _ (receiver : Receiver) (recording : List Sample) (entry : Entry) (readin
   hit_is : IsHitOfEntry receiver.carrier recording entry reading.hit
   hit_is = first_tells receiver.carrier recording entry reading.hit r.hit
 
-  -- so it is one of a recording
-  pub has_root : reading.hit.n2 ≤ 2
-  has_root = let third = hit_is.is_hit.root in omega (arith, third)
-
-  pub has_energy : 0 < reading.hit.energy
-  has_energy = hit_sounds receiver.carrier recording entry reading.hit hit_is
-
-  pub is_within : reading.hit.peak ≤ reading.hit.energy * wave_power reading.hit.n2
-  is_within = hit_within receiver.carrier recording entry reading.hit hit_is
+  pub has_fraction : HasFraction reading.hit
+  has_fraction = record {
+    root = let third = hit_is.is_hit.root in omega (arith, third);
+    sounds = hit_sounds receiver.carrier recording entry reading.hit hit_is;
+    within = hit_within receiver.carrier recording entry reading.hit hit_is;
+  }
 
   -- and the numbers by it, and by what the entry's slot shows, are the entry's
   pub are_numbers : (shown : SlotShown) → shown ≡ shown_in receiver.carrier recording (place_of entry) entry.frame → IsEvidenceFor receiver recording entry (numbers_by entry reading shown)
@@ -57,7 +54,7 @@ module _ (receiver : Receiver) (recording : List Sample) (entry : Entry) (readin
         from_first = hit_is.is_hit.is_hit.from_first;
         to_last = hit_is.is_hit.is_hit.to_last;
         quarter = hit_is_clear receiver.carrier recording entry reading.hit hit_is;
-        whole = at_most_whole reading.hit.peak (reading.hit.energy * wave_power reading.hit.n2) is_within;
+        whole = at_most_whole reading.hit.peak (reading.hit.energy * wave_power reading.hit.n2) has_fraction.within;
         heard = omega (arith, heard, all);
         clear = omega (arith, clear, all, master.cost);
       }

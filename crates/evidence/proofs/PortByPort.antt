@@ -1,10 +1,9 @@
 -- What a slot shows, port by port.
-use Rattle.std.proofs.Common.{◌≡◌, ℕ, zero, suc, ◌+◌, ◌*◌, ◌/◌, ◌<◌, ◌≤◌, List, [], ◌∷◌, ◌++◌, ℤ, length, refl, ap, ap₂, sym, subst, ◌∙◌, arith}
+use Rattle.std.proofs.Common.{◌≡◌, ℕ, zero, suc, ◌+◌, ◌*◌, ◌/◌, ◌<◌, ◌≤◌, List, [], ℤ, length, refl, ap, ap₂, sym, subst, ◌∙◌, arith}
 use Rattle.finite.specs.Sums.{total_below}
 use Rattle.finite.specs.Lists.{values_below}
 use Rattle.finite.proofs.Lists.{values_below-length, values_below_more}
 use Rattle.finite.proofs.Sums.{total_below_more}
-use Rattle.cs_num.specs.declared.Cpx.{Cpx}
 use Rattle.lte_types.specs.declared.carrier.Carrier.{Carrier}
 use Rattle.lte_types.specs.Carrier.{ports_of}
 use Rattle.soft_bits.specs.Soft.{SeenSlot}
@@ -34,7 +33,7 @@ module _ (carrier : Carrier) (slot : SeenSlot) where
     first_ports n = record {
       power = ports_energy carrier slot;
       differences = total_below n (λ port. line_differences (line_of carrier port slot) slot);
-      channel = values_below n (λ port. line_pilots (line_of carrier port slot) slot);
+      channel = values_below n (λ port. seen_line (line_of carrier port slot) slot);
       values = received;
     }
 
@@ -50,12 +49,12 @@ module _ (carrier : Carrier) (slot : SeenSlot) where
           power = ports_energy carrier slot;
           differences = (ap (λ d. total_below n (λ port. line_differences (line_of carrier port slot) slot) + d) (differences_of_list (line.last + 1) (6 / line.step) (line_pilots line slot) (line_pilot line slot) refl)
               ∙ sym (total_below_more n (λ port. line_differences (line_of carrier port slot) slot))) i;
-          channel = sym (values_below_more n (λ port. line_pilots (line_of carrier port slot) slot)) i;
+          channel = sym (values_below_more n (λ port. seen_line (line_of carrier port slot) slot)) i;
           values = received;
         })
 
     -- before each port there is room for it
     pub has_room : (n : ℕ) (shown : SlotShown) → shown ≡ first_ports n → n < ports_of carrier → length shown.channel < 4
     has_room n shown is below =
-        let e : length shown.channel ≡ n = ap (λ (s : SlotShown). length s.channel) is ∙ values_below-length n (λ port. line_pilots (line_of carrier port slot) slot) in
+        let e : length shown.channel ≡ n = ap (λ (s : SlotShown). length s.channel) is ∙ values_below-length n (λ port. seen_line (line_of carrier port slot) slot) in
         let few = few_ports carrier in omega (arith, e, below, few)

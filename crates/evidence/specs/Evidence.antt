@@ -18,8 +18,8 @@ use Rattle.pss_search.specs.Correlation.{peak, energy, wave_power}
 use Rattle.pss_search.specs.Hits.{first_place, last_place}
 use Rattle.pss_search.specs.Laws.{IsHitOf}
 use Rattle.soft_bits.specs.Soft.{SeenSlot}
-use Rattle.soft_bits.specs.Lines.{Line, line_of, line_pilot, line_pilots, ports_energy}
-use Rattle.soft_bits.specs.Kept.{SeenLine}
+use Rattle.soft_bits.specs.Lines.{Line, line_of, line_pilot, ports_energy}
+use Rattle.soft_bits.specs.Kept.{SeenLine, seen_line}
 use Rattle.pbch.specs.Master.{total}
 use Rattle.explain.specs.declared.readings.Reading.{Reading}
 use Rattle.explain.specs.Frame.{broadcast_slot}
@@ -70,17 +70,18 @@ difference_power stride pilots i = square (second_difference stride pilots i)
 unfoldable pub differences : ℕ → ℕ → (ℕ → Cpx) → ℕ
 differences count stride pilots = total_below (count - 2 * stride) (difference_power stride pilots)
 
--- this sum for a line of pilots: the next one of the same symbol stands six subcarriers on
+-- the sum of the squares of the second differences of a line of pilots, of which the next one of the same symbol
+-- stands six subcarriers on
 abbrev pub line_differences : Line → SeenSlot → ℕ
 line_differences line slot = differences (line.last + 1) (6 / line.step) (line_pilot line slot)
 
--- this sum for the pilots of all antenna ports: 20, 40 or 60 differences
+-- the sum of the squares of the second differences of the pilots of all antenna ports: of 20, 40 or 60
 abbrev pub differences_by : Carrier → SeenSlot → ℕ
 differences_by carrier slot = total_below (ports_of carrier) (λ port. line_differences (line_of carrier port slot) slot)
 
 -- the pilots of each antenna port
-abbrev pub channels_by : Carrier → SeenSlot → List (List Cpx)
-channels_by carrier slot = values_below (ports_of carrier) (λ port. line_pilots (line_of carrier port slot) slot)
+abbrev pub channels_by : Carrier → SeenSlot → List SeenLine
+channels_by carrier slot = values_below (ports_of carrier) (λ port. seen_line (line_of carrier port slot) slot)
 
 -- the noise: the sum of the second differences' squares, divided by six times the square of a reference value's size,
 -- and rounded down. Errors of one variance v in what is seen make a second difference of variance 6 v, times that
@@ -95,7 +96,7 @@ noise_of differences = differences / (6 * point_power)
 pub record SlotShown : Type 0 where
   pub power : ℕ
   pub differences : ℕ
-  pub channel : List (List Cpx)
+  pub channel : List SeenLine
   pub values : List ℤ
 
 abbrev pub shown_by : Carrier → SeenSlot → List ℤ → SlotShown
@@ -150,12 +151,18 @@ pub record IsHitOfEntry (carrier : Carrier) (recording : List Sample) (entry : E
   pub first : IsFirstToldBy carrier recording entry hit.t
   pub root : hit.n2 ≡ entry.id % 3
 
+-- a hit has a fraction: energy, and a peak within the whole
+pub record HasFraction (hit : Hit) : Type 0 where
+  pub root : hit.n2 ≤ 2
+  pub sounds : 0 < hit.energy
+  pub within : hit.peak ≤ hit.energy * wave_power hit.n2
+
 -- what is shown with the pilots of one port more
 abbrev pub with_port : SlotShown → SeenLine → SlotShown
 with_port shown port = record {
   power = shown.power;
   differences = shown.differences + differences (length port.pilots) (6 / port.step) (value_at port.pilots);
-  channel = shown.channel ++ port.pilots ∷ [];
+  channel = shown.channel ++ port ∷ [];
   values = shown.values;
 }
 

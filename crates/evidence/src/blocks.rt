@@ -115,12 +115,7 @@ fn block_at<S: ReadSlot>(
 }
 
 // The block of a subframe 5, or none. `first` and `second` are slots 10 and 11 of one cell.
-fn block_in<S: ReadSlot>(
-    first: &S,
-    second: &S,
-    mib: Mib,
-    work: &mut Decoders,
-) -> Option<Block>
+fn block_in<S: ReadSlot>(first: &S, second: &S, mib: Mib, work: &mut Decoders) -> Option<Block>
     requires first { (S.seen_as first.now).number ≡ 10 }
     requires second { (S.seen_as second.now).number ≡ 11 }
     requires cell { (S.seen_as second.now).identity ≡ (S.seen_as first.now).identity }

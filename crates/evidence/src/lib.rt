@@ -3,15 +3,11 @@
 #![tactic(auto)]
 
 mod blocks;
-mod channel;
 mod listing;
 mod noise;
-mod shown;
 mod slot;
 mod support;
 
-pub use channel::PortChannel;
-pub use listing::{evidence_of, evidence_of_list};
-pub use shown::Support;
+pub use listing::evidence_of_list;
 pub use slot::SlotShown;
-pub use support::support_of_list;
+pub use support::{Support, support_of_list};

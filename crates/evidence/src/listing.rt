@@ -1,13 +1,14 @@
 //! The evidence of entries.
 
-ghost use Rattle.std.specs.Prelude.{◌≡◌, ◌/◌, ◌*◌, ◌^◌, ◌<◌, ◌≤◌, All, IfOk};
+ghost use Rattle.std.specs.Prelude.{◌≡◌, ◌/◌, ◌*◌, ◌<◌, ◌≤◌, All, IfOk};
 ghost use Rattle.std.specs.List.{AllZip};
 ghost use Rattle.pss_search.specs.Correlation.{wave_power};
 ghost use Rattle.explain.specs.Entries.{place_of, IsEntryFor, IsListFor};
 ghost use Rattle.explain.specs.Laws.{IsEntryOfSome};
 ghost use Rattle.explain.specs.Readings.{IsReadingFor};
 ghost use Rattle.explain.specs.Receiver.{Receiver, hits_by};
-ghost use Rattle.evidence.specs.Evidence.{shown_in as shown_in_of, IsEvidenceFor, IsInRange, numbers_by};
+ghost use Rattle.evidence.specs.Evidence.{shown_in as shown_in_of, IsEvidenceFor, IsInRange};
+ghost use Rattle.evidence.specs.Evidence.{HasFraction, numbers_by};
 
 use crate::SlotShown;
 use crate::noise::noise_of;
@@ -19,8 +20,11 @@ use pss_search::signal_power;
 use sample_file::Recording;
 use std::alloc::{AllocError, Global};
 
-/// What supports each entry of a recording's list by the receiver for a carrier, in its order. `readings` are how the
-/// entries were read, in the order of the list. Only memory can be wanting. (own)
+/// What supports each entry of a recording's list by the receiver for a carrier, in its order: the least place of a hit
+/// that tells its identity and start, and how much of the energy there the primary signal explains; the sum of the
+/// sizes of the values that its master block was read from; and the energy of the pilots of its slot, and how much those
+/// of one symbol differ, of all antenna ports together. `readings` are how the entries were read, in the order of the
+/// list. Only memory can be wanting. (own)
 pub fn evidence_of_list(
     alloc: Global,
     recording: &Recording,
@@ -37,31 +41,10 @@ pub fn evidence_of_list(
 {
     let mut list = Vec::with_capacity(alloc, entries.len())?;
     for (i, entry) in entries.iter().enumerate() {
-        list.push(evidence_of(recording, carrier, entry, &readings[i]))?;
+        let (numbers, _slot) = told_of(recording, carrier, entry, &readings[i]);
+        list.push(numbers)?;
     }
     Ok(list)
-}
-
-/// What supports an entry of a recording by the receiver for a carrier: the least place of a hit that tells its
-/// identity and start, and how much of the energy there the primary signal explains; the sum of the sizes of the values
-/// that its master block was read from; and the energy of the pilots of its slot, and how much those of one symbol
-/// differ, of all antenna ports together. `reading` is how the entry was read. (own)
-pub fn evidence_of(
-    recording: &Recording,
-    carrier: Carrier,
-    entry: &Entry,
-    reading: &Reading,
-) -> Evidence
-    ghost receiver: { Receiver }
-    requires carrier { carrier ≡ receiver.carrier }
-    requires entry { IsEntryOfSome (IsEntryFor receiver recording.now)
-        (hits_by receiver.carrier recording.now) entry.now }
-    requires reading { IsReadingFor receiver recording.now entry.now reading.now }
-    ensures evidence { IsEvidenceFor receiver recording.now entry.now result }
-    ensures range { IsInRange result }
-{
-    let (numbers, _slot) = told_of(recording, carrier, entry, reading);
-    numbers
 }
 
 // The numbers of an entry, and what its slot shows.
@@ -87,9 +70,7 @@ pub(crate) fn told_of(
 
 // The numbers of an entry by how it was read, and by what its slot shows.
 fn numbers_of(entry: &Entry, reading: &Reading, slot: &SlotShown) -> Evidence
-    requires root { reading.now.hit.n2 ≤ 2 }
-    requires sounds { 0 < reading.now.hit.energy }
-    requires within { reading.now.hit.peak ≤ reading.now.hit.energy * wave_power reading.now.hit.n2 }
+    requires { HasFraction reading.now.hit }
     ensures { result ≡ numbers_by entry.now reading.now slot.now }
 {
     Evidence {
@@ -121,9 +102,7 @@ pub(crate) fn place_in(entry: &Entry) -> CellPlace
 
 // The fraction of a hit in thousandths, rounded down.
 fn thousandths(hit: &Hit) -> u16
-    requires root { hit.now.n2 ≤ 2 }
-    requires sounds { 0 < hit.now.energy }
-    requires within { hit.now.peak ≤ hit.now.energy * wave_power hit.now.n2 }
+    requires { HasFraction hit.now }
     ensures value { result ≡ 1000 * hit.now.peak / (hit.now.energy * wave_power hit.now.n2) }
     ensures whole { result ≤ 1000 }
 {

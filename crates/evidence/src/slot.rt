@@ -4,10 +4,9 @@ ghost use Rattle.std.specs.Prelude.{◌≡◌, ◌*◌, ◌/◌, ◌^◌, ◌<�
 ghost use Rattle.explain.specs.Frame.{IsWhole, broadcast_slot};
 ghost use Rattle.explain.specs.Receiver.{broadcast_by};
 ghost use Rattle.lte_types.specs.declared.carrier.Carrier.TheVariants.{LongPrefix as Long};
-ghost use Rattle.soft_bits.specs.Pairs.{values_over};
+ghost use Rattle.soft_bits.specs.Pairs.{valued_by};
 ghost use Rattle.evidence.specs.Evidence.{SlotShown as SlotShownAs, shown_by, shown_in as shown_in_of, with_port};
 
-use crate::PortChannel;
 use crate::noise::differences_of;
 use arrayvec::ArrayVec;
 use explain::slot_of;
@@ -27,7 +26,7 @@ use two_ports::TwoPorts;
 pub struct SlotShown {
     power: u64,
     differences: u128,
-    channel: ArrayVec<PortChannel, 4>,
+    channel: ArrayVec<Pilots, 4>,
     values: Received,
 }
 
@@ -67,17 +66,17 @@ impl SlotShown {
     {
         let stride = 6 / pilots.step();
         self.differences += differences_of(pilots.values(), stride as usize);
-        self.channel.push(PortChannel::of(pilots.values()));
+        self.channel.push(pilots.copied());
     }
 
-    // The energy of the pilots.
+    // The energy of the pilots of all antenna ports.
     pub(crate) fn power(&self) -> u64
         ensures { result ≡ self.now.power }
     {
         self.power
     }
 
-    // The squares of their second differences.
+    // The squares of the second differences of the pilots, summed.
     pub(crate) fn differences(&self) -> u128
         ensures value { result ≡ self.now.differences }
         ensures small { result ≤ 96 * 2 ^ 70 }
@@ -85,8 +84,8 @@ impl SlotShown {
         self.differences
     }
 
-    /// The channel of each antenna port.
-    pub fn channel(&self) -> &[PortChannel]
+    /// The pilots of each antenna port.
+    pub fn channel(&self) -> &[Pilots]
         ensures { result.now ≡ self.now.channel }
     {
         &self.channel
@@ -123,7 +122,7 @@ pub(crate) fn shown_in(
 fn shown_of<K: Ports>(recording: &Recording, place: CellPlace, j: u8) -> SlotShown
     requires { IsWhole recording.now place.start j }
     ensures { result ≡ shown_by K.pairing.carrier (broadcast_slot recording.now place.id place.start j)
-        (broadcast_by (values_over K.pairing.carrier K.pairing) recording.now place j) }
+        (broadcast_by (valued_by K.pairing) recording.now place j) }
 {
     let slot: PortSlot<K> = slot_of(recording, place, j, 1);
     let mut shown = SlotShown::new(slot.energy(), received(&slot));

@@ -1,21 +1,92 @@
-//! What the slots of entries show.
+//! What supports an entry, with what its slot shows, and its blocks.
 
-ghost use Rattle.std.specs.Prelude.{◌≡◌, IfOk};
+ghost use Rattle.std.specs.Prelude.{◌≡◌, IfOk, length};
 ghost use Rattle.std.specs.List.{AllZip};
 ghost use Rattle.explain.specs.Entries.{IsEntryFor, IsListFor};
 ghost use Rattle.explain.specs.Laws.{IsEntryOfSome};
 ghost use Rattle.explain.specs.Readings.{IsReadingFor};
 ghost use Rattle.explain.specs.Receiver.{Receiver, hits_by};
-ghost use Rattle.evidence.specs.Shown.{IsShownFor};
+ghost use Rattle.evidence.specs.Blocks.{master_number, master_bits};
+ghost use Rattle.evidence.specs.Shown.{Shown, IsShownFor};
 
-use crate::Support;
+use crate::SlotShown;
 use crate::blocks::system_block;
 use crate::listing::told_of;
+use cs_bits::Bits;
 use explain::Reading;
-use lte_types::{Carrier, Entry};
+use lte_types::{Carrier, Entry, Evidence, Mib};
 use sample_file::Recording;
 use std::alloc::{AllocError, Global};
+use std::marker::Model;
 use system_block::Decoders;
+
+/// What supports an entry of a list, what its slot shows, and its blocks. Contracts see it as these. (own)
+#[derive(Drop)]
+pub struct Support {
+    numbers: Evidence,
+    slot: SlotShown,
+    mib: Mib,
+    block: Vec<bool>,
+}
+
+impl Model for Support {
+    ghost Value = { Shown };
+
+    ghost view = { λ s. record {
+      numbers = s.numbers;
+      slot = s.slot;
+      master = master_bits s.mib;
+      block = s.block.items;
+    } };
+}
+
+impl Support {
+    /// The numbers of the entry.
+    pub fn numbers(&self) -> &Evidence
+        ensures { result.now ≡ self.now.numbers }
+    {
+        &self.numbers
+    }
+
+    /// What its slot shows.
+    pub fn slot(&self) -> &SlotShown
+        ensures { result.now ≡ self.now.slot }
+    {
+        &self.slot
+    }
+
+    /// The 24 bits of the master block (TS 36.331 section 6.2.2).
+    pub fn master(&self) -> Bits<24>
+        ensures bits { result ≡ self.now.master }
+        ensures count { length result ≡ 24 }
+    {
+        bits_of(&self.mib)
+    }
+
+    /// The bits of the transport block that told system information, without their check; none where the entry has no
+    /// system information.
+    pub fn block(&self) -> &[bool]
+        ensures { result.now ≡ self.now.block }
+    {
+        &self.block
+    }
+}
+
+// The bits of a master block.
+fn bits_of(mib: &Mib) -> Bits<24>
+    ensures bits { result ≡ master_bits mib.now }
+    ensures count { length result ≡ 24 }
+{
+    Bits::of_number(number_of(mib))
+}
+
+// The bits of a master block as a number.
+fn number_of(mib: &Mib) -> u64
+    ensures { result ≡ master_number mib.now }
+{
+    let head = mib.bandwidth.code() as u64 * 2 + mib.duration.code() as u64;
+    ((head * 4 + mib.resource.code() as u64) * 256 + mib.upper as u64) * 1024 + mib.spare as u64
+}
 
 /// What supports each entry of a recording's list by the receiver for a carrier, as `evidence_of_list` tells it, and
 /// what its slot shows: the pilots of each antenna port, and the soft values of the broadcast channel as they were
@@ -62,5 +133,10 @@ fn support_of(
 {
     let block = system_block(alloc, recording, carrier, entry, work)?;
     let (numbers, slot) = told_of(recording, carrier, entry, reading);
-    Ok(Support::new(numbers, slot, entry.mib, block))
+    Ok(Support {
+        numbers,
+        slot,
+        mib: entry.mib,
+        block,
+    })
 }

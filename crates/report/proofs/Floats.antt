@@ -18,6 +18,7 @@ use Rattle.lte_types.specs.declared.sib1_reason.Sib1Reason.{Sib1Reason}
 use Rattle.lte_types.specs.declared.entry.Entry.{Entry}
 use Rattle.sss_detect.specs.declared.rank.Choice.{Choice}
 use Rattle.sss_detect.specs.declared.rank.Ranking.{Ranking}
+use Rattle.soft_bits.specs.Kept.{SeenLine}
 use Rattle.evidence.specs.Shown.{Shown}
 use Rattle.report.specs.HitsJson.{choice_value, ranking_value, id_value}
 use Rattle.report.specs.declared.measured.MeasuredId.{MeasuredId}
@@ -88,8 +89,8 @@ in_all one two long four =
 pub in_complex : (z : Cpx) → has_float (complex_value z) ≡ false
 in_complex z = or_from _ _ (in_integer z.re) (or_from _ _ (in_integer z.im) refl)
 
-in_port : (pilots : List Cpx) → has_float (port_value pilots) ≡ false
-in_port pilots = in_list complex_value in_complex pilots
+in_port : (line : SeenLine) → has_float (port_value line) ≡ false
+in_port line = in_list complex_value in_complex line.pilots
 
 in_pairs : (values : List ℤ) → has_float (pairs_value values) ≡ false
 in_pairs values = in_list (list_of integer) (in_list integer in_integer) (first_chunks 2 (length values / 2) values)

@@ -6,6 +6,7 @@ use Rattle.serde_json.specs.Data.{Data, null, string, object, Members, no_member
 use Rattle.serde_json.specs.Written.{compact_text}
 use Rattle.cs_num.specs.declared.Cpx.{Cpx}
 use Rattle.lte_types.specs.declared.evidence.Evidence.{Evidence}
+use Rattle.soft_bits.specs.Kept.{SeenLine}
 use Rattle.evidence.specs.Evidence.{SlotShown}
 use Rattle.evidence.specs.Shown.{Shown}
 use Rattle.report.specs.Values.{natural, integer, list_of}
@@ -45,14 +46,14 @@ abbrev pub complex_value : Cpx → Data
 complex_value z = list_of integer (z.re ∷ z.im ∷ [])
 
 -- the pilots of an antenna port
-abbrev pub port_value : List Cpx → Data
-port_value pilots = list_of complex_value pilots
+abbrev pub port_value : SeenLine → Data
+port_value line = list_of complex_value line.pilots
 
 -- soft values two by two, those of each resource element
 abbrev pub pairs_value : List ℤ → Data
 pairs_value values = list_of (list_of integer) (first_chunks 2 (length values / 2) values)
 
--- the channel of each port, and the values of the broadcast channel
+-- the pilots of each port, and the values of the broadcast channel
 abbrev pub slot_members : SlotShown → Members → Members
 slot_members slot members =
     put (codes "values") (pairs_value slot.values) (put (codes "channel") (list_of port_value slot.channel) members)

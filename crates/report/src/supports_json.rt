@@ -11,9 +11,10 @@ ghost use Rattle.report.specs.EvidenceJson.{support_value, evidence_json};
 use crate::values::{ToJson, list_text, list_value, pair_value};
 use crate::words::hex_word;
 use cs_num::Cpx;
-use evidence::{PortChannel, SlotShown, Support};
+use evidence::{SlotShown, Support};
 use lte_types::Evidence;
 use serde_json::{Map, Value, put};
+use soft_bits::Pilots;
 use std::alloc::{AllocError, Global};
 
 /// What supports the entries of a list as JSON in one line, without a line feed: an array with an object for each,
@@ -51,12 +52,12 @@ impl ToJson for Cpx {
     }
 }
 
-// The channel of an antenna port.
-impl ToJson for PortChannel {
+// The pilots of an antenna port.
+impl ToJson for Pilots {
     ghost json_of = { port_value };
 
     fn to_json(&self, alloc: Global) -> Result<Value, AllocError> {
-        list_value(alloc, self.pilots())
+        list_value(alloc, self.values())
     }
 }
 
@@ -144,7 +145,8 @@ fn put_slot(
         ≡ slot_members slot.now (members_view members.old.entries)) }
 {
     let (pairs, _) = slot.values().as_chunks::<2>();
-    put(members, alloc, "channel", list_value(alloc, slot.channel())?)?;
+    let channel = list_value(alloc, slot.channel())?;
+    put(members, alloc, "channel", channel)?;
     put(members, alloc, "values", list_value(alloc, pairs)?)
 }
 

@@ -1,7 +1,6 @@
-use Rattle.std.proofs.Common.{refl, sym, subst}
+use Rattle.std.proofs.Common.{refl, subst}
 use Rattle.lte_types.specs.declared.carrier.Carrier.{Carrier}
 use Rattle.evidence.specs.Blocks.{IsSystemBlock}
-use Rattle.evidence.specs.Shown.{Shown, IsShownFor}
 use Rattle.evidence.proofs.Early.{starts_early}
 use Rattle.evidence.proofs.support.support_of.Goals as goal
 
@@ -9,13 +8,9 @@ pub system_block-requires : goal.system_block-requires
 system_block-requires g c = starts_early g.receiver c.args.recording.now c.args.entry.now c.requires.1.0
 
 pub returns : goal.returns
-returns g c =
-    let recording = c.args.recording.now in
-    let entry = c.args.entry.now in
-    subst (λ (s : Shown). IsShownFor g.receiver recording entry s) (sym c.new.ensures)
-    (record {
-      numbers = c.told_of.ensures.evidence;
-      slot = c.told_of.ensures.slot;
-      master = refl;
-      block = subst (λ (k : Carrier). IsSystemBlock k recording entry c.in_ok-block.block.items) c.requires.0 c.in_ok-block.ensures;
-    })
+returns g c = record {
+  numbers = c.told_of-numbers.ensures.evidence;
+  slot = c.told_of-numbers.ensures.slot;
+  master = refl;
+  block = subst (λ (k : Carrier). IsSystemBlock k c.args.recording.now c.args.entry.now c.in_ok-block.block.items) c.requires.0 c.in_ok-block.ensures;
+}
