@@ -1,5 +1,5 @@
 -- How a cell sends its broadcast channel (TS 36.211 sections 6.3.4.3 and 6.12).
-use Rattle.std.specs.Prelude.{ℕ}
+use Rattle.std.specs.Prelude.{ℕ, List, ◌∷◌, []}
 use Rattle.lte_types.specs.declared.carrier.Carrier.{Carrier}
 use Rattle.lte_types.specs.declared.carrier.Carrier.TheVariants.{OnePort, TwoPorts, LongPrefix, FourPorts}
 use Rattle.lte_types.specs.declared.numerology.Prefix.{Prefix}
@@ -18,3 +18,7 @@ ports_of OnePort = 1
 ports_of TwoPorts = 2
 ports_of LongPrefix = 1
 ports_of FourPorts = 4
+
+-- all carriers, in the order in which their lists are written
+abbrev pub carriers : List Carrier
+carriers = OnePort ∷ TwoPorts ∷ LongPrefix ∷ FourPorts ∷ []

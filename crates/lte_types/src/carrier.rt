@@ -1,11 +1,13 @@
 //! How a cell sends its broadcast channel.
 
 ghost use Rattle.std.specs.Prelude.{◌≡◌};
-ghost use Rattle.lte_types.specs.Carrier.{prefix_of, ports_of};
+ghost use Rattle.std.specs.List.{Contains};
+ghost use Rattle.lte_types.specs.Carrier.{prefix_of, ports_of, carriers};
 
 use crate::Prefix;
 
-/// How a cell sends its broadcast channel: by how many antenna ports, and with which cyclic prefix.
+/// How a cell sends its broadcast channel: a pair of a cyclic prefix and a count of antenna ports, of those pairs that
+/// are read and sent.
 #[derive(Clone, Copy, Debug, PartialEq, Eq)]
 pub enum Carrier {
     /// One antenna port, and the normal cyclic prefix.
@@ -19,6 +21,14 @@ pub enum Carrier {
 }
 
 impl Carrier {
+    /// All carriers, in the order in which their lists are written.
+    pub const ALL: [Carrier; 4] = [
+        Carrier::OnePort,
+        Carrier::TwoPorts,
+        Carrier::LongPrefix,
+        Carrier::FourPorts,
+    ];
+
     /// The cyclic prefix.
     pub fn prefix(self) -> Prefix
         ensures { result ≡ prefix_of self }
@@ -40,3 +50,10 @@ impl Carrier {
         }
     }
 }
+
+/// Law: each carrier is one of `Carrier::ALL`, and its prefix and count of ports tell which.
+pub fn carriers_are()
+    ensures all { Carrier.ALL ≡ carriers }
+    ensures each { (carrier : Carrier) → Contains carriers carrier }
+    ensures pairs { (a b : Carrier) → prefix_of a ≡ prefix_of b → ports_of a ≡ ports_of b → a ≡ b }
+{}

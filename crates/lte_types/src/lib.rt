@@ -33,7 +33,7 @@ pub mod window;
 
 pub use assignment::Assignment;
 pub use bandwidth::Bandwidth;
-pub use carrier::Carrier;
+pub use carrier::{Carrier, carriers_are};
 pub use cell_access_related_info::CellAccessRelatedInfo;
 pub use cell_id::CellId;
 pub use cell_place::CellPlace;

@@ -5,6 +5,7 @@ ghost use Rattle.std.specs.Prelude.{◌≡◌, ◌^◌, ◌<◌};
 ghost use Rattle.lte_types.specs.Numerology.{frame_length, half_frame_length, slot_length, useful_length, cycle_length};
 ghost use Rattle.lte_types.specs.Numerology.{least_samples, most_samples, normal, extended};
 ghost use Rattle.lte_types.specs.Numerology.{symbol_step, symbol_of as symbol_in, useful_start as useful_start_of};
+ghost use Rattle.lte_types.specs.Numerology.{symbols_of_slot, is_extended};
 
 /// The samples of a frame.
 pub const FRAME_LENGTH: usize = 19_200;
@@ -52,6 +53,20 @@ impl Prefix {
         ensures { result ≡ symbol_step self }
     {
         USEFUL_LENGTH + self.other as usize
+    }
+
+    /// The symbols of a slot: 7 with the normal prefix, and 6 with the extended one.
+    pub fn symbols(self) -> usize
+        ensures { result ≡ symbols_of_slot self }
+    {
+        SLOT_LENGTH / self.step()
+    }
+
+    /// Whether this prefix is the extended one.
+    pub fn is_extended(self) -> bool
+        ensures { result ≡ is_extended self }
+    {
+        self.first == 32
     }
 
     /// Where the useful part of a symbol of a slot begins, in a frame that begins at the given
