@@ -65,6 +65,7 @@ check bash bash scripts/install/test_completion.sh
 if [ -x "$program" ]; then
     says 'cell 0 at 0 .*' bash scripts/examples/send_and_search.sh
     says '0 yes' bash scripts/examples/certify_and_check.sh
+    says '9 refusals, 0 are others' bash scripts/examples/refusals.sh
 else
     echo 'left out: examples: lte_cli is not built'
 fi
