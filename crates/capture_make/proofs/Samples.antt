@@ -1,19 +1,20 @@
 -- The samples of a recording by number.
 use Rattle.std.proofs.Common.{◌≡◌, ℕ, ◌+◌, ◌*◌, ◌%◌, ◌<◌, ◌≤◌, List, length, None, refl, ap, sym, subst, ◌∙◌, arith, ℤ, pos, neg_ℤ, ◌-ℤ◌, get_or, mod-lt}
-use Rattle.std.specs.Prelude.{nat_abs, nat_eq, if◌then◌else◌, Bool, true, false, All}
+use Rattle.std.specs.Prelude.{nat_abs, nat_eq, MatchBool, All}
 use Rattle.std.proofs.lemmas.Int.{ints}
 use Rattle.std.proofs.lemmas.Nat.{mul-le}
 use Rattle.finite.specs.Lists.{values_below}
 use Rattle.finite.proofs.Lists.{values_below-length, values_below_at, values_below_same, values_below-All}
 use Rattle.cs_num.specs.declared.Cpx.{Cpx}
 use Rattle.cs_num.specs.declared.Sample.{Sample}
-use Rattle.cs_num.specs.Complex.{IsWithin, plus, square, silence, sample_at, value_of, sample_of}
+use Rattle.cs_num.specs.Complex.{IsWithin, plus, square, silence, sample_at, value_of, value_at, sample_of}
 use Rattle.cs_num.specs.Gain.{IsGain}
 use Rattle.lte_types.specs.declared.carrier.Carrier.{Carrier}
 use Rattle.lte_types.specs.declared.carrier.Carrier.TheVariants.{OnePort, TwoPorts, LongPrefix, FourPorts}
+use Rattle.lte_types.specs.Carrier.{ports_of}
 use Rattle.sample_file.specs.Recording.{IsRecording}
 use Rattle.cell_plan.specs.declared.emission.Emission.{Emission}
-use Rattle.cell_plan.specs.Gains.{AreGains, AreGainsOfFour, HavePairs, AreGainsOf, ArePairedBy}
+use Rattle.cell_plan.specs.Gains.{AreGains, AreGainsOfFour, HavePairs, AreGainsOf, IsAllowed, IsAllowedOfFour, IsAllowedBy, ArePairedBy}
 use Rattle.cell_tx.specs.Clean.{IsClean}
 use Rattle.cell_plan.specs.Pair.{gain_of}
 use Rattle.cell_tx.specs.Emission.{received_by, emitted, emitted_samples}
@@ -21,7 +22,7 @@ use Rattle.cell_tx.specs.Laws.{values_with, EmittedIsClean}
 use Rattle.cell_tx.proofs.Received.{received_by-small}
 use Rattle.capture_make.specs.declared.made.Made.{Made}
 use Rattle.capture_make.specs.declared.made.MadeBy.{MadeBy}
-use Rattle.capture_make.specs.Recipe.{plan, number, offset, sample_count, gain, first_gain, second_gain, gain_of_four, gains, IsBound}
+use Rattle.capture_make.specs.Recipe.{plan, number, offset, sample_count, gain, first_gain, second_gain, gains_of_four, gains_of_ports, gains, IsBoundBy, IsBound}
 use Rattle.capture_make.specs.Errors.{drawn, error, word}
 use Rattle.capture_make.specs.Made.{samples_by, samples, IsMadeBy, IsCleanNumber, IsMade, IsCleanlyMade}
 
@@ -60,10 +61,10 @@ both_fit n =
 
 -- the squares of the sizes of four
 pub record AreNearOneAnother (n : ℕ) : Type 0 where
-  pub first : (16 ≤ square (gain_of_four 0 n)) × (square (gain_of_four 0 n) ≤ 25)
-  pub second : (16 ≤ square (gain_of_four 1 n)) × (square (gain_of_four 1 n) ≤ 20)
-  pub third : (9 ≤ square (gain_of_four 2 n)) × (square (gain_of_four 2 n) ≤ 13)
-  pub fourth : (16 ≤ square (gain_of_four 3 n)) × (square (gain_of_four 3 n) ≤ 17)
+  pub first : (16 ≤ square (value_at (gains_of_four n) 0)) × (square (value_at (gains_of_four n) 0) ≤ 25)
+  pub second : (16 ≤ square (value_at (gains_of_four n) 1)) × (square (value_at (gains_of_four n) 1) ≤ 20)
+  pub third : (9 ≤ square (value_at (gains_of_four n) 2)) × (square (value_at (gains_of_four n) 2) ≤ 13)
+  pub fourth : (16 ≤ square (value_at (gains_of_four n) 3)) × (square (value_at (gains_of_four n) 3) ≤ 17)
 
 -- a number below twice another one and one more is off from it by no more
 off_by : (x m : ℕ) → x < 2 * m + 1 → nat_abs (pos x -ℤ pos m) ≤ m
@@ -82,17 +83,17 @@ near_one_another n =
       fourth = (omega arith, omega (arith, e));
     }
 
-least_of : (b : Bool) (x y : Cpx) → square x ≤ 25 → square y ≤ 25 → square (if b then x else y) ≤ 25
-least_of true x y e f = e
-least_of false x y e f = f
+-- these are the squares of any list that is the gains
+pub record AreSmall (list : List Cpx) : Type 0 where
+  pub first : square (value_at list 0) ≤ 25
+  pub second : square (value_at list 1) ≤ 20
+  pub third : square (value_at list 2) ≤ 13
+  pub fourth : square (value_at list 3) ≤ 17
 
-pub each_small : (port n : ℕ) → square (gain_of_four port n) ≤ 25
-each_small port n =
+pub are_small : (n : ℕ) (list : List Cpx) → list ≡ gains_of_four n → AreSmall list
+are_small n list is =
     let s = near_one_another n in
-    let second : square (gain_of_four 1 n) ≤ 25 = omega (arith, s.second.1) in
-    let third : square (gain_of_four 2 n) ≤ 25 = omega (arith, s.third.1) in
-    let fourth : square (gain_of_four 3 n) ≤ 25 = omega (arith, s.fourth.1) in
-    least_of (nat_eq port 0) (gain_of_four 0 n) _ s.first.1 (least_of (nat_eq port 1) (gain_of_four 1 n) _ second (least_of (nat_eq port 2) (gain_of_four 2 n) (gain_of_four 3 n) third fourth))
+    subst AreSmall (sym is) (record { first = s.first.1; second = s.second.1; third = s.third.1; fourth = s.fourth.1 })
 
 four_fit : (n : ℕ) → AreGainsOfFour (gains FourPorts n)
 four_fit n =
@@ -119,6 +120,26 @@ are_paired OnePort n = tt
 are_paired TwoPorts n = tt
 are_paired LongPrefix n = tt
 are_paired FourPorts n = four_paired n
+
+-- a count that is neither 1 nor 2 is 4
+pub last_count : (carrier : Carrier) (ports : ℕ) → ports ≡ ports_of carrier → (ports ≡ 1 → ⊥) → (ports ≡ 2 → ⊥) → 4 ≡ ports_of carrier
+last_count OnePort ports is one two = absurd (one is)
+last_count TwoPorts ports is one two = absurd (two is)
+last_count LongPrefix ports is one two = absurd (one is)
+last_count FourPorts ports is one two = refl
+
+-- the bound of the errors hangs on the count of ports alone
+allowed_by_count : (a b : Carrier) (list : List Cpx) (m : ℕ) → ports_of a ≡ ports_of b → IsAllowedBy a list m → IsAllowedBy b list m
+allowed_by_count a b list m =
+    subst
+    (λ ports. MatchBool (nat_eq ports 1) (m * m ≤ 4 * square (value_at list 0))
+    (MatchBool (nat_eq ports 2) (IsAllowed (value_at list 0) (value_at list 1) m) (IsAllowedOfFour list m)))
+
+pub bound_by_count : (a b : Carrier) (n : ℕ) (z : ℤ) → ports_of a ≡ ports_of b → IsBound a n z → IsBound b n z
+bound_by_count a b n z e is = subst (λ list. IsBoundBy b list z) (ap (λ ports. gains_of_ports ports n) e) (record {
+  within = allowed_by_count a b (gains a n) (nat_abs z) e is.within;
+  greatest = λ m allowed. is.greatest m (allowed_by_count b a (gains a n) m (sym e) allowed);
+})
 
 -- ---- what is sent, with errors
 

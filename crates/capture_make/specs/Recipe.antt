@@ -4,7 +4,7 @@ use Rattle.std.specs.Prelude.{nat_eq, if◌then◌else◌, Some, None}
 use Rattle.cs_num.specs.declared.Cpx.{Cpx}
 use Rattle.cs_num.specs.Complex.{nothing}
 use Rattle.lte_types.specs.declared.carrier.Carrier.{Carrier}
-use Rattle.lte_types.specs.declared.carrier.Carrier.TheVariants.{OnePort, TwoPorts, LongPrefix, FourPorts}
+use Rattle.lte_types.specs.Carrier.{ports_of}
 use Rattle.lte_types.specs.Codes.{duration, resource}
 use Rattle.lte_types.specs.Numerology.{frame_length}
 use Rattle.lte_types.specs.declared.mnc.Mnc.TheVariants.{Two as TwoDigits}
@@ -86,19 +86,22 @@ abbrev pub second_gain : ℕ → Cpx
 second_gain n = record { re = pos (n % 11); im = neg_ℤ (pos (n % 8)) }
 
 -- the gains of four antenna ports, of sizes near one another, each about its own quarter of a turn
-abbrev pub gain_of_four : ℕ → ℕ → Cpx
-gain_of_four port n =
-    if nat_eq port 0 then record { re = pos 4; im = pos (n % 7) -ℤ pos 3 }
-    else (if nat_eq port 1 then record { re = pos (n % 5) -ℤ pos 2; im = pos 4 }
-    else (if nat_eq port 2 then record { re = neg_ℤ (pos 3); im = pos (n % 4) -ℤ pos 2 }
-    else record { re = pos (n % 3) -ℤ pos 1; im = neg_ℤ (pos 4) }))
+abbrev pub gains_of_four : ℕ → List Cpx
+gains_of_four n =
+    record { re = pos 4; im = pos (n % 7) -ℤ pos 3 }
+    ∷ record { re = pos (n % 5) -ℤ pos 2; im = pos 4 }
+    ∷ record { re = neg_ℤ (pos 3); im = pos (n % 4) -ℤ pos 2 }
+    ∷ record { re = pos (n % 3) -ℤ pos 1; im = neg_ℤ (pos 4) }
+    ∷ []
 
--- the gains of a carrier's ports, and 0 for each further one of four
+-- the gains of so many ports, and 0 for each further one of four
+abbrev pub gains_of_ports : ℕ → ℕ → List Cpx
+gains_of_ports ports n =
+    if nat_eq ports 1 then gain n ∷ nothing ∷ nothing ∷ nothing ∷ []
+    else (if nat_eq ports 2 then first_gain n ∷ second_gain n ∷ nothing ∷ nothing ∷ [] else gains_of_four n)
+
 abbrev pub gains : Carrier → ℕ → List Cpx
-gains OnePort n = gain n ∷ nothing ∷ nothing ∷ nothing ∷ []
-gains TwoPorts n = first_gain n ∷ second_gain n ∷ nothing ∷ nothing ∷ []
-gains LongPrefix n = gain n ∷ nothing ∷ nothing ∷ nothing ∷ []
-gains FourPorts n = gain_of_four 0 n ∷ gain_of_four 1 n ∷ gain_of_four 2 n ∷ gain_of_four 3 n ∷ []
+gains carrier n = gains_of_ports (ports_of carrier) n
 
 -- the bound of the errors: the greatest that a clean recording with these gains allows
 pub record IsBoundBy (carrier : Carrier) (gains : List Cpx) (bound : ℤ) : Type 0 where

@@ -1,14 +1,13 @@
 //! What is sent for a number.
 
-ghost use Rattle.std.specs.Prelude.{◌≡◌, ◌⊎◌, ◌≤◌, ◌%◌, [], ◌∷◌, pos, length, None};
+ghost use Rattle.std.specs.Prelude.{◌≡◌, ◌⊎◌, ◌≤◌, ◌%◌, ◌-ℤ◌, [], ◌∷◌, pos, length, None};
 ghost use Rattle.lte_types.specs.declared.carrier.Carrier.TheVariants.{OnePort, TwoPorts, FourPorts};
-ghost use Rattle.cs_num.specs.Complex.{square};
 ghost use Rattle.lte_types.specs.Codes.{duration as duration_with, resource as resource_with};
-ghost use Rattle.cell_plan.specs.Gains.{IsCount};
+ghost use Rattle.cell_plan.specs.Gains.{IsCount, power_of_four};
 ghost use Rattle.cell_plan.specs.Plan.{refusal_of};
 ghost use Rattle.capture_make.specs.Recipe.{network, message as message_of, information as information_of};
 ghost use Rattle.capture_make.specs.Recipe.{plan as plan_of, number, offset, sample_count, gain as gain_with};
-ghost use Rattle.capture_make.specs.Recipe.{first_gain, second_gain, gain_of_four, gains as gains_of, IsBound};
+ghost use Rattle.capture_make.specs.Recipe.{first_gain, second_gain, gains_of_four, gains as gains_of, IsBound};
 
 use cell_plan::{Cell, CellPlan, Emission};
 use cs_num::{Cpx, Gain};
@@ -157,47 +156,45 @@ fn second_gain(n: u32) -> Cpx
     }
 }
 
-// The gain of a port of four, by its number.
-fn gain_of_four(port: u8, n: u32) -> Cpx
-    ensures { result ≡ gain_of_four port n }
+// What a number leaves by a count, less a middle.
+fn about(n: u32, count: u32, middle: u32) -> i64
+    requires { 1 ≤ count }
+    ensures { result ≡ pos (n % count) -ℤ pos middle }
 {
-    if port == 0 {
-        Cpx {
-            re: 4,
-            im: (n % 7) as i64 - 3,
-        }
-    } else if port == 1 {
-        Cpx {
-            re: (n % 5) as i64 - 2,
-            im: 4,
-        }
-    } else if port == 2 {
-        Cpx {
-            re: -3,
-            im: (n % 4) as i64 - 2,
-        }
-    } else {
-        Cpx {
-            re: (n % 3) as i64 - 1,
-            im: -4,
-        }
-    }
+    (n % count) as i64 - middle as i64
+}
+
+// The gains of four ports.
+fn gains_of_four(n: u32) -> [Cpx; 4]
+    ensures { result ≡ gains_of_four n }
+{
+    let first = Cpx {
+        re: 4,
+        im: about(n, 7, 3),
+    };
+    let second = Cpx {
+        re: about(n, 5, 2),
+        im: 4,
+    };
+    let third = Cpx {
+        re: -3,
+        im: about(n, 4, 2),
+    };
+    let fourth = Cpx {
+        re: about(n, 3, 1),
+        im: -4,
+    };
+    [first, second, third, fourth]
 }
 
 /// The gains of the antenna ports of a carrier for recording number `n`; that of a port which it has not is 0.
 pub fn gains(carrier: Carrier, n: u32) -> [Cpx; 4]
     ensures { result ≡ gains_of carrier n }
 {
-    match carrier {
-        Carrier::OnePort => [gain(n).value(), Cpx::ZERO, Cpx::ZERO, Cpx::ZERO],
-        Carrier::TwoPorts => [first_gain(n), second_gain(n), Cpx::ZERO, Cpx::ZERO],
-        Carrier::LongPrefix => [gain(n).value(), Cpx::ZERO, Cpx::ZERO, Cpx::ZERO],
-        Carrier::FourPorts => [
-            gain_of_four(0, n),
-            gain_of_four(1, n),
-            gain_of_four(2, n),
-            gain_of_four(3, n),
-        ],
+    match carrier.ports() {
+        1 => [gain(n).value(), Cpx::ZERO, Cpx::ZERO, Cpx::ZERO],
+        2 => [first_gain(n), second_gain(n), Cpx::ZERO, Cpx::ZERO],
+        _ => gains_of_four(n),
     }
 }
 
@@ -271,12 +268,14 @@ fn bound_of_two(n: u32) -> u16
     least(both / 4, 4 * first).isqrt() as u16
 }
 
-// The square of the size of the gain of a port of four.
-fn square_of_four(port: u8, n: u32) -> u32
-    ensures value { result ≡ square (gain_of_four port n) }
-    ensures small { result ≤ 25 }
+// The sum of the squares of the sizes of the gains of four ports.
+fn power_of_four(n: u32) -> u32
+    ensures value { result ≡ power_of_four (gains_of_four n) }
+    ensures small { result ≤ 75 }
 {
-    gain_of_four(port, n).norm() as u32
+    let gains = gains_of_four(n);
+    let power = gains[0].norm() + gains[1].norm() + gains[2].norm() + gains[3].norm();
+    power as u32
 }
 
 // The bound of the errors with four antenna ports: the greatest whole number whose square is at most a 64th of the
@@ -285,11 +284,7 @@ fn bound_of_four(n: u32) -> u16
     ensures bound { IsBound FourPorts n (pos result) }
     ensures small { result ≤ 56 }
 {
-    let first = square_of_four(0, n);
-    let second = square_of_four(1, n);
-    let third = square_of_four(2, n);
-    let fourth = square_of_four(3, n);
-    ((first + second + third + fourth) / 64).isqrt() as u16
+    (power_of_four(n) / 64).isqrt() as u16
 }
 
 /// The bound of the errors: the greatest that a clean recording with the gains of the number allows.
@@ -297,10 +292,9 @@ pub(crate) fn bound(carrier: Carrier, n: u32) -> u16
     ensures bound { IsBound carrier n (pos result) }
     ensures small { result ≤ 56 }
 {
-    match carrier {
-        Carrier::OnePort => bound_of_one(n),
-        Carrier::TwoPorts => bound_of_two(n),
-        Carrier::LongPrefix => bound_of_one(n),
-        Carrier::FourPorts => bound_of_four(n),
+    match carrier.ports() {
+        1 => bound_of_one(n),
+        2 => bound_of_two(n),
+        _ => bound_of_four(n),
     }
 }

@@ -1,5 +1,5 @@
 -- What the conditions of a description say of what is sent.
-use Rattle.std.proofs.Common.{◌≡◌, ℕ, ◌≤◌, ◌<◌, ℤ, pos, arith, refl, ap, sym, subst, ◌∙◌, Bool, true, false, if◌then◌else◌, nat_abs, List, ◌∷◌, Some, None, is_some}
+use Rattle.std.proofs.Common.{◌≡◌, ℕ, ◌+◌, ◌≤◌, ◌<◌, ◌/◌, ◌&&◌, nat_le, ℤ, pos, arith, refl, ap, ap₂, sym, subst, ◌∙◌, Bool, true, false, if◌then◌else◌, nat_abs, List, ◌∷◌, Some, None, is_some}
 use Rattle.std.specs.Prelude.{codes}
 use Rattle.serde_json.specs.Data.{Data}
 use Rattle.serde_json.specs.Find.{get}
@@ -7,10 +7,11 @@ use Rattle.std.proofs.lemmas.Int.{ints}
 use Rattle.std.proofs.lemmas.Bool.Decides.{nat_tests}
 use Rattle.std.proofs.lemmas.Option.{option_and_then_some}
 use Rattle.cs_num.specs.declared.Cpx.{Cpx}
-use Rattle.cs_num.specs.Complex.{value_at}
+use Rattle.cs_num.specs.Complex.{square, value_at}
 use Rattle.cs_num.specs.Gain.{IsGain}
 use Rattle.lte_types.specs.declared.carrier.Carrier.{Carrier}
-use Rattle.lte_types.specs.declared.carrier.Carrier.TheVariants.{OnePort, TwoPorts, LongPrefix, FourPorts}
+use Rattle.lte_types.specs.declared.carrier.Carrier.TheVariants.{OnePort}
+use Rattle.lte_types.specs.Carrier.{ports_of}
 use Rattle.lte_types.specs.declared.sib1.Sib1.{Sib1}
 use Rattle.lte_types.specs.Ranges.{IsValid}
 use Rattle.lte_types.specs.Timing.{IsOffset}
@@ -21,12 +22,13 @@ use Rattle.cell_plan.specs.declared.error.CellError.TheVariants.{Form, Sfn, Offs
 use Rattle.cell_plan.specs.declared.transmission.Transmission.{Transmission}
 use Rattle.cell_plan.specs.Conditions.{Condition, condition, first_failed}
 use Rattle.cell_plan.specs.Plan.{IsSendable, IsSendableBy, refusal_of}
-use Rattle.cell_plan.specs.Gains.{AreGainsOf}
+use Rattle.cell_plan.specs.Gains.{AreGainsOf, power_of}
 use Rattle.cell_plan.specs.Pair.{gain_of}
+use Rattle.cell_plan.proofs.Powers.{part, in_four_parts, gains_are_together}
 use Rattle.cell_plan.proofs.Sendable.{accepted_is_sendable_by, sendable_with_one}
 use Rattle.cell_json.specs.Kinds.{is_between}
 use Rattle.cell_json.specs.Information.{sib1_in}
-use Rattle.cell_json.specs.Description.{is_gain, are_gains, has_form, number_at, gains_at, sib1_at, in_field, plan_of, cell_conditions, conditions}
+use Rattle.cell_json.specs.Description.{are_gains, has_form, number_at, gains_at, sib1_at, in_field, plan_of, cell_conditions, conditions}
 use Rattle.cell_json.specs.Reading.{refusal_of as failed_of, DescribesBy, Describes, HasValues}
 use Rattle.cell_json.proofs.Refusals.{cell_conditions_are}
 use Rattle.cell_json.proofs.Valid.{read_is_valid}
@@ -43,15 +45,21 @@ between least most n e = grind (arith, ints, nat_tests)
 within : (least most n : ℕ) (z : ℤ) → pos n ≡ z → is_between (pos least) (pos most) z ≡ true → n ≤ most
 within least most n z e b = between least most n (subst (λ y. is_between (pos least) (pos most) y ≡ true) (sym e) b)
 
-gain_holds : (g : Cpx) → is_gain g ≡ true → IsGain g
-gain_holds g e = record { least = grind (arith, nat_tests); most = grind (arith, nat_tests) }
+both_hold : (a b c : ℕ) → (nat_le 1 a && nat_le b c) ≡ true → (1 ≤ a) × (b ≤ c)
+both_hold a b c e = (grind (arith, nat_tests), grind (arith, nat_tests))
 
 -- the gains of a carrier are those of clean recordings where they pass the test
 pub gains_hold : (carrier : Carrier) (gains : List Cpx) → are_gains carrier gains ≡ true → AreGainsOf carrier gains
-gains_hold OnePort gains e = gain_holds (value_at gains 0) e
-gains_hold TwoPorts gains e = record { least = grind (arith, nat_tests); most = grind (arith, nat_tests) }
-gains_hold LongPrefix gains e = gain_holds (value_at gains 0) e
-gains_hold FourPorts gains e = record { least = grind (arith, nat_tests); most = grind (arith, nat_tests) }
+gains_hold carrier gains e = (gains_are_together carrier gains).1 (both_hold (square (value_at gains 0)) (power_of carrier gains) (784 / ports_of carrier) e)
+
+-- the test by the squares of the sizes of the gains of four ports
+pub gains_by_squares : (carrier : Carrier) (gains : List Cpx) (one two three four most : ℕ) → one ≡ square (value_at gains 0) → two ≡ part carrier gains 1 → three ≡ part carrier gains 2
+    → four ≡ part carrier gains 3 → most ≡ 784 / ports_of carrier → 1 ≤ one → nat_le (one + two + three + four) most ≡ are_gains carrier gains
+gains_by_squares carrier gains one two three four most e f g h bound some =
+    let parts = in_four_parts carrier gains in
+    let power : one + two + three + four ≡ power_of carrier gains = omega (arith, e, f, g, h, parts) in
+    let first : nat_le 1 (square (value_at gains 0)) ≡ true = subst (λ n. nat_le 1 n ≡ true) e (grind (arith, nat_tests)) in
+    ap₂ nat_le power bound ∙ ap (λ b. b && nat_le (power_of carrier gains) (784 / ports_of carrier)) (sym first)
 
 -- all conditions after the form hold
 record AllHold (carrier : Carrier) (json : Data) : Type 0 where
@@ -156,5 +164,5 @@ described_ranges bytes t d =
     let all = all_hold OnePort d.value (ap (failed_of OnePort) (sym d.json) ∙ d.valid) in
     record {
       parts = described OnePort t.cell t.sfn t.offset t.samples d.value all d.values;
-      gain = gain_holds (gain_of t.gain) (subst (λ g. is_gain g ≡ true) (sym d.gain) all.gains);
+      gain = subst IsGain (sym d.gain) (gains_hold OnePort (gains_at OnePort d.value) all.gains);
     }

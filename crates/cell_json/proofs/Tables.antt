@@ -1,9 +1,11 @@
 -- The tables of keys, part by part.
-use Rattle.std.proofs.Common.{◌≡◌, ◌∷◌, ◌++◌, length, ◌&&◌, nat_eq, refl}
+use Rattle.std.proofs.Common.{◌≡◌, ◌+◌, ◌∷◌, ◌++◌, length, ◌&&◌, nat_eq, refl}
 use Rattle.std.proofs.lemmas.List.Folds.{list_all-append}
 use Rattle.std.specs.Prelude.{codes}
 use Rattle.serde_json.specs.Data.{Data}
 use Rattle.lte_types.specs.declared.carrier.Carrier.{Carrier}
+use Rattle.lte_types.specs.declared.carrier.Carrier.TheVariants.{OnePort, TwoPorts, LongPrefix, FourPorts}
+use Rattle.lte_types.specs.Carrier.{ports_of}
 use Rattle.cell_json.specs.Kinds.{has, has_all, has_exactly, key_count, object_of}
 use Rattle.cell_json.specs.Description.{access_keys, selection_keys, schedule_keys, sib1_keys, sending_keys, number_keys, gain_keys, keys, duration_of, resource_of, has_form}
 
@@ -25,3 +27,11 @@ form_parts carrier json = rw (
   list_all-append (λ is_there. is_there json) sending_keys (number_keys ++ has (codes "duration") duration_of ∷ has (codes "resource") resource_of ∷ has (codes "sib1") (object_of sib1_keys) ∷ gain_keys carrier),
   list_all-append (λ is_there. is_there json) number_keys (has (codes "duration") duration_of ∷ has (codes "resource") resource_of ∷ has (codes "sib1") (object_of sib1_keys) ∷ gain_keys carrier),
 ) refl
+
+-- a description has a key for each port beside 13 others
+pub count_by_ports : (carrier : Carrier) → 13 + ports_of carrier ≡ length (keys carrier)
+unfolding sending_keys number_keys
+count_by_ports OnePort = refl
+count_by_ports TwoPorts = refl
+count_by_ports LongPrefix = refl
+count_by_ports FourPorts = refl

@@ -1,6 +1,6 @@
 -- The keys of a description, and the conditions on what it has at them. (own)
-use Rattle.std.specs.Prelude.{ℕ, ◌+◌, Bool, ◌&&◌, nat_le, if◌then◌else◌, List, [], ◌∷◌, ◌++◌, codes, Option, None}
-use Rattle.std.specs.Prelude.{is_some, option_map, option_and_then, ℤ, pos, nat_abs}
+use Rattle.std.specs.Prelude.{ℕ, ◌-◌, ◌/◌, Bool, ◌&&◌, nat_le, if◌then◌else◌, List, [], ◌∷◌, ◌++◌, map, take}
+use Rattle.std.specs.Prelude.{replicate, codes, Option, None, is_some, option_map, option_and_then, ℤ, pos, nat_abs}
 use Rattle.std.specs.Option.{unwrap_or, option_map_or}
 use Rattle.serde_json.specs.Data.{Data, Items, no_items, item}
 use Rattle.serde_json.specs.Find.{as_bool, as_str, as_array}
@@ -8,7 +8,7 @@ use Rattle.cs_num.specs.declared.Cpx.{Cpx}
 use Rattle.cs_num.specs.Complex.{nothing, square, value_at}
 use Rattle.cs_num.specs.Gain.{with_parts}
 use Rattle.lte_types.specs.declared.carrier.Carrier.{Carrier}
-use Rattle.lte_types.specs.declared.carrier.Carrier.TheVariants.{OnePort, TwoPorts, LongPrefix, FourPorts}
+use Rattle.lte_types.specs.Carrier.{ports_of}
 use Rattle.lte_types.specs.declared.duration.Duration.{Duration}
 use Rattle.lte_types.specs.declared.duration.Duration.TheVariants.{Normal}
 use Rattle.lte_types.specs.declared.resource.Resource.{Resource}
@@ -20,7 +20,7 @@ use Rattle.cell_plan.specs.declared.cell.CellPlan.{CellPlan}
 use Rattle.cell_plan.specs.declared.error.CellError.TheVariants.{Form, Sfn, Offset, Samples, Gain, Sib1Range}
 use Rattle.cell_plan.specs.Conditions.{Condition, condition}
 use Rattle.cell_plan.specs.Plan.{conditions_of}
-use Rattle.cell_plan.specs.Gains.{power_of_four}
+use Rattle.cell_plan.specs.Gains.{power_of}
 use Rattle.cell_json.specs.Kinds.{whole_of, is_between, null_or, list_of, at_key, has, has_exactly, object_of}
 use Rattle.cell_json.specs.Information.{sib1_in}
 
@@ -112,17 +112,13 @@ number_keys =
     ∷ has (codes "column") whole_of
     ∷ []
 
--- the keys of the gains of a carrier's antenna ports
+-- the keys of the gains of four antenna ports, in the order of the ports
+abbrev pub gain_names : List (List ℕ)
+gain_names = codes "gain" ∷ codes "gain2" ∷ codes "gain3" ∷ codes "gain4" ∷ []
+
+-- the keys of the gains of a carrier's antenna ports: the first of these
 abbrev pub gain_keys : Carrier → List (Data → Bool)
-gain_keys OnePort = has (codes "gain") pair_of ∷ []
-gain_keys TwoPorts = has (codes "gain") pair_of ∷ has (codes "gain2") pair_of ∷ []
-gain_keys LongPrefix = has (codes "gain") pair_of ∷ []
-gain_keys FourPorts =
-    has (codes "gain") pair_of
-    ∷ has (codes "gain2") pair_of
-    ∷ has (codes "gain3") pair_of
-    ∷ has (codes "gain4") pair_of
-    ∷ []
+gain_keys carrier = map (λ name. has name pair_of) (take (ports_of carrier) gain_names)
 
 -- all keys of a description
 abbrev pub keys : Carrier → List (Data → Bool)
@@ -153,15 +149,8 @@ gain_at json = gain_by (codes "gain") json
 
 -- the gains of four antenna ports; a port that the carrier has not gets one that is not used
 abbrev pub gains_at : Carrier → Data → List Cpx
-gains_at OnePort json = gain_at json ∷ nothing ∷ nothing ∷ nothing ∷ []
-gains_at TwoPorts json = gain_at json ∷ gain_by (codes "gain2") json ∷ nothing ∷ nothing ∷ []
-gains_at LongPrefix json = gain_at json ∷ nothing ∷ nothing ∷ nothing ∷ []
-gains_at FourPorts json =
-    gain_at json
-    ∷ gain_by (codes "gain2") json
-    ∷ gain_by (codes "gain3") json
-    ∷ gain_by (codes "gain4") json
-    ∷ []
+gains_at carrier json =
+    map (λ name. gain_by name json) (take (ports_of carrier) gain_names) ++ replicate (4 - ports_of carrier) nothing
 
 abbrev pub duration_at : Data → Duration
 duration_at json = unwrap_or (at_key duration_of (codes "duration") json) Normal
@@ -195,24 +184,11 @@ plan_of json sib1 = record {
 
 -- ---- the conditions
 
--- the square of the gain's size is 1 to 784
-abbrev pub is_gain : Cpx → Bool
-is_gain gain = nat_le 1 (square gain) && nat_le (square gain) 784
-
--- the first gain is not 0, and the squares of the sizes of both are together at most 392
-abbrev pub are_both_gains : Cpx → Cpx → Bool
-are_both_gains first other = nat_le 1 (square first) && nat_le (square first + square other) 392
-
--- the first gain is not 0, and the squares of the sizes of all four are together at most 196
-abbrev pub are_four_gains : List Cpx → Bool
-are_four_gains gains = nat_le 1 (square (value_at gains 0)) && nat_le (power_of_four gains) 196
-
--- the gains of a carrier's antenna ports are those of clean recordings
+-- the gains of a carrier's antenna ports are those of clean recordings: that of the first is not 0, and their power is
+-- at most 784 by the count of ports
 abbrev pub are_gains : Carrier → List Cpx → Bool
-are_gains OnePort gains = is_gain (value_at gains 0)
-are_gains TwoPorts gains = are_both_gains (value_at gains 0) (value_at gains 1)
-are_gains LongPrefix gains = is_gain (value_at gains 0)
-are_gains FourPorts gains = are_four_gains gains
+are_gains carrier gains =
+    nat_le 1 (square (value_at gains 0)) && nat_le (power_of carrier gains) (784 / ports_of carrier)
 
 -- the conditions of the plan, which there is where the block's values are in their ranges
 unfoldable pub cell_conditions : Carrier → Data → List Condition

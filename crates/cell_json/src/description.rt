@@ -1,7 +1,9 @@
 //! What a JSON value describes.
 
-ghost use Rattle.std.specs.Prelude.{◌≡◌, IsTrue, IsFalse, MatchOption, codes, length};
+ghost use Rattle.std.specs.Prelude.{◌≡◌, nat_lt, if◌then◌else◌, IsTrue, IsFalse, Some, MatchOption, codes, length};
 ghost use Rattle.serde_json.specs.View.{view};
+ghost use Rattle.cs_num.specs.Complex.{nothing};
+ghost use Rattle.lte_types.specs.Carrier.{ports_of};
 ghost use Rattle.cell_json.specs.Kinds.{at_key, has, has_all, object_of};
 ghost use Rattle.cell_json.specs.Description.{pair_of, duration_of, duration_at, resource_of, resource_at, sib1_keys};
 ghost use Rattle.cell_json.specs.Description.{sending_keys, number_keys, gain_keys, keys, has_form, gains_at};
@@ -128,14 +130,22 @@ fn has_sib1(value: &Value) -> bool
 }
 
 // How many keys a description by a carrier has.
-#[tactic(auto, unfolding(crate::specs::Description::sending_keys, crate::specs::Description::number_keys))]
+#[tactic(auto, using(crate::proofs::Tables::count_by_ports))]
 fn key_count(carrier: Carrier) -> usize
     ensures { result ≡ length (keys carrier) }
 {
-    match carrier {
-        Carrier::OnePort | Carrier::LongPrefix => 14,
-        Carrier::TwoPorts => 15,
-        Carrier::FourPorts => 17,
+    13 + carrier.ports() as usize
+}
+
+// The gain of a port at its key; 0 for a port that the carrier has not.
+fn gain_of(carrier: Carrier, port: u8, value: &Value, key: &str) -> Option<Cpx>
+    ensures { result ≡ (if nat_lt port (ports_of carrier) then at_key pair_of key.now (view value.now)
+        else Some nothing) }
+{
+    if port < carrier.ports() {
+        pair(value, key)
+    } else {
+        Some(Cpx::ZERO)
     }
 }
 
@@ -145,17 +155,12 @@ fn gains_of(carrier: Carrier, value: &Value) -> Option<[Cpx; 4]>
         (λ gains. IsTrue (has_all (gain_keys carrier) (view value.now))
         × (gains ≡ gains_at carrier (view value.now))) }
 {
-    let first = pair(value, "gain")?;
-    match carrier {
-        Carrier::OnePort | Carrier::LongPrefix => Some([first, Cpx::ZERO, Cpx::ZERO, Cpx::ZERO]),
-        Carrier::TwoPorts => Some([first, pair(value, "gain2")?, Cpx::ZERO, Cpx::ZERO]),
-        Carrier::FourPorts => Some([
-            first,
-            pair(value, "gain2")?,
-            pair(value, "gain3")?,
-            pair(value, "gain4")?,
-        ]),
-    }
+    Some([
+        pair(value, "gain")?,
+        gain_of(carrier, 1, value, "gain2")?,
+        gain_of(carrier, 2, value, "gain3")?,
+        gain_of(carrier, 3, value, "gain4")?,
+    ])
 }
 
 /// The description by a carrier that a JSON value is; `None` exactly where it has not the form of one.

@@ -1,7 +1,10 @@
 //! Descriptions as bytes.
 
-ghost use Rattle.std.specs.Prelude.{◌≡◌, ◌+◌, nat_le, pos, IsTrue, IsFalse, IfSome, MatchOption, MatchResult};
+ghost use Rattle.std.specs.Prelude.{◌≡◌, ◌+◌, ◌<◌, nat_lt, nat_le, if◌then◌else◌, pos};
+ghost use Rattle.std.specs.Prelude.{IsTrue, IsFalse, IfSome, MatchOption, MatchResult};
 ghost use Rattle.serde_json.specs.View.{view};
+ghost use Rattle.cs_num.specs.Complex.{square, value_at};
+ghost use Rattle.lte_types.specs.Carrier.{ports_of};
 ghost use Rattle.lte_types.specs.Ranges.{IsValid};
 ghost use Rattle.cell_json.specs.Kinds.{is_between};
 ghost use Rattle.cell_json.specs.Description.{in_field, are_gains, sib1_at, plan_of as described_plan};
@@ -111,23 +114,37 @@ fn information_of(value: &Value) -> Option<Sib1>
     sib1_in(value.get("sib1")?)
 }
 
+// The square of the size of the gain of a port; 0 for a port that the carrier has not.
+fn power(carrier: Carrier, gains: &[Cpx; 4], port: u8) -> u128
+    requires { port < 4 }
+    ensures { result ≡ (if nat_lt port (ports_of carrier) then square (value_at gains.now port) else 0) }
+{
+    if port < carrier.ports() {
+        gains[port as usize].norm()
+    } else {
+        0
+    }
+}
+
+// Whether four numbers are together at most another one.
+fn are_together(one: u128, two: u128, three: u128, four: u128, most: u128) -> bool
+    ensures { result ≡ nat_le (one + two + three + four) most }
+{
+    one <= most
+        && two <= most - one
+        && three <= most - one - two
+        && four <= most - one - two - three
+}
+
 // Whether the gains of a carrier's antenna ports are those of clean recordings.
 fn are_gains(carrier: Carrier, gains: &[Cpx; 4]) -> bool
     ensures { result ≡ are_gains carrier gains.now }
 {
-    let (one, two) = (gains[0].norm(), gains[1].norm());
-    match carrier {
-        Carrier::OnePort | Carrier::LongPrefix => 1 <= one && one <= 784,
-        Carrier::TwoPorts => 1 <= one && one <= 392 && two <= 392 - one,
-        Carrier::FourPorts => 1 <= one && are_together(one, two, gains[2].norm(), gains[3].norm()),
-    }
-}
-
-// Whether four squares are together at most 196.
-fn are_together(one: u128, two: u128, three: u128, four: u128) -> bool
-    ensures { result ≡ nat_le (one + two + three + four) 196 }
-{
-    one <= 196 && two <= 196 - one && three <= 196 - one - two && four <= 196 - one - two - three
+    let first = gains[0].norm();
+    let second = power(carrier, gains, 1);
+    let third = power(carrier, gains, 2);
+    let fourth = power(carrier, gains, 3);
+    1 <= first && are_together(first, second, third, fourth, 784 / carrier.ports() as u128)
 }
 
 // The gains, where they are those of clean recordings.

@@ -3,3 +3,4 @@ pub mod WholeBlocks
 pub mod Sendable
 pub mod NewCells
 pub mod SystemWords
+pub mod Powers

@@ -1,13 +1,15 @@
 -- Counts of samples, and gains of the antenna ports, with which a cell is sent, and the errors that clean recordings
 -- with such gains allow. (own)
-use Rattle.std.specs.Prelude.{ℕ, ◌+◌, ◌*◌, ◌≤◌, List}
+use Rattle.std.specs.Prelude.{ℕ, ◌+◌, ◌*◌, ◌≤◌, List, nat_eq, nat_lt, MatchBool}
+use Rattle.std.specs.Bool.{OnTrue}
 use Rattle.std.proofs.Props.{props}
 use Rattle.cs_num.specs.declared.Cpx.{Cpx}
 use Rattle.cs_num.specs.Complex.{square, value_at}
 use Rattle.cs_num.specs.Gain.{IsGain}
+use Rattle.finite.specs.Sums.{total_below}
 use Rattle.sizes.specs.Sizes.{squares_of_four, ArePaired}
 use Rattle.lte_types.specs.declared.carrier.Carrier.{Carrier}
-use Rattle.lte_types.specs.declared.carrier.Carrier.TheVariants.{OnePort, TwoPorts, LongPrefix, FourPorts}
+use Rattle.lte_types.specs.Carrier.{ports_of}
 use Rattle.lte_types.specs.Numerology.{least_samples, most_samples}
 
 -- how many samples a transmission may have
@@ -49,32 +51,33 @@ pub record IsAllowedOfFour (gains : List Cpx) (eps : ℕ) : Type 0 where
   pub pairs : HavePairs gains
   pub quiet : 64 * (eps * eps) ≤ power_of_four gains
 
--- ---- a carrier
+-- ---- a carrier: what is asked hangs on its count of ports
 
--- the gains of a carrier's ports are those of clean recordings
+-- one of three, by a carrier's count of ports, 1, 2 or 4
+abbrev pub ByPorts : Carrier → Type 0 → Type 0 → Type 0 → Type 0
+ByPorts carrier One Two Four =
+    MatchBool (nat_eq (ports_of carrier) 1) One (MatchBool (nat_eq (ports_of carrier) 2) Two Four)
+
+-- the sum of the squares of the sizes of the gains of a carrier's ports
+abbrev pub power_of : Carrier → List Cpx → ℕ
+power_of carrier gains = total_below (ports_of carrier) (λ port. square (value_at gains port))
+
+-- the gains of a carrier's ports are those of clean recordings: that of port 0 is not 0, and their power is at most 784
+-- by the count of ports, which is 784, 392 or 196
 abbrev pub AreGainsOf : Carrier → List Cpx → Type 0
-AreGainsOf OnePort gains = IsGain (value_at gains 0)
-AreGainsOf TwoPorts gains = AreGains (value_at gains 0) (value_at gains 1)
-AreGainsOf LongPrefix gains = IsGain (value_at gains 0)
-AreGainsOf FourPorts gains = AreGainsOfFour gains
+AreGainsOf carrier gains =
+    ByPorts carrier (IsGain (value_at gains 0)) (AreGains (value_at gains 0) (value_at gains 1)) (AreGainsOfFour gains)
 
 -- a law: that gains are those of clean recordings is a proposition
 pub are_gains_prop : (carrier : Carrier) (gains : List Cpx) → IsProp (AreGainsOf carrier gains)
-are_gains_prop OnePort gains = hlevel props
-are_gains_prop TwoPorts gains = hlevel props
-are_gains_prop LongPrefix gains = hlevel props
-are_gains_prop FourPorts gains = hlevel props
+are_gains_prop carrier gains = hlevel props
 
 -- the errors that a clean recording with these gains allows
 abbrev pub IsAllowedBy : Carrier → List Cpx → ℕ → Type 0
-IsAllowedBy OnePort gains eps = eps * eps ≤ 4 * square (value_at gains 0)
-IsAllowedBy TwoPorts gains eps = IsAllowed (value_at gains 0) (value_at gains 1) eps
-IsAllowedBy LongPrefix gains eps = eps * eps ≤ 4 * square (value_at gains 0)
-IsAllowedBy FourPorts gains eps = IsAllowedOfFour gains eps
+IsAllowedBy carrier gains eps =
+    ByPorts carrier (eps * eps ≤ 4 * square (value_at gains 0)) (IsAllowed (value_at gains 0) (value_at gains 1) eps)
+    (IsAllowedOfFour gains eps)
 
--- what a recording needs beside its gains so that what is sent is found: with four ports no pair of them is weak
+-- what a recording needs beside its gains so that what is sent is found: with more than two ports no pair is weak
 abbrev pub ArePairedBy : Carrier → List Cpx → Type 0
-ArePairedBy OnePort gains = Unit {0}
-ArePairedBy TwoPorts gains = Unit {0}
-ArePairedBy LongPrefix gains = Unit {0}
-ArePairedBy FourPorts gains = HavePairs gains
+ArePairedBy carrier gains = OnTrue (nat_lt 2 (ports_of carrier)) (HavePairs gains)

@@ -14,6 +14,6 @@ mod transport;
 pub use cell::{Cell, CellPlan};
 pub use emission::Emission;
 pub use error::CellError;
-pub use laws::accepted_are_sendable;
+pub use laws::{accepted_are_sendable, gains_are_together};
 pub use pair::{gain_of_pair, pair_of};
 pub use transmission::Transmission;

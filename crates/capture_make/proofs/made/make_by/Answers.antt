@@ -33,6 +33,9 @@ module _ (c : goal.After-with_bound) where
 pub returns-clause-made : goal.returns-clause-made
 returns-clause-made c = made_is c
 
+pub returns-in_err-samples-clause-sendable : goal.returns-in_err-samples-clause-sendable
+returns-in_err-samples-clause-sendable c = is_sendable_by c.args.carrier c.args.n
+
 pub returns-clause-sendable : goal.returns-clause-sendable
 returns-clause-sendable c = is_sendable_by c.args.carrier c.args.n
 

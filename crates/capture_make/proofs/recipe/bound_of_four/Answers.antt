@@ -6,17 +6,14 @@ use Rattle.capture_make.proofs.recipe.bound_of_four.Goals as goal
 
 pub returns-clause-bound : goal.returns-clause-bound
 returns-clause-bound c =
-    let first = c.square_of_four-first.ensures.value in
-    let second = c.square_of_four-second.ensures.value in
-    let third = c.square_of_four-third.ensures.value in
-    let fourth = c.square_of_four-fourth.ensures.value in
+    let power = c.power_of_four.ensures.value in
     let r = c.isqrt.result in
     let low = c.isqrt.ensures.square_le in
     let high = c.isqrt.ensures.next_square_gt in
     record {
-      within = record { pairs = four_paired c.args.n; quiet = omega (arith, first, second, third, fourth, low) };
+      within = record { pairs = four_paired c.args.n; quiet = omega (arith, power, low) };
       greatest = λ m allowed.
           let p = allowed.quiet in
-          let less = no_greater m r _ (omega (arith, first, second, third, fourth, p)) high in
+          let less = no_greater m r _ (omega (arith, power, p)) high in
           omega (arith, ints, less);
     }
