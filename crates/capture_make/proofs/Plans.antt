@@ -1,6 +1,7 @@
 -- The plan of each number can be sent.
-use Rattle.std.proofs.Common.{◌≡◌, inl, ℕ, zero, suc, ◌+◌, ◌*◌, ◌%◌, ◌≤◌, ◌<◌, false, true, List, length, None, refl, sym, subst, arith}
+use Rattle.std.proofs.Common.{◌≡◌, inl, ℕ, ◌+◌, ◌*◌, ◌%◌, ◌≤◌, false, true, cond, nat_eq, if◌then◌else◌, List, length, None, refl, sym, subst, arith}
 use Rattle.std.specs.Prelude.{Bool, IsSomeAnd}
+use Rattle.std.proofs.lemmas.Bool.{le-leb}
 use Rattle.lte_types.specs.declared.carrier.Carrier.{Carrier}
 use Rattle.lte_types.specs.declared.carrier.Carrier.TheVariants.{OnePort, TwoPorts, LongPrefix, FourPorts}
 use Rattle.grid_map.specs.Shared.{block_places_of}
@@ -8,18 +9,30 @@ use Rattle.dci.specs.Sizes.{column_2}
 use Rattle.sib1.specs.Text.{text_of}
 use Rattle.sib1.proofs.Texts.{text_of_is}
 use Rattle.sib1.proofs.Valid.{sib1_holds}
-use Rattle.cell_plan.specs.Transport.{coded_count, assigned_bits_of, is_resolvable}
-use Rattle.cell_plan.specs.Plan.{IsSendable, IsSendableBy, refusal_of}
+use Rattle.cell_plan.specs.Transport.{coded_count, assigned_bits_of, is_whole_of, is_resolvable}
+use Rattle.cell_plan.specs.Plan.{needs_each_bit, IsSendable, IsSendableBy, refusal_of}
 use Rattle.cell_plan.proofs.Sendable.{accepted_is_sendable_by, with_enough}
 use Rattle.cell_plan.proofs.WholeBlocks.{whole_is_resolvable}
 use Rattle.capture_make.specs.Recipe.{plan, information}
 use Rattle.capture_make.proofs.Information.{has_text}
 
--- 172 times three coded bits in 1,224 or 1,080
-whole : (parity : ℕ) → parity < 2 → 3 * (144 + 24 + 4) ≤ 2 * (block_places_of false (2 + parity) * 6)
-whole zero l = omega arith
-whole (suc zero) l = omega arith
-whole (suc (suc k)) l = absurd (omega (arith, l))
+-- each carrier has at least 60 places in a block
+least : (a b : ℕ) → 60 ≤ a → 60 ≤ b → (first : Bool) → 60 ≤ cond first a b
+least a b l m true = l
+least a b l m false = m
+
+room : (carrier : Carrier) (cfi : ℕ) → 60 ≤ block_places_of carrier cfi
+room OnePort cfi = least 102 90 (omega arith) (omega arith) (nat_eq cfi 2)
+room TwoPorts cfi = least 96 84 (omega arith) (omega arith) (nat_eq cfi 2)
+room LongPrefix cfi = least 78 68 (omega arith) (omega arith) (nat_eq cfi 2)
+room FourPorts cfi = least 92 80 (omega arith) (omega arith) (nat_eq cfi 2)
+
+-- so 172 times three coded bits fit six blocks
+whole : (carrier : Carrier) (cfi : ℕ) → 3 * (144 + 24 + 4) ≤ 2 * (block_places_of carrier cfi * 6)
+whole carrier cfi = fit _ (room carrier cfi)
+  where
+    fit : (places : ℕ) → 60 ≤ places → 3 * (144 + 24 + 4) ≤ 2 * (places * 6)
+    fit places l = omega (arith, l)
 
 fits : (n : ℕ) → IsSomeAnd (text_of (information n)) (λ text. length text ≤ 144)
 fits n =
@@ -39,26 +52,19 @@ is_sendable n =
       assignment = record { some = omega arith; inside = omega arith };
       column = inl refl;
       mcs = refl;
-      enough = whole_is_resolvable (plan n) refl (whole (n % 2) (omega arith));
+      enough = whole_is_resolvable (plan n) refl (whole OnePort (2 + n % 2));
       duplex = refl;
       extension = refl;
       text = fits n;
     }
 
--- beside the reference signals of two ports they are in 1,152 or 1,008
-whole_of_two : (parity : ℕ) → parity < 2 → 3 * (144 + 24 + 4) ≤ 2 * (block_places_of true (2 + parity) * 6)
-whole_of_two zero l = omega arith
-whole_of_two (suc zero) l = omega arith
-whole_of_two (suc (suc k)) l = absurd (omega (arith, l))
-
 pub is_sendable_by : (carrier : Carrier) (n : ℕ) → IsSendableBy carrier (plan n)
 unfolding column_2
-is_sendable_by OnePort n = is_sendable n
-is_sendable_by LongPrefix n = is_sendable n
-is_sendable_by FourPorts n = is_sendable n
-is_sendable_by TwoPorts n =
-    with_enough (is_resolvable (plan n) ≡ true) (coded_count (plan n) ≤ assigned_bits_of true (plan n)) (plan n) (is_sendable n)
-    (whole_of_two (n % 2) (omega arith))
+is_sendable_by carrier n = with_enough (is_resolvable (plan n) ≡ true) _ (plan n) (is_sendable n) (by (needs_each_bit carrier))
+  where
+    by : (each : Bool) → (if each then is_whole_of carrier (plan n) else is_resolvable (plan n)) ≡ true
+    by true = le-leb (coded_count (plan n)) (assigned_bits_of carrier (plan n)) (whole carrier (2 + n % 2))
+    by false = (is_sendable n).enough
 
 -- so no condition on it fails
 pub none_fails : (carrier : Carrier) (n : ℕ) → refusal_of carrier (plan n) ≡ None

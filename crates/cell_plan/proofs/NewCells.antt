@@ -1,12 +1,11 @@
 -- What the steps of a plan's acceptance say together.
 use Rattle.std.proofs.Common.{◌≡◌, ◌⊎◌, ℕ, ◌+◌, ◌≤◌, Bool, true, false, ◌&&◌, ◌||◌, nat_eq, nat_le, List, [], length, Option, Some, None, if◌then◌else◌, refl, ap, sym, subst, ◌∙◌, arith}
-use Rattle.std.specs.Prelude.{is_some, IsSome, IsSomeAnd}
+use Rattle.std.specs.Prelude.{not, is_some, is_none, IsSome, IsSomeAnd}
 use Rattle.std.specs.Option.{unwrap_or}
 use Rattle.std.specs.Cmp.{unsigned_Decides}
-use Rattle.std.proofs.lemmas.Bool.{leb-true as leb-le}
+use Rattle.std.proofs.lemmas.Bool.{and_from}
 use Rattle.std.proofs.lemmas.Bool.Decides.{Decides-or}
 use Rattle.lte_types.specs.declared.carrier.Carrier.{Carrier}
-use Rattle.lte_types.specs.declared.carrier.Carrier.TheVariants.{OnePort, TwoPorts, LongPrefix, FourPorts}
 use Rattle.lte_types.specs.Ranges.{IsValid}
 use Rattle.turbo_code.specs.Table.{IsSize}
 use Rattle.turbo_code.specs.Encoder.{coded}
@@ -15,10 +14,12 @@ use Rattle.cs_bits.specs.Checks.{with_check_24}
 use Rattle.dci.specs.Sizes.{size_of}
 use Rattle.sib1.specs.Text.{text_of}
 use Rattle.cell_plan.specs.declared.cell.CellPlan.{CellPlan}
-use Rattle.cell_plan.specs.Transport.{block_size, coded_count, assigned_bits_of, filled, row_with, shared_word, is_resolvable}
-use Rattle.cell_plan.specs.Plan.{IsSendableWith, IsSendableBy, is_enough}
+use Rattle.cell_plan.specs.Transport.{block_size, text_fits, filled, row_with, shared_word, has_block, is_whole, is_whole_of, is_resolvable}
+use Rattle.cell_plan.specs.Plan.{needs_each_bit, IsSendableWith, IsSendableBy, is_enough, refusal_of}
+use Rattle.cell_plan.specs.declared.error.CellError.{CellError}
+use Rattle.cell_plan.specs.declared.error.CellError.TheVariants.{Sib1Long}
 use Rattle.cell_plan.specs.Transport.{shared_coded, IsCoded}
-use Rattle.cell_plan.proofs.Sendable.{assigned}
+use Rattle.cell_plan.proofs.Sendable.{assigned, pass}
 use Rattle.cell_plan.proofs.WholeBlocks.{enough_is_resolvable}
 
 -- ---- a size of the table
@@ -90,18 +91,35 @@ accepted_with carrier plan size text a Enough enough =
     }
 
 pub accepted_can_be_sent : (carrier : Carrier) (plan : CellPlan) (size : ℕ) (text : List Bool) → IsAccepted carrier plan size text → IsSendableBy carrier plan
-accepted_can_be_sent OnePort plan size text a =
-    accepted_with OnePort plan size text a (is_resolvable plan ≡ true)
-    (enough_is_resolvable plan (there (size_of plan.mcs plan.column) size a.sized.entry) a.enough)
-accepted_can_be_sent TwoPorts plan size text a =
-    accepted_with TwoPorts plan size text a (coded_count plan ≤ assigned_bits_of true plan)
-    (leb-le (coded_count plan) (assigned_bits_of true plan) a.enough)
-accepted_can_be_sent LongPrefix plan size text a =
-    accepted_with LongPrefix plan size text a (is_resolvable plan ≡ true)
-    (enough_is_resolvable plan (there (size_of plan.mcs plan.column) size a.sized.entry) a.enough)
-accepted_can_be_sent FourPorts plan size text a =
-    accepted_with FourPorts plan size text a (is_resolvable plan ≡ true)
-    (enough_is_resolvable plan (there (size_of plan.mcs plan.column) size a.sized.entry) a.enough)
+accepted_can_be_sent carrier plan size text a = accepted_with carrier plan size text a _ (by (needs_each_bit carrier) a.enough)
+  where
+    by : (each : Bool) → (if each then is_whole_of carrier plan else (is_whole plan || (has_block plan && is_resolvable plan))) ≡ true
+        → (if each then is_whole_of carrier plan else is_resolvable plan) ≡ true
+    by true e = e
+    by false e = enough_is_resolvable plan (there (size_of plan.mcs plan.column) size a.sized.entry) e
+
+-- ---- a plan of which the text alone does not fit
+
+pub sized_is : (plan : CellPlan) (size : ℕ) → HasSize plan size → ((nat_eq plan.column 2 || nat_eq plan.column 3) && is_some (size_of plan.mcs plan.column)) ≡ true
+sized_is plan size of =
+    and_from _ _ ((Decides-or _ _ (unsigned_Decides plan.column 2) (unsigned_Decides plan.column 3)).1 of.column) (ap (λ (o : Option ℕ). is_some o) of.entry)
+
+fails : (cause : CellError) (rest : Option CellError) (holds : Bool) → holds ≡ false → (if holds then rest else Some cause) ≡ Some cause
+fails cause rest true e = absurd cc
+fails cause rest false e = refl
+
+pub refused_text : (carrier : Carrier) (plan : CellPlan) → nat_le plan.identity 503 ≡ true → nat_le plan.spare 1023 ≡ true → (nat_le 2 plan.cfi && nat_le plan.cfi 3) ≡ true
+    → (nat_le 1 plan.blocks && nat_le (plan.start + plan.blocks) 6) ≡ true → ((nat_eq plan.column 2 || nat_eq plan.column 3) && is_some (size_of plan.mcs plan.column)) ≡ true
+    → is_enough carrier plan ≡ true → is_none plan.sib1.tdd ≡ true → not plan.sib1.extended ≡ true → text_fits plan ≡ false → refusal_of carrier plan ≡ Some Sib1Long
+refused_text carrier plan a b c d e f g h i =
+    pass (nat_le plan.identity 503) _ _ a
+    (pass (nat_le plan.spare 1023) _ _ b
+    (pass (nat_le 2 plan.cfi && nat_le plan.cfi 3) _ _ c
+    (pass (nat_le 1 plan.blocks && nat_le (plan.start + plan.blocks) 6) _ _ d
+    (pass ((nat_eq plan.column 2 || nat_eq plan.column 3) && is_some (size_of plan.mcs plan.column)) _ _ e
+    (pass (is_enough carrier plan) _ _ f
+    (pass (is_none plan.sib1.tdd) _ _ g
+    (pass (not plan.sib1.extended) _ _ h (fails Sib1Long None (text_fits plan) i))))))))
 
 -- ---- its coded block
 

@@ -1,11 +1,12 @@
 -- The plans in which no condition fails are those that can be sent.
-use Rattle.std.proofs.Common.{◌≡◌, ◌⊎◌, ℕ, ◌+◌, ◌*◌, ◌≤◌, Bool, true, false, not, ◌&&◌, ◌||◌, nat_eq, nat_le, List, length, Option, Some, None, if◌then◌else◌, refl, arith}
+use Rattle.std.proofs.Common.{◌≡◌, ◌⊎◌, ℕ, ◌+◌, ◌*◌, ◌≤◌, Bool, true, false, not, ◌&&◌, ◌||◌, nat_eq, nat_le, List, length, Option, Some, None, if◌then◌else◌, cond, refl, arith, le_refl, le_trans, mul-le-mul}
 use Rattle.std.specs.Prelude.{is_some, is_none, IsSome, IsSomeAnd, ◌↔◌}
 use Rattle.std.specs.Bool.{Decides}
 use Rattle.std.specs.Option.{option_map_or}
 use Rattle.std.specs.Cmp.{unsigned_Decides}
 use Rattle.std.proofs.lemmas.Bool.{le-leb, leb-true as leb-le, and_from, or_right}
 use Rattle.std.proofs.lemmas.Bool.Decides.{Decides-and, Decides-or}
+use Rattle.lte_types.specs.declared.carrier.Carrier.{Carrier}
 use Rattle.lte_types.specs.declared.carrier.Carrier.TheVariants.{OnePort, TwoPorts, LongPrefix, FourPorts}
 use Rattle.lte_types.specs.Ranges.{IsValid}
 use Rattle.dci.specs.Sizes.{size_of}
@@ -14,7 +15,8 @@ use Rattle.cell_plan.specs.declared.error.CellError.{CellError}
 use Rattle.cell_plan.specs.declared.cell.CellPlan.{CellPlan}
 use Rattle.cell_plan.specs.Conditions.{first_failed}
 use Rattle.cell_plan.specs.Transport.{block_size, coded_count, assigned_bits_of, text_fits, has_block, is_whole_of, is_whole, is_resolvable}
-use Rattle.cell_plan.specs.Plan.{IsSendableWith, IsSendable, conditions_with, plan_refusal}
+use Rattle.grid_map.specs.Shared.{block_places_of}
+use Rattle.cell_plan.specs.Plan.{needs_each_bit, IsSendableWith, IsSendable, conditions_with, plan_refusal}
 use Rattle.cell_plan.specs.Laws.{AcceptedAreSendable, OnePortSendsAll}
 use Rattle.cell_plan.proofs.WholeBlocks.{whole_is_resolvable, enough_is_resolvable}
 
@@ -28,7 +30,7 @@ passed : (holds : Bool) (cause : CellError) (rest : Option CellError) → (if ho
 passed true cause rest e = record { first = refl; others = e }
 passed false cause rest e = absurd cc
 
-pass : (holds : Bool) (cause : CellError) (rest : Option CellError) → holds ≡ true → rest ≡ None → (if holds then rest else Some cause) ≡ None
+pub pass : {to : Option CellError} (holds : Bool) (cause : CellError) (rest : Option CellError) → holds ≡ true → rest ≡ to → (if holds then rest else Some cause) ≡ to
 pass true cause rest h e = e
 pass false cause rest h e = absurd cc
 
@@ -134,13 +136,14 @@ accepted_is_sendable plan =
 
 -- ---- by each carrier
 
+accepted_by : (each : Bool) (carrier : Carrier) (plan : CellPlan) →
+    (IsValid plan.sib1 × (first_failed (conditions_with (if each then is_whole_of carrier plan else (is_whole plan || (has_block plan && is_resolvable plan))) plan) ≡ None))
+    ↔ IsSendableWith ((if each then is_whole_of carrier plan else is_resolvable plan) ≡ true) plan
+accepted_by true carrier plan = accepted_is_sendable_with (is_whole_of carrier plan) (is_whole_of carrier plan ≡ true) (λ e. e, λ e. e) plan
+accepted_by false carrier plan = accepted_is_sendable plan
+
 pub accepted_is_sendable_by : AcceptedAreSendable
-accepted_is_sendable_by OnePort plan = accepted_is_sendable plan
-accepted_is_sendable_by TwoPorts plan =
-    accepted_is_sendable_with (is_whole_of true plan) (coded_count plan ≤ assigned_bits_of true plan)
-    (le_decides (coded_count plan) (assigned_bits_of true plan)) plan
-accepted_is_sendable_by LongPrefix plan = accepted_is_sendable plan
-accepted_is_sendable_by FourPorts plan = accepted_is_sendable plan
+accepted_is_sendable_by carrier plan = accepted_by (needs_each_bit carrier) carrier plan
 
 -- the same plan where enough is said otherwise
 pub with_enough : (Enough Other : Type 0) (plan : CellPlan) → IsSendableWith Enough plan → Other → IsSendableWith Other plan
@@ -158,15 +161,28 @@ with_enough Enough Other plan s other = record {
   text = s.text;
 }
 
--- two ports leave less room than one
-less_room : (two_first : Bool) (blocks n : ℕ) → n ≤ 2 * ((if two_first then 96 else 84) * blocks) → n ≤ 2 * ((if two_first then 102 else 90) * blocks)
-less_room true blocks n l = omega (arith, l)
-less_room false blocks n l = omega (arith, l)
+-- no carrier has more room than one port with the normal prefix
+less_by : (a b c d : ℕ) → a ≤ c → b ≤ d → (first : Bool) → cond first a b ≤ cond first c d
+less_by a b c d l m true = l
+less_by a b c d l m false = m
+
+less_room : (carrier : Carrier) (cfi : ℕ) → block_places_of carrier cfi ≤ block_places_of OnePort cfi
+less_room OnePort cfi = le_refl (block_places_of OnePort cfi)
+less_room TwoPorts cfi = less_by 96 84 102 90 (omega arith) (omega arith) (nat_eq cfi 2)
+less_room LongPrefix cfi = less_by 78 68 102 90 (omega arith) (omega arith) (nat_eq cfi 2)
+less_room FourPorts cfi = less_by 92 80 102 90 (omega arith) (omega arith) (nat_eq cfi 2)
+
+less_bits : (carrier : Carrier) (plan : CellPlan) → assigned_bits_of carrier plan ≤ assigned_bits_of OnePort plan
+less_bits carrier plan = doubled _ _ (mul-le-mul (less_room carrier plan.cfi) (le_refl plan.blocks))
+  where
+    doubled : (a b : ℕ) → a ≤ b → 2 * a ≤ 2 * b
+    doubled a b l = omega (arith, l)
 
 pub sendable_with_one : OnePortSendsAll
-sendable_with_one OnePort plan s = s
-sendable_with_one TwoPorts plan s =
-    with_enough (coded_count plan ≤ assigned_bits_of true plan) (is_resolvable plan ≡ true) plan s
-    (whole_is_resolvable plan s.mcs (less_room (nat_eq plan.cfi 2) plan.blocks (coded_count plan) s.enough))
-sendable_with_one LongPrefix plan s = s
-sendable_with_one FourPorts plan s = s
+sendable_with_one carrier plan = by (needs_each_bit carrier)
+  where
+    by : (each : Bool) → IsSendableWith ((if each then is_whole_of carrier plan else is_resolvable plan) ≡ true) plan → IsSendable plan
+    by true s =
+        with_enough (is_whole_of carrier plan ≡ true) (is_resolvable plan ≡ true) plan s
+        (whole_is_resolvable plan s.mcs (le_trans (leb-le (coded_count plan) (assigned_bits_of carrier plan) s.enough) (less_bits carrier plan)))
+    by false s = s

@@ -1,9 +1,11 @@
 -- Which plans of a cell can be sent. (own, with the ranges of TS 36.211 sections 6.11 and 6.7, TS 36.213 section 7.1
 -- and TS 36.331 section 6.2.2)
-use Rattle.std.specs.Prelude.{◌≡◌, ◌⊎◌, ◌+◌, ◌≤◌, Bool, true, false, not, ◌&&◌, ◌||◌, nat_eq, nat_le, List, [], ◌∷◌}
+use Rattle.std.specs.Prelude.{◌≡◌, ◌⊎◌, ◌+◌, ◌≤◌, Bool, true, false, not, ◌&&◌, ◌||◌, nat_eq, nat_le, if◌then◌else◌, List, [], ◌∷◌}
 use Rattle.std.specs.Prelude.{length, Option, None, is_some, is_none, IsSome, IsSomeAnd}
 use Rattle.lte_types.specs.declared.carrier.Carrier.{Carrier}
-use Rattle.lte_types.specs.declared.carrier.Carrier.TheVariants.{OnePort, TwoPorts, LongPrefix, FourPorts}
+use Rattle.lte_types.specs.declared.carrier.Carrier.TheVariants.{OnePort}
+use Rattle.lte_types.specs.Carrier.{prefix_of, ports_of}
+use Rattle.lte_types.specs.Numerology.{is_extended}
 use Rattle.lte_types.specs.Ranges.{IsValid}
 use Rattle.lte_types.specs.Assignment.{AreBlocks}
 use Rattle.dci.specs.Sizes.{size_of}
@@ -13,7 +15,7 @@ use Rattle.cell_plan.specs.declared.error.CellError.TheVariants.{Identity, Spare
 use Rattle.cell_plan.specs.declared.error.CellError.TheVariants.{Extension, Sib1Long}
 use Rattle.cell_plan.specs.declared.cell.CellPlan.{CellPlan}
 use Rattle.cell_plan.specs.Conditions.{Condition, condition, first_failed}
-use Rattle.cell_plan.specs.Transport.{block_size, coded_count, assigned_bits_of, text_fits, has_block, is_whole_of}
+use Rattle.cell_plan.specs.Transport.{block_size, text_fits, has_block, is_whole_of}
 use Rattle.cell_plan.specs.Transport.{is_whole, is_resolvable}
 
 -- a plan can be sent, where `Enough` says that what is sent of its block is enough: the conditions that do not depend
@@ -36,14 +38,16 @@ pub record IsSendableWith (Enough : Type 0) (plan : CellPlan) : Type 0 where
 abbrev pub IsSendable : CellPlan → Type 0
 IsSendable plan = IsSendableWith (is_resolvable plan ≡ true) plan
 
--- a plan can be sent by a carrier: with two antenna ports the assigned blocks carry each coded bit beside the reference
--- signals of both. With the extended cyclic prefix, or four ports, it has to be one of one port, though no block of it
--- is sent
+-- each coded bit of a block has to be sent, beside the reference signals of both ports: with two antenna ports. With
+-- the extended cyclic prefix, or four ports, no block is sent
+abbrev pub needs_each_bit : Carrier → Bool
+needs_each_bit carrier = not (is_extended (prefix_of carrier)) && nat_eq (ports_of carrier) 2
+
+-- a plan can be sent by a carrier: each coded bit is sent where that is needed, and otherwise the plan is one of one
+-- antenna port, though no block of it may be sent
 abbrev pub IsSendableBy : Carrier → CellPlan → Type 0
-IsSendableBy OnePort plan = IsSendable plan
-IsSendableBy TwoPorts plan = IsSendableWith (coded_count plan ≤ assigned_bits_of true plan) plan
-IsSendableBy LongPrefix plan = IsSendable plan
-IsSendableBy FourPorts plan = IsSendable plan
+IsSendableBy carrier plan =
+    IsSendableWith ((if needs_each_bit carrier then is_whole_of carrier plan else is_resolvable plan) ≡ true) plan
 
 -- the conditions on a plan, in their order, where it is known whether enough of its block is sent
 abbrev pub conditions_with : Bool → CellPlan → List Condition
@@ -59,13 +63,12 @@ conditions_with enough plan =
     ∷ condition (text_fits plan) Sib1Long
     ∷ []
 
--- enough is sent of the block of a plan. With one antenna port, where not every coded bit is sent, this asks for a
--- block that can be resolved; a plan that has none fails it
+-- enough is sent of the block of a plan. Where not every coded bit has to be sent, nor is with one antenna port, this
+-- asks for a block that can be resolved; a plan that has none fails it
 abbrev pub is_enough : Carrier → CellPlan → Bool
-is_enough OnePort plan = is_whole plan || (has_block plan && is_resolvable plan)
-is_enough TwoPorts plan = is_whole_of true plan
-is_enough LongPrefix plan = is_whole plan || (has_block plan && is_resolvable plan)
-is_enough FourPorts plan = is_whole plan || (has_block plan && is_resolvable plan)
+is_enough carrier plan =
+    if needs_each_bit carrier then is_whole_of carrier plan
+    else is_whole plan || (has_block plan && is_resolvable plan)
 
 -- the conditions of a plan that is sent by a carrier
 abbrev pub conditions_of : Carrier → CellPlan → List Condition

@@ -11,6 +11,8 @@ use Rattle.turbo_code.specs.declared.encoder.Coded.{Coded}
 use Rattle.turbo_code.specs.Table.{row, rows, IsSize}
 use Rattle.turbo_code.specs.Encoder.{coded}
 use Rattle.erasure.specs.Known.{resolvable, sent_of}
+use Rattle.lte_types.specs.declared.carrier.Carrier.{Carrier}
+use Rattle.lte_types.specs.declared.carrier.Carrier.TheVariants.{OnePort}
 use Rattle.grid_map.specs.Shared.{block_places_of}
 use Rattle.dci.specs.Sizes.{size_of}
 use Rattle.sib1.specs.Text.{text_of}
@@ -63,25 +65,25 @@ pub record IsCoded (plan : CellPlan) (word : Coded) : Type 0 where
 
 -- ---- what is sent of the block
 
--- the bits that the assigned resource blocks carry with two antenna ports or one: two in each place
-abbrev pub assigned_bits_of : Bool → CellPlan → ℕ
-assigned_bits_of two plan = 2 * (block_places_of two plan.cfi * plan.blocks)
+-- the bits that the assigned resource blocks of a carrier carry: two in each place
+abbrev pub assigned_bits_of : Carrier → CellPlan → ℕ
+assigned_bits_of carrier plan = 2 * (block_places_of carrier plan.cfi * plan.blocks)
 
 -- the bits that the assigned resource blocks carry with one antenna port
 abbrev pub assigned_bits : CellPlan → ℕ
-assigned_bits plan = assigned_bits_of false plan
+assigned_bits plan = assigned_bits_of OnePort plan
 
 -- how many coded bits the block has: three streams, each with four bits of its tails
 abbrev pub coded_count : CellPlan → ℕ
 coded_count plan = 3 * (checked_size plan + 4)
 
--- each coded bit of the block is sent at least once, with two antenna ports or one
-abbrev pub is_whole_of : Bool → CellPlan → Bool
-is_whole_of two plan = nat_le (coded_count plan) (assigned_bits_of two plan)
+-- each coded bit of the block is sent at least once by a carrier
+abbrev pub is_whole_of : Carrier → CellPlan → Bool
+is_whole_of carrier plan = nat_le (coded_count plan) (assigned_bits_of carrier plan)
 
 -- each coded bit of the block is sent at least once, with one antenna port
 abbrev pub is_whole : CellPlan → Bool
-is_whole plan = is_whole_of false plan
+is_whole plan = is_whole_of OnePort plan
 
 -- a word of K bits can be resolved by the first bits of the reading, as many as the count says, from each redundancy
 -- version on

@@ -8,7 +8,7 @@ ghost use Rattle.dci.specs.Sizes.{size_of};
 ghost use Rattle.sib1.specs.Text.{text_of};
 ghost use Rattle.turbo_code.specs.Table.{IsSize};
 ghost use Rattle.cell_plan.specs.Transport.{block_size, has_block, is_whole_of, is_resolvable};
-ghost use Rattle.cell_plan.specs.Plan.{is_enough};
+ghost use Rattle.cell_plan.specs.Plan.{needs_each_bit, is_enough};
 
 use crate::CellError;
 use crate::transport::{block_fills, coded_block};
@@ -59,14 +59,13 @@ impl CellPlan {
     ghost use Rattle.std.specs.Prelude.{◌*◌};
     ghost use Rattle.grid_map.specs.Shared.{block_places_of};
 
-    /// The places that the assigned resource blocks have for the shared channel with two antenna ports or
-    /// one: with one port 102 each with `cfi` 2 and 90 with 3, and with two ports 96 and 84. Six blocks have at
-    /// most 612.
-    pub fn assigned_places(&self, two: bool) -> usize
-        ensures value { result ≡ block_places_of two self.now.cfi * self.now.blocks }
+    /// The places that the assigned resource blocks have for the shared channel of a carrier, each as many as
+    /// `grid_map::block_places` tells. Six blocks have at most 612.
+    pub fn assigned_places(&self, carrier: Carrier) -> usize
+        ensures value { result ≡ block_places_of carrier self.now.cfi * self.now.blocks }
         ensures bound { self.now.blocks ≤ 6 → result ≤ 612 }
     {
-        block_places(two, self.cfi) * self.blocks as usize
+        block_places(carrier, self.cfi) * self.blocks as usize
     }
 }
 
@@ -108,14 +107,14 @@ fn text_of(fields: &Sib1, size: u16) -> Option<Writer>
     }
 }
 
-// Whether the assigned resource blocks carry each coded bit of the transport block and its check, with two antenna
-// ports or one: three streams, each with four bits of its tails.
-fn is_sent_whole(two: bool, plan: &CellPlan, size: u16) -> bool
+// Whether the assigned resource blocks of a carrier carry each coded bit of the transport block and its check: three
+// streams, each with four bits of its tails.
+fn is_sent_whole(carrier: Carrier, plan: &CellPlan, size: u16) -> bool
     requires blocks { plan.now.blocks ≤ 6 }
     requires size { block_size plan.now ≡ size }
-    ensures { result ≡ is_whole_of two plan.now }
+    ensures { result ≡ is_whole_of carrier plan.now }
 {
-    3 * (size as usize + 24 + 4) <= 2 * plan.assigned_places(two)
+    3 * (size as usize + 24 + 4) <= 2 * plan.assigned_places(carrier)
 }
 
 // Whether the plan has a transport block that can be resolved by the bits which these blocks carry.
@@ -131,9 +130,20 @@ fn has_resolvable_block(plan: &CellPlan, size: u16) -> bool
         return false;
     }
     match text_of(&plan.sib1, size) {
-        Some(text) => block_fills(text.bits(), size, 2 * plan.assigned_places(false) as u16),
+        Some(text) => block_fills(
+            text.bits(),
+            size,
+            2 * plan.assigned_places(Carrier::OnePort) as u16,
+        ),
         None => false,
     }
+}
+
+// Whether a carrier has to send each coded bit of a block.
+fn needs_each_bit(carrier: Carrier) -> bool
+    ensures { result ≡ needs_each_bit carrier }
+{
+    !carrier.prefix().is_extended() && carrier.ports() == 2
 }
 
 // Whether the bits that a carrier sends of the transport block are enough.
@@ -145,11 +155,10 @@ fn is_sent_enough(carrier: Carrier, plan: &CellPlan, size: u16) -> bool
     requires room { size ≤ 1000 }
     ensures { result ≡ is_enough carrier plan.now }
 {
-    match carrier {
-        Carrier::OnePort | Carrier::LongPrefix | Carrier::FourPorts => {
-            is_sent_whole(false, plan, size) || has_resolvable_block(plan, size)
-        }
-        Carrier::TwoPorts => is_sent_whole(true, plan, size),
+    if needs_each_bit(carrier) {
+        is_sent_whole(carrier, plan, size)
+    } else {
+        is_sent_whole(Carrier::OnePort, plan, size) || has_resolvable_block(plan, size)
     }
 }
 

@@ -1,5 +1,5 @@
 -- Sizes of elements and of samples.
-use Rattle.std.proofs.Common.{◌≡◌, ℕ, ◌+◌, ◌-◌, ◌*◌, ◌/◌, ◌%◌, ◌<◌, ◌≤◌, ◌^◌, inl, inr, Bool, true, false, nat_eq, nat_lt, Option, Some, None, arith, refl, sym, subst, ap, ◌∙◌, ℤ, pos, neg_ℤ, ◌+ℤ◌, ◌*ℤ◌}
+use Rattle.std.proofs.Common.{◌≡◌, ℕ, ◌+◌, ◌-◌, ◌*◌, ◌/◌, ◌%◌, ◌<◌, ◌≤◌, ◌^◌, inl, inr, Bool, true, false, nat_eq, nat_lt, Option, Some, None, arith, refl, ap, ◌∙◌, ℤ, pos, neg_ℤ, ◌+ℤ◌, ◌*ℤ◌}
 use Rattle.std.specs.Prelude.{if◌then◌else◌, nat_abs}
 use Rattle.std.proofs.lemmas.Bool.{cases_lt}
 use Rattle.std.proofs.lemmas.Int.{ints, unsigned_abs-mul}
@@ -20,18 +20,16 @@ use Rattle.fold128.specs.Symbol.{frequency, useful_term, useful_at}
 use Rattle.fold128.proofs.EntrySizes.{w-square, z-square}
 use Rattle.lte_types.specs.declared.frame.Half.{Half}
 use Rattle.crs.specs.Qpsk.{IsFull, IsPoint}
-use Rattle.crs.specs.Reference.{long_prefix}
-use Rattle.crs.proofs.Values.{reference-IsPoint, pattern_reference-IsPoint, component-IsFull}
+use Rattle.crs.proofs.Values.{pattern_reference-IsPoint, component-IsFull}
 use Rattle.gold.specs.Gold.{gold_bit}
 use Rattle.sync_seq.specs.Primary.{root_of, turns, pss_at}
 use Rattle.sync_seq.specs.Secondary.{sss_at}
 use Rattle.sync_seq.proofs.PrimaryValues.{pss_is, pss-within}
 use Rattle.sync_seq.proofs.SecondaryValues.{sss-size}
 use Rattle.cell_tx.specs.declared.antenna.Port.{Port}
-use Rattle.lte_types.specs.declared.carrier.Carrier.{Carrier}
-use Rattle.lte_types.specs.declared.carrier.Carrier.TheVariants.{OnePort, TwoPorts, LongPrefix, FourPorts}
+use Rattle.lte_types.specs.Carrier.{ports_of}
 use Rattle.cell_plan.specs.declared.cell.CellPlan.{CellPlan}
-use Rattle.cell_tx.specs.Ports.{port_prefix, port_symbols, port_slot, has_control, crossed_point, point_by, sent_point, sent_signal, is_own_reference, is_other_reference, reference_by, port_reference}
+use Rattle.cell_tx.specs.Ports.{port_prefix, port_symbols, port_slot, first_pattern, has_control, crossed_point, paired_point, sent_point, sent_signal, is_own_reference, is_other_reference, port_reference}
 use Rattle.cell_tx.specs.Load.{is_loaded, load_c_init, load_point, loaded_element, sent_element}
 use Rattle.cell_tx.specs.Block.{port_bit, port_point, scrambled_bit}
 use Rattle.cell_tx.specs.Grid.{is_primary, is_secondary, has_broadcast, is_indicator, is_control, is_shared, port_channel_value, port_element}
@@ -44,7 +42,6 @@ use Rattle.lte_types.specs.declared.numerology.Prefix.{Prefix}
 use Rattle.lte_types.specs.Numerology.{normal, half_of, symbols_of_slot, useful_start, symbol_of}
 use Rattle.lte_types.specs.Timing.{number_of}
 use Rattle.cell_tx.specs.Sent.{Elements, prefix_slot_sample, prefix_frame_sample, prefix_sent, sent}
-use Rattle.cell_tx.proofs.Elements.{reference_at_is}
 
 -- ---- elements
 
@@ -85,26 +82,17 @@ crossed_full f full i =
     (record { re = before.re; im = negative_full (f (i - 1)).im before.im })
 
 -- what holds of points and of 0 holds of what a port sends of points
-point_all : (P : Cpx → Type 0) → ((z : Cpx) → IsPoint z → P z) → P nothing → (carrier : Carrier) (number : ℕ) (f : ℕ → Cpx) → ((i : ℕ) → IsPoint (f i)) → (i : ℕ) → P (point_by carrier number f i)
-point_all P full none OnePort number f points i = full _ (points i)
-point_all P full none LongPrefix number f points i = full _ (points i)
-point_all P full none TwoPorts number f points i = pick P (nat_lt number 1) _ _ (full _ (points i)) (full _ (crossed_full f points i))
-point_all P full none FourPorts number f points i =
-    pick P (nat_eq (i / 2 % 2) (number % 2)) _ _
-    (pick P (nat_lt number 2) _ _ (full _ (points i)) (full _ (crossed_full f points i))) none
-
 sent_points_all : (P : Cpx → Type 0) → ((z : Cpx) → IsPoint z → P z) → P nothing → (port : Port) (f : ℕ → Cpx) → ((i : ℕ) → IsPoint (f i)) → (i : ℕ) → P (sent_point port f i)
-sent_points_all P full none port f points i = point_all P full none port.carrier port.number f points i
+sent_points_all P full none port f points i =
+    pick P (nat_eq (ports_of port.carrier) 1) _ _ (full _ (points i))
+    (pick P (nat_eq (ports_of port.carrier) 2) _ _ (paired 1) (pick P (nat_eq (i / 2 % 2) (port.number % 2)) _ _ (paired 2) none))
+  where
+    paired : (half : ℕ) → P (paired_point half port.number f i)
+    paired half = pick P (nat_lt port.number half) _ _ (full _ (points i)) (full _ (crossed_full f points i))
 
 -- the reference signals
-full_by : (carrier : Carrier) (identity slot symbol k : ℕ) → IsPoint (reference_by carrier identity slot symbol k)
-full_by OnePort identity slot symbol k = subst IsPoint (sym (reference_at_is identity slot symbol k)) (reference-IsPoint identity slot symbol (k / 6))
-full_by TwoPorts identity slot symbol k = subst IsPoint (sym (reference_at_is identity slot symbol k)) (reference-IsPoint identity slot symbol (k / 6))
-full_by LongPrefix identity slot symbol k = pattern_reference-IsPoint long_prefix identity slot symbol (k / 6)
-full_by FourPorts identity slot symbol k = subst IsPoint (sym (reference_at_is identity slot symbol k)) (reference-IsPoint identity slot symbol (k / 6))
-
 pub reference_full : (port : Port) (identity slot symbol k : ℕ) → IsPoint (port_reference port identity slot symbol k)
-reference_full port identity slot symbol k = full_by port.carrier identity slot symbol k
+reference_full port identity slot symbol k = pattern_reference-IsPoint (first_pattern port) identity slot symbol (k / 6)
 
 channel_all : (P : Cpx → Type 0) → ((z : Cpx) → IsPoint z → P z) → P nothing → (port : Port) (plan : CellPlan) (sfn subframe symbol k : ℕ) → P (port_channel_value port plan sfn subframe symbol k)
 unfolding port_channel_value

@@ -1,59 +1,38 @@
 -- The elements of a grid, case by case.
-use Rattle.std.proofs.Common.{◌≡◌, ℕ, ◌+◌, ◌*◌, ◌/◌, ◌%◌, ◌<◌, ◌⊎◌, inl, inr, Bool, true, false, not, ◌&&◌, ◌||◌, nat_eq, nat_lt, Option, Some, None, List, get_or, arith, refl, sym, ap, ◌∙◌, eq-eqb, eqb-true}
+use Rattle.std.proofs.Common.{◌≡◌, ℕ, zero, suc, ◌+◌, ◌*◌, ◌/◌, ◌%◌, ◌<◌, ◌≤◌, ◌⊎◌, inl, inr, Bool, true, false, not, ◌&&◌, ◌||◌, nat_eq, nat_lt, Option, Some, None, List, get_or, ◌-◌, arith, refl, sym, subst, ap, ◌∙◌, eq-eqb, eqb-true}
 use Rattle.std.specs.Prelude.{if◌then◌else◌}
 use Rattle.std.specs.Option.{unwrap_or}
 use Rattle.std.proofs.lemmas.Bool.Decides.{nat_tests}
 use Rattle.cs_num.specs.declared.Cpx.{Cpx}
 use Rattle.cs_num.specs.Complex.{nothing}
 use Rattle.crs.specs.declared.pattern.Pattern.{Pattern}
-use Rattle.crs.specs.Reference.{port_0, pattern_of, long_prefix, has_pilots, pattern_first, pattern_list, pattern_reference, is_pattern_place, first_subcarrier, reference, reference_at, is_reference, is_second_reference, is_upper_reference, upper_first, upper_pair, upper_list}
+use Rattle.crs.specs.Reference.{port_0, port_1, pattern_of, pattern_first, pattern_list, pattern_reference, is_pattern_place, first_subcarrier, reference, reference_at, is_reference, is_second_reference, is_upper_reference, upper_first}
+use Rattle.crs.specs.Ports.{is_reference_by, is_reference_of_any}
 use Rattle.crs.proofs.Values.{no_pair, reference-of_port_0, get_or-pattern_list}
-use Rattle.std.proofs.lemmas.List.FromFn.{get_or-map-range_with_len}
 use Rattle.cell_tx.specs.declared.antenna.Port.{Port}
 use Rattle.lte_types.specs.declared.carrier.Carrier.{Carrier}
 use Rattle.lte_types.specs.declared.carrier.Carrier.TheVariants.{OnePort, TwoPorts, LongPrefix, FourPorts}
 use Rattle.cell_plan.specs.declared.cell.CellPlan.{CellPlan}
-use Rattle.cell_tx.specs.Ports.{port_by, port_of_four, port_symbols, port_slot, first_pattern, has_control, sent_signal, is_lower_reference, is_reference_by, is_reference_of_any, reference_by, is_own_reference, is_other_reference}
+use Rattle.lte_types.specs.Carrier.{ports_of}
+use Rattle.cell_tx.specs.Ports.{port_symbols, port_slot, first_pattern, port_reference, has_control, sent_signal, is_own_reference, is_other_reference}
 use Rattle.cell_tx.specs.Grid.{is_primary, is_secondary, has_broadcast, is_indicator, is_control, is_shared, has_system_information, reference_value, primary_value, secondary_value, broadcast_value, system_value, port_channel_value, port_element}
 use Rattle.cell_tx.specs.Load.{is_signal_symbol, is_taken, is_loaded, load_point, loaded_element, sent_element}
-use Rattle.cell_tx.specs.Rows.{port_reference_if, lower_test, any_lower_test, upper_test, indicator_if, control_if, shared_if, system_if, channel_if, open_value}
+use Rattle.cell_tx.specs.Rows.{port_reference_if, lower_test, any_lower_test, upper_test, any_upper_test, indicator_if, control_if, shared_if, system_if, channel_if, open_value}
 
 -- ---- reference places
 
--- what the code finds at a place, by whether it is one of the port's own twelve and of any port's
-abbrev pub found : Bool → Bool → Cpx → Option Cpx
-found own any value = if own then Some value else (if any then Some nothing else None)
-
-pub reference_at_is : (identity slot symbol k : ℕ) → reference_at identity slot symbol k ≡ reference identity slot symbol (k / 6)
+-- with the normal prefix the values and places of ports 0 and 1
+pub normal_reference : (identity slot symbol k : ℕ) → pattern_reference port_0 identity slot symbol (k / 6) ≡ reference_at identity slot symbol k
 unfolding reference_at
-reference_at_is identity slot symbol k = refl
+normal_reference identity slot symbol k = reference-of_port_0 identity slot symbol (k / 6)
 
-reference_of_port_0 : (identity slot symbol k : ℕ) → pattern_reference port_0 identity slot symbol (k / 6) ≡ reference_at identity slot symbol k
-reference_of_port_0 identity slot symbol k = reference-of_port_0 identity slot symbol (k / 6) ∙ sym (reference_at_is identity slot symbol k)
-
-is_reference_of : (identity symbol k : ℕ) → is_pattern_place port_0 identity symbol k ≡ is_reference identity symbol k
+pub is_zeroth : (identity symbol k : ℕ) → is_pattern_place port_0 identity symbol k ≡ is_reference identity symbol k
 unfolding is_reference first_subcarrier
-is_reference_of identity symbol k = refl
+is_zeroth identity symbol k = refl
 
-no_place : (pattern : Pattern) (identity symbol k : ℕ) → nat_eq symbol 0 ≡ false → nat_eq symbol pattern.later ≡ false → is_pattern_place pattern identity symbol k ≡ false
-no_place pattern identity symbol k e f = rw (e, f) refl
-
-pub no_reference : (identity symbol k : ℕ) → nat_eq symbol 0 ≡ false → nat_eq symbol 4 ≡ false → is_reference identity symbol k ≡ false
-no_reference identity symbol k e f = sym (is_reference_of identity symbol k) ∙ no_place port_0 identity symbol k e f
-
--- the second port has the places three subcarriers on
-second_row : (identity symbol k : ℕ) → (symbol ≡ 0) ⊎ (symbol ≡ 4) → is_second_reference identity symbol k ≡ nat_eq (k % 6) ((pattern_first port_0 identity symbol + 3) % 6)
+pub is_second : (identity symbol k : ℕ) → is_pattern_place port_1 identity symbol k ≡ is_second_reference identity symbol k
 unfolding is_second_reference
-second_row identity symbol k (inl e) = let same : (3 + identity) % 6 ≡ ((0 + identity) % 6 + 3) % 6 = omega arith in rw e (ap (nat_eq (k % 6)) same)
-second_row identity symbol k (inr e) = let same : (0 + identity) % 6 ≡ ((3 + identity) % 6 + 3) % 6 = omega arith in rw e (ap (nat_eq (k % 6)) same)
-
-pub no_second_reference : (identity symbol k : ℕ) → nat_eq symbol 0 ≡ false → nat_eq symbol 4 ≡ false → is_second_reference identity symbol k ≡ false
-unfolding is_second_reference
-no_second_reference identity symbol k e f = rw (e, f) refl
-
-no_upper_reference : (port identity slot symbol k : ℕ) → nat_eq symbol 1 ≡ false → is_upper_reference port identity slot symbol k ≡ false
-unfolding is_upper_reference
-no_upper_reference port identity slot symbol k e = rw e refl
+is_second identity symbol k = refl
 
 -- ---- tests of places
 
@@ -64,30 +43,31 @@ or-false false = refl
 pub both_false : (a b : Bool) → a ≡ false → b ≡ false → (a || b) ≡ false
 both_false a b e f = rw (e, f) refl
 
-either_false : (t a b : Bool) → a ≡ false → b ≡ false → (if t then a else b) ≡ false
-either_false true a b e f = e
-either_false false a b e f = f
-
-alike : (t a b c d : Bool) → a ≡ c → b ≡ d → (if t then a else b) ≡ (if t then c else d)
-alike true a b c d e f = e
-alike false a b c d e f = f
-
 or_alike : (a b c d : Bool) → a ≡ c → b ≡ d → (a || b) ≡ (c || d)
 or_alike a b c d e f = rw (e, f) refl
 
--- any of four tests, where the last two or the first two fail
-first_two : (a c d : Bool) → c ≡ false → d ≡ false → a ≡ (a || (c || d))
-first_two a c d e f = rw (e, f) (or-false a)
+-- what the code finds at a place, by whether it is one of the port's own twelve and of any port's
+abbrev pub found : Bool → Bool → Cpx → Option Cpx
+found own any value = if own then Some value else (if any then Some nothing else None)
 
-last_two : (a b c : Bool) → a ≡ false → b ≡ false → c ≡ ((a || b) || c)
-last_two a b c e f = rw (e, f) refl
+chosen : (a b c d : Bool) (x y : Cpx) → a ≡ c → b ≡ d → x ≡ y → found a b x ≡ (if c then Some y else (if not c && d then Some nothing else None))
+chosen a b c d x y e f g = rw (e, f, g) (by c)
+  where
+    by : (c : Bool) → (if c then Some y else (if d then Some nothing else None)) ≡ (if c then Some y else (if not c && d then Some nothing else None))
+    by true = refl
+    by false = refl
 
--- one of two tests, where the first is known
-pub by_first : (m n : ℕ) (b : Bool) → m ≡ n → nat_eq m n ≡ (nat_eq m n || b)
-by_first m n b e = rw (eq-eqb m n e) refl
+-- ---- a port by its number: 0, 1, or any other
 
-pub by_second : (m n : ℕ) (b : Bool) → (m ≡ n → ⊥) → b ≡ (nat_eq m n || b)
-by_second m n b other = let no : nat_eq m n ≡ false = grind (arith, nat_tests) in rw no refl
+data IsNumber : ℕ → Type 0 where
+  Zeroth : IsNumber 0
+  First : IsNumber 1
+  Upper : (number : ℕ) → nat_lt number 2 ≡ false → IsNumber number
+
+number_is : (number : ℕ) → IsNumber number
+number_is zero = Zeroth
+number_is (suc zero) = First
+number_is (suc (suc n)) = Upper (suc (suc n)) (let late : 2 ≤ suc (suc n) = omega arith in grind (arith, nat_tests))
 
 -- ---- places without reference signals
 
@@ -98,44 +78,58 @@ pub none_of : (port : Port) (identity slot symbol k : ℕ) → is_own_reference 
     port_reference_if port identity slot symbol k ≡ None
 none_of port identity slot symbol k e f = neither_is _ _ _ e f
 
-pub no_lower : (number identity symbol k : ℕ) → is_reference identity symbol k ≡ false → is_second_reference identity symbol k ≡ false → is_lower_reference number identity symbol k ≡ false
-no_lower number identity symbol k e f = either_false (nat_eq number 0) _ _ e f
+no_place : (pattern : Pattern) (identity symbol k : ℕ) → nat_eq symbol 0 ≡ false → nat_eq symbol pattern.later ≡ false → is_pattern_place pattern identity symbol k ≡ false
+no_place pattern identity symbol k e f = rw (e, f) refl
 
-no_own : (carrier : Carrier) (number identity slot symbol k : ℕ) → nat_eq symbol 0 ≡ false → nat_eq symbol 1 ≡ false → nat_eq symbol (pattern_of carrier 0).later ≡ false →
-    is_reference_by carrier number identity slot symbol k ≡ false
-no_own OnePort number identity slot symbol k e g f = no_reference identity symbol k e f
-no_own TwoPorts number identity slot symbol k e g f = no_lower number identity symbol k (no_reference identity symbol k e f) (no_second_reference identity symbol k e f)
-no_own LongPrefix number identity slot symbol k e g f = no_place long_prefix identity symbol k e f
-no_own FourPorts number identity slot symbol k e g f =
-    either_false (nat_lt number 2) _ _ (no_lower number identity symbol k (no_reference identity symbol k e f) (no_second_reference identity symbol k e f)) (no_upper_reference number identity slot symbol k g)
+no_upper_reference : (port identity slot symbol k : ℕ) → nat_eq symbol 1 ≡ false → is_upper_reference port identity slot symbol k ≡ false
+unfolding is_upper_reference
+no_upper_reference port identity slot symbol k e = rw e refl
 
-no_any : (carrier : Carrier) (identity slot symbol k : ℕ) → nat_eq symbol 0 ≡ false → nat_eq symbol 1 ≡ false → nat_eq symbol (pattern_of carrier 0).later ≡ false →
+-- any of the ports of a carrier, where none of four has a place
+pub none_of_any : (carrier : Carrier) (identity slot symbol k : ℕ) → ((number : ℕ) → is_reference_by carrier number identity slot symbol k ≡ false) →
     is_reference_of_any carrier identity slot symbol k ≡ false
-no_any OnePort identity slot symbol k e g f = no_reference identity symbol k e f
-no_any TwoPorts identity slot symbol k e g f = both_false _ _ (no_reference identity symbol k e f) (no_second_reference identity symbol k e f)
-no_any LongPrefix identity slot symbol k e g f = no_place long_prefix identity symbol k e f
-no_any FourPorts identity slot symbol k e g f =
-    both_false _ _ (both_false _ _ (no_reference identity symbol k e f) (no_second_reference identity symbol k e f))
-    (both_false _ _ (no_upper_reference 2 identity slot symbol k g) (no_upper_reference 3 identity slot symbol k g))
+none_of_any OnePort identity slot symbol k none = both_false _ _ (none 0) refl
+none_of_any TwoPorts identity slot symbol k none = both_false _ _ (none 0) (both_false _ _ (none 1) refl)
+none_of_any LongPrefix identity slot symbol k none = both_false _ _ (none 0) refl
+none_of_any FourPorts identity slot symbol k none = both_false _ _ (none 0) (both_false _ _ (none 1) (both_false _ _ (none 2) (both_false _ _ (none 3) refl)))
 
 -- other symbols have no reference places of any port
+no_own : (carrier : Carrier) (number identity slot symbol k : ℕ) → nat_eq symbol 0 ≡ false → nat_eq symbol 1 ≡ false → nat_eq symbol (pattern_of carrier 0).later ≡ false →
+    is_reference_by carrier number identity slot symbol k ≡ false
+no_own carrier number identity slot symbol k e g f =
+    either_false (nat_lt number 2) _ _ (no_place (pattern_of carrier number) identity symbol k e f) (no_upper_reference number identity slot symbol k g)
+  where
+    either_false : (t a b : Bool) → a ≡ false → b ≡ false → (if t then a else b) ≡ false
+    either_false true a b e f = e
+    either_false false a b e f = f
+
 pub no_port_reference : (port : Port) (identity slot symbol k : ℕ) → nat_eq symbol 0 ≡ false → nat_eq symbol 1 ≡ false → nat_eq symbol (first_pattern port).later ≡ false →
     port_reference_if port identity slot symbol k ≡ None
 no_port_reference port identity slot symbol k e g f =
-    none_of port identity slot symbol k (no_own port.carrier port.number identity slot symbol k e g f) (no_any port.carrier identity slot symbol k e g f)
+    none_of port identity slot symbol k (no_own port.carrier port.number identity slot symbol k e g f)
+    (none_of_any port.carrier identity slot symbol k (λ number. no_own port.carrier number identity slot symbol k e g f))
 
--- symbol 1 has those of four ports alone
-pub no_second_row : (carrier : Carrier) (number identity slot k : ℕ) → (carrier ≡ FourPorts → ⊥) → port_reference_if (port_by carrier number) identity slot 1 k ≡ None
-no_second_row OnePort number identity slot k other =
-    none_of (port_by OnePort number) identity slot 1 k (no_reference identity 1 k refl refl) (no_reference identity 1 k refl refl)
-no_second_row TwoPorts number identity slot k other =
-    let none = no_reference identity 1 k refl refl in
-    let none_second = no_second_reference identity 1 k refl refl in
-    none_of (port_by TwoPorts number) identity slot 1 k (no_lower number identity 1 k none none_second) (both_false _ _ none none_second)
-no_second_row LongPrefix number identity slot k other = refl
-no_second_row FourPorts number identity slot k other = absurd (other refl)
+-- symbol 1 has none of ports 0 and 1
+not_in_first : (carrier : Carrier) (number identity k : ℕ) → is_pattern_place (pattern_of carrier number) identity 1 k ≡ false
+not_in_first OnePort number identity k = refl
+not_in_first TwoPorts number identity k = refl
+not_in_first LongPrefix number identity k = refl
+not_in_first FourPorts number identity k = refl
 
-module _ (pattern : Pattern) (pilots : List (ℕ × Cpx)) (identity slot symbol k : ℕ) (row : (symbol ≡ 0) ⊎ (symbol ≡ pattern.later)) (is : pilots ≡ pattern_list pattern identity slot symbol) where
+any_in_first : (carrier : Carrier) (identity slot k : ℕ) → is_reference_of_any carrier identity slot 1 k
+    ≡ any_upper_test carrier (is_upper_reference 2 identity slot 1 k) (is_upper_reference 3 identity slot 1 k)
+any_in_first OnePort identity slot k = refl
+any_in_first TwoPorts identity slot k = refl
+any_in_first LongPrefix identity slot k = refl
+any_in_first FourPorts identity slot k = sym (or_alike _ _ _ _ refl (or-false _))
+
+pub no_second_row : (port : Port) (identity slot k : ℕ) → nat_lt port.number 2 ≡ true → nat_lt 2 (ports_of port.carrier) ≡ false → port_reference_if port identity slot 1 k ≡ None
+no_second_row port identity slot k low few =
+    none_of port identity slot 1 k (rw low (not_in_first port.carrier port.number identity k)) (any_in_first port.carrier identity slot k ∙ rw few refl)
+
+-- ---- the row of ports 0 and 1
+
+module _ (pattern : Pattern) (pilots : List (ℕ × Cpx)) (identity slot symbol k : ℕ) (is : pilots ≡ pattern_list pattern identity slot symbol) where
   first_is : (get_or pilots 0 no_pair).0 % 6 ≡ pattern_first pattern identity symbol
   first_is =
       let zeroth : (6 * 0 + pattern_first pattern identity symbol) % 6 ≡ pattern_first pattern identity symbol = omega arith in
@@ -144,128 +138,130 @@ module _ (pattern : Pattern) (pilots : List (ℕ × Cpx)) (identity slot symbol 
   value_is : k < 72 → (get_or pilots (k / 6) no_pair).1 ≡ pattern_reference pattern identity slot symbol (k / 6)
   value_is inside = ap (λ (pair : ℕ × Cpx). pair.1) (ap (λ list. get_or list (k / 6) no_pair) is ∙ get_or-pattern_list pattern identity slot symbol (k / 6) no_pair (omega arith))
 
-  has : (a b : Bool) → (symbol ≡ 0 → a ≡ true) → (symbol ≡ pattern.later → b ≡ true) → (a || b) ≡ true
-  has true b first later = refl
-  has false b first later = elim row [ inl e ↦ absurd (let f = first e in cc) | inr e ↦ later e ]
+-- the two symbols with reference places of ports 0 and 1 of a carrier
+abbrev IsRow : Carrier → ℕ → Type 0
+IsRow carrier symbol = (symbol ≡ 0) ⊎ (symbol ≡ (pattern_of carrier 0).later)
 
-  own : nat_eq (k % 6) ((get_or pilots 0 no_pair).0 % 6) ≡ is_pattern_place pattern identity symbol k
-  own =
-      let pilots_here : has_pilots pattern symbol ≡ true = has (nat_eq symbol 0) (nat_eq symbol pattern.later) (eq-eqb symbol 0) (eq-eqb symbol pattern.later) in
-      ap (nat_eq (k % 6)) first_is ∙ sym (ap (λ b. b && nat_eq (k % 6) (pattern_first pattern identity symbol)) pilots_here)
-
--- a place of the second port, by the first subcarrier of the first
-second : (pilots : List (ℕ × Cpx)) (identity slot symbol k : ℕ) → (symbol ≡ 0) ⊎ (symbol ≡ 4) → pilots ≡ pattern_list port_0 identity slot symbol →
-    nat_eq (k % 6) (((get_or pilots 0 no_pair).0 % 6 + 3) % 6) ≡ is_second_reference identity symbol k
-second pilots identity slot symbol k row is =
-    ap (λ (n : ℕ). nat_eq (k % 6) ((n + 3) % 6)) (first_is port_0 pilots identity slot symbol k row is) ∙ sym (second_row identity symbol k row)
-
-chosen : (a b c d : Bool) (x y : Cpx) → a ≡ c → b ≡ d → x ≡ y → found a b x ≡ (if c then Some y else (if not c && d then Some nothing else None))
-chosen a b c d x y e f g = rw (e, f, g) (by c)
+has : (symbol later : ℕ) → (symbol ≡ 0) ⊎ (symbol ≡ later) → (nat_eq symbol 0 || nat_eq symbol later) ≡ true
+has symbol later (inl e) = rw (eq-eqb symbol 0 e) refl
+has symbol later (inr e) = by (nat_eq symbol 0)
   where
-    by : (c : Bool) → (if c then Some y else (if d then Some nothing else None)) ≡ (if c then Some y else (if not c && d then Some nothing else None))
+    by : (b : Bool) → (b || nat_eq symbol later) ≡ true
     by true = refl
-    by false = refl
+    by false = eq-eqb symbol later e
 
--- a place is one of the twelve of port 0, or of port 1
-abbrev is_zero : List (ℕ × Cpx) → ℕ → Bool
-is_zero pilots k = nat_eq (k % 6) ((get_or pilots 0 no_pair).0 % 6)
+in_row : (pattern : Pattern) (identity symbol k n : ℕ) → (symbol ≡ 0) ⊎ (symbol ≡ pattern.later) → n ≡ pattern_first pattern identity symbol → nat_eq (k % 6) n ≡ is_pattern_place pattern identity symbol k
+in_row pattern identity symbol k n row e = ap (nat_eq (k % 6)) e ∙ sym (ap (λ b. b && nat_eq (k % 6) (pattern_first pattern identity symbol)) (has symbol pattern.later row))
 
-abbrev is_one : List (ℕ × Cpx) → ℕ → Bool
-is_one pilots k = nat_eq (k % 6) (((get_or pilots 0 no_pair).0 % 6 + 3) % 6)
+-- port 1 has its first place three subcarriers on
+turned : (identity : ℕ) (b : Bool) → (((if b then 0 else 3) + identity) % 6 + 3) % 6 ≡ ((if b then 3 else 0) + identity) % 6
+turned identity true = omega arith
+turned identity false = omega arith
 
-single : (symbol : ℕ) → (symbol ≡ 0) ⊎ (symbol ≡ 4) → nat_eq symbol 1 ≡ false
-single symbol row = elim row [ inl e ↦ rw e refl | inr e ↦ rw e refl ]
+single : (carrier : Carrier) (symbol : ℕ) → IsRow carrier symbol → nat_eq symbol 1 ≡ false
+single carrier symbol (inl e) = rw e refl
+single OnePort symbol (inr e) = rw e refl
+single TwoPorts symbol (inr e) = rw e refl
+single LongPrefix symbol (inr e) = rw e refl
+single FourPorts symbol (inr e) = rw e refl
 
-module _ (pilots : List (ℕ × Cpx)) (identity slot symbol k : ℕ) (row : (symbol ≡ 0) ⊎ (symbol ≡ 4)) (is : pilots ≡ pattern_list port_0 identity slot symbol) where
-  zero_is : is_zero pilots k ≡ is_reference identity symbol k
-  zero_is = own port_0 pilots identity slot symbol k row is ∙ is_reference_of identity symbol k
+-- a place is one of the twelve that begin with a subcarrier, or three subcarriers on
+abbrev is_zero : ℕ → ℕ → Bool
+is_zero n k = nat_eq (k % 6) n
 
-  lower_is : (number : ℕ) → (if nat_eq number 0 then is_zero pilots k else is_one pilots k) ≡ is_lower_reference number identity symbol k
-  lower_is number = alike (nat_eq number 0) _ _ _ _ zero_is (second pilots identity slot symbol k row is)
+abbrev is_one : ℕ → ℕ → Bool
+is_one n k = nat_eq (k % 6) ((n + 3) % 6)
 
-  both_are : (is_zero pilots k || is_one pilots k) ≡ (is_reference identity symbol k || is_second_reference identity symbol k)
-  both_are = or_alike _ _ _ _ zero_is (second pilots identity slot symbol k row is)
+module _ (carrier : Carrier) (identity slot symbol k n : ℕ) (row : IsRow carrier symbol) (e : n ≡ pattern_first (pattern_of carrier 0) identity symbol) where
+  zero_is : is_zero n k ≡ is_pattern_place (pattern_of carrier 0) identity symbol k
+  zero_is = in_row (pattern_of carrier 0) identity symbol k n row e
 
-own_by : (carrier : Carrier) (number : ℕ) (pilots : List (ℕ × Cpx)) (identity slot symbol k : ℕ) → (symbol ≡ 0) ⊎ (symbol ≡ (pattern_of carrier 0).later)
-    → pilots ≡ pattern_list (pattern_of carrier 0) identity slot symbol → lower_test carrier number (is_zero pilots k) (is_one pilots k) ≡ is_reference_by carrier number identity slot symbol k
-own_by OnePort number pilots identity slot symbol k row is = zero_is pilots identity slot symbol k row is
-own_by TwoPorts number pilots identity slot symbol k row is = lower_is pilots identity slot symbol k row is number
-own_by LongPrefix number pilots identity slot symbol k row is = own long_prefix pilots identity slot symbol k row is
-own_by FourPorts number pilots identity slot symbol k row is =
-    alike (nat_lt number 2) _ _ _ _ (lower_is pilots identity slot symbol k row is number) (sym (no_upper_reference number identity slot symbol k (single symbol row)))
+  one_is : is_one n k ≡ is_pattern_place (pattern_of carrier 1) identity symbol k
+  one_is = in_row (pattern_of carrier 1) identity symbol k ((n + 3) % 6) row (ap (λ (m : ℕ). (m + 3) % 6) e ∙ turned identity (nat_eq symbol 0))
 
-any_by : (carrier : Carrier) (pilots : List (ℕ × Cpx)) (identity slot symbol k : ℕ) → (symbol ≡ 0) ⊎ (symbol ≡ (pattern_of carrier 0).later)
-    → pilots ≡ pattern_list (pattern_of carrier 0) identity slot symbol → any_lower_test carrier (is_zero pilots k) (is_one pilots k) ≡ is_reference_of_any carrier identity slot symbol k
-any_by OnePort pilots identity slot symbol k row is = zero_is pilots identity slot symbol k row is
-any_by TwoPorts pilots identity slot symbol k row is = both_are pilots identity slot symbol k row is
-any_by LongPrefix pilots identity slot symbol k row is = own long_prefix pilots identity slot symbol k row is
-any_by FourPorts pilots identity slot symbol k row is =
-    both_are pilots identity slot symbol k row is
-    ∙ first_two _ _ _ (no_upper_reference 2 identity slot symbol k (single symbol row)) (no_upper_reference 3 identity slot symbol k (single symbol row))
+  no_upper : (number : ℕ) → is_upper_reference number identity slot symbol k ≡ false
+  no_upper number = no_upper_reference number identity slot symbol k (single carrier symbol row)
 
-value_by : (carrier : Carrier) (pilots : List (ℕ × Cpx)) (identity slot symbol k : ℕ) → (symbol ≡ 0) ⊎ (symbol ≡ (pattern_of carrier 0).later)
-    → pilots ≡ pattern_list (pattern_of carrier 0) identity slot symbol → k < 72 → (get_or pilots (k / 6) no_pair).1 ≡ reference_by carrier identity slot symbol k
-value_by OnePort pilots identity slot symbol k row is inside = value_is port_0 pilots identity slot symbol k row is inside ∙ reference_of_port_0 identity slot symbol k
-value_by TwoPorts pilots identity slot symbol k row is inside = value_is port_0 pilots identity slot symbol k row is inside ∙ reference_of_port_0 identity slot symbol k
-value_by LongPrefix pilots identity slot symbol k row is inside = value_is long_prefix pilots identity slot symbol k row is inside
-value_by FourPorts pilots identity slot symbol k row is inside = value_is port_0 pilots identity slot symbol k row is inside ∙ reference_of_port_0 identity slot symbol k
+  own_by : (number : ℕ) → IsNumber number → lower_test number (is_zero n k) (is_one n k) ≡ is_reference_by carrier number identity slot symbol k
+  own_by _ Zeroth = zero_is
+  own_by _ First = one_is
+  own_by _ (Upper number e) = rw e (sym (no_upper number))
+
+any_by : (carrier : Carrier) (identity slot symbol k n : ℕ) → IsRow carrier symbol → n ≡ pattern_first (pattern_of carrier 0) identity symbol →
+    any_lower_test carrier (is_zero n k) (is_one n k) ≡ is_reference_of_any carrier identity slot symbol k
+any_by OnePort identity slot symbol k n row e = or_alike _ _ _ _ (zero_is OnePort identity slot symbol k n row e) refl
+any_by TwoPorts identity slot symbol k n row e = or_alike _ _ _ _ (zero_is TwoPorts identity slot symbol k n row e) (one_is TwoPorts identity slot symbol k n row e ∙ or-false _)
+any_by LongPrefix identity slot symbol k n row e = or_alike _ _ _ _ (zero_is LongPrefix identity slot symbol k n row e) refl
+any_by FourPorts identity slot symbol k n row e =
+    or_alike _ _ _ _ (zero_is FourPorts identity slot symbol k n row e)
+    (one_is FourPorts identity slot symbol k n row e ∙ or-false _
+    ∙ or_alike _ _ _ _ refl (sym (both_false _ _ (no_upper FourPorts identity slot symbol k n row e 2) (both_false _ _ (no_upper FourPorts identity slot symbol k n row e 3) refl))))
 
 pub pilot_is : (port : Port) (pilots : List (ℕ × Cpx)) (identity slot symbol k : ℕ) → (symbol ≡ 0) ⊎ (symbol ≡ (first_pattern port).later)
     → pilots ≡ pattern_list (first_pattern port) identity slot symbol → k < 72 →
     (let n = (get_or pilots 0 no_pair).0 % 6 in
-    let zero_test = nat_eq (k % 6) n in
-    let one_test = nat_eq (k % 6) ((n + 3) % 6) in
     let value = (get_or pilots (k / 6) no_pair).1 in
-    found (lower_test port.carrier port.number zero_test one_test) (any_lower_test port.carrier zero_test one_test) value ≡ port_reference_if port identity slot symbol k)
+    found (lower_test port.number (is_zero n k) (is_one n k)) (any_lower_test port.carrier (is_zero n k) (is_one n k)) value ≡ port_reference_if port identity slot symbol k)
 pilot_is port pilots identity slot symbol k row is inside =
-    chosen _ _ _ _ _ _ (own_by port.carrier port.number pilots identity slot symbol k row is) (any_by port.carrier pilots identity slot symbol k row is)
-    (value_by port.carrier pilots identity slot symbol k row is inside)
+    let first = first_is (first_pattern port) pilots identity slot symbol k is in
+    chosen _ _ _ _ _ _ (own_by port.carrier identity slot symbol k _ row first port.number (number_is port.number)) (any_by port.carrier identity slot symbol k _ row first)
+    (value_is (first_pattern port) pilots identity slot symbol k is inside)
 
--- the row of ports 2 and 3
-get_or-upper_list : (port identity slot m : ℕ) → m < 12 → get_or (upper_list port identity slot) m no_pair ≡ upper_pair port identity slot m
-unfolding upper_list
-get_or-upper_list port identity slot m few = get_or-map-range_with_len (upper_pair port identity slot) 0 12 m m no_pair few (omega arith)
-
-upper_first_is : (pilots : List (ℕ × Cpx)) (identity slot : ℕ) → pilots ≡ upper_list 2 identity slot → (get_or pilots 0 no_pair).0 % 6 ≡ upper_first 2 identity slot
-upper_first_is pilots identity slot is =
-    let zeroth : (6 * 0 + upper_first 2 identity slot) % 6 ≡ upper_first 2 identity slot = omega arith in
-    ap (λ (pair : ℕ × Cpx). pair.0 % 6) (ap (λ list. get_or list 0 no_pair) is ∙ get_or-upper_list 2 identity slot 0 (omega arith)) ∙ zeroth
-
-upper_value_is : (pilots : List (ℕ × Cpx)) (identity slot k : ℕ) → pilots ≡ upper_list 2 identity slot → k < 72 → (get_or pilots (k / 6) no_pair).1 ≡ reference_at identity slot 1 k
-upper_value_is pilots identity slot k is inside =
-    ap (λ (pair : ℕ × Cpx). pair.1) (ap (λ list. get_or list (k / 6) no_pair) is ∙ get_or-upper_list 2 identity slot (k / 6) (omega (arith, inside)))
-    ∙ sym (reference_at_is identity slot 1 k)
+-- ---- the row of ports 2 and 3
 
 -- a port of even number has the places of port 2, one of odd number those three subcarriers on
-even_row : (port identity slot k n : ℕ) → n ≡ upper_first 2 identity slot → port % 2 ≡ 0 → nat_eq (k % 6) n ≡ is_upper_reference port identity slot 1 k
+even_row : (port identity slot k n : ℕ) → n ≡ upper_first 2 identity slot → port % 2 ≡ 0 → is_zero n k ≡ is_upper_reference port identity slot 1 k
 unfolding is_upper_reference
 even_row port identity slot k n e even = let same : n ≡ upper_first port identity slot = omega (arith, e, even) in ap (nat_eq (k % 6)) same
 
-odd_row : (port identity slot k n : ℕ) → n ≡ upper_first 2 identity slot → port % 2 ≡ 1 → nat_eq (k % 6) ((n + 3) % 6) ≡ is_upper_reference port identity slot 1 k
+odd_row : (port identity slot k n : ℕ) → n ≡ upper_first 2 identity slot → port % 2 ≡ 1 → is_one n k ≡ is_upper_reference port identity slot 1 k
 unfolding is_upper_reference
 odd_row port identity slot k n e odd = let same : (n + 3) % 6 ≡ upper_first port identity slot = omega (arith, e, odd) in ap (nat_eq (k % 6)) same
 
 upper_row : (port identity slot k n : ℕ) → n ≡ upper_first 2 identity slot →
-    (if nat_eq (port % 2) 0 then nat_eq (k % 6) n else nat_eq (k % 6) ((n + 3) % 6)) ≡ is_upper_reference port identity slot 1 k
+    (if nat_eq (port % 2) 0 then is_zero n k else is_one n k) ≡ is_upper_reference port identity slot 1 k
 upper_row port identity slot k n e = by (nat_eq (port % 2) 0) refl
   where
-    by : (b : Bool) → nat_eq (port % 2) 0 ≡ b → (if b then nat_eq (k % 6) n else nat_eq (k % 6) ((n + 3) % 6)) ≡ is_upper_reference port identity slot 1 k
+    by : (b : Bool) → nat_eq (port % 2) 0 ≡ b → (if b then is_zero n k else is_one n k) ≡ is_upper_reference port identity slot 1 k
     by true even = even_row port identity slot k n e (eqb-true (port % 2) 0 even)
     by false odd = odd_row port identity slot k n e (let other : port % 2 ≡ 1 = grind (arith, nat_tests) in other)
 
-pub upper_is : (number : ℕ) (pilots : List (ℕ × Cpx)) (identity slot k : ℕ) → pilots ≡ upper_list 2 identity slot → k < 72 →
-    (let n = (get_or pilots 0 no_pair).0 % 6 in
-    let two = nat_eq (k % 6) n in
-    let three = nat_eq (k % 6) ((n + 3) % 6) in
-    let value = (get_or pilots (k / 6) no_pair).1 in
-    found (upper_test number two three) (two || three) value ≡ port_reference_if (port_of_four number) identity slot 1 k)
-upper_is number pilots identity slot k is inside =
-    let none = no_reference identity 1 k refl refl in
-    let none_second = no_second_reference identity 1 k refl refl in
-    let first = upper_first_is pilots identity slot is in
-    chosen _ _ _ _ _ _ (alike (nat_lt number 2) _ _ _ _ (sym (no_lower number identity 1 k none none_second)) (upper_row number identity slot k _ first))
-    (or_alike _ _ _ _ (even_row 2 identity slot k _ first refl) (odd_row 3 identity slot k _ first refl) ∙ last_two _ _ _ none none_second)
-    (upper_value_is pilots identity slot k is inside)
+alike : (t a b c d : Bool) → a ≡ c → b ≡ d → (if t then a else b) ≡ (if t then c else d)
+alike true a b c d e f = e
+alike false a b c d e f = f
+
+any_alike : (t a b c d : Bool) → a ≡ c → b ≡ d → (t && (a || b)) ≡ (t && (c || d))
+any_alike t a b c d e f = rw (e, f) refl
+
+pub upper_is : (port : Port) (n : ℕ) (pilots : List (ℕ × Cpx)) (identity slot k : ℕ) → n ≡ upper_first 2 identity slot → pilots ≡ pattern_list (first_pattern port) identity slot 1 → k < 72 →
+    (let value = (get_or pilots (k / 6) no_pair).1 in
+    found (upper_test port.number (is_zero n k) (is_one n k)) (any_upper_test port.carrier (is_zero n k) (is_one n k)) value ≡ port_reference_if port identity slot 1 k)
+upper_is port n pilots identity slot k first is inside =
+    chosen _ _ _ _ _ _ (alike (nat_lt port.number 2) _ _ _ _ (sym (not_in_first port.carrier port.number identity k)) (upper_row port.number identity slot k n first))
+    (any_alike (nat_lt 2 (ports_of port.carrier)) _ _ _ _ (even_row 2 identity slot k n first refl) (odd_row 3 identity slot k n first refl) ∙ sym (any_in_first port.carrier identity slot k))
+    (value_is (first_pattern port) pilots identity slot 1 k is inside)
+
+-- ---- places by the four ports of the normal prefix
+
+-- where no port of four has a reference signal, no port sends one
+module _ (port : Port) (identity slot symbol k : ℕ) (seven : port_symbols port ≡ 7) (zeroth : is_reference identity symbol k ≡ false) (second : is_second_reference identity symbol k ≡ false)
+    (upper : (number : ℕ) → is_upper_reference number identity slot symbol k ≡ false) where
+  free_of : (number : ℕ) → IsNumber number → is_reference_by port.carrier number identity slot symbol k ≡ false
+  free_of _ Zeroth = subst (λ (n : ℕ). ((nat_eq symbol 0 || nat_eq symbol (n - 3)) && nat_eq (k % 6) (pattern_first port_0 identity symbol)) ≡ false) (sym seven) (is_zeroth identity symbol k ∙ zeroth)
+  free_of _ First = subst (λ (n : ℕ). ((nat_eq symbol 0 || nat_eq symbol (n - 3)) && nat_eq (k % 6) (pattern_first port_1 identity symbol)) ≡ false) (sym seven) (is_second identity symbol k ∙ second)
+  free_of _ (Upper number e) = rw e (upper number)
+
+  pub none_of_four : port_reference_if port identity slot symbol k ≡ None
+  none_of_four =
+      none_of port identity slot symbol k (free_of port.number (number_is port.number)) (none_of_any port.carrier identity slot symbol k (λ number. free_of number (number_is number)))
+
+-- at a place of its own a port sends its reference signal
+pub own_sent : (port : Port) (identity slot symbol k : ℕ) → is_own_reference port identity slot symbol k ≡ true → port_reference_if port identity slot symbol k ≡ Some (port_reference port identity slot symbol k)
+own_sent port identity slot symbol k e = by _ _ _ e
+  where
+    by : (own : Bool) (x : Cpx) (o : Option Cpx) → own ≡ true → (if own then Some x else o) ≡ Some x
+    by true x o e = refl
+    by false x o e = absurd cc
 
 -- ---- the cases of an element
 

@@ -1,28 +1,24 @@
 -- What the frames of a cell have in common.
-use Rattle.std.proofs.Common.{◌≡◌, ℕ, ◌+◌, ◌*◌, ◌/◌, ◌%◌, ◌<◌, ◌≤◌, ◌⊎◌, inl, inr, Bool, true, false, nat_eq, nat_le, nat_lt, arith, refl, sym, ap, ◌∙◌, eqb-true, mod-lt}
-use Rattle.std.specs.Prelude.{◌&&◌}
-use Rattle.std.proofs.lemmas.Bool.{cases_lt}
+use Rattle.std.proofs.Common.{◌≡◌, ℕ, ◌+◌, ◌*◌, ◌/◌, ◌%◌, ◌<◌, ◌≤◌, ◌⊎◌, inl, inr, Bool, true, false, nat_eq, arith, refl, sym, ap, ◌∙◌, mod-lt}
+use Rattle.std.specs.Prelude.{if◌then◌else◌}
 use Rattle.std.proofs.lemmas.Bool.Decides.{nat_tests}
 use Rattle.finite.specs.Lists.{values_below}
 use Rattle.finite.proofs.Lists.{values_below_same}
+use Rattle.cs_num.specs.declared.Cpx.{Cpx}
 use Rattle.cs_num.specs.Complex.{sample_of}
 use Rattle.fold128.proofs.Samples.{useful_same}
 use Rattle.lte_types.specs.declared.numerology.Prefix.{Prefix}
-use Rattle.lte_types.specs.Numerology.{normal, IsPrefix, symbols_of_slot, symbol_of}
-use Rattle.grid_map.specs.Place.{place}
-use Rattle.grid_map.specs.Broadcast.{is_pbch}
+use Rattle.lte_types.specs.Numerology.{normal, extended, IsPrefix, symbols_of_slot, symbol_of}
 use Rattle.cell_tx.specs.declared.antenna.Port.{Port}
-use Rattle.lte_types.specs.declared.carrier.Carrier.{Carrier}
-use Rattle.lte_types.specs.declared.carrier.Carrier.TheVariants.{OnePort, TwoPorts, LongPrefix, FourPorts}
-use Rattle.lte_types.specs.Carrier.{prefix_of}
 use Rattle.cell_plan.specs.declared.cell.CellPlan.{CellPlan}
 use Rattle.cell_tx.specs.declared.layout.Carried.{Carried}
-use Rattle.cell_tx.specs.Ports.{port_by, port_of_four, port_prefix, has_control_by, has_control}
-use Rattle.cell_tx.specs.Grid.{is_broadcast, port_channel_value, port_element}
+use Rattle.cell_tx.specs.Ports.{port_prefix, has_control}
+use Rattle.cell_tx.specs.Grid.{has_broadcast, port_channel_value, port_element}
 use Rattle.cell_tx.specs.Control.{control_word, control_point}
 use Rattle.cell_tx.specs.Shared.{shared_point}
 use Rattle.cell_tx.specs.Sent.{Elements, prefix_frame_sample, prefix_sent}
-use Rattle.cell_tx.specs.Rows.{useful_place, frame_samples, IsCarried}
+use Rattle.cell_tx.specs.Rows.{useful_place, first_sample, frame_samples, IsCarried}
+use Rattle.cell_tx.proofs.Broadcast.{not_broadcast}
 use Rattle.cell_tx.proofs.Symbols.{with_prefix, frame_sample_is, slot_sample_is, frames_follow}
 
 -- ---- what system information depends on
@@ -43,79 +39,48 @@ carried_same plan a b carried e is = record {
 
 -- ---- elements that do not depend on the frame
 
-not_broadcast : (identity subframe symbol k : ℕ) → (subframe ≡ 0 → (symbol < 7) ⊎ (11 ≤ symbol)) → is_broadcast identity subframe symbol k ≡ false
-unfolding is_pbch
-not_broadcast identity subframe symbol k outside = settle (nat_eq subframe 0) refl
-  where
-    apart : (b c : Bool) → (symbol < 7) ⊎ (11 ≤ symbol) → (((nat_le 7 symbol && nat_lt symbol 11) && b) && c) ≡ false
-    apart b c (inl early) = let e : nat_le 7 symbol ≡ false = grind (arith, nat_tests) in rw e refl
-    apart b c (inr late) = let e : nat_lt symbol 11 ≡ false = grind (arith, nat_tests) in rw e (by (nat_le 7 symbol))
-      where
-        by : (a : Bool) → (((a && false) && b) && c) ≡ false
-        by true = refl
-        by false = refl
-
-    settle : (b : Bool) → nat_eq subframe 0 ≡ b → (b && is_pbch identity (place symbol k)) ≡ false
-    settle true e = apart _ _ (outside (eqb-true subframe 0 e))
-    settle false e = refl
+-- a place is in slot 1 only from its fifth symbol on, so that it is beside the broadcast channel
+abbrev IsBeside : Prefix → ℕ → ℕ → Type 0
+IsBeside prefix subframe symbol = 2 * subframe + symbol / symbols_of_slot prefix ≡ 1 → 4 ≤ symbol % symbols_of_slot prefix
 
 -- frames of these numbers have the same elements beside the broadcast channel and subframe 5
-abbrev pub AreSameBeside : Elements → ℕ → ℕ → Type 0
-AreSameBeside grid a b =
-    (subframe symbol k : ℕ) → (subframe ≡ 0 → (symbol < 7) ⊎ (11 ≤ symbol)) → (subframe ≡ 5 → ⊥) → grid a subframe symbol k ≡ grid b subframe symbol k
+abbrev pub AreSameBeside : Prefix → Elements → ℕ → ℕ → Type 0
+AreSameBeside prefix grid a b =
+    (subframe symbol k : ℕ) → IsBeside prefix subframe symbol → (subframe ≡ 5 → ⊥) → grid a subframe symbol k ≡ grid b subframe symbol k
 
-same_by : (carrier : Carrier) (number : ℕ) (plan : CellPlan) (a b : ℕ) → has_control_by carrier ≡ true → AreSameBeside (port_element (port_by carrier number) plan) a b
-unfolding port_element port_channel_value
-same_by OnePort number plan a b control subframe symbol k outside other =
-    let none = not_broadcast plan.identity subframe symbol k outside in
-    let e : nat_eq subframe 5 ≡ false = grind (arith, nat_tests) in
-    rw (none, e) refl
-same_by TwoPorts number plan a b control subframe symbol k outside other =
-    let none = not_broadcast plan.identity subframe symbol k outside in
-    let e : nat_eq subframe 5 ≡ false = grind (arith, nat_tests) in
-    rw (none, e) refl
-same_by LongPrefix number plan a b control subframe symbol k outside other = absurd cc
-same_by FourPorts number plan a b control subframe symbol k outside other = absurd cc
+-- and beside the broadcast channel alone
+abbrev pub AreSameBesideBroadcast : Prefix → Elements → ℕ → ℕ → Type 0
+AreSameBesideBroadcast prefix grid a b =
+    (subframe symbol k : ℕ) → IsBeside prefix subframe symbol → grid a subframe symbol k ≡ grid b subframe symbol k
 
-pub element_same : (port : Port) (plan : CellPlan) (a b : ℕ) → has_control port ≡ true → AreSameBeside (port_element port plan) a b
-element_same port plan a b control = same_by port.carrier port.number plan a b control
+-- what comes after a test that fails
+past : (t : Bool) (x y u v : Cpx) → t ≡ false → u ≡ v → (if t then x else u) ≡ (if t then y else v)
+past true x y u v e f = absurd cc
+past false x y u v e f = f
 
--- of a port of four, whose system information is not sent, they are the same beside the broadcast channel
-abbrev pub AreSameBesideBroadcast : Elements → ℕ → ℕ → Type 0
-AreSameBesideBroadcast grid a b =
-    (subframe symbol k : ℕ) → (subframe ≡ 0 → (symbol < 7) ⊎ (11 ≤ symbol)) → grid a subframe symbol k ≡ grid b subframe symbol k
+module _ (port : Port) (plan : CellPlan) (a b subframe symbol k : ℕ) where
+  of_channels : port_channel_value port plan a subframe symbol k ≡ port_channel_value port plan b subframe symbol k → port_element port plan a subframe symbol k ≡ port_element port plan b subframe symbol k
+  unfolding port_element
+  of_channels e = rw e refl
 
-pub element_of_four_same : (number : ℕ) (plan : CellPlan) (a b : ℕ) → AreSameBesideBroadcast (port_element (port_of_four number) plan) a b
-unfolding port_element port_channel_value
-element_of_four_same number plan a b subframe symbol k outside = let none = not_broadcast plan.identity subframe symbol k outside in rw none refl
+  module _ (out : IsBeside (port_prefix port) subframe symbol) where
+    none : has_broadcast port plan.identity subframe symbol k ≡ false
+    none = not_broadcast port plan.identity subframe symbol k out
 
--- without a control region they are the same beside slot 1
-abbrev pub AreSameBesideSlot : Prefix → Elements → ℕ → ℕ → Type 0
-AreSameBesideSlot prefix grid a b =
-    (subframe symbol k : ℕ) → (2 * subframe + symbol / symbols_of_slot prefix ≡ 1 → ⊥) → grid a subframe symbol k ≡ grid b subframe symbol k
+    channel_same : (subframe ≡ 5 → ⊥) → port_channel_value port plan a subframe symbol k ≡ port_channel_value port plan b subframe symbol k
+    unfolding port_channel_value
+    channel_same other = past _ _ _ _ _ none (let e : nat_eq subframe 5 ≡ false = grind (arith, nat_tests) in rw e refl)
 
-beside_slot : (subframe symbol : ℕ) → (2 * subframe + symbol / 7 ≡ 1 → ⊥) → subframe ≡ 0 → (symbol < 7) ⊎ (11 ≤ symbol)
-beside_slot subframe symbol other first = elim (cases_lt symbol 7) [
-  | inl early ↦ inl early
-  | inr late ↦ inr (elim (cases_lt symbol 14) [
-    | inl inside ↦ absurd (other (omega (arith, first, late, inside)))
-    | inr past ↦ omega (arith, past)
-  ])
-]
+    broadcast_alone : has_control port ≡ false → port_channel_value port plan a subframe symbol k ≡ port_channel_value port plan b subframe symbol k
+    unfolding port_channel_value
+    broadcast_alone without = past _ _ _ _ _ none (past _ _ _ _ _ without refl)
 
-slot_by : (carrier : Carrier) (number : ℕ) (plan : CellPlan) (a b : ℕ) → has_control_by carrier ≡ false → AreSameBesideSlot (prefix_of carrier) (port_element (port_by carrier number) plan) a b
-unfolding port_element port_channel_value
-slot_by OnePort number plan a b control subframe symbol k other = absurd cc
-slot_by TwoPorts number plan a b control subframe symbol k other = absurd cc
-slot_by LongPrefix number plan a b control subframe symbol k other =
-    let e : nat_eq (2 * subframe + symbol / 6) 1 ≡ false = grind (arith, nat_tests) in
-    rw e refl
-slot_by FourPorts number plan a b control subframe symbol k other =
-    let none = not_broadcast plan.identity subframe symbol k (beside_slot subframe symbol other) in
-    rw none refl
+pub element_same : (port : Port) (plan : CellPlan) (a b : ℕ) → AreSameBeside (port_prefix port) (port_element port plan) a b
+element_same port plan a b subframe symbol k out other = of_channels port plan a b subframe symbol k (channel_same port plan a b subframe symbol k out other)
 
-pub slot_same : (port : Port) (plan : CellPlan) (a b : ℕ) → has_control port ≡ false → AreSameBesideSlot (port_prefix port) (port_element port plan) a b
-slot_same port plan a b control = slot_by port.carrier port.number plan a b control
+-- where system information is not sent
+pub element_same_without : (port : Port) (plan : CellPlan) (a b : ℕ) → has_control port ≡ false → AreSameBesideBroadcast (port_prefix port) (port_element port plan) a b
+element_same_without port plan a b without subframe symbol k out = of_channels port plan a b subframe symbol k (broadcast_alone port plan a b subframe symbol k out without)
 
 -- ---- samples that do not
 
@@ -131,38 +96,50 @@ same_sample prefix grid a b i known same =
     ∙ sym (slot_sample_is prefix grid b (i / 960) (i % 960) known (mod-lt i (omega arith)))
     ∙ sym (frame_sample_is prefix grid b i)
 
-module _ (grid : Elements) (a b i : ℕ) (inside : i < 19200) where
-  no_broadcast : (i < 960) ⊎ (1509 ≤ i) → i / 960 / 2 ≡ 0 → (7 * (i / 960 % 2) + symbol_of normal (i % 960) < 7) ⊎ (11 ≤ 7 * (i / 960 % 2) + symbol_of normal (i % 960))
-  no_broadcast (inl early) zero = inl (omega (arith, early))
-  no_broadcast (inr late) zero = inr (omega (arith, late, zero))
+-- a sample stands before some symbols of a frame, or behind them
+abbrev pub IsOutside : Prefix → ℕ → ℕ → ℕ → Type 0
+IsOutside prefix first last i = (i < first_sample prefix first) ⊎ (first_sample prefix last ≤ i)
 
-  no_system : (i < 9600) ⊎ (11520 ≤ i) → i / 960 / 2 ≡ 5 → ⊥
-  no_system (inl early) five = absurd (omega (arith, early, five))
-  no_system (inr late) five = absurd (omega (arith, late, five))
+-- a sample beside the first four symbols of slot 1 is of an element beside the broadcast channel
+abbrev IsOutsideFirst : ℕ → Prefix → Type 0
+IsOutsideFirst i prefix =
+    IsOutside prefix (symbols_of_slot prefix) (symbols_of_slot prefix + 4) i → IsBeside prefix (i / 960 / 2) (symbols_of_slot prefix * (i / 960 % 2) + symbol_of prefix (i % 960))
 
-  pub normal_same : AreSameBeside grid a b → (i < 960) ⊎ (1509 ≤ i) → (i < 9600) ⊎ (11520 ≤ i) → prefix_frame_sample normal grid a i ≡ prefix_frame_sample normal grid b i
-  normal_same same first second =
-      same_sample normal grid a b i (inl refl) (λ k. same (i / 960 / 2) (7 * (i / 960 % 2) + symbol_of normal (i % 960)) k (no_broadcast first) (no_system second))
+by_sample : (i : ℕ) (prefix : Prefix) → IsPrefix prefix → IsOutsideFirst i prefix
+by_sample i prefix known = with_prefix (IsOutsideFirst i) one other prefix known
+  where
+    one : IsOutsideFirst i normal
+    one (inl early) slot = absurd (omega (arith, early, slot))
+    one (inr late) slot = omega (arith, late, slot)
 
-  pub broadcast_same : AreSameBesideBroadcast grid a b → (i < 960) ⊎ (1509 ≤ i) → prefix_frame_sample normal grid a i ≡ prefix_frame_sample normal grid b i
-  broadcast_same same first =
-      same_sample normal grid a b i (inl refl) (λ k. same (i / 960 / 2) (7 * (i / 960 % 2) + symbol_of normal (i % 960)) k (no_broadcast first))
+    other : IsOutsideFirst i extended
+    other (inl early) slot = absurd (omega (arith, early, slot))
+    other (inr late) slot = omega (arith, late, slot)
 
-  -- with either prefix a sample beside slot 1
-  not_second : (prefix : Prefix) → IsPrefix prefix → (i < 960) ⊎ (1920 ≤ i) →
-      2 * (i / 960 / 2) + (symbols_of_slot prefix * (i / 960 % 2) + symbol_of prefix (i % 960)) / symbols_of_slot prefix ≡ 1 → ⊥
-  not_second prefix known (inl early) =
-      with_prefix (λ p. 2 * (i / 960 / 2) + (symbols_of_slot p * (i / 960 % 2) + symbol_of p (i % 960)) / symbols_of_slot p ≡ 1 → ⊥)
-      (λ one. absurd (omega (arith, early, one))) (λ one. absurd (omega (arith, early, one))) prefix known
-  not_second prefix known (inr late) =
-      with_prefix (λ p. 2 * (i / 960 / 2) + (symbols_of_slot p * (i / 960 % 2) + symbol_of p (i % 960)) / symbols_of_slot p ≡ 1 → ⊥)
-      (λ one. absurd (omega (arith, late, one))) (λ one. absurd (omega (arith, late, one))) prefix known
+-- one beside slots 10 and 11 is not of subframe 5
+abbrev IsOutsideSlots : ℕ → Prefix → Type 0
+IsOutsideSlots i prefix = IsOutside prefix (10 * symbols_of_slot prefix) (12 * symbols_of_slot prefix) i → i / 960 / 2 ≡ 5 → ⊥
 
-  pub slot_sample_same : (prefix : Prefix) → IsPrefix prefix → AreSameBesideSlot prefix grid a b → (i < 960) ⊎ (1920 ≤ i) →
-      prefix_frame_sample prefix grid a i ≡ prefix_frame_sample prefix grid b i
-  slot_sample_same prefix known same out =
+no_system : (i : ℕ) (prefix : Prefix) → IsPrefix prefix → IsOutsideSlots i prefix
+no_system i prefix known = with_prefix (IsOutsideSlots i) one other prefix known
+  where
+    one : IsOutsideSlots i normal
+    one (inl early) five = absurd (omega (arith, early, five))
+    one (inr late) five = absurd (omega (arith, late, five))
+
+    other : IsOutsideSlots i extended
+    other (inl early) five = absurd (omega (arith, early, five))
+    other (inr late) five = absurd (omega (arith, late, five))
+
+module _ (prefix : Prefix) (known : IsPrefix prefix) (grid : Elements) (a b i : ℕ) (first : IsOutside prefix (symbols_of_slot prefix) (symbols_of_slot prefix + 4) i) where
+  pub sample_same : AreSameBeside prefix grid a b → IsOutside prefix (10 * symbols_of_slot prefix) (12 * symbols_of_slot prefix) i → prefix_frame_sample prefix grid a i ≡ prefix_frame_sample prefix grid b i
+  sample_same same second =
       same_sample prefix grid a b i known
-      (λ k. same (i / 960 / 2) (symbols_of_slot prefix * (i / 960 % 2) + symbol_of prefix (i % 960)) k (not_second prefix known out))
+      (λ k. same (i / 960 / 2) (symbols_of_slot prefix * (i / 960 % 2) + symbol_of prefix (i % 960)) k (by_sample i prefix known first) (no_system i prefix known second))
+
+  pub sample_same_without : AreSameBesideBroadcast prefix grid a b → prefix_frame_sample prefix grid a i ≡ prefix_frame_sample prefix grid b i
+  sample_same_without same =
+      same_sample prefix grid a b i known (λ k. same (i / 960 / 2) (symbols_of_slot prefix * (i / 960 % 2) + symbol_of prefix (i % 960)) k (by_sample i prefix known first))
 
 -- a frame is the first of its sequence
 pub first_frame : (prefix : Prefix) (grid : Elements) (sfn : ℕ) → sfn ≤ 1023 → values_below 19200 (λ i. sample_of (prefix_sent prefix grid sfn (i + 0))) ≡ frame_samples prefix grid sfn

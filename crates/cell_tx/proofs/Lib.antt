@@ -13,6 +13,7 @@ pub mod PlaceValues
 pub mod LoadBits
 pub mod BitPoints
 pub mod ChannelValues
+pub mod Broadcast
 pub mod SignalSymbols
 pub mod SystemPlaces
 pub mod Grants

@@ -1,34 +1,77 @@
 -- The ports of a source in one frame, and sums that are made of them port by port.
-use Rattle.std.proofs.Common.{◌≡◌, ℕ, ◌+◌, ◌*◌, ◌%◌, ◌<◌, ◌≤◌, Bool, true, List, slice_index_or, arith, sym, subst, ap, ◌∙◌}
+use Rattle.std.proofs.Common.{◌≡◌, ℕ, zero, suc, ◌+◌, ◌-◌, ◌*◌, ◌%◌, ◌<◌, ◌≤◌, Bool, true, false, List, slice_index_or, arith, refl, sym, subst, ap, ◌∙◌}
+use Rattle.std.specs.Prelude.{if◌then◌else◌}
+use Rattle.std.proofs.lemmas.Nat.{mul-le}
+use Rattle.finite.specs.Sums.{sum_below, total_below}
+use Rattle.finite.proofs.Sums.{total_below_split, total_below-term}
 use Rattle.std.proofs.Math.Path.{fun_ext}
 use Rattle.cs_num.specs.declared.Cpx.{Cpx}
 use Rattle.cs_num.specs.declared.Sample.{Sample}
 use Rattle.cs_num.specs.Complex.{IsWithin, nothing, silence, square, plus, times, value_at, value_of, sample_of}
 use Rattle.cs_num.proofs.Complex.{plus-nothing, plus-associates, within_more}
-use Rattle.lte_types.specs.declared.carrier.Carrier.TheVariants.{FourPorts}
+use Rattle.cs_num.specs.Sums.{complex_sum_below}
+use Rattle.cs_num.proofs.Sums.{complex_sum_below_none, complex_sum_below_more}
+use Rattle.lte_types.specs.declared.carrier.Carrier.{Carrier}
+use Rattle.lte_types.specs.declared.carrier.Carrier.TheVariants.{OnePort, TwoPorts, LongPrefix, FourPorts}
+use Rattle.lte_types.specs.Carrier.{ports_of}
 use Rattle.lte_types.specs.Timing.{number_of}
 use Rattle.cell_tx.specs.declared.antenna.Port.{Port}
 use Rattle.cell_tx.specs.declared.source.Ports.{Ports}
-use Rattle.cell_tx.specs.declared.source.Ports.TheVariants.{Alone, Both, AllFour}
+use Rattle.cell_tx.specs.declared.source.Ports.TheVariants.{Alone, All}
 use Rattle.cell_tx.specs.declared.source.Source.{Source}
-use Rattle.cell_tx.specs.Ports.{first_port, second_port, port_of_four, port_prefix}
+use Rattle.cell_tx.specs.Ports.{port_by, port_prefix}
 use Rattle.cell_tx.specs.Load.{sent_element}
-use Rattle.cell_plan.specs.Gains.{power_of_four}
+use Rattle.cell_plan.specs.Gains.{AreGainsOf}
 use Rattle.cell_tx.specs.Emission.{mixed}
 use Rattle.cell_tx.specs.Mixing.{mixed_by, AreGainsBy}
 use Rattle.cell_tx.specs.Emitting.{made, sent_in_frame, framed, AreChanged, added, FitSamples, AreSilent}
 use Rattle.cell_tx.proofs.Bounds.{amplified, sent_element-square, frame-square}
-use Rattle.cell_tx.proofs.Received.{IsSumOf, product_is, sum_is, sum_fits, both-small}
+use Rattle.cell_tx.proofs.Received.{IsSumOf, product_is, sum_is, sum_fits}
 use Rattle.cell_tx.proofs.Symbols.{prefix_sent_is}
 use Rattle.cell_tx.proofs.Changes.{changed_there, changed_alike, changed_twice}
 
 -- ---- the gains of a source
 
+-- the squares of the gains of the first ports
+abbrev pub power : List Cpx → ℕ → ℕ
+power gains n = total_below n (λ number. square (value_at gains number))
+
+-- those of all ports of a carrier leave room for a sum of all
+all_most : (carrier : Carrier) (gains : List Cpx) → AreGainsOf carrier gains → ports_of carrier * power gains (ports_of carrier) ≤ 784
+unfolding total_below
+all_most OnePort gains g = omega (arith, g.most)
+all_most TwoPorts gains g = omega (arith, g.most)
+all_most LongPrefix gains g = omega (arith, g.most)
+all_most FourPorts gains g = omega (arith, g.most)
+
+pub power_most : (carrier : Carrier) (gains : List Cpx) (n : ℕ) → n ≤ ports_of carrier → AreGainsOf carrier gains → n * power gains n ≤ 784
+power_most carrier gains n few g =
+    let all : ℕ = power gains (ports_of carrier) in
+    let rest : ports_of carrier ≡ n + (ports_of carrier - n) = omega (arith, few) in
+    let split = ap (λ (m : ℕ). power gains m) rest ∙ total_below_split n (ports_of carrier - n) (λ number. square (value_at gains number)) in
+    let grows : power gains n ≤ all = omega (arith, split) in
+    let most = all_most carrier gains g in
+    let whole : n * power gains n ≤ ports_of carrier * all = mul-le n (power gains n) (ports_of carrier) all few grows in
+    omega (arith, whole, most)
+
+-- a gain of one of a carrier's ports
+pub gain_most : (carrier : Carrier) (gains : List Cpx) (number : ℕ) → number < ports_of carrier → AreGainsOf carrier gains → square (value_at gains number) ≤ 784
+gain_most carrier gains number inside g =
+    let one = total_below-term (number + 1) number (λ n. square (value_at gains n)) (omega arith) in
+    let most = power_most carrier gains (number + 1) (omega (arith, inside)) g in
+    let times_one : 1 * power gains (number + 1) ≤ (number + 1) * power gains (number + 1) = mul-le 1 (power gains (number + 1)) (number + 1) (power gains (number + 1)) (omega arith) (omega arith) in
+    omega (arith, one, most, times_one)
+
 -- the gain of the first port
 pub first_most : (ports : Ports) (gains : List Cpx) → AreGainsBy ports gains → square (value_at gains 0) ≤ 784
 first_most (Alone port) gains g = g
-first_most Both gains g = omega (arith, g)
-first_most AllFour gains g = omega (arith, g)
+first_most (All carrier) gains g = gain_most carrier gains 0 (some carrier) g
+  where
+    some : (carrier : Carrier) → 0 < ports_of carrier
+    some OnePort = omega arith
+    some TwoPorts = omega arith
+    some LongPrefix = omega arith
+    some FourPorts = omega arith
 
 -- ---- a sample of a source is one of a frame
 
@@ -81,102 +124,70 @@ module _ (s : Source) (n : ℕ) (p : ℕ → Bool) where
       (λ i inside t. ap (added (value_at s.gains 0) (heard s n port) i) (silent i inside t) ∙ ap sample_of (plus-nothing (part s n port 0 i)))
       is
 
--- ---- two ports
+-- ---- the ports of a carrier, one after the other
 
-module _ (s : Source) (n : ℕ) (p : ℕ → Bool) (ports : s.ports ≡ Both) (old mid new : List Sample) (silent : AreSilent p old)
-    (one : AreChanged p (added (value_at s.gains 0) (heard s n first_port)) old mid) where
-  pub room_for_second : FitSamples p (value_at s.gains 1) (heard s n second_port) mid
-  room_for_second =
-      room_over p (λ i. plus nothing (part s n first_port 0 i)) (value_at s.gains 1) (heard s n second_port) mid
-      (sum_there p (λ i. nothing) (value_at s.gains 0) (heard s n first_port) old mid silent one)
-      (λ i. subst (λ (z : Cpx). IsWithin 32284 (plus z (part s n second_port 1 i))) (sym (plus-nothing (part s n first_port 0 i)))
-      (both-small (heard s n first_port i) (heard s n second_port i) (value_at s.gains 0) (value_at s.gains 1) (heard-square s n first_port i) (heard-square s n second_port i)
-      (subst (λ (x : Ports). AreGainsBy x s.gains) ports s.gains_fit)))
+-- what the first ports send together
+abbrev pub sum_of : Source → ℕ → Carrier → ℕ → ℕ → Cpx
+sum_of s n carrier count i = complex_sum_below count (λ number. part s n (port_by carrier number) number i)
 
-  pub two_made : AreChanged p (added (value_at s.gains 1) (heard s n second_port)) mid new
-      → AreChanged p (λ i before. sample_of (plus (part s n first_port 0 i) (part s n second_port 1 i))) old new
-  two_made other =
-      changed_alike p (λ i x. added (value_at s.gains 1) (heard s n second_port) i (added (value_at s.gains 0) (heard s n first_port) i x))
-      (λ i before. sample_of (plus (part s n first_port 0 i) (part s n second_port 1 i))) old new
-      (λ i inside t.
-      ap (λ (x : Sample). added (value_at s.gains 1) (heard s n second_port) i (added (value_at s.gains 0) (heard s n first_port) i x)) (silent i inside t)
-      ∙ ap (λ (z : Cpx). sample_of (plus z (part s n second_port 1 i))) (plus-nothing (part s n first_port 0 i)))
-      (changed_twice p (added (value_at s.gains 0) (heard s n first_port)) (added (value_at s.gains 1) (heard s n second_port)) old mid new one other)
+sum_small : (s : Source) (n : ℕ) (carrier : Carrier) (count i : ℕ) → IsSumOf count (power s.gains count) (sum_of s n carrier count i)
+unfolding sum_below total_below
+sum_small s n carrier zero i = record { most = omega arith }
+sum_small s n carrier (suc count) i =
+    let one : count + 1 ≡ suc count = omega arith in
+    let last = product_is (value_at s.gains count) _ (heard-square s n (port_by carrier count) i) in
+    subst (λ (m : ℕ). IsSumOf m (power s.gains (suc count)) (sum_of s n carrier (suc count) i)) one (sum_is _ _ count 1 _ _ (sum_small s n carrier count i) last)
 
--- ---- four ports
+-- the sum over all of them is what is received
+sum_over : (s : Source) (n : ℕ) (carrier : Carrier) (i : ℕ) → sum_of s n carrier (ports_of carrier) i ≡ mixed carrier (λ port. heard s n port i) s.gains
+unfolding sum_below
+sum_over s n carrier i = by carrier
+  where
+    share : Carrier → ℕ → Cpx
+    share carrier number = part s n (port_by carrier number) number i
 
--- what each of them adds, and what two, three and four of them make
-abbrev pub share : Source → ℕ → ℕ → ℕ → ℕ → Cpx
-share s n port number i = part s n (port_of_four port) number i
+    by : (carrier : Carrier) → sum_of s n carrier (ports_of carrier) i ≡ mixed carrier (λ port. heard s n port i) s.gains
+    by OnePort = plus-nothing (share OnePort 0)
+    by TwoPorts = ap (λ (z : Cpx). plus z (share TwoPorts 1)) (plus-nothing (share TwoPorts 0))
+    by LongPrefix = plus-nothing (share LongPrefix 0)
+    by FourPorts =
+        ap (λ (z : Cpx). plus (plus (plus z (share FourPorts 1)) (share FourPorts 2)) (share FourPorts 3)) (plus-nothing (share FourPorts 0))
+        ∙ plus-associates (plus (share FourPorts 0) (share FourPorts 1)) (share FourPorts 2) (share FourPorts 3)
 
-abbrev pub two : Source → ℕ → ℕ → Cpx
-two s n i = plus (share s n 0 0 i) (share s n 1 1 i)
+module _ (s : Source) (n : ℕ) (p : ℕ → Bool) (carrier : Carrier) (old : List Sample) where
+  -- the sum of the first ports stands in some places of samples that were silent there
+  abbrev pub HaveSum : ℕ → List Sample → Type 0
+  HaveSum count new = AreChanged p (λ i before. sample_of (sum_of s n carrier count i)) old new
 
-abbrev pub three : Source → ℕ → ℕ → Cpx
-three s n i = plus (two s n i) (share s n 2 2 i)
+  pub none_added : AreSilent p old → HaveSum 0 old
+  none_added silent i inside = by (p i) refl
+    where
+      by : (b : Bool) → p i ≡ b → slice_index_or old i silence ≡ (if b then sample_of (sum_of s n carrier 0 i) else slice_index_or old i silence)
+      by true e = silent i inside e ∙ ap sample_of (sym (complex_sum_below_none (λ number. part s n (port_by carrier number) number i)))
+      by false e = refl
 
-abbrev pub four : Source → ℕ → ℕ → Cpx
-four s n i = plus (three s n i) (share s n 3 3 i)
+  module _ (count : ℕ) (mid : List Sample) (have : HaveSum count mid) where
+    next_is : (i : ℕ) → sum_of s n carrier (count + 1) i ≡ plus (sum_of s n carrier count i) (part s n (port_by carrier count) count i)
+    next_is i = complex_sum_below_more count (λ number. part s n (port_by carrier number) number i)
 
--- a port's step
-abbrev pub step : Source → ℕ → ℕ → ℕ → ℕ → Sample → Sample
-step s n port number = added (value_at s.gains number) (heard s n (port_of_four port))
+    sum_fits_next : s.ports ≡ All carrier → count < ports_of carrier → (i : ℕ) → IsWithin 32284 (plus (sum_of s n carrier count i) (part s n (port_by carrier count) count i))
+    sum_fits_next ports few i =
+        let gains = subst (λ (x : Ports). AreGainsBy x s.gains) ports s.gains_fit in
+        subst (IsWithin 32284) (next_is i) (sum_fits _ (count + 1) _ (power_most carrier s.gains (count + 1) (omega (arith, few)) gains) (sum_small s n carrier (count + 1) i))
 
-module _ (s : Source) (n : ℕ) (ports : s.ports ≡ AllFour) where
-  gains_most : power_of_four s.gains ≤ 196
-  gains_most = subst (λ (x : Ports). AreGainsBy x s.gains) ports s.gains_fit
+    -- there is room for the next port
+    pub room_for_next : s.ports ≡ All carrier → count < ports_of carrier → FitSamples p (value_at s.gains count) (heard s n (port_by carrier count)) mid
+    room_for_next ports few =
+        room_over p (sum_of s n carrier count) (value_at s.gains count) (heard s n (port_by carrier count)) mid
+        (λ i inside e. changed_there p (λ i before. sample_of (sum_of s n carrier count i)) old mid have i inside e) (sum_fits_next ports few)
 
-  share_is : (port : ℕ) (number i : ℕ) → IsSumOf 1 (square (value_at s.gains number)) (share s n port number i)
-  share_is port number i = product_is (value_at s.gains number) _ (heard-square s n (port_of_four port) i)
+    pub next_added : (new : List Sample) → AreChanged p (added (value_at s.gains count) (heard s n (port_by carrier count))) mid new → HaveSum (count + 1) new
+    next_added new is =
+        changed_alike p (λ i x. added (value_at s.gains count) (heard s n (port_by carrier count)) i (sample_of (sum_of s n carrier count i)))
+        (λ i before. sample_of (sum_of s n carrier (count + 1) i)) old new (λ i inside e. ap sample_of (sym (next_is i)))
+        (changed_twice p (λ i before. sample_of (sum_of s n carrier count i)) (added (value_at s.gains count) (heard s n (port_by carrier count))) old mid new have is)
 
-  two_is : (i : ℕ) → IsSumOf 2 (square (value_at s.gains 0) + square (value_at s.gains 1)) (two s n i)
-  two_is i = sum_is _ _ 1 1 _ _ (share_is 0 0 i) (share_is 1 1 i)
-
-  three_is : (i : ℕ) → IsSumOf 3 (square (value_at s.gains 0) + square (value_at s.gains 1) + square (value_at s.gains 2)) (three s n i)
-  three_is i = sum_is _ _ 2 1 _ _ (two_is i) (share_is 2 2 i)
-
-  four_is : (i : ℕ) → IsSumOf 4 (power_of_four s.gains) (four s n i)
-  four_is i = sum_is _ _ 3 1 _ _ (three_is i) (share_is 3 3 i)
-
-  two_small : (i : ℕ) → IsWithin 32284 (two s n i)
-  two_small i = sum_fits _ 2 _ (omega arith) (let m = gains_most in omega (arith, m)) (two_is i)
-
-  three_small : (i : ℕ) → IsWithin 32284 (three s n i)
-  three_small i = sum_fits _ 3 _ (omega arith) (let m = gains_most in omega (arith, m)) (three_is i)
-
-  four_small : (i : ℕ) → IsWithin 32284 (four s n i)
-  four_small i = sum_fits _ 4 _ (omega arith) gains_most (four_is i)
-
-  module _ (p : ℕ → Bool) (silent one_in two_in three_in : List Sample) (none : AreSilent p silent) (first : AreChanged p (step s n 0 0) silent one_in) where
-    one_there : HaveThere p (λ i. share s n 0 0 i) one_in
-    one_there i inside t = sum_there p (λ i. nothing) (value_at s.gains 0) (heard s n (port_of_four 0)) silent one_in none first i inside t ∙ ap sample_of (plus-nothing (share s n 0 0 i))
-
-    pub room_for_one : FitSamples p (value_at s.gains 1) (heard s n (port_of_four 1)) one_in
-    room_for_one = room_over p (λ i. share s n 0 0 i) (value_at s.gains 1) (heard s n (port_of_four 1)) one_in one_there two_small
-
-    module _ (second : AreChanged p (step s n 1 1) one_in two_in) where
-      two_there : HaveThere p (two s n) two_in
-      two_there = sum_there p (λ i. share s n 0 0 i) (value_at s.gains 1) (heard s n (port_of_four 1)) one_in two_in one_there second
-
-      pub room_for_two : FitSamples p (value_at s.gains 2) (heard s n (port_of_four 2)) two_in
-      room_for_two = room_over p (two s n) (value_at s.gains 2) (heard s n (port_of_four 2)) two_in two_there three_small
-
-      module _ (third : AreChanged p (step s n 2 2) two_in three_in) where
-        three_there : HaveThere p (three s n) three_in
-        three_there = sum_there p (two s n) (value_at s.gains 2) (heard s n (port_of_four 2)) two_in three_in two_there third
-
-        pub room_for_three : FitSamples p (value_at s.gains 3) (heard s n (port_of_four 3)) three_in
-        room_for_three = room_over p (three s n) (value_at s.gains 3) (heard s n (port_of_four 3)) three_in three_there four_small
-
-        pub four_made : (four_in : List Sample) → AreChanged p (step s n 3 3) three_in four_in
-            → AreChanged p (λ i before. sample_of (mixed FourPorts (λ port. heard s n port i) s.gains)) silent four_in
-        four_made four_in fourth =
-            changed_alike p (λ i x. step s n 3 3 i (step s n 2 2 i (step s n 1 1 i (step s n 0 0 i x))))
-            (λ i before. sample_of (mixed FourPorts (λ port. heard s n port i) s.gains)) silent four_in
-            (λ i inside t.
-            ap (λ (x : Sample). step s n 3 3 i (step s n 2 2 i (step s n 1 1 i (step s n 0 0 i x)))) (none i inside t)
-            ∙ ap (λ (z : Cpx). sample_of (plus (plus (plus z (share s n 1 1 i)) (share s n 2 2 i)) (share s n 3 3 i))) (plus-nothing (share s n 0 0 i))
-            ∙ ap sample_of (plus-associates (two s n i) (share s n 2 2 i) (share s n 3 3 i)))
-            (changed_twice p (λ i x. step s n 2 2 i (step s n 1 1 i (step s n 0 0 i x))) (step s n 3 3) silent three_in four_in
-            (changed_twice p (λ i x. step s n 1 1 i (step s n 0 0 i x)) (step s n 2 2) silent two_in three_in
-            (changed_twice p (step s n 0 0) (step s n 1 1) silent one_in two_in first second) third) fourth)
+  pub all_added : (new : List Sample) → HaveSum (ports_of carrier) new → AreChanged p (λ i before. sample_of (mixed carrier (λ port. heard s n port i) s.gains)) old new
+  all_added new have =
+      changed_alike p (λ i before. sample_of (sum_of s n carrier (ports_of carrier) i)) (λ i before. sample_of (mixed carrier (λ port. heard s n port i) s.gains)) old new
+      (λ i inside e. ap sample_of (sum_over s n carrier i)) have

@@ -11,9 +11,8 @@ use Rattle.grid_map.specs.declared.Place.{Place}
 use Rattle.grid_map.specs.Place.{place, same_place, index_in}
 use Rattle.grid_map.proofs.Order.{same_place-refl, same_place-true}
 use Rattle.cell_tx.specs.declared.antenna.Port.{Port}
-use Rattle.lte_types.specs.declared.carrier.Carrier.{Carrier}
-use Rattle.lte_types.specs.declared.carrier.Carrier.TheVariants.{OnePort, TwoPorts, LongPrefix, FourPorts}
-use Rattle.cell_tx.specs.Ports.{crossed_point, paired_point, in_turn, point_by, sent_point}
+use Rattle.lte_types.specs.Carrier.{ports_of}
+use Rattle.cell_tx.specs.Ports.{crossed_point, paired_point, in_turn, sent_point}
 use Rattle.cell_tx.specs.Grid.{is_one_of}
 use Rattle.cell_tx.specs.Rows.{value_in}
 
@@ -37,14 +36,14 @@ paired_points half number n f i even inside = by (nat_lt number half)
     by false = crossed_points n f i even inside
 
 -- nor what a port sends of them, where they are whole pairs
-points_by : (carrier : Carrier) (number n : ℕ) (f : ℕ → Cpx) (i : ℕ) → n % 2 ≡ 0 → i < n → point_by carrier number (value_at (values_below n f)) i ≡ point_by carrier number f i
-points_by OnePort number n f i even inside = points_there n f i inside
-points_by TwoPorts number n f i even inside = paired_points 1 number n f i even inside
-points_by LongPrefix number n f i even inside = points_there n f i inside
-points_by FourPorts number n f i even inside = ap (in_turn number i) (paired_points 2 number n f i even inside)
+alike : (b : Bool) (x y u v : Cpx) → x ≡ u → y ≡ v → (if b then x else y) ≡ (if b then u else v)
+alike true x y u v e f = e
+alike false x y u v e f = f
 
 pub sent_points : (port : Port) (n : ℕ) (f : ℕ → Cpx) (i : ℕ) → n % 2 ≡ 0 → i < n → sent_point port (value_at (values_below n f)) i ≡ sent_point port f i
-sent_points port n f i even inside = points_by port.carrier port.number n f i even inside
+sent_points port n f i even inside =
+    alike (nat_eq (ports_of port.carrier) 1) _ _ _ _ (points_there n f i inside)
+    (alike (nat_eq (ports_of port.carrier) 2) _ _ _ _ (paired_points 1 port.number n f i even inside) (ap (in_turn port.number i) (paired_points 2 port.number n f i even inside)))
 
 module _ (places : List Place) (p : Place) where
   fails : (q : Place) → (q ≡ p → ⊥) → (b : Bool) → same_place p q ≡ b → b ≡ false

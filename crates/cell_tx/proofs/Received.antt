@@ -1,5 +1,5 @@
 -- Sizes of what is received of the antenna ports of a carrier, and that it is clean.
-use Rattle.std.proofs.Common.{◌≡◌, ℕ, ◌+◌, ◌*◌, ◌<◌, ◌≤◌, inl, inr, arith, ap, sym, subst, ℤ, ◌+ℤ◌, ◌-ℤ◌}
+use Rattle.std.proofs.Common.{◌≡◌, ℕ, ◌+◌, ◌*◌, ◌<◌, ◌≤◌, inl, inr, arith, ap, sym, ◌∙◌, subst, mul_assoc, mul_comm, ℤ, ◌+ℤ◌, ◌-ℤ◌}
 use Rattle.std.specs.Prelude.{nat_abs}
 use Rattle.std.proofs.lemmas.Bool.{cases_lt}
 use Rattle.std.proofs.lemmas.Int.{ints}
@@ -92,12 +92,15 @@ sum_is a b m n power other p q =
     let e : m * (1153 * 1153) + n * (1153 * 1153) ≡ (m + n) * (1153 * 1153) = omega arith in
     record { most = subst (λ (room : ℕ). square (plus a b) ≤ (power + other) * room) e law }
 
--- where there are at most four and the squares are at most 196
-pub sum_fits : (z : Cpx) (n power : ℕ) → n ≤ 4 → power ≤ 196 → IsSumOf n power z → IsWithin 32284 z
-sum_fits z n power few most is =
-    let room : n * (1153 * 1153) ≤ 4 * (1153 * 1153) = omega (arith, few) in
-    let whole : square z ≤ 32284 * 32284 = omega (arith, is.most, mul-le power (n * (1153 * 1153)) 196 (4 * (1153 * 1153)) most room) in
+-- where as many times the squares are at most 784
+pub sum_fits : (z : Cpx) (n power : ℕ) → n * power ≤ 784 → IsSumOf n power z → IsWithin 32284 z
+sum_fits z n power most is =
+    let e : power * (n * (1153 * 1153)) ≡ n * power * (1153 * 1153) = regroup n power (1153 * 1153) in
+    let whole : square z ≤ 32284 * 32284 = omega (arith, is.most, e, most) in
     record { re = re-le z 32284 whole; im = im-le z 32284 whole }
+  where
+    regroup : (n m k : ℕ) → m * (n * k) ≡ n * m * k
+    regroup n m k = sym (mul_assoc m n k) ∙ ap (λ (x : ℕ). x * k) (mul_comm m n)
 
 -- ---- a carrier
 
@@ -114,7 +117,7 @@ received_by-small FourPorts load plan sfn offset gains i g =
     λ number gain. product_is gain _ (sent_by-square load (port_of_four number) plan sfn (i + offset)) in
     let first = sum_is _ _ 1 1 _ _ (part 0 (value_at gains 0)) (part 1 (value_at gains 1)) in
     let second = sum_is _ _ 1 1 _ _ (part 2 (value_at gains 2)) (part 3 (value_at gains 3)) in
-    sum_fits _ 4 _ (omega arith) (let m = g.most in omega (arith, m)) (sum_is _ _ 2 2 _ _ first second)
+    sum_fits _ 4 _ (let m = g.most in omega (arith, m)) (sum_is _ _ 2 2 _ _ first second)
 
 pub emitted_clean : EmittedIsClean
 emitted_clean carrier load plan sfn offset count gains eps errors number within are bound small = record {

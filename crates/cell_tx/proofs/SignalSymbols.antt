@@ -1,5 +1,5 @@
 -- In the symbols of the synchronisation signals no channel stands.
-use Rattle.std.proofs.Common.{◌≡◌, ℕ, zero, suc, ◌+◌, ◌-◌, ◌*◌, ◌/◌, ◌<◌, ◌≤◌, ◌⊎◌, inl, inr, Bool, true, false, ◌&&◌, ◌||◌, not, nat_eq, nat_le, nat_lt, List, [], ◌∷◌, ◌++◌, map, length, get_or, refl, ap, sym, subst, ◌∙◌, arith}
+use Rattle.std.proofs.Common.{◌≡◌, ℕ, zero, suc, ◌+◌, ◌-◌, ◌*◌, ◌/◌, ◌%◌, ◌<◌, ◌≤◌, ◌⊎◌, inl, inr, Bool, true, false, ◌&&◌, ◌||◌, not, nat_eq, nat_le, nat_lt, List, [], ◌∷◌, ◌++◌, map, length, get_or, refl, ap, sym, subst, ◌∙◌, arith}
 use Rattle.std.specs.Prelude.{All, if◌then◌else◌}
 use Rattle.std.specs.List.{list_any, flat_map, range_with_len}
 use Rattle.std.proofs.Math.Bool.{and-false}
@@ -12,24 +12,25 @@ use Rattle.grid_map.specs.declared.Place.{Place}
 use Rattle.grid_map.specs.declared.Reg.{Reg}
 use Rattle.grid_map.specs.Place.{place, same_place, places_of}
 use Rattle.grid_map.specs.Group.{group, is_group, spanned, span, is_kept, group_places}
-use Rattle.grid_map.specs.Broadcast.{is_pbch}
 use Rattle.grid_map.specs.Control.{pcfich_places, pcfich_groups, pdcch_groups, is_in_region}
 use Rattle.grid_map.specs.Candidate.{candidate_places, candidate_groups, quadruplet_group, group_of_quadruplet}
-use Rattle.grid_map.specs.Shared.{is_shared_of, shared_places_of, is_synchronisation}
+use Rattle.lte_types.specs.declared.carrier.Carrier.{Carrier}
+use Rattle.grid_map.specs.Shared.{is_shared_of, shared_places_of, is_synchronisation, subframe_symbols}
 use Rattle.grid_map.proofs.Order.{same_place-refl, same_place-true}
 use Rattle.grid_map.proofs.Kept.{any-filter}
 use Rattle.grid_map.proofs.Regions.{pcfich_inside, pdcch_inside}
 use Rattle.cell_tx.specs.declared.antenna.Port.{Port}
-use Rattle.lte_types.specs.declared.carrier.Carrier.{Carrier}
-use Rattle.lte_types.specs.declared.carrier.Carrier.TheVariants.{OnePort, TwoPorts, LongPrefix, FourPorts}
-use Rattle.lte_types.specs.Carrier.{prefix_of}
-use Rattle.lte_types.specs.Numerology.{symbols_of_slot}
+use Rattle.lte_types.specs.declared.numerology.Prefix.{Prefix}
+use Rattle.lte_types.specs.Numerology.{normal, extended, symbols_of_slot}
 use Rattle.cell_plan.specs.declared.cell.CellPlan.{CellPlan}
 use Rattle.cell_tx.specs.Control.{control_places}
-use Rattle.cell_tx.specs.Ports.{port_by, port_symbols, is_two}
+use Rattle.cell_tx.specs.Ports.{port_prefix, port_symbols, has_control}
 use Rattle.cell_tx.specs.Shared.{assigned_places}
-use Rattle.cell_tx.specs.Grid.{is_one_of, is_broadcast, is_long_broadcast, is_indicator, has_system_information, control_value, shared_value, system_value, port_channel_value}
+use Rattle.cell_tx.specs.Grid.{is_one_of, is_indicator, has_system_information, control_value, shared_value, system_value, port_channel_value}
+use Rattle.cell_tx.proofs.Broadcast.{not_broadcast}
 use Rattle.cell_tx.proofs.PlaceValues.{absent_is}
+use Rattle.cell_tx.proofs.Symbols.{port_prefix_known, with_prefix}
+use Rattle.cell_tx.proofs.SystemPlaces.{symbols_are}
 
 -- ---- lists without a place
 
@@ -123,57 +124,69 @@ module _ (plan : CellPlan) (symbol k : ℕ) where
       (any_pieces (same_place (place symbol k)) IsLow (group_places plan.identity) (candidate_groups plan.identity groups) (low_group plan.identity (place symbol k) late)
       (carriers_low plan.identity groups (λ j d inside. region_low plan.cfi (get_or groups j d) (pdcch_inside plan.identity plan.cfi plan.duration plan.resource j d inside))))
 
-  not_pdsch : (two : Bool) → is_synchronisation symbol ≡ true → is_shared_of two plan.identity plan.cfi plan.start plan.blocks (place symbol k) ≡ false
-  not_pdsch two e = by (nat_lt plan.cfi symbol) _ _
+  not_pdsch : (carrier : Carrier) → is_synchronisation carrier symbol ≡ true → is_shared_of carrier plan.identity plan.cfi plan.start plan.blocks (place symbol k) ≡ false
+  not_pdsch carrier e = by (nat_lt plan.cfi symbol && nat_lt symbol (subframe_symbols carrier)) _ _
     where
-      by : (a b c : Bool) → (((a && not (is_synchronisation symbol)) && b) && c) ≡ false
+      by : (a b c : Bool) → (((a && not (is_synchronisation carrier symbol)) && b) && c) ≡ false
       by true b c = rw e refl
       by false b c = refl
 
-  no_shared : (two : Bool) → is_synchronisation symbol ≡ true → is_one_of (assigned_places two plan) (place symbol k) ≡ false
+  no_shared : (carrier : Carrier) → is_synchronisation carrier symbol ≡ true → is_one_of (assigned_places carrier plan) (place symbol k) ≡ false
   unfolding shared_places_of
-  no_shared two e =
-      let test : Place → Bool = is_shared_of two plan.identity plan.cfi plan.start plan.blocks in
-      absent (assigned_places two plan) (place symbol k)
-      (any-filter same_place (λ x y h. same_place-true x y h) test (place symbol k) (places_of 0 14)
-      ∙ ap (λ b. list_any (same_place (place symbol k)) (places_of 0 14) && b) (not_pdsch two e) ∙ and-false _)
+  no_shared carrier e =
+      let test : Place → Bool = is_shared_of carrier plan.identity plan.cfi plan.start plan.blocks in
+      let all = places_of 0 (subframe_symbols carrier) in
+      absent (assigned_places carrier plan) (place symbol k)
+      (any-filter same_place (λ x y h. same_place-true x y h) test (place symbol k) all
+      ∙ ap (λ b. list_any (same_place (place symbol k)) all && b) (not_pdsch carrier e) ∙ and-false _)
 
-no_broadcast : (identity symbol k : ℕ) → symbol < 7 → is_pbch identity (place symbol k) ≡ false
-unfolding is_pbch
-no_broadcast identity symbol k early = let e : nat_le 7 symbol ≡ false = grind (arith, nat_tests) in rw e refl
+synchronised : (symbol n : ℕ) → (symbol ≡ n - 2) ⊎ (symbol ≡ n - 1) → (nat_eq symbol (n - 2) || nat_eq symbol (n - 1)) ≡ true
+synchronised symbol n (inl e) = let here : nat_eq symbol (n - 2) ≡ true = grind (arith, nat_tests) in rw here refl
+synchronised symbol n (inr e) = let here : nat_eq symbol (n - 1) ≡ true = grind (arith, nat_tests) in rw here (either (nat_eq symbol (n - 2)))
+  where
+    either : (b : Bool) → (b || true) ≡ true
+    either true = refl
+    either false = refl
 
 pick : (a : Bool) (x z : Cpx) → (if a && false then x else z) ≡ z
 pick true x z = refl
 pick false x z = refl
 
--- none of the three other channels is in symbols 5 and 6 of a subframe
-no_system : (port : Port) (plan : CellPlan) (sfn subframe symbol k : ℕ) → (symbol ≡ 5) ⊎ (symbol ≡ 6) → system_value port plan sfn subframe symbol k ≡ nothing
-no_system port plan sfn subframe symbol k row =
-    let late : 4 ≤ symbol = elim row [ inl e ↦ omega (arith, e) | inr e ↦ omega (arith, e) ] in
-    let middle : is_synchronisation symbol ≡ true = elim row [ inl e ↦ rw e refl | inr e ↦ rw e refl ] in
-    rw (no_indicator plan symbol k late, no_control plan symbol k late, no_shared plan symbol k (is_two port) middle) (by (has_system_information sfn subframe))
+with_seven : (port : Port) (symbol : ℕ) → has_control port ≡ true → (symbol ≡ port_symbols port - 2) ⊎ (symbol ≡ port_symbols port - 1) → (symbol ≡ 5) ⊎ (symbol ≡ 6)
+with_seven port symbol has row = subst (λ (n : ℕ). (symbol ≡ n - 2) ⊎ (symbol ≡ n - 1)) (symbols_are port has) row
+
+-- none of the three other channels is in the two last symbols of the first slot of a subframe
+no_system : (port : Port) (plan : CellPlan) (sfn subframe symbol k : ℕ) → has_control port ≡ true → (symbol ≡ port_symbols port - 2) ⊎ (symbol ≡ port_symbols port - 1) →
+    system_value port plan sfn subframe symbol k ≡ nothing
+no_system port plan sfn subframe symbol k has row =
+    let late : 4 ≤ symbol = elim (with_seven port symbol has row) [ inl e ↦ omega (arith, e) | inr e ↦ omega (arith, e) ] in
+    rw (no_indicator plan symbol k late, no_control plan symbol k late, no_shared plan symbol k port.carrier (synchronised symbol (port_symbols port) row)) (by (has_system_information sfn subframe))
   where
     by : (s : Bool) → (if s && false then control_value port plan sfn symbol k else (if s && false then shared_value port plan sfn symbol k else nothing)) ≡ nothing
     by s = pick s _ _ ∙ pick s _ _
 
-early_broadcast : (identity subframe symbol k : ℕ) → (symbol ≡ 5) ⊎ (symbol ≡ 6) → is_broadcast identity subframe symbol k ≡ false
-early_broadcast identity subframe symbol k row =
-    let early : symbol < 7 = elim row [ inl e ↦ omega (arith, e) | inr e ↦ omega (arith, e) ] in
-    ap (λ b. nat_eq subframe 0 && b) (no_broadcast identity symbol k early) ∙ and-false (nat_eq subframe 0)
+-- nor is the broadcast channel in the two last symbols of the first slot of a subframe
+abbrev IsEarly : ℕ → ℕ → Prefix → Type 0
+IsEarly subframe symbol prefix = (symbol ≡ symbols_of_slot prefix - 2) ⊎ (symbol ≡ symbols_of_slot prefix - 1) → 2 * subframe + symbol / symbols_of_slot prefix ≡ 1 → 4 ≤ symbol % symbols_of_slot prefix
 
-no_long_broadcast : (identity subframe symbol k : ℕ) → (symbol ≡ 4) ⊎ (symbol ≡ 5) → is_long_broadcast identity subframe symbol k ≡ false
-no_long_broadcast identity subframe symbol k row =
-    let early : nat_eq (2 * subframe + symbol / 6) 1 ≡ false = elim row [ inl e ↦ grind (arith, nat_tests) | inr e ↦ grind (arith, nat_tests) ] in
-    rw early refl
+not_in_slot : (port : Port) (subframe symbol : ℕ) → IsEarly subframe symbol (port_prefix port)
+not_in_slot port subframe symbol = with_prefix (IsEarly subframe symbol) one other (port_prefix port) (port_prefix_known port)
+  where
+    one : IsEarly subframe symbol normal
+    one (inl e) slot = absurd (omega (arith, e, slot))
+    one (inr e) slot = absurd (omega (arith, e, slot))
 
--- no channel is in the two last symbols of the first slot of a subframe
-no_channel_by : (carrier : Carrier) (number : ℕ) (plan : CellPlan) (sfn subframe symbol k : ℕ) → (symbol ≡ symbols_of_slot (prefix_of carrier) - 2) ⊎ (symbol ≡ symbols_of_slot (prefix_of carrier) - 1) →
-    port_channel_value (port_by carrier number) plan sfn subframe symbol k ≡ nothing
-unfolding port_channel_value
-no_channel_by OnePort number plan sfn subframe symbol k row = rw (early_broadcast plan.identity subframe symbol k row) (no_system (port_by OnePort number) plan sfn subframe symbol k row)
-no_channel_by TwoPorts number plan sfn subframe symbol k row = rw (early_broadcast plan.identity subframe symbol k row) (no_system (port_by TwoPorts number) plan sfn subframe symbol k row)
-no_channel_by LongPrefix number plan sfn subframe symbol k row = rw (no_long_broadcast plan.identity subframe symbol k row) refl
-no_channel_by FourPorts number plan sfn subframe symbol k row = rw (early_broadcast plan.identity subframe symbol k row) refl
+    other : IsEarly subframe symbol extended
+    other (inl e) slot = absurd (omega (arith, e, slot))
+    other (inr e) slot = absurd (omega (arith, e, slot))
 
+none_of_both : (broadcast control : Bool) (x y : Cpx) → broadcast ≡ false → (control ≡ true → y ≡ nothing) → (if broadcast then x else (if control then y else nothing)) ≡ nothing
+none_of_both true control x y e f = absurd cc
+none_of_both false true x y e f = f refl
+none_of_both false false x y e f = refl
+
+-- no channel is in these two symbols
 pub no_channel : (port : Port) (plan : CellPlan) (sfn subframe symbol k : ℕ) → (symbol ≡ port_symbols port - 2) ⊎ (symbol ≡ port_symbols port - 1) → port_channel_value port plan sfn subframe symbol k ≡ nothing
-no_channel port plan sfn subframe symbol k row = no_channel_by port.carrier port.number plan sfn subframe symbol k row
+unfolding port_channel_value
+no_channel port plan sfn subframe symbol k row =
+    none_of_both _ _ _ _ (not_broadcast port plan.identity subframe symbol k (not_in_slot port subframe symbol row)) (λ has. no_system port plan sfn subframe symbol k has row)

@@ -32,7 +32,7 @@ useful_part_at grid n l = values_below_at (useful_at grid) 128 n nothing l
 
 -- ---- the prefix of a port
 
-prefix_known : (carrier : Carrier) → IsPrefix (prefix_of carrier)
+pub prefix_known : (carrier : Carrier) → IsPrefix (prefix_of carrier)
 prefix_known OnePort = inl refl
 prefix_known TwoPorts = inl refl
 prefix_known LongPrefix = inr refl

@@ -3,7 +3,7 @@
 use Rattle.std.specs.Prelude.{ℕ, ◌+◌, ◌*◌, ◌<◌, ◌≤◌, List, length}
 use Rattle.cs_num.specs.declared.Cpx.{Cpx}
 use Rattle.cs_num.specs.declared.Sample.{Sample}
-use Rattle.cs_num.specs.Complex.{square, sample_at, plus, times, IsWithin, minus, value_at}
+use Rattle.cs_num.specs.Complex.{square, sample_at, plus, times, IsWithin, minus}
 use Rattle.cs_num.specs.Gain.{IsGain}
 use Rattle.lte_types.specs.Timing.{IsOffset}
 use Rattle.cell_plan.specs.declared.cell.CellPlan.{CellPlan}
@@ -58,13 +58,3 @@ pub record IsCleanOfPorts (recording : List Sample) (plan : CellPlan) (sfn offse
     Type 0 where
   pub number : sfn ≤ 1023
   pub samples : IsCleanOfTwo (first_sequence plan sfn) (second_sequence plan sfn) recording offset gain other eps
-
--- ---- four antenna ports
-
--- what is received of four sequences, those of ports 0 to 3, from their samples at offset on, by a channel that is one
--- number for each
-abbrev pub received_of_four : (ℕ → ℕ → Cpx) → ℕ → List Cpx → ℕ → Cpx
-received_of_four sequences offset gains i =
-    plus
-    (received_of_two (sequences 0) (sequences 1) offset (value_at gains 0) (value_at gains 1) i)
-    (received_of_two (sequences 2) (sequences 3) offset (value_at gains 2) (value_at gains 3) i)

@@ -1,17 +1,17 @@
 -- What is sent of a cell by a carrier: the samples of each of its antenna ports, times the gain of the port, with load
 -- or without. (own)
-use Rattle.std.specs.Prelude.{ℕ, ◌+◌, ◌≤◌, Option, List}
+use Rattle.std.specs.Prelude.{ℕ, ◌+◌, ◌≤◌, nat_eq, if◌then◌else◌, Option, List}
 use Rattle.finite.specs.Lists.{values_below}
 use Rattle.cs_num.specs.declared.Cpx.{Cpx}
 use Rattle.cs_num.specs.declared.Sample.{Sample}
 use Rattle.cs_num.specs.Complex.{plus, times, value_at, sample_of}
 use Rattle.lte_types.specs.Timing.{IsOffset}
 use Rattle.lte_types.specs.declared.carrier.Carrier.{Carrier}
-use Rattle.lte_types.specs.declared.carrier.Carrier.TheVariants.{OnePort, TwoPorts, LongPrefix, FourPorts}
+use Rattle.lte_types.specs.Carrier.{ports_of}
 use Rattle.cell_tx.specs.declared.antenna.Port.{Port}
 use Rattle.cell_plan.specs.declared.cell.CellPlan.{CellPlan}
 use Rattle.cell_plan.specs.declared.emission.Emission.{Emission}
-use Rattle.cell_tx.specs.Ports.{only_port, first_port, second_port, long_port, port_of_four, port_prefix}
+use Rattle.cell_tx.specs.Ports.{port_by, port_prefix}
 use Rattle.cell_tx.specs.Load.{sent_element}
 use Rattle.cell_tx.specs.Sent.{prefix_sent}
 use Rattle.cell_plan.specs.Gains.{AreGainsOf, IsAllowedBy}
@@ -21,16 +21,17 @@ use Rattle.cell_tx.specs.Clean.{AreNear}
 abbrev pub sent_by : Option ℕ → Port → CellPlan → ℕ → ℕ → Cpx
 sent_by load port plan sfn i = prefix_sent (port_prefix port) (sent_element load port plan) sfn i
 
--- what is received of all ports of a carrier that send these values, by a channel that is one number for each
+-- what is received of the port of a carrier with a number, by a channel that is one number for each
+abbrev pub part_of : Carrier → (Port → Cpx) → List Cpx → ℕ → Cpx
+part_of carrier values gains number = times (value_at gains number) (values (port_by carrier number))
+
+-- what is received of all ports of a carrier that send these values: the sum over one, two or four
 abbrev pub mixed : Carrier → (Port → Cpx) → List Cpx → Cpx
-mixed OnePort values gains = times (value_at gains 0) (values only_port)
-mixed TwoPorts values gains =
-    plus (times (value_at gains 0) (values first_port)) (times (value_at gains 1) (values second_port))
-mixed LongPrefix values gains = times (value_at gains 0) (values long_port)
-mixed FourPorts values gains =
-    plus
-    (plus (times (value_at gains 0) (values (port_of_four 0))) (times (value_at gains 1) (values (port_of_four 1))))
-    (plus (times (value_at gains 2) (values (port_of_four 2))) (times (value_at gains 3) (values (port_of_four 3))))
+mixed carrier values gains =
+    let part = part_of carrier values gains in
+    if nat_eq (ports_of carrier) 1 then part 0
+    else (if nat_eq (ports_of carrier) 2 then plus (part 0) (part 1)
+    else plus (plus (part 0) (part 1)) (plus (part 2) (part 3)))
 
 -- what is received of all ports of a carrier, from the sample at offset on, by a channel that is one number for each
 abbrev pub received_by : Carrier → Option ℕ → CellPlan → ℕ → ℕ → List Cpx → ℕ → Cpx

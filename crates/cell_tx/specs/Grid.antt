@@ -3,22 +3,19 @@
 use Rattle.std.specs.Prelude.{ℕ, ◌-◌, ◌/◌, ◌%◌, Bool, ◌&&◌, ◌||◌, nat_eq, nat_lt, if◌then◌else◌, List, length}
 use Rattle.cs_num.specs.declared.Cpx.{Cpx}
 use Rattle.cs_num.specs.Complex.{nothing}
-use Rattle.lte_types.specs.Numerology.{half_of}
+use Rattle.lte_types.specs.Numerology.{half_of, is_extended}
 use Rattle.sync_seq.specs.Primary.{pss_at}
 use Rattle.sync_seq.specs.Middle.{is_middle}
 use Rattle.sync_seq.specs.Secondary.{sss_amplitude}
 use Rattle.grid_map.specs.declared.Place.{Place}
 use Rattle.grid_map.specs.Place.{place, index_in}
-use Rattle.grid_map.specs.Broadcast.{is_pbch, pbch_index}
+use Rattle.grid_map.specs.Broadcast.{pbch_places}
 use Rattle.grid_map.specs.LongBroadcast.{long_places}
 use Rattle.grid_map.specs.Control.{pcfich_places}
 use Rattle.cell_tx.specs.declared.antenna.Port.{Port}
-use Rattle.lte_types.specs.declared.carrier.Carrier.{Carrier}
-use Rattle.lte_types.specs.declared.carrier.Carrier.TheVariants.{OnePort, TwoPorts, LongPrefix, FourPorts}
 use Rattle.cell_plan.specs.declared.cell.CellPlan.{CellPlan}
-use Rattle.cell_tx.specs.Ports.{only_port, long_port}
-use Rattle.cell_tx.specs.Ports.{port_symbols, port_slot, has_control, is_two, sent_point, sent_signal, is_own_reference}
-use Rattle.cell_tx.specs.Ports.{is_other_reference, port_reference}
+use Rattle.cell_tx.specs.Ports.{only_port, port_prefix, port_symbols, port_slot, has_control, sent_point}
+use Rattle.cell_tx.specs.Ports.{sent_signal, is_own_reference, is_other_reference, port_reference}
 use Rattle.cell_tx.specs.Block.{port_point}
 use Rattle.cell_tx.specs.Control.{control_places, indicator_point, control_point}
 use Rattle.cell_tx.specs.Shared.{assigned_places, shared_point}
@@ -42,36 +39,29 @@ is_secondary port subframe symbol k = is_synchronised (port_symbols port - 2) su
 abbrev pub is_one_of : List Place → Place → Bool
 is_one_of places p = nat_lt (index_in places p) (length places)
 
--- the broadcast channel is in subframe 0 (TS 36.211 section 6.6.4)
-abbrev pub is_broadcast : ℕ → ℕ → ℕ → ℕ → Bool
-is_broadcast identity subframe symbol k = nat_eq subframe 0 && is_pbch identity (place symbol k)
+-- the places of the broadcast channel (TS 36.211 section 6.6.4), by the symbols of subframe 0, or with the extended
+-- prefix by those of slot 1
+abbrev pub broadcast_places : Port → ℕ → List Place
+broadcast_places port identity = if is_extended (port_prefix port) then long_places identity else pbch_places identity
 
--- the broadcast channel with the extended prefix is in slot 1, by whose symbols its places are numbered
-abbrev pub is_long_broadcast : ℕ → ℕ → ℕ → ℕ → Bool
-is_long_broadcast identity subframe symbol k =
-    nat_eq (port_slot long_port subframe symbol) 1
-    && is_one_of (long_places identity) (place (symbol % port_symbols long_port) k)
+-- the number of a symbol of a subframe among those by which these places are numbered
+abbrev pub broadcast_symbol : Port → ℕ → ℕ
+broadcast_symbol port symbol = if is_extended (port_prefix port) then symbol % port_symbols port else symbol
 
--- a place of a subframe is one of the broadcast channel's, by carrier
-abbrev pub has_broadcast_by : Carrier → ℕ → ℕ → ℕ → ℕ → Bool
-has_broadcast_by OnePort identity subframe symbol k = is_broadcast identity subframe symbol k
-has_broadcast_by TwoPorts identity subframe symbol k = is_broadcast identity subframe symbol k
-has_broadcast_by LongPrefix identity subframe symbol k = is_long_broadcast identity subframe symbol k
-has_broadcast_by FourPorts identity subframe symbol k = is_broadcast identity subframe symbol k
+-- a symbol of a subframe is in the slot of the broadcast channel
+abbrev pub may_broadcast : Port → ℕ → ℕ → Bool
+may_broadcast port subframe symbol = nat_eq (port_slot port subframe symbol) 1
 
+-- a place of a subframe is one of the broadcast channel's
 abbrev pub has_broadcast : Port → ℕ → ℕ → ℕ → ℕ → Bool
-has_broadcast port identity subframe symbol k = has_broadcast_by port.carrier identity subframe symbol k
+has_broadcast port identity subframe symbol k =
+    may_broadcast port subframe symbol
+    && is_one_of (broadcast_places port identity) (place (broadcast_symbol port symbol) k)
 
 -- the number of the point of the broadcast channel at a place
-abbrev pub broadcast_index_by : Carrier → ℕ → ℕ → ℕ → ℕ
-broadcast_index_by OnePort identity symbol k = pbch_index identity (place symbol k)
-broadcast_index_by TwoPorts identity symbol k = pbch_index identity (place symbol k)
-broadcast_index_by LongPrefix identity symbol k =
-    index_in (long_places identity) (place (symbol % port_symbols long_port) k)
-broadcast_index_by FourPorts identity symbol k = pbch_index identity (place symbol k)
-
 abbrev pub broadcast_index : Port → ℕ → ℕ → ℕ → ℕ
-broadcast_index port identity symbol k = broadcast_index_by port.carrier identity symbol k
+broadcast_index port identity symbol k =
+    index_in (broadcast_places port identity) (place (broadcast_symbol port symbol) k)
 
 -- the control format indicator is in every subframe (TS 36.211 section 6.7)
 abbrev pub is_indicator : CellPlan → ℕ → ℕ → Bool
@@ -89,7 +79,7 @@ is_control plan sfn subframe symbol k =
 -- the shared channel that carries system information (TS 36.211 section 6.4)
 abbrev pub is_shared : Port → CellPlan → ℕ → ℕ → ℕ → ℕ → Bool
 is_shared port plan sfn subframe symbol k =
-    has_system_information sfn subframe && is_one_of (assigned_places (is_two port) plan) (place symbol k)
+    has_system_information sfn subframe && is_one_of (assigned_places port.carrier plan) (place symbol k)
 
 -- ---- the values of an antenna port
 
@@ -125,7 +115,7 @@ control_value port plan sfn symbol k =
 -- the physical downlink shared channel (TS 36.211 section 6.4)
 abbrev pub shared_value : Port → CellPlan → ℕ → ℕ → ℕ → Cpx
 shared_value port plan sfn symbol k =
-    sent_point port (shared_point plan sfn) (index_in (assigned_places (is_two port) plan) (place symbol k))
+    sent_point port (shared_point plan sfn) (index_in (assigned_places port.carrier plan) (place symbol k))
 
 -- ---- the element
 

@@ -1,44 +1,31 @@
 -- The antenna ports that send at once, and what is received of them. (own)
-use Rattle.std.specs.Prelude.{◌+◌, ◌≤◌, List}
+use Rattle.std.specs.Prelude.{◌≤◌, List}
 use Rattle.std.proofs.Props.{props}
 use Rattle.cs_num.specs.declared.Cpx.{Cpx}
 use Rattle.cs_num.specs.Complex.{square, times, value_at}
 use Rattle.lte_types.specs.declared.carrier.Carrier.{Carrier}
-use Rattle.lte_types.specs.declared.carrier.Carrier.TheVariants.{OnePort, TwoPorts, LongPrefix, FourPorts}
+use Rattle.cell_plan.specs.Gains.{AreGainsOf, are_gains_prop}
 use Rattle.cell_tx.specs.declared.antenna.Port.{Port}
 use Rattle.cell_tx.specs.declared.source.Ports.{Ports}
-use Rattle.cell_tx.specs.declared.source.Ports.TheVariants.{Alone, Both, AllFour}
-use Rattle.cell_tx.specs.Ports.{only_port, long_port}
-use Rattle.cell_plan.specs.Gains.{power_of_four}
+use Rattle.cell_tx.specs.declared.source.Ports.TheVariants.{Alone, All}
 use Rattle.cell_tx.specs.Emission.{mixed}
-
--- the ports of a carrier
-abbrev pub ports_of : Carrier → Ports
-ports_of OnePort = Alone only_port
-ports_of TwoPorts = Both
-ports_of LongPrefix = Alone long_port
-ports_of FourPorts = AllFour
 
 -- the carrier of ports
 abbrev pub carrier_by : Ports → Carrier
 carrier_by (Alone port) = port.carrier
-carrier_by Both = TwoPorts
-carrier_by AllFour = FourPorts
+carrier_by (All carrier) = carrier
 
 -- what is received of ports that send these values, by a channel that is one number for each
 abbrev pub mixed_by : Ports → (Port → Cpx) → List Cpx → Cpx
 mixed_by (Alone port) values gains = times (value_at gains 0) (values port)
-mixed_by Both values gains = mixed TwoPorts values gains
-mixed_by AllFour values gains = mixed FourPorts values gains
+mixed_by (All carrier) values gains = mixed carrier values gains
 
 -- what is received with these gains fits 16 bits
 abbrev pub AreGainsBy : Ports → List Cpx → Type 0
 AreGainsBy (Alone port) gains = square (value_at gains 0) ≤ 784
-AreGainsBy Both gains = square (value_at gains 0) + square (value_at gains 1) ≤ 392
-AreGainsBy AllFour gains = power_of_four gains ≤ 196
+AreGainsBy (All carrier) gains = AreGainsOf carrier gains
 
 -- a law: that gains fit is a proposition
 pub gains_by_prop : (ports : Ports) (gains : List Cpx) → IsProp (AreGainsBy ports gains)
 gains_by_prop (Alone port) gains = hlevel props
-gains_by_prop Both gains = hlevel props
-gains_by_prop AllFour gains = hlevel props
+gains_by_prop (All carrier) gains = are_gains_prop carrier gains

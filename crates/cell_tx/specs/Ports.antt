@@ -1,6 +1,6 @@
 -- What an antenna port sends of the points of a channel and of the signals: a cell has one port, with either cyclic
 -- prefix, or two or four with transmit diversity (TS 36.211 sections 6.3.3, 6.3.4, 6.10.1, 6.11 and 6.12).
-use Rattle.std.specs.Prelude.{◌≡◌, ℕ, ◌+◌, ◌-◌, ◌*◌, ◌/◌, ◌%◌, ◌<◌, Bool, true, false, not, ◌&&◌, ◌||◌, nat_eq, nat_lt}
+use Rattle.std.specs.Prelude.{◌≡◌, ℕ, ◌+◌, ◌-◌, ◌*◌, ◌/◌, ◌%◌, ◌<◌, Bool, not, ◌&&◌, nat_eq, nat_lt, nat_le}
 use Rattle.std.specs.Prelude.{if◌then◌else◌}
 use Rattle.cs_num.specs.declared.Cpx.{Cpx}
 use Rattle.cs_num.specs.Complex.{nothing, negated, conjugate}
@@ -8,10 +8,10 @@ use Rattle.lte_types.specs.declared.carrier.Carrier.{Carrier}
 use Rattle.lte_types.specs.declared.carrier.Carrier.TheVariants.{OnePort, TwoPorts, LongPrefix, FourPorts}
 use Rattle.lte_types.specs.declared.numerology.Prefix.{Prefix}
 use Rattle.lte_types.specs.Carrier.{prefix_of, ports_of}
-use Rattle.lte_types.specs.Numerology.{symbols_of_slot}
+use Rattle.lte_types.specs.Numerology.{symbols_of_slot, is_extended}
 use Rattle.crs.specs.declared.pattern.Pattern.{Pattern}
-use Rattle.crs.specs.Reference.{pattern_of, long_prefix, is_reference, is_second_reference, is_upper_reference}
-use Rattle.crs.specs.Reference.{is_pattern_place, reference_at, pattern_reference}
+use Rattle.crs.specs.Reference.{pattern_of, pattern_reference}
+use Rattle.crs.specs.Ports.{is_reference_by, is_reference_of_any}
 use Rattle.cell_tx.specs.declared.antenna.Port.{Port}
 
 -- ---- the ports of each carrier
@@ -57,32 +57,17 @@ port_slot port subframe symbol = 2 * subframe + symbol / port_symbols port
 abbrev pub first_pattern : Port → Pattern
 first_pattern port = pattern_of port.carrier 0
 
--- the bits of the broadcast channel in a frame (TS 36.211 section 6.6.1)
-abbrev pub block_bits_by : Carrier → ℕ
-block_bits_by OnePort = 480
-block_bits_by TwoPorts = 480
-block_bits_by LongPrefix = 432
-block_bits_by FourPorts = 480
-
+-- the bits of the broadcast channel in a frame, two for each of its 240 places, or of 216 with the extended prefix (TS
+-- 36.211 section 6.6.1)
 abbrev pub port_block_bits : Port → ℕ
-port_block_bits port = block_bits_by port.carrier
+port_block_bits port = if is_extended (port_prefix port) then 432 else 480
 
 -- the control region and system information are sent; with the extended prefix, and of four ports, they are not (own)
 abbrev pub has_control_by : Carrier → Bool
-has_control_by OnePort = true
-has_control_by TwoPorts = true
-has_control_by LongPrefix = false
-has_control_by FourPorts = false
+has_control_by carrier = not (is_extended (prefix_of carrier)) && nat_le (ports_of carrier) 2
 
 abbrev pub has_control : Port → Bool
 has_control port = has_control_by port.carrier
-
--- the cell has two ports
-abbrev pub is_two_by : Carrier → Bool
-is_two_by carrier = nat_eq (ports_of carrier) 2
-
-abbrev pub is_two : Port → Bool
-is_two port = is_two_by port.carrier
 
 -- the mask of the check of the master block, by the count of ports (TS 36.212 section 5.3.1.1)
 abbrev pub mask_by : Carrier → ℕ
@@ -107,48 +92,22 @@ paired_point half number points i = if nat_lt number half then points i else cro
 abbrev pub in_turn : ℕ → ℕ → Cpx → Cpx
 in_turn number i z = if nat_eq (i / 2 % 2) (number % 2) then z else nothing
 
--- what a port sends at place i of a channel with these points. With two ports the points are taken two by two, in the
--- order of their places: of x and y at two places port 0 sends x and y, and port 1 the negative conjugate of y and the
--- conjugate of x. With four ports the pairs of even number go over ports 0 and 2 so, and those of odd number over ports
--- 1 and 3, and of the pairs of the other two a port sends nothing (TS 36.211 section 6.3.4.3; own: without its factor)
-abbrev pub point_by : Carrier → ℕ → (ℕ → Cpx) → ℕ → Cpx
-point_by OnePort number points i = points i
-point_by TwoPorts number points i = paired_point 1 number points i
-point_by LongPrefix number points i = points i
-point_by FourPorts number points i = in_turn number i (paired_point 2 number points i)
-
+-- what a port sends at place i of a channel with these points: where it is the only one, the points as they are. With
+-- two ports the points are taken two by two, in the order of their places: of x and y at two places port 0 sends x and
+-- y, and port 1 the negative conjugate of y and the conjugate of x. With four ports the pairs of even number go over
+-- ports 0 and 2 so, and those of odd number over ports 1 and 3, and of the pairs of the other two a port sends nothing
+-- (TS 36.211 section 6.3.4.3; own: without its factor)
 abbrev pub sent_point : Port → (ℕ → Cpx) → ℕ → Cpx
-sent_point port points i = point_by port.carrier port.number points i
+sent_point port points i =
+    if nat_eq (ports_of port.carrier) 1 then points i
+    else (if nat_eq (ports_of port.carrier) 2 then paired_point 1 port.number points i
+    else in_turn port.number i (paired_point 2 port.number points i))
 
 -- what a port sends of a synchronisation signal, which port 0 alone has (own)
 abbrev pub sent_signal : Port → Cpx → Cpx
 sent_signal port z = if nat_eq port.number 0 then z else nothing
 
 -- ---- reference signals
-
--- a place of a slot is one of the reference signals of port 0, or, for any other number, of port 1
-abbrev pub is_lower_reference : ℕ → ℕ → ℕ → ℕ → Bool
-is_lower_reference number identity symbol k =
-    if nat_eq number 0 then is_reference identity symbol k else is_second_reference identity symbol k
-
--- a place of a slot is one of the reference signals of the port with a number (TS 36.211 section 6.10.1.2)
-abbrev pub is_reference_by : Carrier → ℕ → ℕ → ℕ → ℕ → ℕ → Bool
-is_reference_by OnePort number identity slot symbol k = is_reference identity symbol k
-is_reference_by TwoPorts number identity slot symbol k = is_lower_reference number identity symbol k
-is_reference_by LongPrefix number identity slot symbol k = is_pattern_place long_prefix identity symbol k
-is_reference_by FourPorts number identity slot symbol k =
-    if nat_lt number 2 then is_lower_reference number identity symbol k
-    else is_upper_reference number identity slot symbol k
-
--- a place of a slot is one of the reference signals of any port of a carrier
-abbrev pub is_reference_of_any : Carrier → ℕ → ℕ → ℕ → ℕ → Bool
-is_reference_of_any OnePort identity slot symbol k = is_reference identity symbol k
-is_reference_of_any TwoPorts identity slot symbol k =
-    is_reference identity symbol k || is_second_reference identity symbol k
-is_reference_of_any LongPrefix identity slot symbol k = is_pattern_place long_prefix identity symbol k
-is_reference_of_any FourPorts identity slot symbol k =
-    (is_reference identity symbol k || is_second_reference identity symbol k)
-    || (is_upper_reference 2 identity slot symbol k || is_upper_reference 3 identity slot symbol k)
 
 -- a place of a slot is one of a port's own reference signals
 abbrev pub is_own_reference : Port → ℕ → ℕ → ℕ → ℕ → Bool
@@ -159,13 +118,7 @@ abbrev pub is_other_reference : Port → ℕ → ℕ → ℕ → ℕ → Bool
 is_other_reference port identity slot symbol k =
     not (is_own_reference port identity slot symbol k) && is_reference_of_any port.carrier identity slot symbol k
 
--- the value of a reference signal at a place; all ports with the normal prefix take it from one sequence (TS 36.211
--- section 6.10.1.1)
-abbrev pub reference_by : Carrier → ℕ → ℕ → ℕ → ℕ → Cpx
-reference_by OnePort identity slot symbol k = reference_at identity slot symbol k
-reference_by TwoPorts identity slot symbol k = reference_at identity slot symbol k
-reference_by LongPrefix identity slot symbol k = pattern_reference long_prefix identity slot symbol (k / 6)
-reference_by FourPorts identity slot symbol k = reference_at identity slot symbol k
-
+-- the value of a reference signal at a place; all ports of a cell take it from one sequence (TS 36.211 section
+-- 6.10.1.1)
 abbrev pub port_reference : Port → ℕ → ℕ → ℕ → ℕ → Cpx
-port_reference port identity slot symbol k = reference_by port.carrier identity slot symbol k
+port_reference port identity slot symbol k = pattern_reference (first_pattern port) identity slot symbol (k / 6)

@@ -1,5 +1,5 @@
 -- What the code makes of a frame, part by part. (own)
-use Rattle.std.specs.Prelude.{ℕ, ◌+◌, ◌-◌, ◌*◌, ◌/◌, ◌%◌, ◌<◌, ◌≤◌, ◌≡◌, Bool, false, ◌||◌, nat_eq, nat_lt}
+use Rattle.std.specs.Prelude.{ℕ, ◌+◌, ◌-◌, ◌*◌, ◌/◌, ◌%◌, ◌<◌, ◌≤◌, ◌≡◌, Bool, false, ◌&&◌, ◌||◌, nat_eq, nat_lt}
 use Rattle.std.specs.Prelude.{if◌then◌else◌, Option, Some, None, List, length, slice_index_or}
 use Rattle.finite.specs.Lists.{values_below}
 use Rattle.cs_num.specs.declared.Cpx.{Cpx}
@@ -14,23 +14,21 @@ use Rattle.sync_seq.specs.Secondary.{sss_list}
 use Rattle.gold.specs.Gold.{gold_bit}
 use Rattle.grid_map.specs.declared.Place.{Place}
 use Rattle.grid_map.specs.Place.{place, index_in}
-use Rattle.grid_map.specs.Broadcast.{pbch_places}
 use Rattle.grid_map.specs.Control.{pcfich_places}
-use Rattle.grid_map.specs.LongBroadcast.{long_places}
 use Rattle.cell_tx.specs.declared.antenna.Port.{Port}
 use Rattle.lte_types.specs.declared.carrier.Carrier.{Carrier}
-use Rattle.lte_types.specs.declared.carrier.Carrier.TheVariants.{OnePort, TwoPorts, LongPrefix, FourPorts}
+use Rattle.lte_types.specs.Carrier.{ports_of}
 use Rattle.cell_plan.specs.declared.cell.CellPlan.{CellPlan}
 use Rattle.cell_tx.specs.declared.points.PlaceTable.{PlaceTable}
 use Rattle.cell_tx.specs.declared.layout.Layout.{Layout}
 use Rattle.cell_tx.specs.declared.layout.Carried.{Carried}
 use Rattle.cell_tx.specs.declared.layout.Versions.{Versions}
-use Rattle.cell_tx.specs.Ports.{is_two, has_control, sent_point, is_own_reference, is_other_reference, port_reference}
+use Rattle.cell_tx.specs.Ports.{has_control, sent_point, is_own_reference, is_other_reference, port_reference}
 use Rattle.cell_tx.specs.Control.{indicator_point, control_places, control_point}
 use Rattle.cell_tx.specs.Shared.{assigned_places, shared_point}
 use Rattle.cell_tx.specs.Load.{is_signal_symbol, load_c_init, load_point}
-use Rattle.cell_tx.specs.Grid.{has_broadcast, broadcast_value, is_one_of, is_indicator, indicator_value, is_control}
-use Rattle.cell_tx.specs.Grid.{control_value, is_shared, shared_value}
+use Rattle.cell_tx.specs.Grid.{broadcast_places, has_broadcast, broadcast_value, is_one_of, is_indicator}
+use Rattle.cell_tx.specs.Grid.{indicator_value, is_control, control_value, is_shared, shared_value}
 use Rattle.cell_tx.specs.Sent.{Elements, prefix_frame_sample}
 
 -- what a port sends at a reference place of a slot, its own or one of the other ports; none at every other place
@@ -39,60 +37,28 @@ port_reference_if port identity slot symbol k =
     if is_own_reference port identity slot symbol k then Some (port_reference port identity slot symbol k)
     else (if is_other_reference port identity slot symbol k then Some nothing else None)
 
--- a place of a symbol with reference places of ports 0 and 1 is one of a port of a carrier, by whether it is one of
+-- a place of a symbol with reference places of ports 0 and 1 is one of the port with a number, by whether it is one of
 -- port 0 and whether it is one of port 1
-abbrev pub lower_test : Carrier → ℕ → Bool → Bool → Bool
-lower_test OnePort number zero one = zero
-lower_test TwoPorts number zero one = if nat_eq number 0 then zero else one
-lower_test LongPrefix number zero one = zero
-lower_test FourPorts number zero one = if nat_lt number 2 then (if nat_eq number 0 then zero else one) else false
+abbrev pub lower_test : ℕ → Bool → Bool → Bool
+lower_test number zero one = if nat_lt number 2 then (if nat_eq number 0 then zero else one) else false
 
 -- a place of a symbol with reference places of ports 0 and 1 is one of any port of a carrier
 abbrev pub any_lower_test : Carrier → Bool → Bool → Bool
-any_lower_test OnePort zero one = zero
-any_lower_test TwoPorts zero one = zero || one
-any_lower_test LongPrefix zero one = zero
-any_lower_test FourPorts zero one = zero || one
+any_lower_test carrier zero one = zero || (nat_lt 1 (ports_of carrier) && one)
 
--- a place of the symbol with reference places of ports 2 and 3 is one of a port of four, by whether it is one of port
--- 2 and whether it is one of port 3
+-- a place of the symbol with reference places of ports 2 and 3 is one of the port with a number, by whether it is one
+-- of port 2 and whether it is one of port 3
 abbrev pub upper_test : ℕ → Bool → Bool → Bool
 upper_test number two three = if nat_lt number 2 then false else (if nat_eq (number % 2) 0 then two else three)
+
+-- a place of the symbol with reference places of ports 2 and 3 is one of any port of a carrier
+abbrev pub any_upper_test : Carrier → Bool → Bool → Bool
+any_upper_test carrier two three = nat_lt 2 (ports_of carrier) && (two || three)
 
 -- what a port sends at a place, by a channel's places and points; none at every other place
 abbrev pub value_in : Port → List Place → List Cpx → Place → Option Cpx
 value_in port places points p =
     if is_one_of places p then Some (sent_point port (value_at points) (index_in places p)) else None
-
--- the places of the broadcast channel, by the symbols of subframe 0, or with the extended prefix by those of slot 1
-abbrev pub broadcast_places_by : Carrier → ℕ → List Place
-broadcast_places_by OnePort identity = pbch_places identity
-broadcast_places_by TwoPorts identity = pbch_places identity
-broadcast_places_by LongPrefix identity = long_places identity
-broadcast_places_by FourPorts identity = pbch_places identity
-
-abbrev pub broadcast_places : Port → ℕ → List Place
-broadcast_places port identity = broadcast_places_by port.carrier identity
-
--- a symbol of a subframe is in the subframe, or the slot, of the broadcast channel
-abbrev pub may_broadcast_by : Carrier → ℕ → ℕ → Bool
-may_broadcast_by OnePort subframe symbol = nat_eq subframe 0
-may_broadcast_by TwoPorts subframe symbol = nat_eq subframe 0
-may_broadcast_by LongPrefix subframe symbol = nat_eq (2 * subframe + symbol / 6) 1
-may_broadcast_by FourPorts subframe symbol = nat_eq subframe 0
-
-abbrev pub may_broadcast : Port → ℕ → ℕ → Bool
-may_broadcast port subframe symbol = may_broadcast_by port.carrier subframe symbol
-
--- the number that a symbol of a subframe has among those by which the broadcast channel's places are numbered
-abbrev pub broadcast_symbol_by : Carrier → ℕ → ℕ
-broadcast_symbol_by OnePort symbol = symbol
-broadcast_symbol_by TwoPorts symbol = symbol
-broadcast_symbol_by LongPrefix symbol = symbol % 6
-broadcast_symbol_by FourPorts symbol = symbol
-
-abbrev pub broadcast_symbol : Port → ℕ → ℕ
-broadcast_symbol port symbol = broadcast_symbol_by port.carrier symbol
 
 -- the value of a channel at a place of a subframe; none at every other place
 abbrev pub broadcast_if : Port → CellPlan → ℕ → ℕ → ℕ → ℕ → Option Cpx
@@ -152,7 +118,7 @@ pub record IsLayout (port : Port) (plan : CellPlan) (layout : Layout) : Type 0 w
   pub indicators : layout.indicators ≡ values_below 10 (λ subframe. values_below 16 (indicator_point plan subframe))
   pub control : IsTableOf (control_places plan) layout.control
   pub control_count : layout.control.count ≡ 144
-  pub shared : IsTableOf (assigned_places (is_two port) plan) layout.shared
+  pub shared : IsTableOf (assigned_places port.carrier plan) layout.shared
   pub shared_count : layout.shared.count ≤ 612
 
 -- what grants the system information of a frame, and the points that carry it

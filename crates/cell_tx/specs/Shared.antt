@@ -1,7 +1,9 @@
 -- The shared channel of a plan, which carries SystemInformationBlockType1 (PDSCH, TS 36.211 section 6.4, TS 36.212
 -- section 5.3.2).
-use Rattle.std.specs.Prelude.{ℕ, Bool, false, List}
+use Rattle.std.specs.Prelude.{ℕ, Bool, List}
 use Rattle.cs_num.specs.declared.Cpx.{Cpx}
+use Rattle.lte_types.specs.declared.carrier.Carrier.{Carrier}
+use Rattle.lte_types.specs.declared.carrier.Carrier.TheVariants.{OnePort}
 use Rattle.turbo_code.specs.Reading.{item_of, bit_of}
 use Rattle.grid_map.specs.declared.Place.{Place}
 use Rattle.grid_map.specs.Scrambling.{pdsch_c_init}
@@ -12,13 +14,13 @@ use Rattle.cell_plan.specs.Transport.{checked_size, shared_coded}
 use Rattle.cell_tx.specs.Points.{scrambled, point_of}
 use Rattle.cell_tx.specs.Control.{version_of}
 
--- the places of the assigned resource blocks, with two antenna ports or one
-abbrev pub assigned_places : Bool → CellPlan → List Place
-assigned_places two plan = shared_places_of two plan.identity plan.cfi plan.start plan.blocks
+-- the places of the assigned resource blocks of a carrier
+abbrev pub assigned_places : Carrier → CellPlan → List Place
+assigned_places carrier plan = shared_places_of carrier plan.identity plan.cfi plan.start plan.blocks
 
 -- the places of the assigned resource blocks, with one antenna port
 abbrev pub shared_places : CellPlan → List Place
-shared_places plan = assigned_places false plan
+shared_places plan = assigned_places OnePort plan
 
 -- bit i that the shared channel has in the frame with this number: those of the coded word, as they are matched from
 -- the frame's redundancy version on

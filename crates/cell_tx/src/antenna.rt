@@ -14,7 +14,7 @@ pub struct Port {
 
 impl Port {
     ghost use Rattle.std.specs.Prelude.{◌≡◌, ◌≤◌};
-    ghost use Rattle.cell_tx.specs.Ports.{port_symbols, port_block_bits, has_control, is_two, port_mask};
+    ghost use Rattle.cell_tx.specs.Ports.{port_symbols, port_block_bits, has_control, port_mask};
 
     // The symbols of a slot: half of those of a subframe.
     pub(crate) fn symbols(self) -> u8
@@ -22,10 +22,7 @@ impl Port {
         ensures low { 6 ≤ result }
         ensures high { result ≤ 7 }
     {
-        match self.carrier {
-            Carrier::OnePort | Carrier::TwoPorts | Carrier::FourPorts => 7,
-            Carrier::LongPrefix => 6,
-        }
+        self.carrier.prefix().symbols() as u8
     }
 
     // The bits of the broadcast channel in a frame (TS 36.211 section 6.6.1).
@@ -33,9 +30,10 @@ impl Port {
         ensures value { result ≡ port_block_bits self }
         ensures bound { result ≤ 480 }
     {
-        match self.carrier {
-            Carrier::OnePort | Carrier::TwoPorts | Carrier::FourPorts => 480,
-            Carrier::LongPrefix => 432,
+        if self.carrier.prefix().is_extended() {
+            432
+        } else {
+            480
         }
     }
 
@@ -43,30 +41,17 @@ impl Port {
     pub(crate) fn has_control(self) -> bool
         ensures { result ≡ has_control self }
     {
-        match self.carrier {
-            Carrier::OnePort | Carrier::TwoPorts => true,
-            Carrier::LongPrefix | Carrier::FourPorts => false,
-        }
-    }
-
-    // The cell has two ports.
-    pub(crate) fn is_two(self) -> bool
-        ensures { result ≡ is_two self }
-    {
-        match self.carrier {
-            Carrier::TwoPorts => true,
-            Carrier::OnePort | Carrier::LongPrefix | Carrier::FourPorts => false,
-        }
+        !self.carrier.prefix().is_extended() && self.carrier.ports() <= 2
     }
 
     // The mask of the check of its master block (TS 36.212 section 5.3.1.1).
     pub(crate) fn mask(self) -> u16
         ensures { result ≡ port_mask self }
     {
-        match self.carrier {
-            Carrier::OnePort | Carrier::LongPrefix => 0,
-            Carrier::TwoPorts => 0xffff,
-            Carrier::FourPorts => 0x5555,
+        match self.carrier.ports() {
+            1 => 0,
+            2 => 0xffff,
+            _ => 0x5555,
         }
     }
 }

@@ -2,16 +2,15 @@
 
 ghost use Rattle.std.specs.Prelude.{◌≡◌, ◌<◌, true};
 ghost use Rattle.cell_tx.specs.Ports.{has_control};
-ghost use Rattle.cell_tx.specs.Grid.{has_system_information};
-ghost use Rattle.cell_tx.specs.Rows.{may_broadcast, broadcast_symbol, broadcast_if, indicator_if, control_if};
-ghost use Rattle.cell_tx.specs.Rows.{shared_if, system_if, channel_if};
+ghost use Rattle.cell_tx.specs.Grid.{may_broadcast, broadcast_symbol, has_system_information};
+ghost use Rattle.cell_tx.specs.Rows.{broadcast_if, indicator_if, control_if, shared_if, system_if, channel_if};
 
 use crate::Port;
 use crate::grid::Signals;
 use crate::points::value_at;
 use cs_num::Cpx;
 use grid_map::Place;
-use lte_types::{Carrier, Sfn};
+use lte_types::Sfn;
 
 // Whether a subframe carries system information.
 fn has_system_information(sfn: Sfn, subframe: u8) -> bool
@@ -20,16 +19,13 @@ fn has_system_information(sfn: Sfn, subframe: u8) -> bool
     subframe == 5 && sfn.value() % 2 == 0
 }
 
-// Whether a symbol of a subframe is in the subframe, or slot, of the broadcast channel.
+// Whether a symbol of a subframe is in the slot of the broadcast channel.
 fn may_broadcast(port: Port, subframe: u8, symbol: u8) -> bool
     requires subframe { subframe < 10 }
     requires symbol { symbol < 14 }
     ensures { result ≡ may_broadcast port subframe symbol }
 {
-    match port.carrier {
-        Carrier::OnePort | Carrier::TwoPorts | Carrier::FourPorts => subframe == 0,
-        Carrier::LongPrefix => 2 * subframe + symbol / 6 == 1,
-    }
+    2 * subframe + symbol / port.symbols() == 1
 }
 
 // The number that a symbol of a subframe has among those by which the broadcast channel's places are numbered.
@@ -38,9 +34,10 @@ fn broadcast_symbol(port: Port, symbol: u8) -> u8
     ensures value { result ≡ broadcast_symbol port symbol }
     ensures small { result < 14 }
 {
-    match port.carrier {
-        Carrier::OnePort | Carrier::TwoPorts | Carrier::FourPorts => symbol,
-        Carrier::LongPrefix => symbol % 6,
+    if port.carrier.prefix().is_extended() {
+        symbol % port.symbols()
+    } else {
+        symbol
     }
 }
 

@@ -2,9 +2,8 @@
 
 ghost use Rattle.std.specs.Prelude.{ℕ, ◌≡◌, ◌+◌, ◌<◌, ◌≤◌, ◌++◌, true, length, take};
 ghost use Rattle.cs_num.specs.Complex.{IsWithin, square, value_at};
-ghost use Rattle.lte_types.specs.declared.carrier.Carrier.TheVariants.{TwoPorts, FourPorts};
 ghost use Rattle.lte_types.specs.Carrier.{prefix_of};
-ghost use Rattle.cell_tx.specs.declared.source.Ports.TheVariants.{Both, AllFour};
+ghost use Rattle.cell_tx.specs.declared.source.Ports.TheVariants.{All};
 ghost use Rattle.cell_tx.specs.Ports.{has_control};
 ghost use Rattle.cell_tx.specs.Rows.{IsLayout, AreVersions};
 ghost use Rattle.cell_tx.specs.Emission.{emitted, emitted_samples};
@@ -14,10 +13,10 @@ use crate::Port;
 use crate::frame_symbols::{SILENCE, Symbols, add_symbols, clear_symbols, symbols_at};
 use crate::grid::Signals;
 use crate::layout::{Layout, Versions, layout_of, versions_of};
-use crate::source::{OF_FOUR, OF_TWO, Ports, Source};
+use crate::source::{Ports, Source};
 use cell_plan::Emission;
 use cs_num::Sample;
-use lte_types::{FRAME_LENGTH, Sfn};
+use lte_types::{Carrier, FRAME_LENGTH, Sfn};
 use std::marker::Model;
 
 // A source with what is the same in all its frames, and at all its ports, of which `port` is the first.
@@ -75,34 +74,19 @@ impl<'a> FrameMaker<'a> {
         add_symbols(&signals, &source.gains[number], symbols, frame);
     }
 
-    // Adds to silence what both ports of a cell with two send.
-    fn add_both(&self, sfn: Sfn, symbols: &Symbols, frame: &mut [Sample])
-        requires ports { self.now.source.ports ≡ Both }
-        requires order { AreSpans (prefix_of TwoPorts) symbols.now }
+    // Adds to silence what all ports of a carrier send.
+    fn add_ports(&self, carrier: Carrier, sfn: Sfn, symbols: &Symbols, frame: &mut [Sample])
+        requires ports { self.now.source.ports ≡ All carrier }
+        requires order { AreSpans (prefix_of carrier) symbols.now }
         requires room { length frame.old ≡ frame_length }
-        requires silent { AreSilent (is_made_anew (prefix_of TwoPorts) symbols.now) frame.old }
-        ensures { AreChanged (is_made_anew (prefix_of TwoPorts) symbols.now)
+        requires silent { AreSilent (is_made_anew (prefix_of carrier) symbols.now) frame.old }
+        ensures { AreChanged (is_made_anew (prefix_of carrier) symbols.now)
             (λ i before. sample_of (framed self.now.source sfn i)) frame.old frame.new }
     {
-        let first = OF_TWO;
-        self.add(first, 0, sfn, symbols, frame);
-        self.add(Port { number: 1, ..first }, 1, sfn, symbols, frame);
-    }
-
-    // Adds to silence what all ports of a cell with four send.
-    fn add_four(&self, sfn: Sfn, symbols: &Symbols, frame: &mut [Sample])
-        requires ports { self.now.source.ports ≡ AllFour }
-        requires order { AreSpans (prefix_of FourPorts) symbols.now }
-        requires room { length frame.old ≡ frame_length }
-        requires silent { AreSilent (is_made_anew (prefix_of FourPorts) symbols.now) frame.old }
-        ensures { AreChanged (is_made_anew (prefix_of FourPorts) symbols.now)
-            (λ i before. sample_of (framed self.now.source sfn i)) frame.old frame.new }
-    {
-        let port = OF_FOUR;
-        self.add(port, 0, sfn, symbols, frame);
-        self.add(Port { number: 1, ..port }, 1, sfn, symbols, frame);
-        self.add(Port { number: 2, ..port }, 2, sfn, symbols, frame);
-        self.add(Port { number: 3, ..port }, 3, sfn, symbols, frame);
+        for number in 0..carrier.ports() {
+            let port = Port { carrier, number };
+            self.add(port, number as usize, sfn, symbols, frame);
+        }
     }
 
     // Adds to silence what the ports of a source send.
@@ -116,8 +100,7 @@ impl<'a> FrameMaker<'a> {
     {
         match self.source.ports {
             Ports::Alone(port) => self.add(port, 0, sfn, symbols, frame),
-            Ports::Both => self.add_both(sfn, symbols, frame),
-            Ports::AllFour => self.add_four(sfn, symbols, frame),
+            Ports::All(carrier) => self.add_ports(carrier, sfn, symbols, frame),
         }
     }
 

@@ -45,49 +45,31 @@ pub(crate) fn all_symbols(carrier: Carrier) -> Symbols
     ensures order { AreSpans (prefix_of carrier) result }
     ensures all { AreAll (prefix_of carrier) result }
 {
-    match carrier {
-        Carrier::OnePort => first_symbols(140),
-        Carrier::TwoPorts => first_symbols(140),
-        Carrier::LongPrefix => first_symbols(120),
-        Carrier::FourPorts => first_symbols(140),
-    }
+    first_symbols(20 * carrier.prefix().symbols())
 }
 
-// The first four symbols of slot 1, which carry the broadcast channel, and subframe 5, which carries system
-// information.
-const CHANNELS: Symbols = Symbols {
-    first: 7,
-    last: 11,
-    again: 70,
-    end: 84,
-};
-
-// The first four symbols of slot 1 alone.
-const BROADCAST: Symbols = Symbols {
-    first: 7,
-    last: 11,
-    again: 11,
-    end: 11,
-};
-
-// Slot 1 with the extended cyclic prefix.
-const SLOT: Symbols = Symbols {
-    first: 6,
-    last: 12,
-    again: 12,
-    end: 12,
-};
-
-// The symbols in which frames without load differ.
+// The symbols in which frames without load differ: the first four of slot 1, which carry the broadcast channel, and
+// those of subframe 5, where system information is sent.
 fn channel_symbols(carrier: Carrier) -> Symbols
     ensures order { AreSpans (prefix_of carrier) result }
     ensures own { AreOwn carrier None result }
 {
-    match carrier {
-        Carrier::OnePort => CHANNELS,
-        Carrier::TwoPorts => CHANNELS,
-        Carrier::LongPrefix => SLOT,
-        Carrier::FourPorts => BROADCAST,
+    let first = carrier.prefix().symbols();
+    let last = first + 4;
+    if (Port { carrier, number: 0 }).has_control() {
+        Symbols {
+            first,
+            last,
+            again: 10 * first,
+            end: 12 * first,
+        }
+    } else {
+        Symbols {
+            first,
+            last,
+            again: last,
+            end: last,
+        }
     }
 }
 

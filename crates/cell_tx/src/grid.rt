@@ -6,16 +6,16 @@ ghost use Rattle.finite.specs.Lists.{values_below};
 ghost use Rattle.cs_num.specs.Complex.{nothing};
 ghost use Rattle.lte_types.specs.Numerology.{half_of};
 ghost use Rattle.sync_seq.specs.Secondary.{sss_at};
-ghost use Rattle.crs.specs.Reference.{IsPattern, pattern_list, upper_list};
+ghost use Rattle.crs.specs.Reference.{IsPattern, pattern_list, upper_first};
 ghost use Rattle.fold128.specs.Symbol.{useful_part};
 ghost use Rattle.std.specs.Option.{unwrap_or};
 ghost use Rattle.cell_tx.specs.declared.antenna.Port.{Port as Antenna};
 ghost use Rattle.cell_tx.specs.Grid.{is_synchronised, secondary_value};
-ghost use Rattle.cell_tx.specs.Ports.{port_of_four, port_symbols, port_slot, first_pattern, sent_signal, has_control};
+ghost use Rattle.cell_tx.specs.Ports.{port_symbols, port_slot, first_pattern, sent_signal, has_control};
 ghost use Rattle.cell_tx.specs.Load.{is_signal_symbol, load_point, sent_element};
 ghost use Rattle.cell_tx.specs.Block.{port_point};
-ghost use Rattle.cell_tx.specs.Rows.{port_reference_if, lower_test, any_lower_test, upper_test, channel_if};
-ghost use Rattle.cell_tx.specs.Rows.{open_value, load_bits as bits_of_load, IsLayout, IsCarried};
+ghost use Rattle.cell_tx.specs.Rows.{port_reference_if, lower_test, any_lower_test, upper_test, any_upper_test};
+ghost use Rattle.cell_tx.specs.Rows.{channel_if, open_value, load_bits as bits_of_load, IsLayout, IsCarried};
 
 use crate::Port;
 use crate::block::broadcast_points;
@@ -23,7 +23,7 @@ use crate::channels::channel_at;
 use crate::layout::{Carried, Layout};
 use crate::load::{LOAD_BITS, load_bits};
 use cell_plan::Cell;
-use crs::{Pattern, pattern_pilots, point, upper_pilots};
+use crs::{Pattern, first_of_upper, pattern_pilots, point};
 use cs_num::Cpx;
 use fold128::synth;
 use grid_map::Place;
@@ -91,21 +91,17 @@ fn reference_of(port: Port, pilots: &[(u8, Cpx); 12], k: usize) -> Option<Cpx>
     let zero = k % 6 == first;
     let one = k % 6 == (first + 3) % 6;
     value_or(
-        lower_test(port, zero, one),
+        lower_test(port.number, zero, one),
         any_lower_test(port.carrier, zero, one),
         pilots[k / 6].1,
     )
 }
 
-// The test of a port in the symbols with reference places of ports 0 and 1, by the tests of these two.
-fn lower_test(port: Port, zero: bool, one: bool) -> bool
-    ensures { result ≡ lower_test port.carrier port.number zero one }
+// The test of the port with a number in the symbols with reference places of ports 0 and 1, by the tests of these two.
+fn lower_test(number: u8, zero: bool, one: bool) -> bool
+    ensures { result ≡ lower_test number zero one }
 {
-    match port.carrier {
-        Carrier::OnePort | Carrier::LongPrefix => zero,
-        Carrier::TwoPorts => own_test(port.number, zero, one),
-        Carrier::FourPorts => port.number < 2 && own_test(port.number, zero, one),
-    }
+    number < 2 && own_test(number, zero, one)
 }
 
 // The first of two tests for port 0, and the second for any other.
@@ -119,34 +115,39 @@ fn own_test(number: u8, zero: bool, one: bool) -> bool
 fn any_lower_test(carrier: Carrier, zero: bool, one: bool) -> bool
     ensures { result ≡ any_lower_test carrier zero one }
 {
-    match carrier {
-        Carrier::OnePort | Carrier::LongPrefix => zero,
-        Carrier::TwoPorts | Carrier::FourPorts => zero || one,
-    }
+    zero || carrier.ports() > 1 && one
 }
 
-// The test of a port of four in the symbol with reference places of ports 2 and 3, by the tests of these two.
+// What a port sends at a reference place of symbol 1 by the first place of port 2 there and the twelve values; `None`
+// at every other place. Port 3 has its places three subcarriers on.
+fn upper_of(port: Port, first: usize, pilots: &[(u8, Cpx); 12], k: usize) -> Option<Cpx>
+    requires first { first < 6 }
+    requires k { k < 72 }
+    ensures { (identity slot : ℕ) → first ≡ upper_first 2 identity slot →
+        pilots.now ≡ pattern_list (first_pattern port) identity slot 1 →
+        result ≡ port_reference_if port identity slot 1 k }
+{
+    let two = k % 6 == first;
+    let three = k % 6 == (first + 3) % 6;
+    value_or(
+        upper_test(port.number, two, three),
+        any_upper_test(port.carrier, two, three),
+        pilots[k / 6].1,
+    )
+}
+
+// The test of the port with a number in the symbol with reference places of ports 2 and 3, by the tests of these two.
 fn upper_test(number: u8, two: bool, three: bool) -> bool
     ensures { result ≡ upper_test number two three }
 {
     number >= 2 && own_test(number % 2, two, three)
 }
 
-// What a port of four sends at a reference place of symbol 1 by the twelve of port 2 there; `None` at every other
-// place. Port 3 has its own three subcarriers on.
-fn upper_of(number: u8, pilots: &[(u8, Cpx); 12], k: usize) -> Option<Cpx>
-    requires { k < 72 }
-    ensures { (identity slot : ℕ) → pilots.now ≡ upper_list 2 identity slot →
-        result ≡ port_reference_if (port_of_four number) identity slot 1 k }
+// Whether a place of the symbol with reference places of ports 2 and 3 is one of any port of a carrier.
+fn any_upper_test(carrier: Carrier, two: bool, three: bool) -> bool
+    ensures { result ≡ any_upper_test carrier two three }
 {
-    let first = pilots[0].0 as usize % 6;
-    let two = k % 6 == first;
-    let three = k % 6 == (first + 3) % 6;
-    value_or(
-        upper_test(number, two, three),
-        two || three,
-        pilots[k / 6].1,
-    )
+    carrier.ports() > 2 && (two || three)
 }
 
 // The value at a port's own place, 0 at another port's, and `None` at neither.
@@ -190,27 +191,28 @@ fn references(id: CellId, port: Port, slot: u8, symbol: u8) -> [Option<Cpx>; 72]
     row
 }
 
-// What a port sends at the reference places of symbol 1 of a slot, where ports 2 and 3 of four have theirs.
+// What a port sends at the reference places of symbol 1 of a slot, where ports 2 and 3 have theirs.
 fn second_row(id: CellId, port: Port, slot: u8) -> [Option<Cpx>; 72]
     requires { slot < 20 }
     ensures { result ≡ values_below 72 (port_reference_if port id slot 1) }
 {
-    if let Carrier::FourPorts = port.carrier {
-        upper_row(id, port.number, slot)
-    } else {
+    if port.number < 2 && port.carrier.ports() <= 2 {
         [None; 72]
+    } else {
+        upper_row(id, port, slot)
     }
 }
 
-// What a port of four sends at the reference places of symbol 1 of a slot.
-fn upper_row(id: CellId, number: u8, slot: u8) -> [Option<Cpx>; 72]
+// What a port sends there, by the places of ports 2 and 3.
+fn upper_row(id: CellId, port: Port, slot: u8) -> [Option<Cpx>; 72]
     requires { slot < 20 }
-    ensures { result ≡ values_below 72 (port_reference_if (port_of_four number) id slot 1) }
+    ensures { result ≡ values_below 72 (port_reference_if port id slot 1) }
 {
     let mut row = [None; 72];
-    let pilots = upper_pilots(2, id, slot);
+    let first = first_of_upper(2, id, slot) as usize;
+    let pilots = pattern_pilots(pattern_of(port), id, slot, 1);
     for k in 0..72 {
-        row[k] = upper_of(number, &pilots, k);
+        row[k] = upper_of(port, first, &pilots, k);
     }
     row
 }

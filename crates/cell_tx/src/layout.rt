@@ -2,7 +2,8 @@
 
 ghost use Rattle.std.specs.Prelude.{◌≡◌, true};
 ghost use Rattle.cell_tx.specs.Ports.{has_control};
-ghost use Rattle.cell_tx.specs.Rows.{broadcast_places, IsTableOf, IsLayout, IsCarried, AreVersions};
+ghost use Rattle.cell_tx.specs.Grid.{broadcast_places};
+ghost use Rattle.cell_tx.specs.Rows.{IsTableOf, IsLayout, IsCarried, AreVersions};
 
 use crate::Port;
 use crate::control::{Indicator, control_places, control_points, indicators};
@@ -11,7 +12,7 @@ use crate::shared::{shared_places, shared_points};
 use cell_plan::Cell;
 use cs_num::Cpx;
 use grid_map::{long_places, pbch_places, pcfich_places};
-use lte_types::{Carrier, CellId, Half, Sfn};
+use lte_types::{CellId, Half, Sfn};
 use sync_seq::{pss, sss};
 
 /// What is the same in every frame: the synchronisation signals, where the channels stand, and the
@@ -67,9 +68,10 @@ impl Layout {
 fn broadcast_table(id: CellId, port: Port) -> PlaceTable
     ensures { IsTableOf (broadcast_places port id) result }
 {
-    match port.carrier {
-        Carrier::OnePort | Carrier::TwoPorts | Carrier::FourPorts => table_of(&pbch_places(id)),
-        Carrier::LongPrefix => table_of(&long_places(id)),
+    if port.carrier.prefix().is_extended() {
+        table_of(&long_places(id))
+    } else {
+        table_of(&pbch_places(id))
     }
 }
 
@@ -86,7 +88,7 @@ pub(crate) fn layout_of(cell: &Cell, port: Port) -> Layout
     let indicator = table_of(&pcfich_places(id));
     let indicators = indicators(cell);
     let control = table_of(&control_places(cell));
-    let (count, places) = shared_places(cell, port.is_two());
+    let (count, places) = shared_places(cell, port.carrier);
     let shared = table_of(&places[..count]);
     Layout {
         primary,

@@ -7,7 +7,7 @@ ghost use Rattle.finite.specs.Bits.{xor};
 ghost use Rattle.gold.specs.Gold.{gold_bits};
 ghost use Rattle.cell_tx.specs.Points.{scrambled, point_of};
 ghost use Rattle.cs_num.specs.Complex.{IsWithin, value_at};
-ghost use Rattle.cell_tx.specs.Ports.{port_of_four, crossed_point, paired_point, sent_point};
+ghost use Rattle.cell_tx.specs.Ports.{crossed_point, paired_point, in_turn, sent_point};
 ghost use Rattle.cell_tx.specs.Rows.{value_in, IsTableOf};
 ghost use Rattle.grid_map.specs.declared.Place.{Place};
 ghost use Rattle.grid_map.specs.Place.{place};
@@ -16,7 +16,6 @@ use crate::Port;
 use crs::point;
 use cs_num::Cpx;
 use grid_map::Place;
-use lte_types::Carrier;
 
 // The most bits of a channel: those of the shared channel over six resource blocks.
 const MOST: usize = 1224;
@@ -105,10 +104,10 @@ fn sent_point(port: Port, points: &[Cpx], i: usize) -> Cpx
     requires small { All (IsWithin 90) points.now }
     ensures { result ≡ sent_point port (value_at points.now) i }
 {
-    match port.carrier {
-        Carrier::OnePort | Carrier::LongPrefix => points[i],
-        Carrier::TwoPorts => paired_point(1, port.number, points, i),
-        Carrier::FourPorts => point_of_four(port.number, points, i),
+    match port.carrier.ports() {
+        1 => points[i],
+        2 => paired_point(1, port.number, points, i),
+        _ => point_of_four(port.number, points, i),
     }
 }
 
@@ -118,7 +117,7 @@ fn point_of_four(number: u8, points: &[Cpx], i: usize) -> Cpx
     requires i { i < length points.now }
     requires pairs { length points.now % 2 ≡ 0 }
     requires small { All (IsWithin 90) points.now }
-    ensures { result ≡ sent_point (port_of_four number) (value_at points.now) i }
+    ensures { result ≡ in_turn number i (paired_point 2 number (value_at points.now) i) }
 {
     if i / 2 % 2 == number as usize % 2 {
         paired_point(2, number, points, i)

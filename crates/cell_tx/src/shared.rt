@@ -10,7 +10,7 @@ use cell_plan::Cell;
 use cs_num::Cpx;
 use dci::SI_RNTI;
 use grid_map::{Place, pdsch_c_init, shared_count, shared_place};
-use lte_types::Sfn;
+use lte_types::{Carrier, Sfn};
 use turbo_code::match_all;
 
 // The bits of the coded word in a frame, as they are matched.
@@ -32,17 +32,17 @@ pub(crate) fn shared_points(cell: &Cell, sfn: Sfn) -> [Cpx; 612]
     points
 }
 
-/// The places of the assigned resource blocks with two antenna ports or one, and how many there are.
-pub(crate) fn shared_places(cell: &Cell, two: bool) -> (usize, [Place; 612])
-    ensures places { take result.0 result.1 ≡ assigned_places two cell.now }
+/// The places of the assigned resource blocks of a carrier, and how many there are.
+pub(crate) fn shared_places(cell: &Cell, carrier: Carrier) -> (usize, [Place; 612])
+    ensures places { take result.0 result.1 ≡ assigned_places carrier cell.now }
     ensures count { result.0 ≤ 612 }
     ensures whole { length result.1 ≡ 612 }
 {
     let assignment = cell.assignment();
-    let count = shared_count(two, &assignment);
+    let count = shared_count(carrier, &assignment);
     let mut places = [Place { symbol: 0, k: 0 }; 612];
     for i in 0..count {
-        places[i] = shared_place(two, cell.id(), &assignment, i);
+        places[i] = shared_place(carrier, cell.id(), &assignment, i);
     }
     (count, places)
 }

@@ -9,24 +9,11 @@ use cell_plan::{Cell, Emission};
 use cs_num::Cpx;
 use lte_types::{Carrier, Timing};
 
-/// Port 0 of two.
-pub(crate) const OF_TWO: Port = Port {
-    carrier: Carrier::TwoPorts,
-    number: 0,
-};
-
-/// Port 0 of four.
-pub(crate) const OF_FOUR: Port = Port {
-    carrier: Carrier::FourPorts,
-    number: 0,
-};
-
-/// The antenna ports that send at once: one alone, both of a cell with two, or all of a cell with four.
+/// The antenna ports that send at once: one alone, or all of a carrier.
 #[derive(Clone, Copy)]
 pub(crate) enum Ports {
     Alone(Port),
-    Both,
-    AllFour,
+    All(Carrier),
 }
 
 /// What samples are made of: `samples` samples of a cell from where `timing` says on, those of each port times the gain
@@ -58,7 +45,7 @@ impl<'a> Source<'a> {
     {
         Source {
             cell: &emission.cell,
-            ports: Ports::of(emission.carrier),
+            ports: Ports::All(emission.carrier),
             timing: emission.timing,
             samples: emission.samples as usize,
             gains: emission.gains,
@@ -99,18 +86,7 @@ impl<'a> Source<'a> {
 
 impl Ports {
     ghost use Rattle.std.specs.Prelude.{◌≡◌};
-    ghost use Rattle.cell_tx.specs.Mixing.{ports_of, carrier_by};
-
-    // The ports of a carrier.
-    fn of(carrier: Carrier) -> Ports
-        ensures { result ≡ ports_of carrier }
-    {
-        match carrier {
-            Carrier::OnePort | Carrier::LongPrefix => Ports::Alone(Port { carrier, number: 0 }),
-            Carrier::TwoPorts => Ports::Both,
-            Carrier::FourPorts => Ports::AllFour,
-        }
-    }
+    ghost use Rattle.cell_tx.specs.Mixing.{carrier_by};
 
     /// The first port.
     pub(crate) fn first(self) -> Port
@@ -118,8 +94,7 @@ impl Ports {
     {
         match self {
             Ports::Alone(port) => port,
-            Ports::Both => OF_TWO,
-            Ports::AllFour => OF_FOUR,
+            Ports::All(carrier) => Port { carrier, number: 0 },
         }
     }
 }

@@ -7,7 +7,8 @@ use Rattle.cs_num.specs.declared.Sample.{Sample}
 use Rattle.cs_num.specs.Complex.{nothing, value_at}
 use Rattle.lte_types.specs.declared.carrier.Carrier.TheVariants.{OnePort, TwoPorts, LongPrefix, FourPorts}
 use Rattle.lte_types.specs.declared.carrier.Carrier.{Carrier}
-use Rattle.lte_types.specs.Carrier.{prefix_of}
+use Rattle.lte_types.specs.Carrier.{prefix_of, ports_of}
+use Rattle.crs.specs.Ports.{is_reference_of_any}
 use Rattle.lte_types.specs.declared.frame.Half.{Half}
 use Rattle.lte_types.specs.declared.frame.Half.TheVariants.{Zero, Five}
 use Rattle.lte_types.specs.Numerology.{subframe_of, symbols_of_slot}
@@ -19,7 +20,7 @@ use Rattle.grid_map.specs.Laws.{IsIndexed}
 use Rattle.cell_tx.specs.declared.antenna.Port.{Port}
 use Rattle.cell_plan.specs.declared.cell.CellPlan.{CellPlan}
 use Rattle.cell_plan.specs.Plan.{IsSendableWith}
-use Rattle.cell_tx.specs.Ports.{port_by, IsPortOf, only_port, port_symbols, port_slot, has_control, is_two, sent_point, is_reference_of_any, is_own_reference, is_other_reference}
+use Rattle.cell_tx.specs.Ports.{port_by, IsPortOf, only_port, port_symbols, port_slot, has_control, sent_point, is_own_reference, is_other_reference}
 use Rattle.cell_tx.specs.Control.{control_places, indicator_point, control_point}
 use Rattle.cell_tx.specs.Shared.{assigned_places, shared_point}
 use Rattle.cell_tx.specs.Grid.{is_one_of, has_system_information, has_broadcast, is_indicator, is_control, is_shared, port_channel_value, port_element}
@@ -155,7 +156,7 @@ module _ (port : Port) (plan : CellPlan) (grid : Elements) (carries : CarriesPla
   of_secondary_symbol half sfn k = carries.taken sfn (subframe_of half) (port_symbols port - 2) k (secondary_taken port plan half sfn k)
 
   -- the channels of subframe 5 in frames of even number: the indicator
-  module _ {Enough : Type 0} (sendable : IsSendableWith Enough plan) (control : has_control port ≡ true) (number : ℕ) where
+  module _ {Enough : Type 0} (sendable : IsSendableWith Enough plan) (control : has_control port ≡ true) (own : port.number < ports_of port.carrier) (number : ℕ) where
     of_system : (symbol k : ℕ) → has_system_place port plan number 5 symbol k ≡ true → grid number 5 symbol k ≡ port_element port plan number 5 symbol k
     of_system symbol k e = of_channel number 5 symbol k (or_right (has_broadcast port plan.identity 5 symbol k) _ (rw control e))
 
@@ -164,22 +165,22 @@ module _ (port : Port) (plan : CellPlan) (grid : Elements) (carries : CarriesPla
         let p = get_or (pcfich_places plan.identity) i (place 0 0) in
         of_system p.symbol p.k (or_left (has_system_information number 5 && is_indicator plan p.symbol p.k) _
         (in_even_frame number _ even (among 16 (pcfich_places plan.identity) i (indicator_indexed port plan sendable) l)))
-        ∙ indicator_sent port plan sendable control number i l
+        ∙ indicator_sent port plan sendable control own number i l
 
     -- the candidate and the shared channel
     pub control_carried : number % 2 ≡ 0 → (i : ℕ) → i < 144 → let p = get_or (control_places plan) i (place 0 0) in grid number 5 p.symbol p.k ≡ sent_point port (control_point plan number) i
     control_carried even i l =
         let p = get_or (control_places plan) i (place 0 0) in
         of_system p.symbol p.k (or_right (has_system_information number 5 && is_indicator plan p.symbol p.k) _ (or_left _ _ (in_even_frame number _ even (among 144 (control_places plan) i (control_indexed port plan sendable) l))))
-        ∙ control_sent port plan sendable control number even i l
+        ∙ control_sent port plan sendable control own number even i l
 
-    pub shared_carried : number % 2 ≡ 0 → (i : ℕ) → i < length (assigned_places (is_two port) plan) →
-        let p = get_or (assigned_places (is_two port) plan) i (place 0 0) in grid number 5 p.symbol p.k ≡ sent_point port (shared_point plan number) i
+    pub shared_carried : number % 2 ≡ 0 → (i : ℕ) → i < length (assigned_places port.carrier plan) →
+        let p = get_or (assigned_places port.carrier plan) i (place 0 0) in grid number 5 p.symbol p.k ≡ sent_point port (shared_point plan number) i
     shared_carried even i l =
-        let p = get_or (assigned_places (is_two port) plan) i (place 0 0) in
+        let p = get_or (assigned_places port.carrier plan) i (place 0 0) in
         of_system p.symbol p.k (or_right (has_system_information number 5 && is_indicator plan p.symbol p.k) _
-        (or_right (is_control plan number 5 p.symbol p.k) _ (in_even_frame number _ even (among (length (assigned_places (is_two port) plan)) (assigned_places (is_two port) plan) i (assigned_indexed port plan sendable) l))))
-        ∙ shared_sent port plan sendable control number even i l
+        (or_right (is_control plan number 5 p.symbol p.k) _ (in_even_frame number _ even (among (length (assigned_places port.carrier plan)) (assigned_places port.carrier plan) i (assigned_indexed port plan sendable) l))))
+        ∙ shared_sent port plan sendable control own number even i l
 
 -- ---- open places
 

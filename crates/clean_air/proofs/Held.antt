@@ -1,7 +1,7 @@
 -- A list holds each cell that a recording shows to its receiver: whose signals stand at their places, and whose first frame tells
 -- a master block of its number, and its system information.
-use Rattle.std.proofs.Common.{◌≡◌, ℕ, ◌*◌, ◌/◌, ◌%◌, ◌<◌, ◌≤◌, inl, inr, arith, refl, ap, sym, subst, ◌∙◌, append-nil, Bool, List, [], length, map, Ok, nat_eq, nat_le, true}
-use Rattle.std.specs.Prelude.{◌&&◌, Result}
+use Rattle.std.proofs.Common.{◌≡◌, ℕ, ◌*◌, ◌/◌, ◌%◌, ◌<◌, ◌≤◌, inl, inr, arith, refl, ap, sym, subst, ◌∙◌, append-nil, Bool, List, [], length, map, Ok, nat_eq, nat_le, true, false}
+use Rattle.std.specs.Prelude.{◌&&◌, MatchBool, Result}
 use Rattle.std.specs.List.{Contains}
 use Rattle.std.proofs.lemmas.Bool.{cases_lt}
 use Rattle.std.proofs.lemmas.Bool.Decides.{nat_tests}
@@ -56,7 +56,7 @@ use Rattle.clean_air.specs.Broadcast.{TellsFreely}
 use Rattle.clean_air.specs.Carried.{SpeakOfWord}
 use Rattle.clean_air.specs.Clean.{told_of, IsKnownPlan, IsKnownBy, HoldsCellBy, HoldsFaithfulBy, HoldsBy, HoldsCleanBy, IsListBy, HoldsCells}
 use Rattle.clean_air.specs.Faithful.{IsFaithfulBy}
-use Rattle.clean_air.specs.Through.{ShowsSignals, IsCellThrough, IsSeenThroughBy}
+use Rattle.clean_air.specs.Through.{ShowsSignals, IsCellThrough, is_seen_through, IsSeenThroughBy}
 use Rattle.clean_air.proofs.Carrying.{sent_elements_carry}
 use Rattle.clean_air.proofs.LoadedErrors.{loaded_is_faithful}
 use Rattle.clean_air.proofs.Masters.{sent_word_is_told}
@@ -100,10 +100,8 @@ pub record IsPlaced (carrier : Carrier) (recording : List Sample) (identity sfn 
 
 -- a recording is faithful to a cell, or the cell is seen in it through channels, which is more where a law of these is known
 abbrev pub IsSentIn : Carrier → List Sample → CellPlan → (Port → Elements) → ℕ → ℕ → List Cpx → Type 0
-IsSentIn OnePort recording plan grids sfn offset gains = IsCellThrough recording plan (grids only_port) sfn offset
-IsSentIn TwoPorts recording plan grids sfn offset gains = IsFaithfulBy TwoPorts recording plan grids sfn offset gains
-IsSentIn LongPrefix recording plan grids sfn offset gains = IsFaithfulBy LongPrefix recording plan grids sfn offset gains
-IsSentIn FourPorts recording plan grids sfn offset gains = IsFaithfulBy FourPorts recording plan grids sfn offset gains
+IsSentIn carrier recording plan grids sfn offset gains =
+    MatchBool (is_seen_through carrier) (IsCellThrough recording plan (grids only_port) sfn offset) (IsFaithfulBy carrier recording plan grids sfn offset gains)
 
 -- a recording shows each such cell
 abbrev pub ShowsCells : Receiver → Type 0
@@ -346,13 +344,14 @@ faithful_is_sent TwoPorts recording plan grids sfn offset gains known faithful =
 faithful_is_sent LongPrefix recording plan grids sfn offset gains known faithful = faithful
 faithful_is_sent FourPorts recording plan grids sfn offset gains known faithful = faithful
 
+first_of : (P Q : Type 0) (test : Bool) → MatchBool test P ⊥ → MatchBool test P Q
+first_of P Q true p = p
+first_of P Q false p = absurd p
+
 -- with any gains, since there it has none
 through_is_sent : (carrier : Carrier) (recording : List Sample) (plan : CellPlan) (grids : Port → Elements) (sfn offset : ℕ) (gains : List Cpx) →
     IsSeenThroughBy carrier recording plan grids sfn offset → IsSentIn carrier recording plan grids sfn offset gains
-through_is_sent OnePort recording plan grids sfn offset gains through = through
-through_is_sent TwoPorts recording plan grids sfn offset gains through = absurd through
-through_is_sent LongPrefix recording plan grids sfn offset gains through = absurd through
-through_is_sent FourPorts recording plan grids sfn offset gains through = absurd through
+through_is_sent carrier recording plan grids sfn offset gains through = first_of _ _ (is_seen_through carrier) through
 
 through_is_placed : (carrier : Carrier) (recording : List Sample) (plan : CellPlan) (grids : Port → Elements) (sfn offset : ℕ) → IsSeenThroughBy carrier recording plan grids sfn offset →
     IsPlaced carrier recording plan.identity sfn offset

@@ -1,5 +1,6 @@
 -- A recording that is clean of a cell, whatever else the cell sends, is faithful to it, with each gain in parts: its errors have little energy.
-use Rattle.std.proofs.Common.{◌≡◌, ℕ, ◌+◌, ◌*◌, ◌^◌, ◌<◌, ◌≤◌, arith, inl, inr, ap, ap₂, sym, subst, ◌∙◌, List, map}
+use Rattle.std.proofs.Common.{◌≡◌, ℕ, ◌+◌, ◌*◌, ◌^◌, ◌/◌, ◌<◌, ◌≤◌, Bool, true, false, arith, inl, inr, ap, ap₂, sym, subst, ◌∙◌, List, map}
+use Rattle.std.specs.Prelude.{MatchBool}
 use Rattle.std.proofs.Math.ListN.{get_or-map}
 use Rattle.std.proofs.lemmas.Bool.Decides.{nat_tests}
 use Rattle.cs_num.specs.declared.Cpx.{Cpx}
@@ -13,12 +14,13 @@ use Rattle.lte_types.specs.declared.carrier.Carrier.TheVariants.{OnePort, TwoPor
 use Rattle.lte_types.specs.Carrier.{prefix_of}
 use Rattle.lte_types.specs.Numerology.{symbols_of_slot, useful_start}
 use Rattle.cell_tx.specs.declared.antenna.Port.{Port}
-use Rattle.cell_tx.specs.Ports.{only_port, first_port, second_port, long_port, port_of_four}
+use Rattle.cell_tx.specs.Ports.{has_control_by, only_port, first_port, second_port, long_port, port_of_four, port_prefix}
 use Rattle.cell_plan.specs.Gains.{AreGainsOf, IsAllowedBy}
 use Rattle.cell_tx.specs.Emission.{mixed}
+use Rattle.cell_tx.specs.Sent.{prefix_sent}
 use Rattle.cell_tx.proofs.Symbols.{in_useful}
 use Rattle.clean_air.specs.Load.{received_from}
-use Rattle.clean_air.specs.Faithful.{ArePartGains, IsLittle, first_frame_of, IsOfSystem, IsLookedAt, errors_from, LoadedHasLittleErrors, LoadedIsFaithful}
+use Rattle.clean_air.specs.Faithful.{ArePartGains, IsLittle, first_frame_of, even_frame_of, IsOfSystem, IsLookedAt, errors_from, LoadedHasLittleErrors, LoadedIsFaithful}
 use Rattle.clean_air.proofs.SentSymbols.{prefix_known}
 
 -- ---- in parts
@@ -59,7 +61,7 @@ loaded_has_little_errors carrier recording plan grids sfn offset gains eps start
     let received : ℕ → Cpx = λ n. received_from carrier grids sfn offset gains (start + n) in
     subst (λ (energy : ℕ). energy ≤ 2 ^ 36 * (eps * eps))
     (energy_same 128 (off_by (samples_from recording start) (λ n. in_parts (received n))) (off_by (samples_from recording start) (λ n. received_from carrier grids sfn offset (map in_parts gains) (start + n)))
-    (λ n c. ap (minus (in_parts (samples_from recording start n))) (sym (mixed_in_parts _ gains carrier))))
+    (λ n c. ap (minus (in_parts (samples_from recording start n))) (sym (mixed_in_parts (λ port. prefix_sent (port_prefix port) (grids port) sfn (start + n + offset)) gains carrier))))
     (errors_have_energy eps received (samples_from recording start) (λ n c. clean.near (start + n) (omega (arith, inside, c))))
 
 -- ---- beside gains, of which each square is 2^28 times as great in parts
@@ -124,11 +126,12 @@ module _ (gains : List Cpx) where
 first_small : (offset : ℕ) → first_frame_of offset ≤ 1
 first_small offset = grind (arith, nat_tests)
 
+frame_small : (sfn offset frame : ℕ) (Rest : Type 0) (sent : Bool) → MatchBool sent ((frame ≡ even_frame_of sfn offset) × Rest) ⊥ → frame ≤ 2
+frame_small sfn offset frame Rest true is = let first = first_small offset in omega (arith, first, is.0)
+frame_small sfn offset frame Rest false is = absurd is
+
 system_frame : (carrier : Carrier) (sfn offset frame slot : ℕ) → IsOfSystem carrier sfn offset frame slot → frame ≤ 2
-system_frame OnePort sfn offset frame slot is = let first = first_small offset in omega (arith, first, is.0)
-system_frame TwoPorts sfn offset frame slot is = let first = first_small offset in omega (arith, first, is.0)
-system_frame LongPrefix sfn offset frame slot is = absurd is
-system_frame FourPorts sfn offset frame slot is = absurd is
+system_frame carrier sfn offset frame slot is = frame_small sfn offset frame (slot / 2 ≡ 5) (has_control_by carrier) is
 
 -- they all lie in the first three frames that are sent, and so in the recording
 pub looked_inside : (carrier : Carrier) (sfn offset frame slot symbol start : ℕ) → slot < 20 → symbol < symbols_of_slot (prefix_of carrier) →

@@ -1,6 +1,6 @@
 -- The slots of a recording that is faithful to a cell of one port, whatever else the cell sends: each that is looked at is received as it was sent, and the
 -- broadcast channel carries the cell's word.
-use Rattle.std.proofs.Common.{◌≡◌, ℕ, zero, suc, ◌+◌, ◌-◌, ◌*◌, ◌/◌, ◌%◌, ◌^◌, ◌<◌, ◌≤◌, arith, refl, ap, sym, subst, ◌∙◌, List, [], ◌∷◌, nat_eq, nat_lt, mod-lt, Bool, true, false, None}
+use Rattle.std.proofs.Common.{◌≡◌, ℕ, zero, suc, ◌+◌, ◌-◌, ◌*◌, ◌/◌, ◌%◌, ◌^◌, ◌<◌, ◌≤◌, arith, refl, ap, sym, subst, ◌∙◌, List, [], ◌∷◌, nat_eq, mod-lt, Bool, true, false, Some, None}
 use Rattle.std.specs.Prelude.{if◌then◌else◌, ◌&&◌, slice_index_or}
 use Rattle.std.proofs.lemmas.Bool.Decides.{nat_tests}
 use Rattle.cs_num.specs.declared.Cpx.{Cpx}
@@ -20,20 +20,19 @@ use Rattle.grid_map.specs.Scrambling.{pbch_c_init}
 use Rattle.grid_map.proofs.Points.{length-pbch_places, places_inside, index_of_place}
 use Rattle.cell_plan.specs.declared.cell.CellPlan.{CellPlan}
 use Rattle.cell_tx.specs.declared.antenna.Port.{Port}
-use Rattle.lte_types.specs.declared.carrier.Carrier.TheVariants.{OnePort, TwoPorts, LongPrefix, FourPorts}
-use Rattle.cell_tx.specs.Ports.{port_by, only_port, port_of_four, port_symbols, sent_point}
+use Rattle.lte_types.specs.declared.carrier.Carrier.TheVariants.{OnePort}
+use Rattle.cell_tx.specs.Ports.{only_port, port_symbols, sent_point, is_own_reference, port_reference}
 use Rattle.cell_tx.specs.Block.{port_point, port_bit, broadcast_word}
-use Rattle.cell_tx.specs.Grid.{is_synchronised, is_broadcast, has_broadcast_by, has_broadcast, broadcast_index_by, broadcast_index, port_element, element}
+use Rattle.cell_tx.specs.Grid.{is_synchronised, has_broadcast, port_element, element}
 use Rattle.cell_tx.specs.Sent.{Elements}
 use Rattle.clean_air.specs.Load.{CarriesPlan, IsLoaded, received_from}
 use Rattle.clean_air.specs.Faithful.{IsLookedAt, IsFaithfulBy, errors_from, first_frame_of}
 use Rattle.clean_air.specs.Through.{slot_elements}
 use Rattle.cell_tx.specs.Rows.{port_reference_if}
-use Rattle.cell_tx.proofs.Elements.{both_false, no_lower, none_of, element_of_channel, channel_of_broadcast}
+use Rattle.cell_tx.proofs.Broadcast.{broadcast_there, broadcast_number}
+use Rattle.cell_tx.proofs.Elements.{is_zeroth, normal_reference, own_sent, none_of_four, element_of_reference, element_of_channel, channel_of_broadcast}
 use Rattle.clean_air.proofs.Carrying.{of_own_reference, of_broadcast}
-use Rattle.lte_types.specs.declared.carrier.Carrier.{Carrier}
-use Rattle.lte_types.specs.Carrier.{prefix_of}
-use Rattle.lte_types.specs.Numerology.{normal, symbols_of_slot, useful_start}
+use Rattle.lte_types.specs.Numerology.{normal, useful_start}
 use Rattle.lte_types.specs.Timing.{start_of, number_at_start}
 use Rattle.explain.specs.Frame.{IsWhole, frame_at, seen_slot}
 use Rattle.budget.specs.Received.{in_parts, off_by, IsReceived, samples_from}
@@ -69,18 +68,22 @@ pilot_place identity i = settle (is_reference identity 0 (pilot_subcarrier ident
     settle true e = record { is = e; inside = omega arith }
     settle false e = record { is = other_symbol identity i (pilot_subcarrier identity i) refl e; inside = omega arith }
 
+own_here : (identity slot l k : ℕ) → is_reference identity l k ≡ true → is_own_reference only_port identity slot l k ≡ true
+own_here identity slot l k is = is_zeroth identity l k ∙ is
+
 reference_here : (plan : CellPlan) (number slot l k : ℕ) → l < 7 → is_reference plan.identity l k ≡ true → slot_grid (element plan) number slot l k ≡ reference_at plan.identity slot l k
-unfolding port_element
 reference_here plan number slot l k inside is =
     let symbol : (7 * (slot % 2) + l) % 7 ≡ l = omega (arith, inside) in
     let place : 2 * (slot / 2) + (7 * (slot % 2) + l) / 7 ≡ slot = omega (arith, inside) in
-    rw (symbol, place, is) refl
+    let there : port_reference_if only_port plan.identity (2 * (slot / 2) + (7 * (slot % 2) + l) / 7) ((7 * (slot % 2) + l) % 7) k ≡ Some (port_reference only_port plan.identity slot l k) =
+    rw (symbol, place) (own_sent only_port plan.identity slot l k (own_here plan.identity slot l k is)) in
+    sym (element_of_reference only_port plan number (slot / 2) (7 * (slot % 2) + l) k _ there) ∙ normal_reference plan.identity slot l k
 
 reference_carried : (plan : CellPlan) (grid : Elements) → CarriesPlan only_port plan grid → (number slot l k : ℕ) → l < 7 → is_reference plan.identity l k ≡ true →
     slot_grid grid number slot l k ≡ slot_grid (element plan) number slot l k
 reference_carried plan grid carries number slot l k inside is =
     let symbol : (7 * (slot % 2) + l) % 7 ≡ l = omega (arith, inside) in
-    of_own_reference only_port plan grid carries number (slot / 2) (7 * (slot % 2) + l) k (rw symbol is)
+    of_own_reference only_port plan grid carries number (slot / 2) (7 * (slot % 2) + l) k (rw symbol (own_here plan.identity (2 * (slot / 2) + (7 * (slot % 2) + l) / 7) l k is))
 
 pub references_stand : (plan : CellPlan) (grid : Elements) → CarriesPlan only_port plan grid → (number slot i : ℕ) →
     slot_grid grid number slot (pilot_symbol plan.identity i) (pilot_subcarrier plan.identity i) ≡ pilot_sent plan.identity slot i
@@ -99,7 +102,7 @@ record IsBroadcastPlace (identity symbol k : ℕ) : Type 0 where
   second_free : is_second_reference identity (symbol % 7) k ≡ false
   third_free : (slot : ℕ) → is_upper_reference 2 identity slot (symbol % 7) k ≡ false
   fourth_free : (slot : ℕ) → is_upper_reference 3 identity slot (symbol % 7) k ≡ false
-  here : is_broadcast identity 0 symbol k ≡ true
+  here : is_pbch identity (place symbol k) ≡ true
 
 broadcast_place : (identity : ℕ) (p : Place) → is_pbch identity p ≡ true → IsBroadcastPlace identity p.symbol p.k
 unfolding is_pbch is_reference first_subcarrier is_second_reference is_upper_reference
@@ -117,10 +120,6 @@ not_there : (symbol row : ℕ) (a : Bool) → 7 ≤ symbol → row < 7 → (nat_
 not_there symbol row a low small = let e : nat_eq symbol row ≡ false = grind (arith, nat_tests) in rw e refl
 
 -- no port has a reference signal there
-either_false : (t a b : Bool) → a ≡ false → b ≡ false → (if t then a else b) ≡ false
-either_false true a b e f = e
-either_false false a b e f = f
-
 upper_free : (number identity slot symbol k : ℕ) → is_upper_reference 2 identity slot symbol k ≡ false → is_upper_reference 3 identity slot symbol k ≡ false → is_upper_reference number identity slot symbol k ≡ false
 unfolding is_upper_reference
 upper_free number identity slot symbol k e f = by (number % 2) (mod-lt number (omega arith))
@@ -130,38 +129,14 @@ upper_free number identity slot symbol k e f = by (number % 2) (mod-lt number (o
     by (suc zero) inside = f
     by (suc (suc n)) inside = absurd (omega (arith, inside))
 
-none_by : (carrier : Carrier) (number : ℕ) → symbols_of_slot (prefix_of carrier) ≡ 7 → (identity slot symbol k : ℕ) → IsBroadcastPlace identity symbol k → port_reference_if (port_by carrier number) identity slot (symbol % 7) k ≡ None
-none_by OnePort number normal identity slot symbol k at = none_of (port_by OnePort number) identity slot (symbol % 7) k at.free at.free
-none_by TwoPorts number normal identity slot symbol k at =
-    none_of (port_by TwoPorts number) identity slot (symbol % 7) k (no_lower number identity (symbol % 7) k at.free at.second_free) (both_false _ _ at.free at.second_free)
-none_by LongPrefix number normal identity slot symbol k at = absurd (omega (arith, normal))
-none_by FourPorts number normal identity slot symbol k at =
-    none_of (port_of_four number) identity slot (symbol % 7) k
-    (either_false (nat_lt number 2) _ _ (no_lower number identity (symbol % 7) k at.free at.second_free) (upper_free number identity slot (symbol % 7) k (at.third_free slot) (at.fourth_free slot)))
-    (both_false _ _ (both_false _ _ at.free at.second_free) (both_false _ _ (at.third_free slot) (at.fourth_free slot)))
-
 none_there : (port : Port) → port_symbols port ≡ 7 → (identity slot symbol k : ℕ) → IsBroadcastPlace identity symbol k → port_reference_if port identity slot (symbol % 7) k ≡ None
-none_there port normal identity slot symbol k at = none_by port.carrier port.number normal identity slot symbol k at
-
-broadcast_by : (carrier : Carrier) → symbols_of_slot (prefix_of carrier) ≡ 7 → (identity subframe symbol k : ℕ) → has_broadcast_by carrier identity subframe symbol k ≡ is_broadcast identity subframe symbol k
-broadcast_by OnePort normal identity subframe symbol k = refl
-broadcast_by TwoPorts normal identity subframe symbol k = refl
-broadcast_by LongPrefix normal identity subframe symbol k = absurd (omega (arith, normal))
-broadcast_by FourPorts normal identity subframe symbol k = refl
-
-index_by : (carrier : Carrier) → symbols_of_slot (prefix_of carrier) ≡ 7 → (identity symbol k : ℕ) → broadcast_index_by carrier identity symbol k ≡ pbch_index identity (place symbol k)
-index_by OnePort normal identity symbol k = refl
-index_by TwoPorts normal identity symbol k = refl
-index_by LongPrefix normal identity symbol k = absurd (omega (arith, normal))
-index_by FourPorts normal identity symbol k = refl
+none_there port normal identity slot symbol k at =
+    none_of_four port identity slot (symbol % 7) k normal at.free at.second_free (λ number. upper_free number identity slot (symbol % 7) k (at.third_free slot) (at.fourth_free slot))
 
 -- with the normal prefix, whichever the port
 module _ (port : Port) (normal : port_symbols port ≡ 7) where
-  broadcast_is : (port : Port) → port_symbols port ≡ 7 → (identity subframe symbol k : ℕ) → has_broadcast port identity subframe symbol k ≡ is_broadcast identity subframe symbol k
-  broadcast_is port normal identity subframe symbol k = broadcast_by port.carrier normal identity subframe symbol k
-
-  index_is : (port : Port) → port_symbols port ≡ 7 → (identity symbol k : ℕ) → broadcast_index port identity symbol k ≡ pbch_index identity (place symbol k)
-  index_is port normal identity symbol k = index_by port.carrier normal identity symbol k
+  is_there : (identity symbol k : ℕ) → IsBroadcastPlace identity symbol k → has_broadcast port identity 0 symbol k ≡ true
+  is_there identity symbol k at = let low = at.low in let high = at.high in broadcast_there port normal identity symbol k low (omega (arith, high)) at.here
 
   point_here : (plan : CellPlan) (number symbol k i : ℕ) → IsBroadcastPlace plan.identity symbol k → i ≡ pbch_index plan.identity (place symbol k) →
       port_element port plan number 0 symbol k ≡ sent_point port (port_point port plan number) i
@@ -171,8 +146,8 @@ module _ (port : Port) (normal : port_symbols port ≡ 7) where
       (subst (λ (n : ℕ). port_reference_if port plan.identity (2 * 0 + symbol / n) (symbol % n) k ≡ None) seven (none_there port normal plan.identity (2 * 0 + symbol / 7) symbol k at))
       (subst (λ (n : ℕ). is_synchronised (n - 1) 0 symbol k ≡ false) seven (not_there symbol 6 (is_middle k) at.low (omega arith)))
       (subst (λ (n : ℕ). is_synchronised (n - 2) 0 symbol k ≡ false) seven (not_there symbol 5 (is_middle k) at.low (omega arith)))
-      ∙ channel_of_broadcast port plan number 0 symbol k (broadcast_is port normal plan.identity 0 symbol k ∙ at.here)
-      ∙ ap (sent_point port (port_point port plan number)) (index_is port normal plan.identity symbol k ∙ sym e)
+      ∙ channel_of_broadcast port plan number 0 symbol k (is_there plan.identity symbol k at)
+      ∙ ap (sent_point port (port_point port plan number)) (broadcast_number port normal plan.identity symbol k ∙ sym e)
 
   pub points_stand : (plan : CellPlan) (grid : Elements) → CarriesPlan port plan grid → (number i : ℕ) → i < 240 →
       slot_grid grid number 1 ((pbch_place plan.identity i).symbol % 7) (pbch_place plan.identity i).k ≡ sent_point port (port_point port plan number) i
@@ -181,7 +156,7 @@ module _ (port : Port) (normal : port_symbols port ≡ 7) where
       let is = places_inside plan.identity i inside in
       let at = broadcast_place plan.identity p is in
       let symbol : 7 + p.symbol % 7 ≡ p.symbol = omega (arith, at.low, at.high) in
-      ap (λ n. grid number 0 n p.k) symbol ∙ of_broadcast port plan grid carries number 0 p.symbol p.k (broadcast_is port normal plan.identity 0 p.symbol p.k ∙ at.here)
+      ap (λ n. grid number 0 n p.k) symbol ∙ of_broadcast port plan grid carries number 0 p.symbol p.k (is_there plan.identity p.symbol p.k at)
       ∙ point_here plan number p.symbol p.k i at (sym (index_of_place plan.identity i inside))
 
 pub carries_word : (plan : CellPlan) (grid : Elements) → CarriesPlan only_port plan grid → (number : ℕ) →

@@ -60,16 +60,16 @@ module _ (recording : List Sample) (plan : CellPlan) (grid : Elements) (sfn offs
   -- they carry the indicator and the grant
   carries_indicator : CarryInSubframe (grid number 5) (pcfich_places (slot 10).identity) (indicator_scrambled (slot 10) plan.cfi)
   unfolding seen_slot indicator_point
-  carries_indicator i inside = indicator_carried only_port plan grid heard.carries sendable refl number even i (let size = (indicator_indexed only_port plan sendable).size in omega (arith, size, inside))
+  carries_indicator i inside = indicator_carried only_port plan grid heard.carries sendable refl (omega arith) number even i (let size = (indicator_indexed only_port plan sendable).size in omega (arith, size, inside))
 
   carries_grant : CarryInSubframe (grid number 5) (grant_places (slot 10) plan.cfi plan.duration plan.resource) (grant_scrambled (slot 10) (grant_of plan number))
   unfolding seen_slot control_point control_word
-  carries_grant i inside = control_carried only_port plan grid heard.carries sendable refl number even i (let size = (control_indexed only_port plan sendable).size in omega (arith, size, inside))
+  carries_grant i inside = control_carried only_port plan grid heard.carries sendable refl (omega arith) number even i (let size = (control_indexed only_port plan sendable).size in omega (arith, size, inside))
 
   -- and the block
   carries_block : CarryInSubframe (grid number 5) (shared_places plan) (shared_scrambled (slot 10) (shared_bit plan number))
   unfolding seen_slot shared_point
-  carries_block i inside = shared_carried only_port plan grid heard.carries sendable refl number even i inside
+  carries_block i inside = shared_carried only_port plan grid heard.carries sendable refl (omega arith) number even i inside
 
   -- the values of its resource blocks say the fields
   says_fields : BlockSays (shared_values (slot 10) (slot 11) plan.cfi plan.start plan.blocks) (grant_of plan number) (Ok plan.sib1)

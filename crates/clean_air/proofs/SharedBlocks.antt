@@ -1,5 +1,6 @@
 -- A transport block that was sent is told by the values of its resource blocks.
-use Rattle.std.proofs.Common.{◌≡◌, ◌*◌, true, false, length, sym, subst, arith}
+use Rattle.std.proofs.Common.{◌≡◌, ◌*◌, true, length, sym, subst, arith}
+use Rattle.lte_types.specs.declared.carrier.Carrier.TheVariants.{OnePort}
 use Rattle.grid_map.specs.Shared.{shared_places_of}
 use Rattle.erasure.specs.Known.{resolvable, sent_of}
 use Rattle.clean_turbo.specs.Tells.{ValuesSupport}
@@ -20,10 +21,10 @@ heard_block_is_told row rv count word values sent heard =
 
 pub heard_subframe_tells : HeardSubframeTells
 heard_subframe_tells first second cfi start blocks row rv word sent heard =
-    heard_block_is_told row rv (2 * length (shared_places_of false first.identity cfi start blocks)) word _ sent
+    heard_block_is_told row rv (2 * length (shared_places_of OnePort first.identity cfi start blocks)) word _ sent
     (values_of_blocks_are_heard first second cfi start blocks (matched_bit row rv word) heard)
 
 pub carried_block_is_told : CarriedBlockIsTold
 carried_block_is_told grids first second cfi start blocks row rv word sent heard carry =
-    heard_block_is_told row rv (2 * length (shared_places_of false first.identity cfi start blocks)) word _ sent
+    heard_block_is_told row rv (2 * length (shared_places_of OnePort first.identity cfi start blocks)) word _ sent
     (carried_blocks_are_heard grids first second cfi start blocks (matched_bit row rv word) heard carry)

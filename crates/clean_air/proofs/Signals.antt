@@ -1,7 +1,7 @@
 -- The synchronisation signals of a cell of any carrier, whatever else its ports send: they are received as from the first port alone, in a recording that
 -- is faithful to it with little errors.
 use Rattle.std.proofs.Common.{◌≡◌, ℕ, ◌+◌, ◌-◌, ◌*◌, ◌^◌, ◌/◌, ◌%◌, ◌<◌, ◌≤◌, Bool, true, false, inl, inr, nat_eq, nat_le, nat_lt, arith, refl, ap, ap₂, subst, ◌∙◌, List}
-use Rattle.std.specs.Prelude.{if◌then◌else◌, ◌&&◌}
+use Rattle.std.specs.Prelude.{if◌then◌else◌, ◌&&◌, MatchBool}
 use Rattle.std.proofs.lemmas.Bool.Decides.{nat_tests}
 use Rattle.cs_num.specs.declared.Cpx.{Cpx}
 use Rattle.cs_num.specs.declared.Sample.{Sample}
@@ -18,7 +18,7 @@ use Rattle.lte_types.specs.declared.carrier.Carrier.TheVariants.{OnePort, TwoPor
 use Rattle.lte_types.specs.declared.frame.Half.{Half}
 use Rattle.lte_types.specs.declared.frame.Half.TheVariants.{Zero, Five}
 use Rattle.lte_types.specs.declared.numerology.Prefix.{Prefix}
-use Rattle.lte_types.specs.Carrier.{prefix_of}
+use Rattle.lte_types.specs.Carrier.{prefix_of, ports_of}
 use Rattle.lte_types.specs.Numerology.{IsPrefix, symbols_of_slot, symbol_step, useful_start, subframe_of, primary_start}
 use Rattle.pss_search.specs.Correlation.{pss_grid}
 use Rattle.cell_tx.specs.declared.antenna.Port.{Port}
@@ -79,12 +79,13 @@ signal_received carrier grids sfn offset gains t j slot l signal few row place s
     (λ port same. useful_same (grids port ((sfn + j) % 1024) (slot / 2) (symbols_of_slot (prefix_of carrier) * (slot % 2) + l)) (λ k. sent_signal port (signal k)) n (λ k low. sends port same k) ∙ signal_sent port signal n)
     ∙ mixed_signal carrier (useful_at signal n) gains
 
+last_of : (P Q : Type 0) (alone : Bool) → MatchBool alone Q (P × Q) → Q
+last_of P Q true q = q
+last_of P Q false both = both.1
+
 -- little errors are so beside the first port's gain
 little_beside : (carrier : Carrier) (gains : List Cpx) (energy : ℕ) → IsLittle carrier gains energy → energy ≤ 1800 * square (value_at gains 0)
-little_beside OnePort gains energy little = little
-little_beside TwoPorts gains energy little = little.1
-little_beside LongPrefix gains energy little = little
-little_beside FourPorts gains energy little = little.1
+little_beside carrier gains energy little = last_of _ _ (nat_eq (ports_of carrier) 1) little
 
 -- ---- what a port sends of the signals
 

@@ -4,6 +4,7 @@ use Rattle.std.specs.Prelude.{All, nat_lt, if◌then◌else◌}
 use Rattle.std.proofs.lemmas.Bool.{ltb-true, ltb-false}
 use Rattle.cs_num.specs.declared.Cpx.{Cpx}
 use Rattle.crs.specs.Qpsk.{point}
+use Rattle.lte_types.specs.declared.carrier.Carrier.TheVariants.{OnePort}
 use Rattle.grid_map.specs.declared.Place.{Place}
 use Rattle.grid_map.specs.Place.{place}
 use Rattle.grid_map.specs.Shared.{shared_places_of}
@@ -22,7 +23,7 @@ use Rattle.clean_air.proofs.Speaking.{values_of_places_are_heard, scrambled_plac
 pub values_of_blocks_are_heard : ValuesOfBlocksAreHeard
 unfolding shared_values_by
 values_of_blocks_are_heard first second cfi start blocks bits heard =
-    scrambled_places_are_heard (pdsch_c_init first.identity first.number system_information_rnti) (in_subframe first second) (shared_places_of false first.identity cfi start blocks) bits heard
+    scrambled_places_are_heard (pdsch_c_init first.identity first.number system_information_rnti) (in_subframe first second) (shared_places_of OnePort first.identity cfi start blocks) bits heard
 
 -- ---- places of a grid
 
@@ -54,7 +55,7 @@ carried_subframe_is_heard grids first second places bits heard inside carry =
 pub carried_blocks_are_heard : CarriedBlocksAreHeard
 carried_blocks_are_heard grids first second cfi start blocks bits heard carry =
     values_of_blocks_are_heard first second cfi start blocks bits
-    (carried_subframe grids first second heard (shared_places_of false first.identity cfi start blocks) (shared_scrambled first bits) (shared_symbols false first.identity cfi start blocks) carry)
+    (carried_subframe grids first second heard (shared_places_of OnePort first.identity cfi start blocks) (shared_scrambled first bits) (shared_symbols OnePort first.identity cfi start blocks) carry)
 
 -- ---- places of the first slot
 

@@ -1,5 +1,5 @@
 -- At each place that a plan takes it sends a point, but for the synchronisation signals and what is silent for others.
-use Rattle.std.proofs.Common.{◌≡◌, ℕ, ◌+◌, ◌-◌, ◌/◌, ◌%◌, Bool, true, false, ◌&&◌, ◌||◌, nat_eq, nat_lt, not, arith, refl, ap, ◌∙◌, neg_ℤ, nat_abs}
+use Rattle.std.proofs.Common.{◌≡◌, ℕ, ◌+◌, ◌-◌, ◌/◌, ◌%◌, Bool, true, false, ◌&&◌, ◌||◌, nat_eq, nat_lt, not, arith, refl, ◌∙◌, neg_ℤ, nat_abs}
 use Rattle.std.specs.Prelude.{if◌then◌else◌}
 use Rattle.std.proofs.lemmas.Int.{ints}
 use Rattle.cs_num.specs.declared.Cpx.{Cpx}
@@ -7,18 +7,16 @@ use Rattle.cs_num.specs.Complex.{nothing, negated, conjugate, square}
 use Rattle.sizes.proofs.Squares.{square-conjugate}
 use Rattle.sync_seq.specs.Middle.{is_middle}
 use Rattle.crs.specs.Qpsk.{IsPoint}
-use Rattle.crs.specs.Reference.{long_prefix, reference_at}
-use Rattle.crs.proofs.Values.{reference-IsPoint, pattern_reference-IsPoint}
+use Rattle.crs.specs.Ports.{is_reference_of_any}
 use Rattle.cell_tx.specs.declared.antenna.Port.{Port}
 use Rattle.lte_types.specs.declared.carrier.Carrier.{Carrier}
 use Rattle.lte_types.specs.declared.carrier.Carrier.TheVariants.{OnePort, TwoPorts, LongPrefix, FourPorts}
-use Rattle.cell_tx.specs.Ports.{port_symbols, port_slot, has_control_by, has_control, crossed_point, paired_point, point_by, sent_point, is_reference_of_any, is_own_reference, reference_by, port_reference}
+use Rattle.cell_tx.specs.Ports.{port_symbols, port_slot, has_control_by, has_control, port_by, crossed_point, paired_point, sent_point, is_own_reference, port_reference}
 use Rattle.cell_tx.specs.Block.{port_point}
 use Rattle.cell_tx.specs.Control.{indicator_point, control_point}
 use Rattle.cell_tx.specs.Shared.{shared_point}
 use Rattle.cell_tx.specs.Grid.{has_system_information, has_broadcast, is_indicator, is_control, is_shared, port_channel_value, port_element}
-use Rattle.cell_tx.proofs.Bounds.{pick, broadcast_full, indicator_full, control_full, shared_full}
-use Rattle.cell_tx.proofs.Elements.{reference_at_is}
+use Rattle.cell_tx.proofs.Bounds.{pick, reference_full, broadcast_full, indicator_full, control_full, shared_full}
 use Rattle.cell_tx.specs.Load.{is_any_reference, has_channel, is_taken}
 use Rattle.clean_air.specs.Load.{is_of_others_by, is_of_others, TakenPlacesAreSent}
 use Rattle.budget.proofs.Pilots.{full-size}
@@ -45,7 +43,7 @@ paired-size : (half number : ℕ) (f : ℕ → Cpx) → ((i : ℕ) → IsPoint (
 paired-size half number f full i = pick (λ z. square z ≡ 16200) (nat_lt number half) _ _ (full-size (f i) (full i)) (crossed-size f full i)
 
 -- what a port sends of points has their size, but for the pairs of others
-size-by : (carrier : Carrier) (number : ℕ) (f : ℕ → Cpx) → ((i : ℕ) → IsPoint (f i)) → (i : ℕ) → is_of_others_by carrier number i ≡ false → square (point_by carrier number f i) ≡ 16200
+size-by : (carrier : Carrier) (number : ℕ) (f : ℕ → Cpx) → ((i : ℕ) → IsPoint (f i)) → (i : ℕ) → is_of_others_by carrier number i ≡ false → square (sent_point (port_by carrier number) f i) ≡ 16200
 size-by OnePort number f full i own = full-size (f i) (full i)
 size-by TwoPorts number f full i own = paired-size 1 number f full i
 size-by LongPrefix number f full i own = full-size (f i) (full i)
@@ -65,18 +63,8 @@ none_of_others : (port : Port) → has_control port ≡ true → (i : ℕ) → i
 none_of_others port has i = none_by port.carrier port.number has i
 
 -- so has its reference signal
-first-size : (identity slot symbol k : ℕ) → square (reference_at identity slot symbol k) ≡ 16200
-first-size identity slot symbol k =
-    ap (λ (z : Cpx). square z) (reference_at_is identity slot symbol k) ∙ full-size _ (reference-IsPoint identity slot symbol (k / 6))
-
-reference-size-by : (carrier : Carrier) (identity slot symbol k : ℕ) → square (reference_by carrier identity slot symbol k) ≡ 16200
-reference-size-by OnePort identity slot symbol k = first-size identity slot symbol k
-reference-size-by TwoPorts identity slot symbol k = first-size identity slot symbol k
-reference-size-by LongPrefix identity slot symbol k = full-size _ (pattern_reference-IsPoint long_prefix identity slot symbol (k / 6))
-reference-size-by FourPorts identity slot symbol k = first-size identity slot symbol k
-
 reference-size : (port : Port) (identity slot symbol k : ℕ) → square (port_reference port identity slot symbol k) ≡ 16200
-reference-size port identity slot symbol k = reference-size-by port.carrier identity slot symbol k
+reference-size port identity slot symbol k = full-size _ (reference_full port identity slot symbol k)
 
 -- the first channel that is there, where one is: broadcast, or, where these are sent, indicator, control or shared
 first_there : (b n i h c s : Bool) (x y z w : Cpx) → (b || (n && ((h && i) || (c || s)))) ≡ true → (b ≡ true → square x ≡ 16200) → (n ≡ true → square y ≡ 16200) → (n ≡ true → square z ≡ 16200) →

@@ -1,6 +1,6 @@
 -- A transport block that was sent is told by the values of its resource blocks (PDSCH, TS 36.211 section 6.4, TS 36.212
 -- sections 5.1.3.2 and 5.1.4.1). (own)
-use Rattle.std.specs.Prelude.{◌≡◌, ℕ, ◌+◌, ◌*◌, ◌<◌, ◌≤◌, Bool, true, false, List, length, ℤ, Some}
+use Rattle.std.specs.Prelude.{◌≡◌, ℕ, ◌+◌, ◌*◌, ◌<◌, ◌≤◌, Bool, true, List, length, ℤ, Some}
 use Rattle.cs_num.specs.declared.Cpx.{Cpx}
 use Rattle.cs_bits.specs.Checks.{message_of, has_check_24}
 use Rattle.turbo_code.specs.declared.rows.Row.{Row}
@@ -8,6 +8,7 @@ use Rattle.turbo_code.specs.Table.{IsRow}
 use Rattle.turbo_code.specs.Encoder.{coded}
 use Rattle.turbo_code.specs.Reading.{bit_of, item_of, summed}
 use Rattle.turbo_dec.specs.Block.{block}
+use Rattle.lte_types.specs.declared.carrier.Carrier.TheVariants.{OnePort}
 use Rattle.grid_map.specs.Shared.{shared_places_of}
 use Rattle.soft_bits.specs.Soft.{SeenSlot}
 use Rattle.pdsch.specs.Values.{shared_values}
@@ -47,7 +48,7 @@ HeardBlockIsTold = (row : Row) (rv count : ℕ) (word : List Bool) (values : Lis
 abbrev pub HeardSubframeTells : Type 0
 HeardSubframeTells =
     (first second : SeenSlot) (cfi start blocks : ℕ) (row : Row) (rv : ℕ) (word : List Bool) →
-    let places = shared_places_of false first.identity cfi start blocks in
+    let places = shared_places_of OnePort first.identity cfi start blocks in
     IsSentBlock row rv (2 * length places) word →
     IsSubframeHeard first second places (shared_scrambled first (matched_bit row rv word)) →
     TellsBlock row rv word (shared_values first second cfi start blocks)
@@ -57,7 +58,7 @@ HeardSubframeTells =
 abbrev pub CarriedBlockIsTold : Type 0
 CarriedBlockIsTold =
     (grids : ℕ → ℕ → Cpx) (first second : SeenSlot) (cfi start blocks : ℕ) (row : Row) (rv : ℕ) (word : List Bool) →
-    let places = shared_places_of false first.identity cfi start blocks in
+    let places = shared_places_of OnePort first.identity cfi start blocks in
     IsSentBlock row rv (2 * length places) word → AreSlotsHeard grids first second →
     CarryInSubframe grids places (shared_scrambled first (matched_bit row rv word)) →
     TellsBlock row rv word (shared_values first second cfi start blocks)

@@ -1,12 +1,11 @@
 -- The list of a recording by any receiver: it holds each cell of the receiver's carrier to which the recording is
 -- faithful. (own)
-use Rattle.std.specs.Prelude.{◌≡◌, ℕ, ◌/◌, ◌≤◌, List, length, Option, Result, Ok, Err}
+use Rattle.std.specs.Prelude.{◌≡◌, ℕ, ◌/◌, ◌≤◌, nat_lt, if◌then◌else◌, MatchBool, List, length, Option, Result, Ok, Err}
 use Rattle.std.specs.List.{Contains}
 use Rattle.cs_num.specs.declared.Cpx.{Cpx}
 use Rattle.cs_num.specs.declared.Sample.{Sample}
 use Rattle.lte_types.specs.declared.bandwidth.Bandwidth.TheVariants.{N6}
 use Rattle.lte_types.specs.declared.carrier.Carrier.{Carrier}
-use Rattle.lte_types.specs.declared.carrier.Carrier.TheVariants.{OnePort, TwoPorts, LongPrefix, FourPorts}
 use Rattle.lte_types.specs.declared.duration.Duration.{Duration}
 use Rattle.lte_types.specs.declared.resource.Resource.{Resource}
 use Rattle.lte_types.specs.declared.sib1.Sib1.{Sib1}
@@ -14,14 +13,15 @@ use Rattle.lte_types.specs.declared.sib1_reason.Sib1Reason.{Sib1Reason}
 use Rattle.lte_types.specs.declared.sib1_reason.Sib1Reason.TheVariants.{LongPrefix as IsLong, NotOnePort}
 use Rattle.lte_types.specs.declared.entry.Entry.{Entry}
 use Rattle.lte_types.specs.Block.{HasFields}
-use Rattle.lte_types.specs.Carrier.{ports_of}
-use Rattle.lte_types.specs.Numerology.{least_samples}
+use Rattle.lte_types.specs.Carrier.{prefix_of, ports_of}
+use Rattle.lte_types.specs.Numerology.{least_samples, is_extended}
 use Rattle.lte_types.specs.Timing.{start_of, number_at_start}
 use Rattle.explain.specs.Receiver.{Receiver, one_port_receiver}
 use Rattle.explain.specs.Entries.{IsListFor}
 use Rattle.cell_tx.specs.declared.antenna.Port.{Port}
 use Rattle.cell_plan.specs.declared.cell.CellPlan.{CellPlan}
 use Rattle.cell_plan.specs.Plan.{IsSendableBy}
+use Rattle.cell_tx.specs.Ports.{has_control_by}
 use Rattle.cell_tx.specs.Sent.{Elements}
 use Rattle.cell_tx.specs.Emission.{IsCleanBy}
 use Rattle.clean_air.specs.Load.{IsLoadedBy}
@@ -35,19 +35,15 @@ pub record IsKnownPlan (plan : CellPlan) : Type 0 where
   pub identity : plan.identity ≤ 503
   pub spare : plan.spare ≤ 1023
 
--- what a carrier sends of a plan can be sent: with the extended prefix, and with four ports, that is the master block
+-- what a carrier sends of a plan can be sent: the whole plan, or the master block alone
 abbrev pub IsKnownBy : Carrier → CellPlan → Type 0
-IsKnownBy OnePort plan = IsSendableBy OnePort plan
-IsKnownBy TwoPorts plan = IsSendableBy TwoPorts plan
-IsKnownBy LongPrefix plan = IsKnownPlan plan
-IsKnownBy FourPorts plan = IsKnownPlan plan
+IsKnownBy carrier plan = MatchBool (has_control_by carrier) (IsSendableBy carrier plan) (IsKnownPlan plan)
 
--- what is told of the system information that a carrier sends
+-- what is told of the system information of a carrier's cell: it is read with the normal prefix, of one or two ports
 abbrev pub told_of : Carrier → Sib1 → Result Sib1 Sib1Reason
-told_of OnePort sib1 = Ok sib1
-told_of TwoPorts sib1 = Ok sib1
-told_of LongPrefix sib1 = Err IsLong
-told_of FourPorts sib1 = Err (NotOnePort 4)
+told_of carrier sib1 =
+    if is_extended (prefix_of carrier) then Err IsLong
+    else (if nat_lt 2 (ports_of carrier) then Err (NotOnePort (ports_of carrier)) else Ok sib1)
 
 -- ---- the entry of a cell
 

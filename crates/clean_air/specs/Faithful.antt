@@ -2,23 +2,23 @@
 -- primary signals at which it looks and in one of the secondary ones, it is what the cell's antenna ports send, each
 -- times a gain in parts of 2^-14, up to errors of little energy. Of all else that the recording holds nothing is
 -- asked. (own; frames, slots and symbols are those of TS 36.211 sections 4.1 and 6.2)
-use Rattle.std.specs.Prelude.{◌≡◌, ℕ, ◌+◌, ◌*◌, ◌^◌, ◌/◌, ◌%◌, ◌<◌, ◌≤◌, ◌⊎◌, nat_eq, if◌then◌else◌}
+use Rattle.std.specs.Prelude.{◌≡◌, ℕ, ◌+◌, ◌*◌, ◌^◌, ◌/◌, ◌%◌, ◌<◌, ◌≤◌, ◌⊎◌, nat_eq, if◌then◌else◌, MatchBool}
 use Rattle.std.specs.Prelude.{List, [], ◌∷◌, length, map}
 use Rattle.cs_num.specs.declared.Cpx.{Cpx}
 use Rattle.cs_num.specs.declared.Sample.{Sample}
 use Rattle.cs_num.specs.Complex.{square, value_at}
 use Rattle.sizes.specs.Sizes.{squares_of_four, energy_below}
 use Rattle.lte_types.specs.declared.carrier.Carrier.{Carrier}
-use Rattle.lte_types.specs.declared.carrier.Carrier.TheVariants.{OnePort, TwoPorts, LongPrefix, FourPorts}
+use Rattle.lte_types.specs.declared.carrier.Carrier.TheVariants.{OnePort}
 use Rattle.lte_types.specs.declared.frame.Half.{Half}
-use Rattle.lte_types.specs.Carrier.{prefix_of}
+use Rattle.lte_types.specs.Carrier.{prefix_of, ports_of}
 use Rattle.lte_types.specs.Numerology.{frame_length, half_frame_length, least_samples, subframe_of}
 use Rattle.lte_types.specs.Numerology.{symbols_of_slot, symbol_step, useful_start}
 use Rattle.lte_types.specs.Timing.{IsOffset, number_at_start}
 use Rattle.pss_search.specs.Hits.{last_place}
 use Rattle.budget.specs.Received.{in_parts, off_by, samples_from}
 use Rattle.cell_tx.specs.declared.antenna.Port.{Port}
-use Rattle.cell_tx.specs.Ports.{IsPortOf}
+use Rattle.cell_tx.specs.Ports.{IsPortOf, has_control_by}
 use Rattle.cell_plan.specs.declared.cell.CellPlan.{CellPlan}
 use Rattle.cell_plan.specs.Gains.{ArePairedBy}
 use Rattle.cell_tx.specs.Sent.{Elements}
@@ -31,15 +31,18 @@ pub record ArePartGains (carrier : Carrier) (gains : List Cpx) : Type 0 where
   pub sounds : 2 ^ 28 ≤ square (value_at gains 0)
   pub paired : ArePairedBy carrier gains
 
--- errors of this energy in a symbol are little beside these gains
+-- the most energy of errors beside the gains of two ports, or of four, together
+abbrev pub most_beside : Carrier → List Cpx → ℕ
+most_beside carrier gains =
+    if nat_eq (ports_of carrier) 2 then 400 * (square (value_at gains 0) + square (value_at gains 1))
+    else 7 * squares_of_four (value_at gains)
+
+-- errors of this energy in a symbol are little beside these gains: beside that of port 0, and, of more ports than one,
+-- beside all together
 abbrev pub IsLittle : Carrier → List Cpx → ℕ → Type 0
-IsLittle OnePort gains energy = energy ≤ 1800 * square (value_at gains 0)
-IsLittle TwoPorts gains energy =
-    (energy ≤ 400 * (square (value_at gains 0) + square (value_at gains 1)))
-    × (energy ≤ 1800 * square (value_at gains 0))
-IsLittle LongPrefix gains energy = energy ≤ 1800 * square (value_at gains 0)
-IsLittle FourPorts gains energy =
-    (energy ≤ 7 * squares_of_four (value_at gains)) × (energy ≤ 1800 * square (value_at gains 0))
+IsLittle carrier gains energy =
+    MatchBool (nat_eq (ports_of carrier) 1) (energy ≤ 1800 * square (value_at gains 0))
+    ((energy ≤ most_beside carrier gains) × (energy ≤ 1800 * square (value_at gains 0)))
 
 -- ---- what a list looks at
 
@@ -54,13 +57,11 @@ even_frame_of sfn offset = first_frame_of offset + number_at_start sfn offset % 
 abbrev pub IsOfMaster : ℕ → ℕ → ℕ → Type 0
 IsOfMaster offset frame slot = (frame ≡ first_frame_of offset) × (slot ≡ 1)
 
--- any symbol of subframe 5 of the first frame of even number, which holds SIB1 (TS 36.331 section 5.2.1.2); it is read
--- with the normal prefix, of one or two ports
+-- any symbol of subframe 5 of the first frame of even number, which holds SIB1 (TS 36.331 section 5.2.1.2), where the
+-- carrier sends it
 abbrev pub IsOfSystem : Carrier → ℕ → ℕ → ℕ → ℕ → Type 0
-IsOfSystem OnePort sfn offset frame slot = (frame ≡ even_frame_of sfn offset) × (slot / 2 ≡ 5)
-IsOfSystem TwoPorts sfn offset frame slot = (frame ≡ even_frame_of sfn offset) × (slot / 2 ≡ 5)
-IsOfSystem LongPrefix sfn offset frame slot = ⊥
-IsOfSystem FourPorts sfn offset frame slot = ⊥
+IsOfSystem carrier sfn offset frame slot =
+    MatchBool (has_control_by carrier) ((frame ≡ even_frame_of sfn offset) × (slot / 2 ≡ 5)) ⊥
 
 -- the last symbol of slot 0 or 10, which holds the primary signal, where it begins within 9 samples of a place of hits
 -- that has room before it for the secondary one (TS 36.211 section 6.11.1)

@@ -1,10 +1,12 @@
 -- What else a cell may send: any elements at the places that its plan leaves open, as the traffic of a live cell. (own)
-use Rattle.std.specs.Prelude.{◌≡◌, ℕ, ◌+◌, ◌/◌, ◌%◌, ◌≤◌, Bool, true, false, not, ◌&&◌, nat_eq, Option, List, [], ◌∷◌}
+use Rattle.std.specs.Prelude.{◌≡◌, ℕ, ◌+◌, ◌/◌, ◌%◌, ◌≤◌, Bool, true, false, not, ◌&&◌, nat_eq, nat_lt}
+use Rattle.std.specs.Prelude.{Option, List, [], ◌∷◌}
 use Rattle.cs_num.specs.declared.Cpx.{Cpx}
 use Rattle.cs_num.specs.declared.Sample.{Sample}
 use Rattle.cs_num.specs.Complex.{nothing, square}
 use Rattle.lte_types.specs.declared.carrier.Carrier.{Carrier}
-use Rattle.lte_types.specs.declared.carrier.Carrier.TheVariants.{OnePort, TwoPorts, LongPrefix, FourPorts}
+use Rattle.lte_types.specs.declared.carrier.Carrier.TheVariants.{OnePort}
+use Rattle.lte_types.specs.Carrier.{ports_of}
 use Rattle.lte_types.specs.Timing.{IsOffset}
 use Rattle.budget.specs.Received.{AreAmplitudes}
 use Rattle.cell_tx.specs.declared.antenna.Port.{Port}
@@ -60,10 +62,7 @@ OpenPlacesAreSilent =
 -- point i of a channel is in a pair that two other ports of four send: the number of the pair is even and the port's
 -- odd, or the other way round (TS 36.211 section 6.3.4.3)
 abbrev pub is_of_others_by : Carrier → ℕ → ℕ → Bool
-is_of_others_by OnePort number i = false
-is_of_others_by TwoPorts number i = false
-is_of_others_by LongPrefix number i = false
-is_of_others_by FourPorts number i = not (nat_eq (i / 2 % 2) (number % 2))
+is_of_others_by carrier number i = nat_lt 2 (ports_of carrier) && not (nat_eq (i / 2 % 2) (number % 2))
 
 abbrev pub is_of_others : Port → ℕ → Bool
 is_of_others port i = is_of_others_by port.carrier port.number i

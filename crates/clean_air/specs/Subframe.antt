@@ -1,6 +1,7 @@
 -- The soft values of a subframe of which both slots are heard. (own)
-use Rattle.std.specs.Prelude.{◌≡◌, ℕ, ◌+◌, ◌*◌, ◌<◌, Bool, false, All, List, length, slice_index_or}
+use Rattle.std.specs.Prelude.{◌≡◌, ℕ, ◌+◌, ◌*◌, ◌<◌, Bool, All, List, length, slice_index_or}
 use Rattle.cs_num.specs.declared.Cpx.{Cpx}
+use Rattle.lte_types.specs.declared.carrier.Carrier.TheVariants.{OnePort}
 use Rattle.grid_map.specs.declared.Place.{Place}
 use Rattle.grid_map.specs.Place.{place}
 use Rattle.grid_map.specs.Shared.{shared_places_of}
@@ -26,7 +27,7 @@ shared_scrambled first bits = scrambled (pdsch_c_init first.identity first.numbe
 -- the values of the shared channel speak for the bits before scrambling, where its places are heard
 abbrev pub ValuesOfBlocksAreHeard : Type 0
 ValuesOfBlocksAreHeard = (first second : SeenSlot) (cfi start blocks : ℕ) (bits : ℕ → Bool) →
-    let places = shared_places_of false first.identity cfi start blocks in
+    let places = shared_places_of OnePort first.identity cfi start blocks in
     IsSubframeHeard first second places (shared_scrambled first bits) →
     AreHeard 1 (2 * length places) bits (shared_values first second cfi start blocks)
 
@@ -55,6 +56,6 @@ CarriedSubframeIsHeard =
 abbrev pub CarriedBlocksAreHeard : Type 0
 CarriedBlocksAreHeard =
     (grids : ℕ → ℕ → Cpx) (first second : SeenSlot) (cfi start blocks : ℕ) (bits : ℕ → Bool) →
-    let places = shared_places_of false first.identity cfi start blocks in
+    let places = shared_places_of OnePort first.identity cfi start blocks in
     AreSlotsHeard grids first second → CarryInSubframe grids places (shared_scrambled first bits) →
     AreHeard 1 (2 * length places) bits (shared_values first second cfi start blocks)

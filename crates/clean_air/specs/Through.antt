@@ -1,17 +1,17 @@
 -- Cells that are seen through channels: each slot that is read through one of its own, which may be another gain at
 -- each place, and the synchronisation signals with gains of their own. (own; frames, slots and symbols are those of
 -- TS 36.211 sections 4.1 and 6.2)
-use Rattle.std.specs.Prelude.{◌≡◌, ℕ, ◌+◌, ◌*◌, ◌/◌, ◌%◌, ◌<◌, ◌≤◌, Bool, List}
+use Rattle.std.specs.Prelude.{◌≡◌, ℕ, ◌+◌, ◌*◌, ◌/◌, ◌%◌, ◌<◌, ◌≤◌, Bool, not, ◌&&◌, nat_eq, MatchBool, List}
 use Rattle.cs_num.specs.declared.Cpx.{Cpx}
 use Rattle.cs_num.specs.declared.Sample.{Sample}
 use Rattle.cs_num.specs.Complex.{times, square}
 use Rattle.crs.specs.Qpsk.{point}
 use Rattle.crs.specs.Reference.{port_0}
 use Rattle.lte_types.specs.declared.carrier.Carrier.{Carrier}
-use Rattle.lte_types.specs.declared.carrier.Carrier.TheVariants.{OnePort, TwoPorts, LongPrefix, FourPorts}
+use Rattle.lte_types.specs.declared.carrier.Carrier.TheVariants.{OnePort}
 use Rattle.lte_types.specs.declared.frame.Half.{Half}
-use Rattle.lte_types.specs.Carrier.{prefix_of}
-use Rattle.lte_types.specs.Numerology.{frame_length, half_frame_length, symbol_step, primary_start}
+use Rattle.lte_types.specs.Carrier.{prefix_of, ports_of}
+use Rattle.lte_types.specs.Numerology.{frame_length, half_frame_length, symbol_step, primary_start, is_extended}
 use Rattle.lte_types.specs.Timing.{IsOffset, start_of, number_at_start}
 use Rattle.pss_search.specs.Hits.{last_place}
 use Rattle.soft_bits.specs.Soft.{SeenSlot, seen_at}
@@ -106,12 +106,14 @@ pub record IsCellThrough (recording : List Sample) (plan : CellPlan) (grid : Ele
   pub system : (slot : ℕ) → slot / 2 ≡ 5 →
       IsFrameSlotThrough recording plan.identity grid sfn offset (even_frame (number_at_start sfn offset) 0) slot
 
--- a cell of a carrier is seen through channels; of one port with the normal prefix, since of others no law is known
+-- cells of one port with the normal prefix are seen through channels; of others no law is known
+abbrev pub is_seen_through : Carrier → Bool
+is_seen_through carrier = nat_eq (ports_of carrier) 1 && not (is_extended (prefix_of carrier))
+
+-- a cell of a carrier is seen through channels
 abbrev pub IsSeenThroughBy : Carrier → List Sample → CellPlan → (Port → Elements) → ℕ → ℕ → Type 0
-IsSeenThroughBy OnePort recording plan grids sfn offset = IsCellThrough recording plan (grids only_port) sfn offset
-IsSeenThroughBy TwoPorts recording plan grids sfn offset = ⊥
-IsSeenThroughBy LongPrefix recording plan grids sfn offset = ⊥
-IsSeenThroughBy FourPorts recording plan grids sfn offset = ⊥
+IsSeenThroughBy carrier recording plan grids sfn offset =
+    MatchBool (is_seen_through carrier) (IsCellThrough recording plan (grids only_port) sfn offset) ⊥
 
 -- a law: so is each cell of one port to which the recording is faithful
 abbrev pub FaithfulIsThrough : Type 0

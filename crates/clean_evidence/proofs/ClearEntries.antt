@@ -1,5 +1,5 @@
 -- The evidence of the entry of a cell to which a recording is faithful, or of which it is clean.
-use Rattle.std.proofs.Common.{◌≡◌, ℕ, ◌*◌, ◌^◌, ◌≤◌, arith, ap, sym, subst, ◌∙◌, List, [], ◌∷◌, length}
+use Rattle.std.proofs.Common.{◌≡◌, ℕ, ◌*◌, ◌^◌, ◌≤◌, arith, refl, ap, sym, subst, ◌∙◌, List, [], ◌∷◌, length}
 use Rattle.cs_num.specs.declared.Cpx.{Cpx}
 use Rattle.cs_num.specs.declared.Sample.{Sample}
 use Rattle.cs_num.specs.Complex.{square}
@@ -60,7 +60,7 @@ module _ (recording : List Sample) (entry : Entry) (told : Evidence) (plan : Cel
   noise_is = evidence.noise ∙ ap noise_of (differences_of_one (broadcast_slot recording entry.id entry.start entry.frame))
 
   power_is : told.power ≡ pilot_energy (broadcast_slot recording entry.id entry.start entry.frame)
-  power_is = evidence.power ∙ energy_of_one (broadcast_slot recording entry.id entry.start entry.frame)
+  power_is = evidence.power ∙ energy_of_one OnePort (broadcast_slot recording entry.id entry.start entry.frame) refl
 
 pub faithful_entries_are_supported : FaithfulEntriesAreSupported
 faithful_entries_are_supported recording entry told plan grid sfn offset gain long listed evidence sendable faithful id start number =

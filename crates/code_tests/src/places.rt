@@ -6,7 +6,7 @@ use grid_map::{
     Place, Reg, block_places, control_groups, pbch, pcfich, pdcch, pdsch, places_of_groups,
     quadruplet, quadruplets_permute, reg_places, shared_count, shared_order, shared_place,
 };
-use lte_types::{Assignment, Bandwidth, CellId, Cfi, Duration, Mib, Resource};
+use lte_types::{Assignment, Bandwidth, Carrier, CellId, Cfi, Duration, Mib, Resource};
 
 // Whether this is point i of the broadcast channel of a cell.
 fn is_point_of_broadcast(identity: u16, i: usize, symbol: u8, k: u8) -> bool {
@@ -280,46 +280,69 @@ fn points_of_the_shared_channel(rt: HostRuntime) {
     shared_order();
 }
 
-// Point i of the shared channel of a cell with two antenna ports; none for one that it does not have.
-fn point_of_two(identity: u16, cfi: u8, start: u8, blocks: u8, i: usize) -> Option<Place> {
+// Point i of the shared channel of a carrier; none for one that it does not have.
+fn point_by(
+    carrier: Carrier,
+    identity: u16,
+    cfi: u8,
+    start: u8,
+    blocks: u8,
+    i: usize,
+) -> Option<Place> {
     let id = CellId::new(identity)?;
     let assignment = Assignment::new(Cfi::new(cfi)?, start, blocks)?;
-    if i >= shared_count(true, &assignment) {
+    if i >= shared_count(carrier, &assignment) {
         return None;
     }
-    Some(shared_place(true, id, &assignment, i))
+    Some(shared_place(carrier, id, &assignment, i))
 }
 
+// Rows of a program that goes through TS 36.211 sections 6.4 and 6.10.1.2 place by place.
 #[test]
-fn points_of_the_shared_channel_with_two_ports(rt: HostRuntime) {
-    for (identity, cfi, start, blocks, i, symbol, k) in [
-        (0, 2, 0, 6, 71, 3, 71),
-        (0, 2, 0, 6, 72, 4, 1),
-        (0, 2, 0, 6, 167, 7, 71),
-        (0, 2, 0, 6, 168, 8, 0),
-        (0, 2, 0, 6, 575, 13, 71),
-        (503, 3, 2, 1, 2, 4, 27),
-        (503, 3, 2, 1, 8, 7, 24),
-        (503, 3, 2, 1, 52, 11, 24),
-        (503, 3, 2, 1, 83, 13, 35),
+fn points_of_the_shared_channel_of_other_carriers(rt: HostRuntime) {
+    for (carrier, identity, cfi, start, blocks, i, symbol, k) in [
+        (Carrier::TwoPorts, 0, 2, 0, 6, 72, 4, 1),
+        (Carrier::TwoPorts, 0, 2, 0, 6, 167, 7, 71),
+        (Carrier::TwoPorts, 0, 2, 0, 6, 575, 13, 71),
+        (Carrier::TwoPorts, 503, 3, 2, 1, 2, 4, 27),
+        (Carrier::TwoPorts, 503, 3, 2, 1, 52, 11, 24),
+        (Carrier::TwoPorts, 503, 3, 2, 1, 83, 13, 35),
+        (Carrier::LongPrefix, 0, 2, 0, 6, 71, 6, 14),
+        (Carrier::LongPrefix, 0, 2, 0, 6, 167, 7, 47),
+        (Carrier::LongPrefix, 0, 2, 0, 6, 467, 11, 71),
+        (Carrier::LongPrefix, 503, 3, 2, 1, 2, 6, 26),
+        (Carrier::LongPrefix, 503, 3, 2, 1, 40, 9, 31),
+        (Carrier::LongPrefix, 503, 3, 2, 1, 67, 11, 35),
+        (Carrier::FourPorts, 0, 2, 0, 6, 168, 8, 1),
+        (Carrier::FourPorts, 0, 2, 0, 6, 200, 8, 49),
+        (Carrier::FourPorts, 0, 2, 0, 6, 551, 13, 71),
+        (Carrier::FourPorts, 503, 3, 2, 1, 17, 8, 25),
+        (Carrier::FourPorts, 503, 3, 2, 1, 52, 11, 30),
+        (Carrier::FourPorts, 503, 3, 2, 1, 79, 13, 35),
     ] {
-        let point = point_of_two(identity, cfi, start, blocks, i);
+        let point = point_by(carrier, identity, cfi, start, blocks, i);
         assert!(rt;
             point == Some(Place { symbol, k }),
             "point {i} of {identity}"
         );
     }
-    assert!(rt; point_of_two(503, 3, 2, 1, 84).is_none());
+    assert!(rt; point_by(Carrier::TwoPorts, 503, 3, 2, 1, 84).is_none());
+    assert!(rt; point_by(Carrier::LongPrefix, 503, 3, 2, 1, 68).is_none());
+    assert!(rt; point_by(Carrier::FourPorts, 503, 3, 2, 1, 80).is_none());
 }
 
 #[test]
 fn places_of_a_block(rt: HostRuntime) {
-    for (two, cfi, count) in [
-        (false, 2, 102),
-        (false, 3, 90),
-        (true, 2, 96),
-        (true, 3, 84),
+    for (carrier, cfi, count) in [
+        (Carrier::OnePort, 2, 102),
+        (Carrier::OnePort, 3, 90),
+        (Carrier::TwoPorts, 2, 96),
+        (Carrier::TwoPorts, 3, 84),
+        (Carrier::LongPrefix, 2, 78),
+        (Carrier::LongPrefix, 3, 68),
+        (Carrier::FourPorts, 2, 92),
+        (Carrier::FourPorts, 3, 80),
     ] {
-        assert!(rt; block_places(two, cfi) == count, "indicator {cfi}");
+        assert!(rt; block_places(carrier, cfi) == count, "indicator {cfi}");
     }
 }

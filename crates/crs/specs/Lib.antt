@@ -1,3 +1,4 @@
 pub mod Power
 pub mod Qpsk
 pub mod Reference
+pub mod Ports

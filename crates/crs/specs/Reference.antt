@@ -4,7 +4,8 @@ use Rattle.std.specs.Prelude.{List, map}
 use Rattle.std.specs.List.{range_with_len}
 use Rattle.cs_num.specs.declared.Cpx.{Cpx}
 use Rattle.lte_types.specs.declared.carrier.Carrier.{Carrier}
-use Rattle.lte_types.specs.declared.carrier.Carrier.TheVariants.{OnePort, TwoPorts, LongPrefix, FourPorts}
+use Rattle.lte_types.specs.Carrier.{prefix_of}
+use Rattle.lte_types.specs.Numerology.{symbols_of_slot, is_extended}
 use Rattle.gold.specs.Gold.{gold_bit}
 use Rattle.crs.specs.Qpsk.{point}
 use Rattle.crs.specs.declared.pattern.Pattern.{Pattern}
@@ -21,12 +22,14 @@ port_1 = record { later = 4; shift = 3; prefix = 1 }
 abbrev pub long_prefix : Pattern
 long_prefix = record { later = 3; shift = 0; prefix = 0 }
 
--- the pattern of port 0 of a carrier, or of port 1 of several
+-- the pattern of port 0 or 1 of a carrier: its later symbol is N_symb - 3, and v in symbol 0 is 0 at port 0 and 3 at
+-- port 1 (section 6.10.1.2); N_CP is 1 with the normal prefix and 0 with the extended one (section 6.10.1.1)
 abbrev pub pattern_of : Carrier → ℕ → Pattern
-pattern_of OnePort port = port_0
-pattern_of TwoPorts port = if nat_eq port 0 then port_0 else port_1
-pattern_of LongPrefix port = long_prefix
-pattern_of FourPorts port = if nat_eq port 0 then port_0 else port_1
+pattern_of carrier port = record {
+  later = symbols_of_slot (prefix_of carrier) - 3;
+  shift = 3 * port;
+  prefix = if is_extended (prefix_of carrier) then 0 else 1;
+}
 
 -- ---- for any pattern
 

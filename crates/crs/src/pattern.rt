@@ -1,7 +1,6 @@
 //! What reference signals differ in, by antenna port and cyclic prefix.
 
 ghost use Rattle.std.specs.Prelude.{◌≡◌, ◌<◌, [], ◌∷◌};
-ghost use Rattle.lte_types.specs.Carrier.{ports_of};
 ghost use Rattle.crs.specs.Reference.{port_0, port_1, long_prefix, pattern_of};
 
 use lte_types::Carrier;
@@ -39,23 +38,16 @@ impl Pattern {
         prefix: 0,
     };
 
-    /// The pattern of port 0 of a carrier, or of port 1 of two or four. Ports 2 and 3 have none: `upper_pilots` has
-    /// theirs.
+    /// The pattern of port 0 or 1 of a carrier. Ports 2 and 3 have none: `upper_pilots` has theirs.
     pub fn of(carrier: Carrier, port: u8) -> Pattern
-        requires known { port < ports_of carrier }
-        requires first { port < 2 }
+        requires { port < 2 }
         ensures { result ≡ pattern_of carrier port }
     {
-        match carrier {
-            Carrier::OnePort => Pattern::FIRST_PORT,
-            Carrier::TwoPorts | Carrier::FourPorts => {
-                if port == 0 {
-                    Pattern::FIRST_PORT
-                } else {
-                    Pattern::SECOND_PORT
-                }
-            }
-            Carrier::LongPrefix => Pattern::LONG_PREFIX,
+        let prefix = carrier.prefix();
+        Pattern {
+            later: prefix.symbols() as u8 - 3,
+            shift: 3 * port,
+            prefix: if prefix.is_extended() { 0 } else { 1 },
         }
     }
 }

@@ -1,15 +1,14 @@
 -- What supports an entry of a list by a receiver. (own)
-use Rattle.std.specs.Prelude.{◌≡◌, ℕ, ◌+◌, ◌-◌, ◌*◌, ◌/◌, ◌%◌, ◌<◌, ◌≤◌, List, [], ◌∷◌, ◌++◌, length, ℤ}
+use Rattle.std.specs.Prelude.{◌≡◌, ℕ, ◌+◌, ◌-◌, ◌*◌, ◌/◌, ◌%◌, ◌<◌, ◌≤◌, if◌then◌else◌, List, [], ◌∷◌, ◌++◌, length, ℤ}
 use Rattle.std.specs.List.{Contains}
 use Rattle.finite.specs.Sums.{total_below}
-use Rattle.finite.specs.Lists.{values_below}
 use Rattle.cs_num.specs.declared.Cpx.{Cpx}
 use Rattle.cs_num.specs.declared.Sample.{Sample}
 use Rattle.cs_num.specs.Complex.{plus, minus, multiple, square, value_at}
 use Rattle.crs.specs.Power.{point_power}
 use Rattle.lte_types.specs.declared.carrier.Carrier.{Carrier}
-use Rattle.lte_types.specs.declared.carrier.Carrier.TheVariants.{OnePort, TwoPorts, LongPrefix, FourPorts}
-use Rattle.lte_types.specs.Carrier.{ports_of}
+use Rattle.lte_types.specs.Carrier.{prefix_of, ports_of}
+use Rattle.lte_types.specs.Numerology.{is_extended}
 use Rattle.lte_types.specs.declared.hit.Hit.{Hit}
 use Rattle.lte_types.specs.declared.entry.Entry.{Entry}
 use Rattle.lte_types.specs.declared.evidence.Evidence.{Evidence}
@@ -19,7 +18,7 @@ use Rattle.pss_search.specs.Hits.{first_place, last_place}
 use Rattle.pss_search.specs.Laws.{IsHitOf}
 use Rattle.soft_bits.specs.Soft.{SeenSlot}
 use Rattle.soft_bits.specs.Lines.{Line, line_of, line_pilot, ports_energy}
-use Rattle.soft_bits.specs.Kept.{SeenLine, seen_line}
+use Rattle.soft_bits.specs.Kept.{SeenLine, lines_of}
 use Rattle.pbch.specs.Master.{total}
 use Rattle.explain.specs.declared.readings.Reading.{Reading}
 use Rattle.explain.specs.Frame.{broadcast_slot}
@@ -51,10 +50,9 @@ thousandths recording n2 t = 1000 * peak recording n2 t / (energy recording t * 
 
 -- the slot that carries the broadcast channel in frame j of the cell at a place, as it is seen
 abbrev pub slot_by : Carrier → List Sample → Place → ℕ → SeenSlot
-slot_by OnePort recording place j = broadcast_slot recording place.id place.start j
-slot_by TwoPorts recording place j = broadcast_slot recording place.id place.start j
-slot_by LongPrefix recording place j = long_slot recording place.id place.start j
-slot_by FourPorts recording place j = broadcast_slot recording place.id place.start j
+slot_by carrier recording place j =
+    if is_extended (prefix_of carrier) then long_slot recording place.id place.start j
+    else broadcast_slot recording place.id place.start j
 
 -- the second difference of pilots: how far both neighbours of a pilot in its symbol are from it, together. `stride`
 -- pilots on stands the next one of the same symbol, so that a turn from one symbol to the other makes none
@@ -79,10 +77,6 @@ line_differences line slot = differences (line.last + 1) (6 / line.step) (line_p
 abbrev pub differences_by : Carrier → SeenSlot → ℕ
 differences_by carrier slot = total_below (ports_of carrier) (λ port. line_differences (line_of carrier port slot) slot)
 
--- the pilots of each antenna port
-abbrev pub channels_by : Carrier → SeenSlot → List SeenLine
-channels_by carrier slot = values_below (ports_of carrier) (λ port. seen_line (line_of carrier port slot) slot)
-
 -- the noise: the sum of the second differences' squares, divided by six times the square of a reference value's size,
 -- and rounded down. Errors of one variance v in what is seen make a second difference of variance 6 v, times that
 -- square
@@ -103,7 +97,7 @@ abbrev pub shown_by : Carrier → SeenSlot → List ℤ → SlotShown
 shown_by carrier slot received = record {
   power = ports_energy carrier slot;
   differences = differences_by carrier slot;
-  channel = channels_by carrier slot;
+  channel = lines_of carrier slot;
   values = received;
 }
 
@@ -151,7 +145,7 @@ pub record IsHitOfEntry (carrier : Carrier) (recording : List Sample) (entry : E
   pub first : IsFirstToldBy carrier recording entry hit.t
   pub root : hit.n2 ≡ entry.id % 3
 
--- a hit has a fraction: energy, and a peak within the whole
+-- the thousandths of a hit are a fraction of a whole: there is energy, and the peak is not above it
 pub record HasFraction (hit : Hit) : Type 0 where
   pub root : hit.n2 ≤ 2
   pub sounds : 0 < hit.energy

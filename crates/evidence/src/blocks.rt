@@ -6,24 +6,21 @@ ghost use Rattle.dci.specs.Format1A.{IsGrant};
 ghost use Rattle.pdsch.specs.Values.{shared_values_by};
 ghost use Rattle.system_block.specs.Subframe.{subframe_by};
 ghost use Rattle.system_block.specs.Block.{IsBlock};
-ghost use Rattle.explain.specs.Entries.{place_of};
 ghost use Rattle.explain.specs.Frame.{IsWhole};
 ghost use Rattle.explain.specs.Receiver.{subframes_by};
 ghost use Rattle.explain.specs.System.{even_frame as even_frame_of};
-ghost use Rattle.evidence.specs.Receivers.{receiver_of};
-ghost use Rattle.evidence.specs.Blocks.{IsBlockAt, IsBlockRead, IsBlockWith, IsSystemBlock};
+ghost use Rattle.evidence.specs.Blocks.{IsBlockAt, IsBlockRead, IsSystemBlock};
 
-use crate::listing::place_in;
+use crate::receivers::block_by;
 use dci::Grant;
 use explain::slot_of;
 use lte_types::{Carrier, CellPlace, Cfi, Entry, FRAME_LENGTH, Mib, Sfn};
 use pdsch::MOST_VALUES;
 use sample_file::Recording;
-use soft_bits::{ReadSlot, Slot};
+use soft_bits::ReadSlot;
 use std::alloc::{AllocError, Global};
 use system_block::{Decoders, attempt_in, block_of};
 use turbo_dec::{Block, Work};
-use two_ports::PairSlot;
 
 // The bits of the transport block that told the system information of an entry; none where it has none.
 pub(crate) fn system_block(
@@ -53,28 +50,8 @@ fn bits_of(alloc: Global, block: Option<Block>) -> Result<Vec<bool>, AllocError>
     Ok(list)
 }
 
-// The block by a carrier's way to read system information, or none where it is not read.
-fn block_by(
-    recording: &Recording,
-    carrier: Carrier,
-    entry: &Entry,
-    work: &mut Decoders,
-) -> Option<Block>
-    requires { entry.now.start < 19200 }
-    ensures { IsBlockWith (receiver_of carrier).subframe recording.now (place_of entry.now) entry.now.sfn entry.now.mib
-        (unwrap_or (option_map (λ block. block.items) result) []) }
-{
-    let place = place_in(entry);
-    match carrier {
-        Carrier::OnePort => first_block::<Slot>(recording, place, entry.sfn, entry.mib, work),
-        Carrier::TwoPorts => first_block::<PairSlot>(recording, place, entry.sfn, entry.mib, work),
-        Carrier::LongPrefix => None,
-        Carrier::FourPorts => None,
-    }
-}
-
 // The block of the first of the tried frames that has one, or none.
-fn first_block<S: ReadSlot>(
+pub(crate) fn first_block<S: ReadSlot>(
     recording: &Recording,
     place: CellPlace,
     sfn: Sfn,

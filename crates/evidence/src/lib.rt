@@ -5,6 +5,7 @@
 mod blocks;
 mod listing;
 mod noise;
+mod receivers;
 mod slot;
 mod support;
 

@@ -12,7 +12,7 @@ ghost use Rattle.evidence.specs.Evidence.{HasFraction, numbers_by};
 
 use crate::SlotShown;
 use crate::noise::noise_of;
-use crate::slot::shown_in;
+use crate::receivers::shown_in;
 use explain::Reading;
 use lte_types::{Carrier, CellPlace, Entry, Evidence, Hit};
 use pbch::total_of;
@@ -22,9 +22,9 @@ use std::alloc::{AllocError, Global};
 
 /// What supports each entry of a recording's list by the receiver for a carrier, in its order: the least place of a hit
 /// that tells its identity and start, and how much of the energy there the primary signal explains; the sum of the
-/// sizes of the values that its master block was read from; and the energy of the pilots of its slot, and how much those
-/// of one symbol differ, of all antenna ports together. `readings` are how the entries were read, in the order of the
-/// list. Only memory can be wanting. (own)
+/// sizes of the values that its master block was read from; and the energy of the pilots of its slot, and how much
+/// those of one symbol differ, of all antenna ports together. `readings` are how the entries were read, in the order of
+/// the list. Only memory can be wanting. (own)
 pub fn evidence_of_list(
     alloc: Global,
     recording: &Recording,

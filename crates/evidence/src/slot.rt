@@ -10,14 +10,12 @@ ghost use Rattle.evidence.specs.Evidence.{SlotShown as SlotShownAs, shown_by, sh
 use crate::noise::differences_of;
 use arrayvec::ArrayVec;
 use explain::slot_of;
-use four_ports::FourPorts;
 use long_prefix::long_frame;
-use lte_types::{Carrier, CellPlace};
+use lte_types::CellPlace;
 use pbch::{Received, received};
 use sample_file::Recording;
-use soft_bits::{Pilots, PortSlot, Ports, Single};
+use soft_bits::{Pilots, PortSlot, Ports};
 use std::marker::Model;
-use two_ports::TwoPorts;
 
 /// What the slot with the broadcast channel of a frame shows. Contracts see it as the energy of its pilots, of all
 /// antenna ports together, the squares of their second differences, the pilots of each port, and the soft values of the
@@ -100,26 +98,8 @@ impl SlotShown {
     }
 }
 
-// What the slot with the broadcast channel in frame `j` of a cell shows. The frame lies within the recording.
-pub(crate) fn shown_in(
-    recording: &Recording,
-    carrier: Carrier,
-    place: CellPlace,
-    j: u8,
-) -> SlotShown
-    requires { IsWhole recording.now place.start j }
-    ensures { result ≡ shown_in_of carrier recording.now place j }
-{
-    match carrier {
-        Carrier::OnePort => shown_of::<Single>(recording, place, j),
-        Carrier::TwoPorts => shown_of::<TwoPorts>(recording, place, j),
-        Carrier::LongPrefix => shown_of_long(recording, place, j),
-        Carrier::FourPorts => shown_of::<FourPorts>(recording, place, j),
-    }
-}
-
 // What the slot of a cell with the normal prefix shows.
-fn shown_of<K: Ports>(recording: &Recording, place: CellPlace, j: u8) -> SlotShown
+pub(crate) fn shown_of<K: Ports>(recording: &Recording, place: CellPlace, j: u8) -> SlotShown
     requires { IsWhole recording.now place.start j }
     ensures { result ≡ shown_by K.pairing.carrier (broadcast_slot recording.now place.id place.start j)
         (broadcast_by (valued_by K.pairing) recording.now place j) }
@@ -133,7 +113,7 @@ fn shown_of<K: Ports>(recording: &Recording, place: CellPlace, j: u8) -> SlotSho
 }
 
 // What the slot of a cell with the extended prefix shows.
-fn shown_of_long(recording: &Recording, place: CellPlace, j: u8) -> SlotShown
+pub(crate) fn shown_of_long(recording: &Recording, place: CellPlace, j: u8) -> SlotShown
     requires { IsWhole recording.now place.start j }
     ensures { result ≡ shown_in_of Long recording.now place j }
 {

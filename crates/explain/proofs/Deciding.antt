@@ -1,6 +1,6 @@
 -- Two recordings that agree in their first 17 frames tell the same hits, identities and slots, and so the same list.
 use Rattle.std.proofs.Common.{◌≡◌, ℕ, suc, Bool, true, ◌+◌, ◌*◌, ◌<◌, ◌≤◌, Result, Ok, Err, List, [], ◌∷◌, ℤ, length, arith, ap, ap₂, sym, subst, ◌∙◌}
-use Rattle.std.specs.Prelude.{All}
+use Rattle.std.specs.Prelude.{All, if◌then◌else◌}
 use Rattle.std.specs.List.{AllZip, filter, flat_map}
 use Rattle.finite.proofs.Lists.{values_below_same}
 use Rattle.cs_num.specs.declared.Cpx.{Cpx}
@@ -8,7 +8,7 @@ use Rattle.cs_num.specs.declared.Sample.{Sample}
 use Rattle.lte_types.specs.CellPlace.{Place}
 use Rattle.lte_types.specs.declared.hit.Hit.{Hit}
 use Rattle.lte_types.specs.declared.entry.Entry.{Entry}
-use Rattle.lte_types.specs.Numerology.{normal, useful_start, frame_length}
+use Rattle.lte_types.specs.Numerology.{normal, useful_start, frame_length, is_extended}
 use Rattle.lte_types.specs.declared.mib.Mib.{Mib}
 use Rattle.lte_types.specs.declared.sib1.Sib1.{Sib1}
 use Rattle.lte_types.specs.declared.sib1_reason.Sib1Reason.{Sib1Reason}
@@ -29,7 +29,7 @@ use Rattle.pbch.specs.declared.master.Master.{Master}
 use Rattle.pbch.specs.Values.{received_values_by, summed_values}
 use Rattle.pbch.specs.Master.{TellsMaster}
 use Rattle.lte_types.specs.Frames.{Frames, frames_from}
-use Rattle.lte_types.specs.declared.carrier.Carrier.TheVariants.{OnePort, TwoPorts, LongPrefix, FourPorts}
+use Rattle.lte_types.specs.declared.carrier.Carrier.TheVariants.{OnePort}
 use Rattle.explain.specs.Frame.{frame_at, seen_slot}
 use Rattle.explain.specs.Receiver.{Receiver, Subframes, broadcast_by, by_slots, hits_by, place_by, has_step_before, sums_by}
 use Rattle.explain.specs.Entries.{IsEntryFor, IsMasterFor, AreEntriesFor, place_of, frames_of, master_of}
@@ -57,10 +57,9 @@ deciding_slot start j number identity a b agree early few known =
 
 -- the hits that a receiver takes are the same
 taken_agree : (carrier : Carrier) (a b : List Sample) → AgreeBefore deciding_length a b → hits_by carrier a ≡ hits_by carrier b
-taken_agree OnePort a b agree = hits_agree deciding_length a b agree (omega arith)
-taken_agree TwoPorts a b agree = hits_agree deciding_length a b agree (omega arith)
-taken_agree FourPorts a b agree = hits_agree deciding_length a b agree (omega arith)
-taken_agree LongPrefix a b agree = ap (filter (has_step_before LongPrefix)) (hits_agree deciding_length a b agree (omega arith))
+taken_agree carrier a b agree =
+    ap (λ (hits : List Hit). if is_extended (prefix_of carrier) then filter (has_step_before carrier) hits else hits)
+    (hits_agree deciding_length a b agree (omega arith))
 
 -- ---- receivers of slots
 

@@ -1,12 +1,12 @@
 -- A receiver: a way to read the cells of a recording that send by one kind of carrier. (own)
-use Rattle.std.specs.Prelude.{ℕ, ◌*◌, ◌≤◌, Bool, true, nat_le, List, filter, ℤ, Result, Ok}
+use Rattle.std.specs.Prelude.{ℕ, ◌*◌, ◌≤◌, Bool, true, nat_le, if◌then◌else◌, List, filter, ℤ, Result, Ok}
 use Rattle.cs_num.specs.declared.Sample.{Sample}
 use Rattle.lte_types.specs.CellPlace.{Place}
 use Rattle.lte_types.specs.Frames.{Frames}
 use Rattle.lte_types.specs.declared.carrier.Carrier.{Carrier}
-use Rattle.lte_types.specs.declared.carrier.Carrier.TheVariants.{OnePort, TwoPorts, FourPorts, LongPrefix}
+use Rattle.lte_types.specs.declared.carrier.Carrier.TheVariants.{OnePort}
 use Rattle.lte_types.specs.Carrier.{prefix_of}
-use Rattle.lte_types.specs.Numerology.{symbol_step}
+use Rattle.lte_types.specs.Numerology.{symbol_step, is_extended}
 use Rattle.lte_types.specs.declared.duration.Duration.{Duration}
 use Rattle.lte_types.specs.declared.resource.Resource.{Resource}
 use Rattle.lte_types.specs.declared.sib1_reason.Sib1Reason.{Sib1Reason}
@@ -69,10 +69,8 @@ has_step_before carrier hit = nat_le (symbol_step (prefix_of carrier)) hit.t
 -- the hits that a receiver takes: those with room before them for the secondary signal, which with the normal prefix
 -- are all
 abbrev pub hits_by : Carrier → List Sample → List Hit
-hits_by OnePort recording = hits_of recording
-hits_by TwoPorts recording = hits_of recording
-hits_by FourPorts recording = hits_of recording
-hits_by LongPrefix recording = filter (has_step_before LongPrefix) (hits_of recording)
+hits_by carrier recording =
+    if is_extended (prefix_of carrier) then filter (has_step_before carrier) (hits_of recording) else hits_of recording
 
 -- a hit lies in the span of one frame, and there is room before it for the secondary signal
 pub record HasRoom (carrier : Carrier) (hit : Hit) : Type 0 where

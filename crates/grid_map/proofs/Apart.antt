@@ -1,5 +1,5 @@
 -- The places of the control and the shared channels of a subframe: none is a reference place, and no two channels have a place in common.
-use Rattle.std.proofs.Common.{◌≡◌, ℕ, ◌/◌, ◌%◌, ◌<◌, ◌≤◌, Bool, true, false, not, List, length, get_or, refl, ap, sym, subst, ◌∙◌, arith}
+use Rattle.std.proofs.Common.{◌≡◌, ℕ, ◌*◌, ◌/◌, ◌%◌, ◌<◌, ◌≤◌, Bool, true, false, not, nat_lt, ◌⊎◌, List, length, get_or, refl, ap, sym, subst, ◌∙◌, arith}
 use Rattle.std.specs.Prelude.{All}
 use Rattle.std.specs.List.{Contains}
 use Rattle.std.proofs.lemmas.Bool.{and_parts, leb-true, ltb-true, false≢true}
@@ -16,13 +16,14 @@ use Rattle.grid_map.specs.Place.{place, places_of}
 use Rattle.grid_map.specs.Group.{group, is_group, same_group, is_kept, group_places}
 use Rattle.grid_map.specs.Control.{is_group_in, pcfich_groups, pcfich_places, phich_groups, is_in_region, pdcch_groups}
 use Rattle.grid_map.specs.Candidate.{group_of_quadruplet, quadruplet_group, candidate_places}
-use Rattle.grid_map.specs.Shared.{is_synchronisation, is_in_blocks, is_pilot_of, is_shared_of, shared_places_of, shared_place_of}
+use Rattle.lte_types.specs.declared.carrier.Carrier.{Carrier}
+use Rattle.grid_map.specs.Shared.{subframe_symbols, is_synchronisation, is_in_blocks, is_pilot_of, is_shared_of, shared_places_of, shared_place_of}
 use Rattle.grid_map.proofs.Spans.{four_places, places_inside, places_apart}
 use Rattle.grid_map.proofs.Regions.{same_group-refl, pcfich_inside, pdcch_inside, pdcch_found}
 use Rattle.grid_map.proofs.Carried.{group_inside}
 use Rattle.grid_map.proofs.Pieces.{pcfich_place_at, candidate_place_at}
 use Rattle.grid_map.proofs.Indexed.{pdcch_carry}
-use Rattle.grid_map.proofs.Symbols.{places_are, pdsch_carries}
+use Rattle.grid_map.proofs.Symbols.{subframe_is, subframe_bounds, place_of, places_are, pdsch_carries}
 
 -- ---- places of the control region
 
@@ -164,39 +165,46 @@ module _ (identity cfi : ℕ) (duration : Duration) (resource : Resource) (low :
 
 -- ---- the PDSCH
 
--- a place after the control region, in no symbol of the synchronisation signals, and no reference place, with two antenna ports or one
-pub record IsAfterRegion (two : Bool) (identity last : ℕ) (p : Place) : Type 0 where
+-- a place after the control region, in no symbol of the synchronisation signals, and no reference place of the carrier
+pub record IsAfterRegion (carrier : Carrier) (identity last : ℕ) (p : Place) : Type 0 where
   pub after : last < p.symbol
   pub symbol : p.symbol < 14
   pub k : p.k < 72
-  pub beside : is_synchronisation p.symbol ≡ false
-  pub free : is_pilot_of two identity (p.symbol % 7) p.k ≡ false
+  pub inside : nat_lt p.symbol (subframe_symbols carrier) ≡ true
+  pub beside : is_synchronisation carrier p.symbol ≡ false
+  pub free : is_pilot_of carrier identity p ≡ false
 
-pub shared_symbols : (two : Bool) (identity cfi start blocks : ℕ) → All (λ (p : Place). (p.symbol < 14) × (p.k < 72)) (shared_places_of two identity cfi start blocks)
+pub shared_symbols : (carrier : Carrier) (identity cfi start blocks : ℕ) → All (λ (p : Place). (p.symbol < 14) × (p.k < 72)) (shared_places_of carrier identity cfi start blocks)
 unfolding shared_places_of
-shared_symbols two identity cfi start blocks =
-    All-filter (is_shared_of two identity cfi start blocks) (λ (p : Place). (p.symbol < 14) × (p.k < 72)) (places_of 0 14)
-    (λ i d l. rw places_are (let l' : i < 1008 = (let size = values_below-length 1008 (λ n. place (n / 72) (n % 72)) in let m = rw places_are at l in omega (arith, m, size)) in
-    rw (values_below_at (λ n. place (n / 72) (n % 72)) 1008 i d l') (omega (arith, l'), omega arith)))
+shared_symbols carrier identity cfi start blocks =
+    All-filter (is_shared_of carrier identity cfi start blocks) (λ (p : Place). (p.symbol < 14) × (p.k < 72)) (places_of 0 (subframe_symbols carrier))
+    (in_symbols (subframe_symbols carrier) (subframe_is carrier) (subframe_bounds carrier).1)
+  where
+    in_symbols : (symbols : ℕ) → (symbols ≡ 12) ⊎ (symbols ≡ 14) → symbols ≤ 14 → All (λ (p : Place). (p.symbol < 14) × (p.k < 72)) (places_of 0 symbols)
+    in_symbols symbols is few = λ i d l. rw (places_are symbols is)
+        (let l' : i < 72 * symbols = (let size = values_below-length (72 * symbols) place_of in let m = rw (places_are symbols is) at l in omega (arith, m, size)) in
+        rw (values_below_at place_of (72 * symbols) i d l') (omega (arith, l', few), omega arith))
 
 not_true : (b : Bool) → not b ≡ true → b ≡ false
 not_true false e = refl
 not_true true e = absurd (false≢true e)
 
 -- the places of the PDSCH are such places
-pub shared_place : (two : Bool) (identity cfi start blocks i : ℕ) → i < length (shared_places_of two identity cfi start blocks) →
-    IsAfterRegion two identity cfi (get_or (shared_places_of two identity cfi start blocks) i (place 0 0))
+pub shared_place : (carrier : Carrier) (identity cfi start blocks i : ℕ) → i < length (shared_places_of carrier identity cfi start blocks) →
+    IsAfterRegion carrier identity cfi (get_or (shared_places_of carrier identity cfi start blocks) i (place 0 0))
 unfolding shared_place_of
-shared_place two identity cfi start blocks i l =
-    let p : Place = get_or (shared_places_of two identity cfi start blocks) i (place 0 0) in
-    let inside = shared_symbols two identity cfi start blocks i (place 0 0) l in
-    let all = and_parts _ (is_in_blocks start blocks p.k) (pdsch_carries two identity cfi start blocks i l) in
-    let most = and_parts _ (not (is_pilot_of two identity (p.symbol % 7) p.k)) all.0 in
-    let some = and_parts _ (not (is_synchronisation p.symbol)) most.0 in
+shared_place carrier identity cfi start blocks i l =
+    let p : Place = get_or (shared_places_of carrier identity cfi start blocks) i (place 0 0) in
+    let within = shared_symbols carrier identity cfi start blocks i (place 0 0) l in
+    let all = and_parts _ (is_in_blocks start blocks p.k) (pdsch_carries carrier identity cfi start blocks i l) in
+    let most = and_parts _ (not (is_pilot_of carrier identity p)) all.0 in
+    let some = and_parts _ (not (is_synchronisation carrier p.symbol)) most.0 in
+    let few = and_parts _ (nat_lt p.symbol (subframe_symbols carrier)) some.0 in
     record {
-      after = ltb-true cfi p.symbol some.0;
-      symbol = inside.0;
-      k = inside.1;
+      after = ltb-true cfi p.symbol few.0;
+      symbol = within.0;
+      k = within.1;
+      inside = few.1;
       beside = not_true _ some.1;
       free = not_true _ most.1;
     }

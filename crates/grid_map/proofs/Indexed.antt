@@ -18,6 +18,7 @@ use Rattle.grid_map.specs.Broadcast.{pbch_places, pbch_place}
 use Rattle.grid_map.specs.Group.{group, is_group, group_places}
 use Rattle.grid_map.specs.Control.{pcfich_group, pcfich_groups, pcfich_places, pdcch_groups, group_number, quadruplet_at, is_in_region, group_count, element_count}
 use Rattle.grid_map.specs.Candidate.{group_of_quadruplet, quadruplet_group, candidate_places}
+use Rattle.lte_types.specs.declared.carrier.Carrier.{Carrier}
 use Rattle.grid_map.specs.Shared.{shared_places_of, shared_place_of}
 use Rattle.grid_map.specs.Laws.{IsIndexed, CarryCandidate}
 use Rattle.grid_map.proofs.Order.{same_place-refl, same_place-true}
@@ -185,8 +186,8 @@ pdcch_carry identity cfi duration resource low high = record {
 
 -- ---- the PDSCH
 
-pub shared_indexed : (two : Bool) (identity cfi start blocks : ℕ) →
-    IsIndexed (length (shared_places_of two identity cfi start blocks)) (shared_places_of two identity cfi start blocks)
+pub shared_indexed : (carrier : Carrier) (identity cfi start blocks : ℕ) →
+    IsIndexed (length (shared_places_of carrier identity cfi start blocks)) (shared_places_of carrier identity cfi start blocks)
 unfolding shared_place_of
-shared_indexed two identity cfi start blocks =
-    indexed (length (shared_places_of two identity cfi start blocks)) (shared_places_of two identity cfi start blocks) refl (pdsch_once two identity cfi start blocks)
+shared_indexed carrier identity cfi start blocks =
+    indexed (length (shared_places_of carrier identity cfi start blocks)) (shared_places_of carrier identity cfi start blocks) refl (pdsch_once carrier identity cfi start blocks)

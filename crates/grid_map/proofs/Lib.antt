@@ -6,6 +6,7 @@ pub mod Spans
 pub mod Quadruplets
 pub mod Kept
 pub mod Regions
+pub mod LeftOut
 pub mod Symbols
 pub mod Carried
 pub mod Pieces

@@ -1,24 +1,21 @@
 -- The places of the shared channel symbol by symbol, as the code goes through them.
-use Rattle.std.specs.Prelude.{ℕ, ◌+◌, ◌*◌, ◌/◌, ◌%◌, Bool, ◌||◌, nat_eq, if◌then◌else◌}
-use Rattle.crs.specs.Reference.{first_subcarrier}
+use Rattle.std.specs.Prelude.{ℕ, ◌+◌, ◌*◌, ◌/◌, ◌%◌, nat_eq, if◌then◌else◌}
+use Rattle.lte_types.specs.declared.carrier.Carrier.{Carrier}
+use Rattle.crs.specs.Reference.{pattern_of, pattern_first}
 use Rattle.grid_map.specs.Place.{skipping}
-use Rattle.grid_map.specs.Shared.{is_synchronisation}
+use Rattle.grid_map.specs.Shared.{slot_symbols, pilots_of_block}
 
--- a symbol of the subframe has reference places
-abbrev pub has_references : ℕ → Bool
-has_references symbol = nat_eq symbol 0 || nat_eq symbol 4 || nat_eq symbol 7 || nat_eq symbol 11
+-- how many subcarriers after the first one of the blocks place n of a symbol stands, by how many of a block's twelve
+-- are reference places and by the first that port 0 has there: with two of them the places are five of each six
+-- subcarriers, and with four two of each three
+abbrev pub offset_by : ℕ → ℕ → ℕ → ℕ
+offset_by pilots first n =
+    if nat_eq pilots 0 then n
+    else (if nat_eq pilots 2 then 6 * (n / 5) + skipping first (n % 5)
+    else 3 * (n / 2) + skipping (first % 3) (n % 2))
 
--- how many places of a count of blocks a symbol after the control region has for the channel, with two antenna ports
--- or one
-abbrev pub room : Bool → ℕ → ℕ → ℕ
-room two symbol blocks =
-    if is_synchronisation symbol then 0
-    else (if has_references symbol then (if two then 8 * blocks else 10 * blocks) else 12 * blocks)
-
--- how many subcarriers after the first one of the blocks place n of a symbol stands: a symbol with reference
--- places has five of each six subcarriers with one port, and two of each three with two
-abbrev pub offset : Bool → ℕ → ℕ → ℕ → ℕ
-offset two identity symbol n =
-    if has_references symbol then
-    (if two then 3 * (n / 2) + skipping (identity % 3) (n % 2)
-    else 6 * (n / 5) + skipping (first_subcarrier identity (symbol % 7)) (n % 5)) else n
+-- how many subcarriers after the first one of the blocks place n of a symbol of the subframe stands
+abbrev pub offset : Carrier → ℕ → ℕ → ℕ → ℕ
+offset carrier identity symbol n =
+    offset_by (pilots_of_block carrier (symbol % slot_symbols carrier))
+    (pattern_first (pattern_of carrier 0) identity (symbol % slot_symbols carrier)) n

@@ -1,7 +1,7 @@
 -- With the extended cyclic prefix a cell sends what is sent of the plan that its own has.
 use Rattle.std.specs.Prelude.{if◌then◌else◌}
 use Rattle.cs_num.specs.Complex.{nothing}
-use Rattle.std.proofs.Common.{◌≡◌, ℕ, ◌%◌, ◌∙◌, Bool, true, false, not, ◌&&◌, inl, arith, refl, ap, None}
+use Rattle.std.proofs.Common.{◌≡◌, ℕ, ◌%◌, ◌∙◌, Bool, true, false, not, ◌&&◌, ◌||◌, inl, arith, refl, ap, None}
 use Rattle.std.proofs.Math.Path.{fun_ext}
 use Rattle.cs_num.specs.declared.Cpx.{Cpx}
 use Rattle.lte_types.specs.Numerology.{extended}
@@ -24,7 +24,7 @@ use Rattle.long_prefix.specs.Sent.{long_element, long_sent, HasPlan, IsKnownLong
 -- ---- what is sent
 
 -- a place is another's only where it is not the port's own
-once : (own : Bool) (x z : Cpx) → (if own then x else (if not own && own then nothing else z)) ≡ (if own then x else z)
+once : (own : Bool) (x z : Cpx) → (if own then x else (if not own && (own || false) then nothing else z)) ≡ (if own then x else z)
 once true x z = refl
 once false x z = refl
 

@@ -111,8 +111,7 @@ pub fn long_frame(recording: &Recording, place: CellPlace, j: u8) -> LongFrame
     ensures pilots { result.pilots
         ≡ seen_line (line_of LongPrefix 0 (long_slot recording.now place.id place.start j))
         (long_slot recording.now place.id place.start j) }
-    ensures energy { result.energy ≡ pattern_energy long_prefix (long_slot recording.now place.id place.start j) }
-    ensures total { result.energy ≡ ports_energy LongPrefix (long_slot recording.now place.id place.start j) }
+    ensures energy { result.energy ≡ ports_energy LongPrefix (long_slot recording.now place.id place.start j) }
     ensures few { result.energy ≤ 24 * 2 ^ 51 }
     ensures values { result.values ≡ long_values (long_slot recording.now place.id place.start j) }
     ensures length { length result.values ≡ 432 }

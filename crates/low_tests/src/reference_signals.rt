@@ -50,4 +50,11 @@ fn ports_of_carriers_have_patterns(rt: HostRuntime) {
     assert!(rt; Pattern::of(Carrier::LongPrefix, 0) == Pattern::LONG_PREFIX);
     assert!(rt; Pattern::of(Carrier::FourPorts, 0) == Pattern::FIRST_PORT);
     assert!(rt; Pattern::of(Carrier::FourPorts, 1) == Pattern::SECOND_PORT);
+    // TS 36.211 section 6.10.1: l is N_symb - 3 = 3, v is 3 in symbol 0, and N_CP is 0.
+    let second_extended = Pattern {
+        later: 3,
+        shift: 3,
+        prefix: 0,
+    };
+    assert!(rt; Pattern::of(Carrier::LongPrefix, 1) == second_extended);
 }

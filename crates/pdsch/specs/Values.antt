@@ -1,25 +1,20 @@
 -- The soft values of the physical downlink shared channel that carries SystemInformationBlockType1, in
 -- subframe 5, of which both slots were seen (TS 36.211 sections 6.3.1 and 6.4).
-use Rattle.std.specs.Prelude.{ℕ, Bool, nat_le, List, ℤ}
+use Rattle.std.specs.Prelude.{ℕ, List, ℤ}
 use Rattle.lte_types.specs.declared.carrier.Carrier.{Carrier}
 use Rattle.lte_types.specs.declared.carrier.Carrier.TheVariants.{OnePort}
-use Rattle.lte_types.specs.Carrier.{ports_of}
 use Rattle.grid_map.specs.Shared.{shared_places_of}
 use Rattle.grid_map.specs.Scrambling.{pdsch_c_init}
 use Rattle.dci.specs.Fields.{system_information_rnti}
 use Rattle.soft_bits.specs.Soft.{SeenSlot}
 use Rattle.soft_bits.specs.Places.{Valuing, in_subframe, placed_values, descrambled}
 
--- the cell sends by a second antenna port
-abbrev pub has_second_port : Carrier → Bool
-has_second_port carrier = nat_le 2 (ports_of carrier)
-
 -- the values of a count of blocks from a first one on, by the bits before scrambling and by a way to make soft
 -- values; the sequence begins with the first place of the subframe and runs on through both slots
 unfoldable pub shared_values_by : Carrier → Valuing → SeenSlot → SeenSlot → ℕ → ℕ → ℕ → List ℤ
 shared_values_by carrier values first second cfi start blocks =
     descrambled (pdsch_c_init first.identity first.number system_information_rnti) 0
-    (values (in_subframe first second) (shared_places_of (has_second_port carrier) first.identity cfi start blocks))
+    (values (in_subframe first second) (shared_places_of carrier first.identity cfi start blocks))
 
 -- the values of a count of blocks from a first one on, with one antenna port
 abbrev pub shared_values : SeenSlot → SeenSlot → ℕ → ℕ → ℕ → List ℤ

@@ -7,19 +7,19 @@ ghost use Rattle.grid_map.specs.Scrambling.{pdsch_c_init as pdsch_seed};
 ghost use Rattle.soft_bits.specs.Places.{in_subframe, descrambled};
 ghost use Rattle.dci.specs.Format1A.{IsGrant};
 ghost use Rattle.dci.specs.Fields.{system_information_rnti};
-ghost use Rattle.pdsch.specs.Values.{has_second_port, shared_values_by};
+ghost use Rattle.pdsch.specs.Values.{shared_values_by};
 
 use dci::{Grant, SI_RNTI};
 use grid_map::{Place, pdsch_c_init, shared_count, shared_place};
-use lte_types::{Assignment, CellId, Cfi};
+use lte_types::{Assignment, Carrier, CellId, Cfi};
 use soft_bits::{ReadSlot, descramble};
 
 /// The most values that a grant has: those of six blocks with indicator 2 and one antenna port.
 pub const MOST_VALUES: usize = 1224;
 
 /// Writes the values of a grant's blocks, by the bits before scrambling, to the front of `out`, and
-/// gives their count, 204 a block with `cfi` 2 and 180 with 3, and with two antenna ports 192 and 168; what
-/// stands behind them is unchanged.
+/// gives their count, two for each place that `grid_map::block_places` tells of a block; what stands behind them is
+/// unchanged.
 ///
 /// There are two values a place, of size at most 127, in the order of the places
 /// (TS 36.211 section 6.4). The scrambling sequence begins once, with the subframe (section 6.3.1).
@@ -37,7 +37,7 @@ pub fn values<S: ReadSlot>(
     requires cell { (S.seen_as second.now).identity ≡ (S.seen_as first.now).identity }
     requires cfi { 2 ≤ cfi }
     requires grant { IsGrant grant.now }
-    ensures count { result ≡ 2 * (block_places_of (has_second_port S.carrier) cfi * grant.now.blocks) }
+    ensures count { result ≡ 2 * (block_places_of S.carrier cfi * grant.now.blocks) }
     ensures values { take result out.new ≡ shared_values_by S.carrier S.values_by
         (S.seen_as first.now) (S.seen_as second.now) cfi grant.now.start grant.now.blocks }
     ensures sizes { AllWithin 127 (take result out.new) }
@@ -57,35 +57,34 @@ fn fill_values<S: ReadSlot>(
     out: &mut [i16; MOST_VALUES],
 ) -> usize
     ensures count { result
-        ≡ 2 * (block_places_of (has_second_port S.carrier) assignment.now.cfi * assignment.now.blocks) }
+        ≡ 2 * (block_places_of S.carrier assignment.now.cfi * assignment.now.blocks) }
     ensures values { take result out.new ≡ shared_values_by S.carrier S.values_by
         (S.seen_as first.now) (S.seen_as second.now) assignment.now.cfi assignment.now.start assignment.now.blocks }
     ensures sizes { AllWithin 127 (take result out.new) }
     ensures rest { drop result out.new ≡ drop result out.old }
 {
     let mut places = [Place { symbol: 0, k: 0 }; MOST_VALUES / 2];
-    let two = S::carrier().ports() >= 2;
-    let count = fill_places(two, first.cell(), assignment, &mut places);
+    let count = fill_places(S::carrier(), first.cell(), assignment, &mut places);
     fill_shared(first, second, &places[..count], &mut out[..2 * count]);
     2 * count
 }
 
 // Writes the places of the assigned blocks to the front of `places`, and gives their count.
 fn fill_places(
-    two: bool,
+    carrier: Carrier,
     id: CellId,
     assignment: &Assignment,
     places: &mut [Place; MOST_VALUES / 2],
 ) -> usize
-    ensures count { result ≡ block_places_of two assignment.now.cfi * assignment.now.blocks }
+    ensures count { result ≡ block_places_of carrier assignment.now.cfi * assignment.now.blocks }
     ensures few { result ≤ 612 }
     ensures even { result % 2 ≡ 0 }
     ensures places { take result places.new
-        ≡ shared_places_of two id assignment.now.cfi assignment.now.start assignment.now.blocks }
+        ≡ shared_places_of carrier id assignment.now.cfi assignment.now.start assignment.now.blocks }
 {
-    let count = shared_count(two, assignment);
+    let count = shared_count(carrier, assignment);
     for i in 0..count {
-        places[i] = shared_place(two, id, assignment, i);
+        places[i] = shared_place(carrier, id, assignment, i);
     }
     count
 }

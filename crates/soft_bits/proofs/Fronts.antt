@@ -1,11 +1,13 @@
 -- The values of places in the first four symbols of a slot are told by its front.
-use Rattle.std.proofs.Common.{◌≡◌, ℕ, ◌+◌, ◌*◌, ◌/◌, ◌%◌, ◌<◌, length, get_or, pos, ap, ap₂, sym, ◌∙◌, arith}
+use Rattle.std.proofs.Common.{◌≡◌, ℕ, Bool, true, false, nat_eq, ◌+◌, ◌*◌, ◌/◌, ◌%◌, ◌<◌, length, get_or, pos, ap, ap₂, sym, ◌∙◌, arith}
+use Rattle.std.specs.Prelude.{if◌then◌else◌}
 use Rattle.std.proofs.lemmas.List.{ext_get_or}
 use Rattle.finite.proofs.Lists.{joined_below_same}
 use Rattle.cs_num.specs.declared.Cpx.{Cpx}
 use Rattle.cs_num.specs.Complex.{times, conjugate}
 use Rattle.lte_types.specs.declared.carrier.Carrier.{Carrier}
-use Rattle.lte_types.specs.declared.carrier.Carrier.TheVariants.{OnePort, TwoPorts, LongPrefix, FourPorts}
+use Rattle.lte_types.specs.declared.carrier.Carrier.TheVariants.{OnePort}
+use Rattle.lte_types.specs.Carrier.{ports_of}
 use Rattle.crs.specs.Reference.{port_0}
 use Rattle.grid_map.specs.declared.Place.{Place}
 use Rattle.grid_map.specs.Place.{place}
@@ -59,7 +61,8 @@ module _ (pairing : Pairing) where
 -- ---- one port or several
 
 pub values_look_at_front : (carrier : Carrier) (pairing : Pairing) → LooksAtFront (values_over carrier pairing)
-values_look_at_front OnePort pairing = placed_look_at_front
-values_look_at_front TwoPorts pairing = paired_look_at_front pairing
-values_look_at_front LongPrefix pairing = paired_look_at_front pairing
-values_look_at_front FourPorts pairing = paired_look_at_front pairing
+values_look_at_front carrier pairing = either (nat_eq (ports_of carrier) 1)
+  where
+    either : (one : Bool) → LooksAtFront (if one then placed_values else paired_by pairing)
+    either true = placed_look_at_front
+    either false = paired_look_at_front pairing

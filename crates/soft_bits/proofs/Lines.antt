@@ -1,6 +1,6 @@
 -- Lines of pilots: those of the ports of a carrier, what they are by patterns, the channel along them, and that they look at the front of a slot.
 use Rattle.std.proofs.Common.{◌≡◌, ℕ, zero, suc, ◌+◌, ◌-◌, ◌*◌, ◌/◌, ◌<◌, ◌≤◌, ◌⊎◌, inl, inr, Bool, true, false, arith, List, ℤ, pos, refl, ap, ap₂, sym, subst, ◌∙◌}
-use Rattle.std.specs.Prelude.{if◌then◌else◌, nat_eq, ◌*ℤ◌}
+use Rattle.std.specs.Prelude.{if◌then◌else◌, ◌*ℤ◌}
 use Rattle.std.proofs.Math.Path.{fun_ext}
 use Rattle.std.proofs.lemmas.Int.{ints}
 use Rattle.finite.specs.Sums.{total_below}
@@ -13,7 +13,7 @@ use Rattle.lte_types.specs.declared.carrier.Carrier.{Carrier}
 use Rattle.lte_types.specs.declared.carrier.Carrier.TheVariants.{OnePort, TwoPorts, LongPrefix, FourPorts}
 use Rattle.lte_types.specs.Carrier.{ports_of}
 use Rattle.crs.specs.declared.pattern.Pattern.{Pattern}
-use Rattle.crs.specs.Reference.{port_0, port_1, long_prefix, pattern_of, upper_first, is_pattern_place}
+use Rattle.crs.specs.Reference.{pattern_of, upper_first, is_pattern_place}
 use Rattle.soft_bits.specs.Estimate.{place_by, line_by}
 use Rattle.soft_bits.specs.Soft.{SeenSlot, seen_at, pilot_subcarrier, pattern_symbol, pattern_seen, pattern_pilot, pattern_channel, pattern_energy}
 use Rattle.soft_bits.specs.Front.{HaveOneFront}
@@ -43,17 +43,11 @@ once z = pair (one-times z.re) (one-times z.im)
     one-times x = omega (arith, ints)
 
 -- of one port, the energy of all ports is that of its pilots
-pub energy_of_one : (slot : SeenSlot) → ports_energy OnePort slot ≡ pattern_energy port_0 slot
+pub energy_of_one : (carrier : Carrier) (slot : SeenSlot) → ports_of carrier ≡ 1 → ports_energy carrier slot ≡ pattern_energy (pattern_of carrier 0) slot
 unfolding ports_energy total_below
-energy_of_one slot = sums (line_energy (lower_line port_0 slot) slot) ∙ sym (lower_energy_is port_0 slot)
-  where
-    sums : (a : ℕ) → 0 + 1 * a ≡ a
-    sums a = omega arith
-
--- and of one with the extended prefix
-pub energy_of_long : (slot : SeenSlot) → ports_energy LongPrefix slot ≡ pattern_energy long_prefix slot
-unfolding ports_energy total_below
-energy_of_long slot = sums (line_energy (lower_line long_prefix slot) slot) ∙ sym (lower_energy_is long_prefix slot)
+energy_of_one carrier slot one =
+    ap (λ (n : ℕ). total_below n (port_energy carrier slot)) one
+    ∙ sums (line_energy (lower_line (pattern_of carrier 0) slot) slot) ∙ sym (lower_energy_is (pattern_of carrier 0) slot)
   where
     sums : (a : ℕ) → 0 + 1 * a ≡ a
     sums a = omega arith
@@ -62,17 +56,10 @@ energy_of_long slot = sums (line_energy (lower_line long_prefix slot) slot) ∙ 
 
 -- the later symbol of a pattern is one of the first five
 later-early : (carrier : Carrier) (port : ℕ) → (pattern_of carrier port).later < 5
-later-early carrier port = of carrier
-  where
-    either : (b : Bool) → (if b then port_0 else port_1).later < 5
-    either true = omega arith
-    either false = omega arith
-
-    of : (carrier : Carrier) → (pattern_of carrier port).later < 5
-    of OnePort = omega arith
-    of TwoPorts = either (nat_eq port 0)
-    of LongPrefix = omega arith
-    of FourPorts = either (nat_eq port 0)
+later-early OnePort port = omega arith
+later-early TwoPorts port = omega arith
+later-early LongPrefix port = omega arith
+later-early FourPorts port = omega arith
 
 pub few_ports : (carrier : Carrier) → ports_of carrier ≤ 4
 few_ports OnePort = omega arith

@@ -2,7 +2,8 @@
 use Rattle.std.proofs.Common.{◌≡◌, ℕ, ◌*◌, ◌^◌, ◌≤◌, ◌/◌, ◌+◌, ◌⊎◌, arith, inl, inr, List, [], ◌∷◌, All, get_or, slice_index_or, ℤ, zero, suc}
 use Rattle.std.proofs.lemmas.List.Elements.{All-nil, All-head, All-tail}
 use Rattle.std.specs.Prelude.{nat_abs}
-use Rattle.cs_num.specs.Complex.{IsWithin, nothing, square}
+use Rattle.cs_num.specs.declared.Cpx.{Cpx}
+use Rattle.cs_num.specs.Complex.{IsWithin, nothing, square, value_at}
 use Rattle.cs_num.proofs.Complex.{square-within}
 use Rattle.finite.proofs.Sums.{total_below-within}
 use Rattle.crs.specs.Qpsk.{IsFull}
@@ -25,9 +26,12 @@ full_within : (z : ℤ) → IsFull z → nat_abs z ≤ 90
 full_within z (inl e) = rw e (omega arith)
 full_within z (inr e) = rw e (omega arith)
 
+pub value_at-within : (values : List Cpx) (k : ℕ) → All (IsWithin (2 ^ 25)) values → IsWithin (2 ^ 25) (value_at values k)
+value_at-within values k small = all_at (IsWithin (2 ^ 25)) values k nothing (record { re = omega arith; im = omega arith }) small
+
 pub seen_at-within : (slot : SeenSlot) (symbol k : ℕ) → AreSmall slot.symbols → IsWithin (2 ^ 25) (seen_at slot symbol k)
 seen_at-within slot symbol k small =
-    all_at (IsWithin (2 ^ 25)) (slice_index_or slot.symbols symbol []) k nothing (record { re = omega arith; im = omega arith })
+    value_at-within (slice_index_or slot.symbols symbol []) k
     (all_at (All (IsWithin (2 ^ 25))) slot.symbols symbol [] (All-nil (IsWithin (2 ^ 25))) small)
 
 pub pattern_reference-within : (pattern : Pattern) (identity number symbol m : ℕ) → IsWithin 90 (pattern_reference pattern identity number symbol m)

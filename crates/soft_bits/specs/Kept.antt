@@ -24,6 +24,10 @@ pub record SeenLine : Type 0 where
 abbrev pub seen_line : Line → SeenSlot → SeenLine
 seen_line line slot = record { step = line.step; first = line.first; pilots = line_pilots line slot }
 
+-- the pilots of each antenna port of a carrier in a slot
+abbrev pub lines_of : Carrier → SeenSlot → List SeenLine
+lines_of carrier slot = values_below (ports_of carrier) (λ port. seen_line (line_of carrier port slot) slot)
+
 -- the channel along a port's pilots at a subcarrier, as many times as there are subcarriers from pilot to pilot
 abbrev pub along : SeenLine → ℕ → Cpx
 along seen k = line_by seen.step (length seen.pilots - 1) (value_at seen.pilots) seen.first k
@@ -39,5 +43,5 @@ pub record IsFilled (seen : SeenLine) : Type 0 where
 pub record IsKept (carrier : Carrier) (slot : SeenSlot) (lines : List SeenLine) (energy : ℕ) : Type 0 where
   pub number : slot.number < 20
   pub small : AreSmall slot.symbols
-  pub each : lines ≡ values_below (ports_of carrier) (λ port. seen_line (line_of carrier port slot) slot)
+  pub each : lines ≡ lines_of carrier slot
   pub total : energy ≡ ports_energy carrier slot

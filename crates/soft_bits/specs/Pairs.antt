@@ -1,11 +1,12 @@
 -- The soft values of pairs of places that antenna ports send by transmit diversity (TS 36.211 section 6.3.4.3, without
 -- its factor; the receiver is own), and those of a carrier's ports, one or several.
-use Rattle.std.specs.Prelude.{ℕ, ◌+◌, ◌*◌, ◌/◌, ◌%◌, List, ◌++◌, ℤ, length, slice_index_or}
+use Rattle.std.specs.Prelude.{ℕ, ◌+◌, ◌*◌, ◌/◌, ◌%◌, nat_eq, if◌then◌else◌, List, ◌++◌, ℤ, length, slice_index_or}
 use Rattle.finite.specs.Lists.{joined_below}
 use Rattle.cs_num.specs.declared.Cpx.{Cpx}
 use Rattle.cs_num.specs.Complex.{plus, minus, times, conjugate}
 use Rattle.lte_types.specs.declared.carrier.Carrier.{Carrier}
 use Rattle.lte_types.specs.declared.carrier.Carrier.TheVariants.{OnePort, TwoPorts, FourPorts}
+use Rattle.lte_types.specs.Carrier.{ports_of}
 use Rattle.grid_map.specs.declared.Place.{Place}
 use Rattle.grid_map.specs.Place.{place}
 use Rattle.soft_bits.specs.Lines.{port_channel, ports_energy}
@@ -76,8 +77,7 @@ paired_by pairing slot places = joined_below (length places / 2) (pair_at pairin
 
 -- the values of places of a carrier: with one port one place after the other, with several one pair after the other
 abbrev pub values_over : Carrier → Pairing → Valuing
-values_over OnePort pairing = placed_values
-values_over carrier pairing = paired_by pairing
+values_over carrier pairing = if nat_eq (ports_of carrier) 1 then placed_values else paired_by pairing
 
 -- the values of places by a pairing, of its carrier
 abbrev pub valued_by : Pairing → Valuing

@@ -23,17 +23,16 @@ use std::marker::Model;
 pub struct Pilots {
     step: u8,
     first: u8,
-    count: u8,
     values: [Cpx; 24],
 }
 
 impl Model for Pilots {
     ghost Value = { SeenLine };
 
-    ghost view = { λ s. record { step = s.step; first = s.first; pilots = take s.count s.values } };
+    ghost view = { λ s. record { step = s.step; first = s.first; pilots = take (72 / s.step) s.values } };
 
     ghost invariant = { λ s.
-        (s.count ≤ 24) × IsFilled (record { step = s.step; first = s.first; pilots = take s.count s.values }) };
+        (3 ≤ s.step) × IsFilled (record { step = s.step; first = s.first; pilots = take (72 / s.step) s.values }) };
 }
 
 // No pilots that were seen: room that is not used.
@@ -44,7 +43,6 @@ impl Default for Pilots {
         Pilots {
             step: 3,
             first: 0,
-            count: 24,
             values: [Cpx::ZERO; 24],
         }
     }
@@ -57,7 +55,7 @@ impl Pilots {
         ensures small { All (IsWithin (180 * 2 ^ 25)) result.now }
         ensures few { length result.now ≤ 24 }
     {
-        &self.values[..self.count as usize]
+        &self.values[..72 / self.step as usize]
     }
 
     /// The subcarriers from one pilot to the next: 3 or 6.
@@ -75,7 +73,6 @@ impl Pilots {
         Pilots {
             step: self.step,
             first: self.first,
-            count: self.count,
             values: self.values,
         }
     }
@@ -111,7 +108,6 @@ pub fn pilots_of(seen: &Seen, port: u8) -> Pilots
     Pilots {
         step: layout.step,
         first: layout.first,
-        count: layout.last + 1,
         values: values_of(seen, &layout),
     }
 }

@@ -2,7 +2,8 @@
 
 ghost use Rattle.std.specs.Prelude.{◌≡◌, ◌*◌, ◌<◌, All, length};
 ghost use Rattle.finite.specs.Sizes.{AllWithin};
-ghost use Rattle.lte_types.specs.declared.carrier.Carrier.TheVariants.{OnePort};
+ghost use Rattle.lte_types.specs.Carrier.{prefix_of, ports_of};
+ghost use Rattle.lte_types.specs.Numerology.{normal};
 ghost use Rattle.soft_bits.specs.Places.{slot_with, in_subframe, values_at, placed_values};
 
 use crate::value::soft_of;
@@ -17,7 +18,8 @@ pub(crate) fn fill_soft<K: Ports>(
     places: &[Place],
     values: &mut [i16],
 )
-    requires one { K.pairing.carrier ≡ OnePort }
+    requires one { ports_of K.pairing.carrier ≡ 1 }
+    requires normal { prefix_of K.pairing.carrier ≡ normal }
     requires inside { All (λ p. (p.symbol < 14) × (p.k < 72)) places.now }
     requires room { length values.old ≡ 2 * length places.now }
     ensures values { values.new ≡ placed_values (in_subframe first.now second.now) places.now }
@@ -39,7 +41,8 @@ pub fn slot_of<'a, S>(first: &'a S, second: &'a S, symbol: u8) -> &'a S
 
 // The soft values of one place.
 fn soft_at<K: Ports>(slot: &PortSlot<K>, place: &Place) -> [i16; 2]
-    requires one { K.pairing.carrier ≡ OnePort }
+    requires one { ports_of K.pairing.carrier ≡ 1 }
+    requires normal { prefix_of K.pairing.carrier ≡ normal }
     requires inside { place.now.k < 72 }
     ensures values { result ≡ values_at slot.now place.now }
     ensures sizes { AllWithin 127 result }

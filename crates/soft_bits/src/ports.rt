@@ -1,7 +1,8 @@
 //! How many antenna ports send, and by which of them each pair of points.
 
 ghost use Rattle.std.specs.Prelude.{◌≡◌, ◌<◌, ◌≤◌};
-ghost use Rattle.lte_types.specs.Carrier.{ports_of};
+ghost use Rattle.lte_types.specs.Carrier.{prefix_of, ports_of};
+ghost use Rattle.lte_types.specs.Numerology.{normal};
 ghost use Rattle.soft_bits.specs.Pairs.{Pairing, alone};
 
 use lte_types::Carrier;
@@ -13,7 +14,8 @@ pub trait Ports {
 
     /// The carrier.
     fn carrier() -> Carrier
-        ensures { result ≡ pairing.carrier };
+        ensures value { result ≡ pairing.carrier }
+        ensures normal { prefix_of pairing.carrier ≡ normal };
 
     /// How many times the channel of each port is taken: 3, and 6 where a port has 12 pilots.
     fn scale() -> u8

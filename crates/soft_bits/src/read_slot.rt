@@ -80,9 +80,10 @@ impl<K: Ports> ReadSlot for PortSlot<K> {
     }
 
     fn fill(&self, second: &PortSlot<K>, places: &[Place], values: &mut [i16]) {
-        match K::carrier() {
-            Carrier::OnePort => fill_soft(self, second, places, values),
-            _ => fill_pairs(self, second, places, values),
+        if K::carrier().ports() == 1 {
+            fill_soft(self, second, places, values);
+        } else {
+            fill_pairs(self, second, places, values);
         }
     }
 

@@ -1,13 +1,12 @@
 //! A slot as it was seen.
 
 ghost use Rattle.std.specs.Prelude.{◌≡◌, ℕ, ◌*◌, ◌^◌, ◌<◌, ◌≤◌, List};
-ghost use Rattle.finite.specs.Lists.{values_below};
 ghost use Rattle.cs_num.specs.declared.Cpx.{Cpx};
 ghost use Rattle.cs_num.specs.Complex.{IsWithin, value_at};
 ghost use Rattle.lte_types.specs.Carrier.{ports_of};
 ghost use Rattle.soft_bits.specs.Soft.{SeenSlot, AreSmall, seen_at};
 ghost use Rattle.soft_bits.specs.Lines.{line_of, port_channel, ports_energy};
-ghost use Rattle.soft_bits.specs.Kept.{slot_of, seen_line, IsKept};
+ghost use Rattle.soft_bits.specs.Kept.{slot_of, seen_line, lines_of as pilots_of_ports, IsKept};
 
 use crate::{Pilots, Ports, Seen, Single, energy_of, pilots_of};
 use arrayvec::ArrayVec;
@@ -59,9 +58,7 @@ fn symbols_of(seen: [[Cpx; 72]; 7]) -> [Symbol; 7]
 
 // The pilots of each antenna port of a slot.
 fn lines_of(seen: &Seen) -> ArrayVec<Pilots, 4>
-    ensures { result.items
-        ≡ values_below (ports_of seen.now.carrier)
-        (λ port. seen_line (line_of seen.now.carrier port (slot_of seen.now)) (slot_of seen.now)) }
+    ensures { result.items ≡ pilots_of_ports seen.now.carrier (slot_of seen.now) }
 {
     let mut lines = ArrayVec::new();
     for port in 0..seen.carrier.ports() {

@@ -3,7 +3,8 @@
 ghost use Rattle.std.specs.Prelude.{◌≡◌, ℕ, ◌*◌, ◌^◌, ◌<◌, ◌≤◌, nat_abs};
 ghost use Rattle.finite.specs.Sizes.{AllWithin};
 ghost use Rattle.cs_num.specs.Complex.{IsWithin, conjugate, times};
-ghost use Rattle.lte_types.specs.declared.carrier.Carrier.TheVariants.{OnePort};
+ghost use Rattle.lte_types.specs.Carrier.{prefix_of, ports_of};
+ghost use Rattle.lte_types.specs.Numerology.{normal};
 ghost use Rattle.soft_bits.specs.Soft.{soft_pair, soft_value, soft_values};
 
 use crate::{PortSlot, Ports, Slot};
@@ -24,7 +25,8 @@ pub fn soft(slot: &Slot, symbol: u8, k: u8) -> [i16; 2]
 
 // The soft values of a place of a slot of a cell with one antenna port.
 pub(crate) fn soft_of<K: Ports>(slot: &PortSlot<K>, symbol: u8, k: u8) -> [i16; 2]
-    requires one { K.pairing.carrier ≡ OnePort }
+    requires one { ports_of K.pairing.carrier ≡ 1 }
+    requires normal { prefix_of K.pairing.carrier ≡ normal }
     requires symbol { symbol < 7 }
     requires k { k < 72 }
     ensures values { result ≡ soft_values slot.now symbol k }

@@ -1,5 +1,6 @@
 -- The two or four ports of a cell by their numbers: what is received of all of them, and what each of them sends.
-use Rattle.std.proofs.Common.{◌≡◌, ℕ, zero, suc, ◌+◌, ◌-◌, ◌*◌, ◌^◌, ◌/◌, ◌%◌, ◌<◌, ◌≤◌, Bool, true, false, List, Some, arith, refl, ap, sym, subst, ◌∙◌}
+use Rattle.std.proofs.Common.{◌≡◌, ℕ, zero, suc, ◌+◌, ◌-◌, ◌*◌, ◌^◌, ◌/◌, ◌%◌, ◌<◌, ◌≤◌, Bool, true, false, not, ◌&&◌, ◌||◌, nat_eq, List, Some, None, arith, refl, ap, sym, subst, ◌∙◌}
+use Rattle.std.specs.Prelude.{if◌then◌else◌}
 use Rattle.std.proofs.lemmas.Bool.Decides.{nat_tests}
 use Rattle.finite.specs.Sums.{sum_below}
 use Rattle.cs_num.specs.declared.Cpx.{Cpx}
@@ -12,7 +13,7 @@ use Rattle.lte_types.specs.declared.carrier.Carrier.{Carrier}
 use Rattle.lte_types.specs.declared.carrier.Carrier.TheVariants.{TwoPorts, FourPorts}
 use Rattle.lte_types.specs.Carrier.{ports_of, prefix_of}
 use Rattle.lte_types.specs.Numerology.{normal}
-use Rattle.crs.specs.Reference.{reference_at}
+use Rattle.crs.specs.Reference.{port_0, port_1, is_pattern_place, pattern_reference, reference_at}
 use Rattle.soft_bits.specs.Lines.{Line, line_of, line_place}
 use Rattle.soft_bits.specs.Pairs.{Pairing, over_two, over_four}
 use Rattle.soft_bits.specs.Soft.{SeenSlot}
@@ -24,6 +25,7 @@ use Rattle.cell_tx.specs.Emission.{mixed}
 use Rattle.cell_tx.specs.Points.{point_of}
 use Rattle.cell_tx.specs.Ports.{IsPortOf, first_port, second_port, port_of_four, port_symbols, crossed_point, sent_point}
 use Rattle.cell_tx.specs.Rows.{port_reference_if}
+use Rattle.cell_tx.proofs.Elements.{is_zeroth, is_second, normal_reference}
 use Rattle.clean_air.specs.Faithful.{ArePartGains, IsLittle}
 use Rattle.two_ports.specs.Received.{only, over, CarryPair}
 use Rattle.two_ports.proofs.Energies.{squares, four_squares}
@@ -137,16 +139,51 @@ pair_carried four points i grids a b first second = record {
 -- ---- the reference signals
 
 -- what a port sends where port p alone has a reference signal
+own_or_other : (own any : Bool) (value here : Cpx) (p q : ℕ) → own ≡ nat_eq q p → any ≡ true → value ≡ here → (if own then Some value else (if not own && any then Some nothing else None)) ≡ Some (only p here q)
+own_or_other own any value here p q e f g = rw (e, f, g) (by (nat_eq q p) refl)
+  where
+    by : (b : Bool) → nat_eq q p ≡ b → (if b then Some here else (if not b && true then Some nothing else None)) ≡ Some (only p here q)
+    by true at = rw at refl
+    by false at = rw at refl
+
+either_of_two : (a b : Bool) (p : ℕ) → p < 2 → a ≡ nat_eq 0 p → b ≡ nat_eq 1 p → (a || (b || false)) ≡ true
+either_of_two a b p few e f = rw (e, f) (by p few)
+  where
+    by : (p : ℕ) → p < 2 → (nat_eq 0 p || (nat_eq 1 p || false)) ≡ true
+    by p few = grind (arith, nat_tests)
+
+one_of_four : (a b c d : Bool) (p : ℕ) → p < 4 → a ≡ nat_eq 0 p → b ≡ nat_eq 1 p → c ≡ nat_eq 2 p → d ≡ nat_eq 3 p → (a || (b || (c || (d || false)))) ≡ true
+one_of_four a b c d p few e f g h = rw (e, f, g, h) (by p few)
+  where
+    by : (p : ℕ) → p < 4 → (nat_eq 0 p || (nat_eq 1 p || (nat_eq 2 p || (nat_eq 3 p || false)))) ≡ true
+    by p few = grind (arith, nat_tests)
+
+module _ (p identity slot l k : ℕ) (here : Cpx) (at : IsAlone p identity slot l k) (value : reference_at identity slot l k ≡ here) where
+  value_is : pattern_reference port_0 identity slot l (k / 6) ≡ here
+  value_is = normal_reference identity slot l k ∙ value
+
+  zeroth : is_pattern_place port_0 identity l k ≡ nat_eq 0 p
+  zeroth = is_zeroth identity l k ∙ at.zero
+
+  first : is_pattern_place port_1 identity l k ≡ nat_eq 1 p
+  first = is_second identity l k ∙ at.one
+
+  told_of_two : (q : ℕ) → p < 2 → q < 2 → port_reference_if (sender false q) identity slot l k ≡ Some (only p here q)
+  told_of_two zero few inside = own_or_other _ _ _ here p 0 zeroth (either_of_two _ _ p few zeroth first) value_is
+  told_of_two (suc zero) few inside = own_or_other _ _ _ here p 1 first (either_of_two _ _ p few zeroth first) value_is
+  told_of_two (suc (suc q)) few inside = absurd (omega (arith, inside))
+
+  told_of_four : (q : ℕ) → p < 4 → q < 4 → port_reference_if (sender true q) identity slot l k ≡ Some (only p here q)
+  told_of_four zero few inside = own_or_other _ _ _ here p 0 zeroth (one_of_four _ _ _ _ p few zeroth first at.two at.three) value_is
+  told_of_four (suc zero) few inside = own_or_other _ _ _ here p 1 first (one_of_four _ _ _ _ p few zeroth first at.two at.three) value_is
+  told_of_four (suc (suc zero)) few inside = own_or_other _ _ _ here p 2 at.two (one_of_four _ _ _ _ p few zeroth first at.two at.three) value_is
+  told_of_four (suc (suc (suc zero))) few inside = own_or_other _ _ _ here p 3 at.three (one_of_four _ _ _ _ p few zeroth first at.two at.three) value_is
+  told_of_four (suc (suc (suc (suc q)))) few inside = absurd (omega (arith, inside))
+
 told : (four : Bool) (q p identity slot l k : ℕ) (here : Cpx) → p < ports_of (carrier four) → q < ports_of (carrier four) → IsAlone p identity slot l k → reference_at identity slot l k ≡ here →
     port_reference_if (sender four q) identity slot l k ≡ Some (only p here q)
-told false zero p identity slot l k here few inside at value = rw (at.zero, at.one, value) (grind (arith, nat_tests))
-told false (suc zero) p identity slot l k here few inside at value = rw (at.zero, at.one, value) (grind (arith, nat_tests))
-told false (suc (suc q)) p identity slot l k here few inside at value = absurd (omega (arith, inside))
-told true zero p identity slot l k here few inside at value = rw (at.zero, at.one, at.two, at.three, value) (grind (arith, nat_tests))
-told true (suc zero) p identity slot l k here few inside at value = rw (at.zero, at.one, at.two, at.three, value) (grind (arith, nat_tests))
-told true (suc (suc zero)) p identity slot l k here few inside at value = rw (at.zero, at.one, at.two, at.three, value) (grind (arith, nat_tests))
-told true (suc (suc (suc zero))) p identity slot l k here few inside at value = rw (at.zero, at.one, at.two, at.three, value) (grind (arith, nat_tests))
-told true (suc (suc (suc (suc q)))) p identity slot l k here few inside at value = absurd (omega (arith, inside))
+told false q p identity slot l k here few inside at value = told_of_two p identity slot l k here at value q few inside
+told true q p identity slot l k here few inside at value = told_of_four p identity slot l k here at value q few inside
 
 -- the lines of two ports are those of the first two of four
 same_line : (p : ℕ) (slot : SeenSlot) → line_of FourPorts p slot ≡ line_of TwoPorts p slot

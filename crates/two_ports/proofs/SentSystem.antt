@@ -1,7 +1,7 @@
 -- The system information of a recording that is faithful to both ports: the first frame of even number answers with the plan's.
 use Rattle.std.proofs.Common.{◌≡◌, ℕ, zero, suc, ◌+◌, ◌*◌, ◌/◌, ◌%◌, ◌<◌, ◌≤◌, inl, inr, Bool, true, false, List, length, get_or, pos, Ok, nat_eq, nat_lt, ℤ, refl, ap, ap₂, sym, subst, ◌∙◌, arith}
 use Rattle.std.specs.Prelude.{if◌then◌else◌}
-use Rattle.std.proofs.lemmas.Bool.{cases_lt, lt-ltb, le-ltb}
+use Rattle.std.proofs.lemmas.Bool.{cases_lt, lt-ltb, le-ltb, leb-true}
 use Rattle.cs_num.specs.declared.Cpx.{Cpx}
 use Rattle.cs_num.specs.declared.Sample.{Sample}
 use Rattle.cs_num.specs.Complex.{value_at}
@@ -29,10 +29,11 @@ use Rattle.system_block.specs.Subframe.{subframe_by}
 use Rattle.system_block.specs.Block.{BlockSays}
 use Rattle.system_block.specs.Attempt.{Reads}
 use Rattle.cell_tx.specs.declared.antenna.Port.{Port}
+use Rattle.lte_types.specs.Carrier.{ports_of}
 use Rattle.cell_tx.specs.Ports.{first_port, second_port}
 use Rattle.cell_plan.specs.declared.cell.CellPlan.{CellPlan}
 use Rattle.cell_tx.specs.Ports.{has_control, sent_point}
-use Rattle.cell_plan.specs.Transport.{shared_word}
+use Rattle.cell_plan.specs.Transport.{coded_count, assigned_bits_of, shared_word}
 use Rattle.cell_tx.specs.Block.{coded_bit}
 use Rattle.cell_tx.specs.Points.{point_of, scrambled}
 use Rattle.cell_tx.specs.Control.{version_of, grant_of, control_places, control_word, indicator_point, control_point}
@@ -150,6 +151,10 @@ module _ (recording : List Sample) (plan : CellPlan) (grids : Port → Elements)
   controls zero = refl
   controls (suc n) = refl
 
+  own : (p : ℕ) → (port p).number < ports_of (port p).carrier
+  own zero = omega arith
+  own (suc n) = omega arith
+
   -- its places are in the first slot
   region_heard : (c_init count last : ℕ) (bits : ℕ → Bool) (places : List Place) → length places ≡ count → count % 2 ≡ 0 → last ≤ 3 →
       ((i : ℕ) → i < count → IsInRegion plan.identity last (get_or places i (place 0 0))) →
@@ -172,7 +177,7 @@ module _ (recording : List Sample) (plan : CellPlan) (grids : Port → Elements)
     where
       all : AreHeard 1 (2 * 16) (indicator_bit plan.cfi) (indicator_values_by (paired_by over_two) (slot 10))
       all = region_heard (pcfich_c_init plan.identity 10) 16 0 (indicator_bit plan.cfi) (pcfich_places plan.identity) (length-pcfich_places plan.identity) refl (omega arith)
-          (indicator_stands first_port plan sendable) (λ p i l. indicator_carried (port p) plan (grids (port p)) (carries p) sendable (controls p) number is_even i l)
+          (indicator_stands first_port plan sendable) (λ p i l. indicator_carried (port p) plan (grids (port p)) (carries p) sendable (controls p) (own p) number is_even i l)
 
   control_heard : SpeakInOrder (grant_word (grant_of plan number)) (candidate_values_by (paired_by over_two) (slot 10) plan.cfi plan.duration plan.resource)
   unfolding seen_slot stream_values_by control_point control_word
@@ -183,7 +188,7 @@ module _ (recording : List Sample) (plan : CellPlan) (grids : Port → Elements)
     where
       all : AreHeard 1 (2 * 144) (coded_bit (grant_word (grant_of plan number))) (candidate_values_by (paired_by over_two) (slot 10) plan.cfi plan.duration plan.resource)
       all = region_heard (pdcch_c_init plan.identity 10) 144 3 (coded_bit (grant_word (grant_of plan number))) (control_places plan) (control_indexed first_port plan sendable).size refl (omega arith)
-          (control_stands first_port plan sendable) (λ p i l. control_carried (port p) plan (grids (port p)) (carries p) sendable (controls p) number is_even i l)
+          (control_stands first_port plan sendable) (λ p i l. control_carried (port p) plan (grids (port p)) (carries p) sendable (controls p) (own p) number is_even i l)
 
   -- ---- the shared channel
 
@@ -191,7 +196,7 @@ module _ (recording : List Sample) (plan : CellPlan) (grids : Port → Elements)
   values = shared_values_by TwoPorts (paired_by over_two) (slot 10) (slot 11) plan.cfi plan.start plan.blocks
 
   abbrev places : List Place
-  places = assigned_places true plan
+  places = assigned_places TwoPorts plan
 
   paired : length places % 2 ≡ 0
   paired = by (nat_eq plan.cfi 2) (assigned_size first_port plan sendable)
@@ -205,17 +210,17 @@ module _ (recording : List Sample) (plan : CellPlan) (grids : Port → Elements)
   shared_heard =
       places_heard (pdsch_c_init plan.identity 10 system_information_rnti) (shared_bit plan number) places paired
       (λ i l. let at = assigned_stands first_port plan sendable i l in (at.symbol, at.k))
-      (λ i l. ap (λ (n : ℕ). n / 7) (pair_in_one_symbol plan.identity plan.cfi plan.start plan.blocks (2 * i) sendable.cfi.0 sendable.cfi.1 sendable.assignment.inside (omega arith) (omega (arith, l, paired)))) by
+      (λ i l. ap (λ (n : ℕ). n / 7) (pair_in_one_symbol TwoPorts plan.identity plan.cfi plan.start plan.blocks (2 * i) sendable.cfi.0 sendable.cfi.1 sendable.assignment.inside (omega arith) (omega (arith, l, paired)))) by
     where
       by : (p i : ℕ) → i < length places → let q = get_or places i (place 0 0) in grids (port p) number 5 q.symbol q.k ≡ sent_point (port p) (shared_point plan number) i
-      by zero i l = shared_carried first_port plan (grids first_port) (carries 0) sendable refl number is_even i l
-      by (suc n) i l = shared_carried second_port plan (grids second_port) (carries 1) sendable refl number is_even i l
+      by zero i l = shared_carried first_port plan (grids first_port) (carries 0) sendable refl (omega arith) number is_even i l
+      by (suc n) i l = shared_carried second_port plan (grids second_port) (carries 1) sendable refl (omega arith) number is_even i l
 
   says_fields : BlockSays values (grant_of plan number) (Ok plan.sib1)
   says_fields =
       fields_said plan sendable number (2 * length places) values shared_heard
       (λ row same of. whole_block_is_resolvable row (version_of number) (2 * length places) (shared_word plan) of.is (version-fits number)
-      (let count = assigned_bits_are first_port plan sendable in let enough = sendable.enough in let size = of.size in omega (arith, count, enough, size)))
+      (let count = assigned_bits_are first_port plan sendable in let enough = leb-true (coded_count plan) (assigned_bits_of TwoPorts plan) sendable.enough in let size = of.size in omega (arith, count, enough, size)))
 
   -- so the frame answers with the plan's fields
   pub fields_read : Reads (subframe_by TwoPorts (paired_by over_two) (slot 10) (slot 11) plan.duration plan.resource) (Ok plan.sib1)

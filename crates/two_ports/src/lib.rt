@@ -1,6 +1,6 @@
 //! Cells with two antenna ports, which send by transmit diversity (TS 36.211 section 6.3.4.3): that the soft values of
-//! pairs of places speak for what was sent, for any pairing of ports, the list of the cells of a recording, and that a
-//! faithful recording's list holds its cell.
+//! pairs of places speak for what was sent, the list of the cells of a recording, and that a faithful recording's list
+//! holds its cell.
 #![tactic(auto)]
 
 mod clean;

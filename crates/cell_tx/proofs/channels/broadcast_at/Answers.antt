@@ -1,7 +1,8 @@
 use Rattle.std.proofs.Common.{arith, sym, ◌∙◌, ap, ℕ}
 use Rattle.grid_map.specs.Place.{place}
 use Rattle.cell_tx.specs.Block.{port_point}
-use Rattle.cell_tx.specs.Rows.{value_in, broadcast_places}
+use Rattle.cell_tx.specs.Grid.{broadcast_places}
+use Rattle.cell_tx.specs.Rows.{value_in}
 use Rattle.cell_tx.proofs.Bounds.{broadcast_full}
 use Rattle.cell_tx.proofs.ChannelValues.{broadcast_is, broadcast_count, all_small}
 use Rattle.cell_tx.proofs.channels.broadcast_at.Goals as goal

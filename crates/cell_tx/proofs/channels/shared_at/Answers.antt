@@ -1,6 +1,5 @@
 use Rattle.std.proofs.Common.{arith, ◌∙◌, sym}
 use Rattle.cell_tx.specs.Shared.{assigned_places, shared_point}
-use Rattle.cell_tx.specs.Ports.{is_two}
 use Rattle.cell_tx.proofs.Bounds.{shared_full}
 use Rattle.cell_tx.proofs.ChannelValues.{shared_is, all_small}
 use Rattle.cell_tx.proofs.channels.shared_at.Goals as goal
@@ -10,7 +9,7 @@ returns c =
     let signals = c.args.signals.now in
     let count = signals.layout_is.shared.count in
     let few = signals.layout_is.shared_count in
-    c.value_at.ensures (assigned_places (is_two signals.port) signals.cell.now) signals.layout_is.shared
+    c.value_at.ensures (assigned_places (signals.port.carrier) signals.cell.now) signals.layout_is.shared
     ∙ shared_is signals.port signals.cell.now signals.sfn c.args.subframe c.args.here.symbol c.args.here.k signals.carried.now.shared (signals.carried_is c.requires.control).shared (omega (arith, count, few))
     (sym c.has_system_information.ensures ∙ c.if-not-has_system_information.false)
 

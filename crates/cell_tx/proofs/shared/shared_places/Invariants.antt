@@ -6,5 +6,5 @@ use Rattle.cell_tx.proofs.shared.shared_places.Given as goal
 abbrev pub invariant-loop-i : goal.invariant-loop-i
 invariant-loop-i l = record {
   whole : length l.places ≡ 612;
-  each : (k : ℕ) → k < l.i → get_or l.places k (place 0 0) ≡ shared_place_of l.two l.fn.cell.identity l.fn.cell.cfi l.fn.cell.start l.fn.cell.blocks k;
+  each : (k : ℕ) → k < l.i → get_or l.places k (place 0 0) ≡ shared_place_of l.carrier l.fn.cell.identity l.fn.cell.cfi l.fn.cell.start l.fn.cell.blocks k;
 }

@@ -16,7 +16,7 @@ loop-port-init g c =
 pub add-requires-clause-room : goal.add-requires-clause-room
 add-requires-clause-room g c =
     has_room g.K.Ports.pairing.carrier c.slot_of-slot.result _ c.loop-port.port c.loop-port.shown c.loop-port.invariant
-    (subst (λ n. c.loop-port.port < n) (c.ports-port-end.ensures ∙ ap ports_of c.carrier.ensures) c.loop-port-test.true)
+    (subst (λ n. c.loop-port.port < n) (c.ports-port-end.ensures ∙ ap ports_of c.carrier.ensures.value) c.loop-port-test.true)
 
 pub add-requires-clause-some : goal.add-requires-clause-some
 add-requires-clause-some g c = (port_is_close g.K.Ports.pairing.carrier c.slot_of-slot.result c.loop-port.port c.pilots.result.now c.pilots.ensures).some
@@ -30,5 +30,5 @@ returns g c =
     let carrier = g.K.Ports.pairing.carrier in
     let last : c.loop-port.port ≡ c.ports-port-end.result = omega arith in
     let slot : c.slot_of-slot.result ≡ broadcast_slot c.args.recording.now c.args.place.id c.args.place.start c.args.j = c.slot_of-slot.ensures in
-    c.loop-port.invariant ∙ ap (first_ports carrier c.slot_of-slot.result _) (last ∙ c.ports-port-end.ensures ∙ ap ports_of c.carrier.ensures)
+    c.loop-port.invariant ∙ ap (first_ports carrier c.slot_of-slot.result _) (last ∙ c.ports-port-end.ensures ∙ ap ports_of c.carrier.ensures.value)
     ∙ ap (λ (s : SeenSlot). shown_by carrier s (received_values_by (valued_by g.K.Ports.pairing) s)) slot

@@ -13,5 +13,5 @@ returns c =
     let slot = long_slot c.args.recording.now c.args.place.id c.args.place.start c.args.j in
     let frame = c.long_frame-frame.ensures in
     c.add.ensures ∙ one_more LongPrefix slot (long_values slot) 0 _ _
-    (c.new-shown.ensures ∙ ap₂ (λ (e : ℕ) (values : List ℤ). record { power = e; differences = 0; channel = []; values = values }) frame.total frame.values
+    (c.new-shown.ensures ∙ ap₂ (λ (e : ℕ) (values : List ℤ). record { power = e; differences = 0; channel = []; values = values }) frame.energy frame.values
     ∙ none_yet LongPrefix slot (long_values slot)) frame.pilots

@@ -1,4 +1,4 @@
-use Rattle.std.proofs.Common.{◌≡◌, ℕ, List, ap, ◌∙◌}
+use Rattle.std.proofs.Common.{◌≡◌, ℕ, List, refl, ap, ◌∙◌}
 use Rattle.finite.specs.Lists.{values_below}
 use Rattle.cs_num.specs.declared.Cpx.{Cpx}
 use Rattle.cs_num.specs.declared.Sample.{Sample}
@@ -8,7 +8,7 @@ use Rattle.observe.specs.Seen.{seen_symbol}
 use Rattle.soft_bits.specs.Kept.{seen_line}
 use Rattle.soft_bits.specs.Lines.{line_of, ports_energy}
 use Rattle.soft_bits.specs.Soft.{SeenSlot}
-use Rattle.soft_bits.proofs.Lines.{energy_of_long}
+use Rattle.soft_bits.proofs.Lines.{energy_of_one}
 use Rattle.explain.specs.Frame.{frame_at}
 use Rattle.long_prefix.specs.Entries.{long_slot, ArePilots, long_values}
 use Rattle.long_prefix.proofs.reading.long_frame.Goals as goal
@@ -27,19 +27,16 @@ returns-clause-pilots c =
     c.pilots_of-pilots.ensures
     ∙ ap (λ (s : SeenSlot). seen_line (line_of LongPrefix 0 s) s) (slot_is _ _ _ _ _ _ _ c.symbols_of-symbols.ensures.values c.id.ensures c.start.ensures.value)
 
-pub returns-clause-total : goal.returns-clause-total
-returns-clause-total c =
-    c.energy_of-energy.ensures.value ∙ ap (ports_energy LongPrefix) (slot_is _ _ _ _ _ _ _ c.symbols_of-symbols.ensures.values c.id.ensures c.start.ensures.value)
-
 pub returns-clause-energy : goal.returns-clause-energy
-returns-clause-energy c = returns-clause-total c ∙ energy_of_long _
+returns-clause-energy c =
+    c.energy_of-energy.ensures.value ∙ ap (ports_energy LongPrefix) (slot_is _ _ _ _ _ _ _ c.symbols_of-symbols.ensures.values c.id.ensures c.start.ensures.value)
 
 pub values_of-requires-clause-pilots : goal.values_of-requires-clause-pilots
 unfolding ArePilots
 values_of-requires-clause-pilots c = c.pilots_of-pilots.ensures
 
 pub values_of-requires-clause-energy : goal.values_of-requires-clause-energy
-values_of-requires-clause-energy c = c.energy_of-energy.ensures.value ∙ energy_of_long _
+values_of-requires-clause-energy c = c.energy_of-energy.ensures.value ∙ energy_of_one LongPrefix _ refl
 
 pub returns-clause-values : goal.returns-clause-values
 returns-clause-values c =

@@ -12,7 +12,7 @@ loop-i-preserved c =
     let test = c.loop-i-test.true in
     record {
       size = length-set c.loop-i.places c.loop-i.i _ ∙ whole;
-      each = set_more (place 0 0) c.loop-i.i (shared_place_of c.args.two c.args.id a.cfi a.start a.blocks) c.loop-i.places c.shared_place.result (omega (arith, whole, most, test)) c.shared_place.ensures.place c.loop-i.invariant.each;
+      each = set_more (place 0 0) c.loop-i.i (shared_place_of c.args.carrier c.args.id a.cfi a.start a.blocks) c.loop-i.places c.shared_place.result (omega (arith, whole, most, test)) c.shared_place.ensures.place c.loop-i.invariant.each;
     }
 
 pub returns-clause-places : goal.returns-clause-places
@@ -24,5 +24,5 @@ returns-clause-places c =
     let end = c.loop-i-test.false in
     let n : ℕ = c.shared_count-count.result in
     let count = c.shared_count-count.ensures.whole c.args.id in
-    front_is (place 0 0) n (shared_place_of c.args.two c.args.id a.cfi a.start a.blocks) c.loop-i.places (omega (arith, whole, most)) (λ k below. c.loop-i.invariant.each k (omega (arith, below, end)))
-    ∙ sym (values_below_is (place 0 0) n (shared_place_of c.args.two c.args.id a.cfi a.start a.blocks) (shared_places_of c.args.two c.args.id a.cfi a.start a.blocks) count (λ k below. refl))
+    front_is (place 0 0) n (shared_place_of c.args.carrier c.args.id a.cfi a.start a.blocks) c.loop-i.places (omega (arith, whole, most)) (λ k below. c.loop-i.invariant.each k (omega (arith, below, end)))
+    ∙ sym (values_below_is (place 0 0) n (shared_place_of c.args.carrier c.args.id a.cfi a.start a.blocks) (shared_places_of c.args.carrier c.args.id a.cfi a.start a.blocks) count (λ k below. refl))

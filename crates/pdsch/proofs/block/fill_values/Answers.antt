@@ -1,7 +1,7 @@
-use Rattle.std.proofs.Common.{◌≡◌, ◌∙◌, ◌*◌, ◌<◌, ℕ, Bool, List, take, length, ap, ap₂, sym, subst, arith}
-use Rattle.std.specs.Prelude.{All, nat_le}
+use Rattle.std.proofs.Common.{◌≡◌, ◌∙◌, ◌*◌, ◌<◌, ℕ, List, take, length, ap, ap₂, sym, subst, arith}
+use Rattle.std.specs.Prelude.{All}
 use Rattle.std.proofs.lemmas.List.{take_at, length-take-le}
-use Rattle.lte_types.specs.Carrier.{ports_of}
+use Rattle.lte_types.specs.declared.carrier.Carrier.{Carrier}
 use Rattle.grid_map.specs.declared.Place.{Place}
 use Rattle.grid_map.specs.Shared.{shared_places_of}
 use Rattle.grid_map.specs.Scrambling.{pdsch_c_init}
@@ -9,7 +9,7 @@ use Rattle.grid_map.proofs.Apart.{shared_symbols}
 use Rattle.dci.specs.Fields.{system_information_rnti}
 use Rattle.soft_bits.specs.Soft.{SeenSlot}
 use Rattle.soft_bits.specs.Places.{in_subframe, descrambled}
-use Rattle.pdsch.specs.Values.{has_second_port, shared_values_by}
+use Rattle.pdsch.specs.Values.{shared_values_by}
 use Rattle.pdsch.proofs.block.fill_values.Goals as goal
 
 pub fill_shared-requires-clause-inside : goal.fill_shared-requires-clause-inside
@@ -28,7 +28,6 @@ returns-clause-values g c =
     let whole = c.fill_places-count.array_long in
     let size : length (take count c.fill_places-count.new.places) ≡ count = length-take-le count c.fill_places-count.new.places (omega (arith, few, whole)) in
     let long : length c.fill_shared.new.values ≡ 2 * count = let written = c.fill_shared.ensures.size in omega (arith, written, size) in
-    let two : nat_le 2 c.ports-two.result ≡ has_second_port g.S.ReadSlot.carrier = ap (nat_le 2) (c.ports-two.ensures ∙ ap ports_of c.carrier.ensures) in
-    let places = c.fill_places-count.ensures.places ∙ ap₂ (λ (two : Bool) (identity : ℕ). shared_places_of two identity a.cfi a.start a.blocks) two c.cell.ensures in
+    let places = c.fill_places-count.ensures.places ∙ ap₂ (λ (carrier : Carrier) (identity : ℕ). shared_places_of carrier identity a.cfi a.start a.blocks) c.carrier.ensures c.cell.ensures in
     take_at c.fill_shared.new.values _ (2 * count) long ∙ c.fill_shared.ensures.values
     ∙ ap (λ (ps : List Place). descrambled (pdsch_c_init first.identity first.number system_information_rnti) 0 (g.S.ReadSlot.values_by slot ps)) places

@@ -25,11 +25,8 @@ add-requires-clause-small c =
     room_alone c.args.self.now.source c.args.sfn (is_made_anew (port_prefix port) c.args.symbols.now) port c.args.frame.now
     (subst (AreSilentBy c.args.symbols.now c.args.frame.now) c.in-Alone.is c.requires.silent)
 
-pub add_both-requires-clause-silent : goal.add_both-requires-clause-silent
-add_both-requires-clause-silent c = subst (AreSilentBy c.args.symbols.now c.args.frame.now) c.in-Both.is c.requires.silent
-
-pub add_four-requires-clause-silent : goal.add_four-requires-clause-silent
-add_four-requires-clause-silent c = subst (AreSilentBy c.args.symbols.now c.args.frame.now) c.in-AllFour.is c.requires.silent
+pub add_ports-requires-clause-silent : goal.add_ports-requires-clause-silent
+add_ports-requires-clause-silent c = subst (AreSilentBy c.args.symbols.now c.args.frame.now) c.in-All.is c.requires.silent
 
 pub returns-in-Alone : goal.returns-in-Alone
 returns-in-Alone c =
@@ -43,10 +40,6 @@ returns-in-Alone c =
 abbrev AreMadeAs : Source → ℕ → Symbols → List Sample → List Sample → Ports → Type 0
 AreMadeAs s n symbols old new ports = AreChanged (is_made_anew (prefix_of (carrier_by ports)) symbols) (λ i before. sample_of (mixed_by s.ports (λ port. heard s n port i) s.gains)) old new
 
-pub returns-in-Both : goal.returns-in-Both
-returns-in-Both c =
-    subst (AreMadeAs c.args.self.now.source c.args.sfn c.args.symbols.now c.args.frame.now c.add_both.new.frame) (sym c.in-Both.is) c.add_both.ensures
-
-pub returns-in-AllFour : goal.returns-in-AllFour
-returns-in-AllFour c =
-    subst (AreMadeAs c.args.self.now.source c.args.sfn c.args.symbols.now c.args.frame.now c.add_four.new.frame) (sym c.in-AllFour.is) c.add_four.ensures
+pub returns-in-All : goal.returns-in-All
+returns-in-All c =
+    subst (AreMadeAs c.args.self.now.source c.args.sfn c.args.symbols.now c.args.frame.now c.add_ports.new.frame) (sym c.in-All.is) c.add_ports.ensures

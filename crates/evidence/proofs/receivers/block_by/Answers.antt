@@ -2,7 +2,7 @@ use Rattle.lte_types.specs.declared.carrier.Carrier.TheVariants.{OnePort, TwoPor
 use Rattle.explain.specs.Entries.{place_of}
 use Rattle.evidence.specs.Receivers.{receiver_of}
 use Rattle.evidence.proofs.FirstBlocks.{moved}
-use Rattle.evidence.proofs.blocks.block_by.Goals as goal
+use Rattle.evidence.proofs.receivers.block_by.Goals as goal
 
 pub returns-in-OnePort : goal.returns-in-OnePort
 returns-in-OnePort c =

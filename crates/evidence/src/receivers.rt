@@ -1,0 +1,59 @@
+//! Where the way to read the cells of a carrier is chosen.
+
+ghost use Rattle.std.specs.Prelude.{◌≡◌, ◌<◌, []};
+ghost use Rattle.std.specs.Option.{option_map, unwrap_or};
+ghost use Rattle.explain.specs.Entries.{place_of};
+ghost use Rattle.explain.specs.Frame.{IsWhole};
+ghost use Rattle.evidence.specs.Receivers.{receiver_of};
+ghost use Rattle.evidence.specs.Blocks.{IsBlockWith};
+ghost use Rattle.evidence.specs.Evidence.{shown_in as shown_in_of};
+
+use crate::SlotShown;
+use crate::blocks::first_block;
+use crate::listing::place_in;
+use crate::slot::{shown_of, shown_of_long};
+use four_ports::FourPorts;
+use lte_types::{Carrier, CellPlace, Entry};
+use sample_file::Recording;
+use soft_bits::{Single, Slot};
+use system_block::Decoders;
+use turbo_dec::Block;
+use two_ports::{PairSlot, TwoPorts};
+
+// What the slot with the broadcast channel in frame `j` of a cell shows. The frame lies within the recording.
+pub(crate) fn shown_in(
+    recording: &Recording,
+    carrier: Carrier,
+    place: CellPlace,
+    j: u8,
+) -> SlotShown
+    requires { IsWhole recording.now place.start j }
+    ensures { result ≡ shown_in_of carrier recording.now place j }
+{
+    match carrier {
+        Carrier::OnePort => shown_of::<Single>(recording, place, j),
+        Carrier::TwoPorts => shown_of::<TwoPorts>(recording, place, j),
+        Carrier::LongPrefix => shown_of_long(recording, place, j),
+        Carrier::FourPorts => shown_of::<FourPorts>(recording, place, j),
+    }
+}
+
+// The block by a carrier's way to read system information, or none where it is not read.
+pub(crate) fn block_by(
+    recording: &Recording,
+    carrier: Carrier,
+    entry: &Entry,
+    work: &mut Decoders,
+) -> Option<Block>
+    requires { entry.now.start < 19200 }
+    ensures { IsBlockWith (receiver_of carrier).subframe recording.now (place_of entry.now) entry.now.sfn entry.now.mib
+        (unwrap_or (option_map (λ block. block.items) result) []) }
+{
+    let place = place_in(entry);
+    match carrier {
+        Carrier::OnePort => first_block::<Slot>(recording, place, entry.sfn, entry.mib, work),
+        Carrier::TwoPorts => first_block::<PairSlot>(recording, place, entry.sfn, entry.mib, work),
+        Carrier::LongPrefix => None,
+        Carrier::FourPorts => None,
+    }
+}
