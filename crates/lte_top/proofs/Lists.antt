@@ -1,13 +1,17 @@
 -- A recording has one list by each rule, and one text of it.
-use Rattle.std.proofs.Common.{◌≡◌, ℕ, List, ap, sym, ◌∙◌, string_bytes}
+use Rattle.std.proofs.Common.{◌≡◌, ℕ, zero, suc, ◌<◌, List, [], ◌∷◌, length, map, get_or, slice_index_or, refl, ap, sym, subst, ◌∙◌, arith, string_bytes}
 use Rattle.std.proofs.Math.Path.{fun_ext}
-use Rattle.std.specs.Prelude.{IfOk, Result, Ok, Err, String}
+use Rattle.std.proofs.lemmas.Result.{IfOk-weaker}
+use Rattle.std.specs.Prelude.{IfOk, Result, String}
+use Rattle.std.specs.List.{AllZip}
 use Rattle.std.specs.declared.alloc.AllocError.{AllocError}
 use Rattle.std.specs.declared.alloc.Global.{Global}
 use Rattle.cs_num.specs.declared.Sample.{Sample}
 use Rattle.lte_types.specs.declared.entry.Entry.{Entry}
 use Rattle.lte_types.specs.declared.carrier.Carrier.{Carrier}
-use Rattle.lte_types.specs.declared.carrier.Carrier.TheVariants.{OnePort, TwoPorts, LongPrefix, FourPorts}
+use Rattle.lte_types.specs.Carrier.{carriers}
+use Rattle.sample_file.specs.Recording.{IsRecording}
+use Rattle.explain.specs.Entries.{IsListFor}
 use Rattle.explain.proofs.Listed.{is_one_list}
 use Rattle.report.specs.RoundsJson.{IsCancelJson}
 use Rattle.report.proofs.OneText.{one_cancel_text, one_cancel_json}
@@ -17,7 +21,8 @@ use Rattle.lte_words.specs.declared.form.Rule.{Rule}
 use Rattle.lte_words.specs.declared.form.Rule.TheVariants.{Of, Cancel, All}
 use Rattle.lte_top.specs.Line.{as_line, IsLine}
 use Rattle.evidence.specs.Receivers.{receiver_of}
-use Rattle.lte_top.specs.Searching.{IsListOf, list_text, list_among, lists_text, IsListText, IsTextOfAll, IsCancelled, IsSearch}
+use Rattle.lte_top.proofs.Carriers.{place_of, list_holds}
+use Rattle.lte_top.specs.Searching.{IsListOf, list_text, lists_text, IsListText, IsTextOfAll, IsCancelled, IsSearch}
 
 -- ---- lists
 
@@ -34,18 +39,33 @@ one_list_text : (carrier : Carrier) (output : Output) (samples : List Sample) (f
 one_list_text carrier output samples first second a b =
     a.text_is ∙ ap (list_text output) (one_list carrier samples a.entries b.entries a.is_list b.is_list) ∙ sym b.text_is
 
--- the lists of each carrier, and their text
-pub all_text_is : (output : Output) (samples : List Sample) (one two long four : List Entry) (r : Result (String Global) AllocError) →
-    IsListOf OnePort samples one → IsListOf TwoPorts samples two → IsListOf LongPrefix samples long → IsListOf FourPorts samples four →
-    IfOk r (λ text. string_bytes text ≡ lists_text output (list_among one two long four)) → IfOk r (λ text. IsTextOfAll output samples (string_bytes text))
-all_text_is output samples one two long four (Err error) is_one is_two is_long is_four e = tt
-all_text_is output samples one two long four (Ok text) is_one is_two is_long is_four e = record { lists = list_among one two long four; are_lists = each; text_is = e }
-  where
-    each : (carrier : Carrier) → IsListOf carrier samples (list_among one two long four carrier)
-    each OnePort = is_one
-    each TwoPorts = is_two
-    each LongPrefix = is_long
-    each FourPorts = is_four
+-- ---- the lists of all carriers, by their order
+
+-- what holds place by place holds of an item and what stands at its place
+beside : {A B : Type 0} (R : A → B → Type 0) (xs : List A) (ys : List B) (d : B) (k : ℕ) (x : A) → AllZip R xs ys → k < length xs → slice_index_or xs k x ≡ x → R x (get_or ys k d)
+beside R [] ys d k x all inside is = absurd (omega (arith, inside))
+beside R (a ∷ xs) [] d k x all inside is = absurd all
+beside R (a ∷ xs) (b ∷ ys) d zero x all inside is = subst (λ z. R z b) is all.0
+beside R (a ∷ xs) (b ∷ ys) d (suc k) x all inside is = beside R xs ys d k x all.1 (omega (arith, inside)) is
+
+-- what is one for each item is made of it
+made_of : {A B : Type 0} (R : A → B → Type 0) (of : A → B) → ((x : A) (y : B) → R x y → y ≡ of x) → (xs : List A) (ys : List B) → AllZip R xs ys → ys ≡ map of xs
+made_of R of one [] [] all = refl
+made_of R of one [] (y ∷ ys) all = absurd all
+made_of R of one (x ∷ xs) [] all = absurd all
+made_of R of one (x ∷ xs) (y ∷ ys) all = ap (λ z. z ∷ ys) (one x y all.0) ∙ ap (λ l. of x ∷ l) (made_of R of one xs ys all.1)
+
+-- they are one for each carrier, and the text of these is theirs
+pub all_text_is : (output : Output) (samples : List Sample) (lists : List (List Entry)) (r : Result (String Global) AllocError) → IsRecording samples →
+    AllZip (λ carrier. IsListFor (receiver_of carrier) samples) carriers lists →
+    ((of : Carrier → List Entry) → lists ≡ map of carriers → IfOk r (λ text. string_bytes text ≡ lists_text output of)) → IfOk r (λ text. IsTextOfAll output samples (string_bytes text))
+all_text_is output samples lists r valid listed texts =
+    let Is : Carrier → List Entry → Type 0 = λ carrier. IsListFor (receiver_of carrier) samples in
+    let of : Carrier → List Entry = λ carrier. get_or lists (place_of carrier).0 [] in
+    let each : (carrier : Carrier) → Is carrier (of carrier) = λ carrier. let place = place_of carrier in beside Is carriers lists [] place.0 carrier listed place.1 place.2 in
+    let same : lists ≡ map of carriers = made_of Is of (λ carrier list is. is_one_list (receiver_of carrier) samples list (of carrier) is (each carrier)) carriers lists listed in
+    IfOk-weaker r (λ text. string_bytes text ≡ lists_text output of) (λ text. IsTextOfAll output samples (string_bytes text))
+    (λ text is. record { lists = of; are_lists = λ carrier. list_holds carrier samples (of carrier) valid (each carrier); text_is = is }) (texts of same)
 
 one_text_of_all : (output : Output) (samples : List Sample) (first second : List ℕ) → IsTextOfAll output samples first → IsTextOfAll output samples second → first ≡ second
 one_text_of_all output samples first second a b =

@@ -3,7 +3,6 @@ use Rattle.std.specs.Prelude.{◌≡◌, ℕ, List}
 use Rattle.cs_num.specs.declared.Sample.{Sample}
 use Rattle.lte_types.specs.declared.entry.Entry.{Entry}
 use Rattle.lte_types.specs.declared.carrier.Carrier.{Carrier}
-use Rattle.lte_types.specs.declared.carrier.Carrier.TheVariants.{OnePort, TwoPorts, LongPrefix, FourPorts}
 use Rattle.clean_air.specs.Clean.{IsListBy}
 use Rattle.explain.specs.Deciding.{AreDecidedFor}
 use Rattle.evidence.specs.Receivers.{receiver_of}
@@ -43,17 +42,10 @@ pub record IsListText (carrier : Carrier) (output : Output) (samples : List Samp
 
 -- ---- the lists of all carriers
 
--- the list of each carrier, of four
-abbrev pub list_among : List Entry → List Entry → List Entry → List Entry → Carrier → List Entry
-list_among one two long four OnePort = one
-list_among one two long four TwoPorts = two
-list_among one two long four LongPrefix = long
-list_among one two long four FourPorts = four
-
 -- the text of the list of each carrier
 abbrev pub lists_text : Output → (Carrier → List Entry) → List ℕ
-lists_text Text lists = all_text (lists OnePort) (lists TwoPorts) (lists LongPrefix) (lists FourPorts)
-lists_text Json lists = as_line (all_json (lists OnePort) (lists TwoPorts) (lists LongPrefix) (lists FourPorts))
+lists_text Text lists = all_text lists
+lists_text Json lists = as_line (all_json lists)
 
 -- the list of each carrier in the recording, as this text
 pub record IsTextOfAll (output : Output) (samples : List Sample) (text : List ℕ) : Type 0 where

@@ -60,14 +60,16 @@ fn sent_cell(carrier: Carrier, n: u32) -> SentCell
     }
 }
 
-// What is told of system information that a carrier sends.
+// What is told of the system information of a carrier's cell.
 fn told_by(carrier: Carrier, sib1: Sib1) -> Result<Sib1, Sib1Reason>
     ensures { result ≡ told_of carrier sib1 }
 {
-    match carrier {
-        Carrier::OnePort | Carrier::TwoPorts => Ok(sib1),
-        Carrier::LongPrefix => Err(Sib1Reason::LongPrefix),
-        Carrier::FourPorts => Err(Sib1Reason::NotOnePort(4)),
+    if carrier.prefix().is_extended() {
+        Err(Sib1Reason::LongPrefix)
+    } else if carrier.ports() > 2 {
+        Err(Sib1Reason::NotOnePort(carrier.ports()))
+    } else {
+        Ok(sib1)
     }
 }
 

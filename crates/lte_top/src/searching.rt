@@ -1,14 +1,15 @@
 //! The lists of a recording by every rule.
 
-ghost use Rattle.std.specs.Prelude.{◌≡◌, IfOk, string_bytes};
+ghost use Rattle.std.specs.Prelude.{◌≡◌, IfOk, List, length, map, string_bytes};
 ghost use Rattle.std.specs.List.{AllZip};
+ghost use Rattle.lte_types.specs.Carrier.{carriers};
 ghost use Rattle.sample_file.specs.Recording.{IsRecording};
 ghost use Rattle.pss_search.specs.Hits.{hits_of as all_hits};
 ghost use Rattle.explain.specs.Entries.{IsListFor};
 ghost use Rattle.explain.specs.Readings.{IsReadingFor};
 ghost use Rattle.evidence.specs.Receivers.{receiver_of};
 ghost use Rattle.lte_top.specs.Searching.{IsListOf, IsListText, IsTextOfAll, IsCancelled, IsSearch};
-ghost use Rattle.lte_top.specs.Searching.{list_among, list_text as text_of, lists_text as texts_of};
+ghost use Rattle.lte_top.specs.Searching.{list_text as text_of, lists_text as texts_of};
 
 use crate::reporting::{hits_of, line_of};
 use explain::{EntryList, FrameReader, OnePort, Workspace, explain_hits};
@@ -108,21 +109,43 @@ fn text_of_each(alloc: Global, output: Output, recording: &Recording) -> Result<
     requires { IsRecording recording.now }
     ensures { IfOk result (λ text. IsTextOfAll output recording.now (string_bytes text)) }
 {
+    let lists = lists_of(alloc, recording)?;
+    lists_text(alloc, output, &lists)
+}
+
+// The list of each carrier in a recording, in the order of `Carrier::ALL`.
+fn lists_of(alloc: Global, recording: &Recording) -> Result<Vec<EntryList>, AllocError>
+    requires { IsRecording recording.now }
+    ensures { IfOk result (λ lists. AllZip (λ carrier. IsListFor (receiver_of carrier) recording.now)
+        carriers lists.items) }
+{
     let found = hits_of(alloc, recording)?;
     let hits = found.slice();
     let mut work = Workspace::new(alloc)?;
-    let one = list_by(alloc, &OnePort, recording, hits, &mut work)?;
-    let two = list_by(alloc, &TwoPorts, recording, hits, &mut work)?;
-    let long = list_by(alloc, &ExtendedPrefix, recording, hits, &mut work)?;
-    let four = list_by(alloc, &FourPorts, recording, hits, &mut work)?;
-    lists_text(
-        alloc,
-        output,
-        one.slice(),
-        two.slice(),
-        long.slice(),
-        four.slice(),
-    )
+    let mut lists = Vec::new(alloc);
+    for carrier in &Carrier::ALL {
+        lists.push(list_among(alloc, *carrier, recording, hits, &mut work)?)?;
+    }
+    Ok(lists)
+}
+
+// The list of a carrier in a recording, where its hits are at hand.
+fn list_among(
+    alloc: Global,
+    carrier: Carrier,
+    recording: &Recording,
+    hits: &[Hit],
+    work: &mut Workspace,
+) -> Result<EntryList, AllocError>
+    requires { hits.now ≡ all_hits recording.now }
+    ensures { IfOk result (IsListFor (receiver_of carrier) recording.now) }
+{
+    match carrier {
+        Carrier::OnePort => list_by(alloc, &OnePort, recording, hits, work),
+        Carrier::TwoPorts => list_by(alloc, &TwoPorts, recording, hits, work),
+        Carrier::LongPrefix => list_by(alloc, &ExtendedPrefix, recording, hits, work),
+        Carrier::FourPorts => list_by(alloc, &FourPorts, recording, hits, work),
+    }
 }
 
 // The list of a recording by a receiver, where its hits are at hand.
@@ -141,21 +164,15 @@ fn list_by<F: FrameReader>(
     Ok(list)
 }
 
-// The text of four lists.
-fn lists_text(
-    alloc: Global,
-    output: Output,
-    one: &[Entry],
-    two: &[Entry],
-    long: &[Entry],
-    four: &[Entry],
-) -> Result<String, AllocError>
-    ensures { IfOk result (λ text.
-        string_bytes text ≡ texts_of output (list_among one.now two.now long.now four.now)) }
+// The text of the lists of all carriers, in the order of `Carrier::ALL`.
+fn lists_text(alloc: Global, output: Output, lists: &[EntryList]) -> Result<String, AllocError>
+    requires { length lists.now ≡ length carriers }
+    ensures { (of : Carrier → List Entry) → lists.now ≡ map of carriers →
+        IfOk result (λ text. string_bytes text ≡ texts_of output of) }
 {
     match output {
-        Output::Text => text_of_all(alloc, one, two, long, four),
-        Output::Json => line_of(json_of_all(alloc, one, two, long, four)?),
+        Output::Text => text_of_all(alloc, lists),
+        Output::Json => line_of(json_of_all(alloc, lists)?),
     }
 }
 

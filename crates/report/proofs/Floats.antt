@@ -1,5 +1,6 @@
 -- The values that are written have whole numbers alone.
 use Rattle.std.proofs.Common.{◌≡◌, ◌∙◌, Bool, ℤ, pos, negsuc, refl, ap, List, [], ◌∷◌, ◌++◌, map, length, ◌/◌, false, Option, Some, None, string_bytes}
+use Rattle.std.specs.List.{flat_map}
 use Rattle.std.specs.Simd.{first_chunks}
 use Rattle.std.specs.Prelude.{IfOk, Result, Ok, Err, String}
 use Rattle.std.specs.declared.alloc.AllocError.{AllocError}
@@ -10,12 +11,12 @@ use Rattle.serde_json.specs.View.{items_of}
 use Rattle.serde_json.specs.Written.{compact_text, has_float, items_have_float}
 use Rattle.cs_num.specs.declared.Cpx.{Cpx}
 use Rattle.lte_types.specs.declared.carrier.Carrier.{Carrier}
-use Rattle.lte_types.specs.declared.carrier.Carrier.TheVariants.{OnePort, TwoPorts, LongPrefix, FourPorts}
 use Rattle.lte_types.specs.declared.plmn.Plmn.{Plmn}
 use Rattle.lte_types.specs.declared.si_message.SiMessage.{SiMessage}
 use Rattle.lte_types.specs.declared.sib1.Sib1.{Sib1}
 use Rattle.lte_types.specs.declared.sib1_reason.Sib1Reason.{Sib1Reason}
 use Rattle.lte_types.specs.declared.entry.Entry.{Entry}
+use Rattle.lte_types.specs.Carrier.{carriers}
 use Rattle.sss_detect.specs.declared.rank.Choice.{Choice}
 use Rattle.sss_detect.specs.declared.rank.Ranking.{Ranking}
 use Rattle.soft_bits.specs.Kept.{SeenLine}
@@ -75,16 +76,13 @@ in_both : (xs ys : List Data) → items_have_float (items_of xs) ≡ false → i
 in_both [] ys p q = q
 in_both (x ∷ xs) ys p q = let parts = or_parts _ _ p in or_from _ _ parts.0 (in_both xs ys parts.1 q)
 
--- and the values of a list's cells, after values that have none
-after : (xs : List Data) (carrier : Carrier) (entries : List Entry) → items_have_float (items_of xs) ≡ false → items_have_float (items_of (xs ++ ruled_values carrier entries)) ≡ false
-after xs carrier entries p = in_both xs (ruled_values carrier entries) p (in_list (ruled_value carrier) (in_ruled carrier) entries)
+in_each : {A : Type 0} (values : A → List Data) → ((x : A) → items_have_float (items_of (values x)) ≡ false) → (xs : List A) → items_have_float (items_of (flat_map values xs)) ≡ false
+in_each values each [] = refl
+in_each values each (x ∷ xs) = in_both (values x) (flat_map values xs) (each x) (in_each values each xs)
 
-pub in_all : (one two long four : List Entry) → has_float (all_value one two long four) ≡ false
-in_all one two long four =
-    let first = in_list (ruled_value OnePort) (in_ruled OnePort) one in
-    let second = after (ruled_values OnePort one) TwoPorts two first in
-    let third = after (ruled_values OnePort one ++ ruled_values TwoPorts two) LongPrefix long second in
-    after (ruled_values OnePort one ++ ruled_values TwoPorts two ++ ruled_values LongPrefix long) FourPorts four third
+pub in_all : (lists : Carrier → List Entry) → has_float (all_value lists) ≡ false
+in_all lists =
+    in_each (λ carrier. ruled_values carrier (lists carrier)) (λ carrier. in_list (ruled_value carrier) (in_ruled carrier) (lists carrier)) carriers
 
 pub in_complex : (z : Cpx) → has_float (complex_value z) ≡ false
 in_complex z = or_from _ _ (in_integer z.re) (or_from _ _ (in_integer z.im) refl)

@@ -1,11 +1,13 @@
 -- The lists of a recording by every rule, as one text and as JSON. (own)
 use Rattle.std.specs.Prelude.{ℕ, List, ◌++◌, map, codes}
+use Rattle.std.specs.List.{flat_map}
 use Rattle.serde_json.specs.Data.{Data, string, array, object, put}
 use Rattle.serde_json.specs.View.{items_of}
 use Rattle.serde_json.specs.Written.{compact_text}
 use Rattle.lte_types.specs.declared.carrier.Carrier.{Carrier}
 use Rattle.lte_types.specs.declared.carrier.Carrier.TheVariants.{OnePort, TwoPorts, LongPrefix, FourPorts}
 use Rattle.lte_types.specs.declared.entry.Entry.{Entry}
+use Rattle.lte_types.specs.Carrier.{carriers}
 use Rattle.report.specs.Lines.{report_text}
 use Rattle.report.specs.Json.{entry_members}
 
@@ -23,10 +25,9 @@ rule_line word = codes "rule " ++ word ++ codes "\n"
 abbrev pub ruled_text : Carrier → List Entry → List ℕ
 ruled_text carrier entries = rule_line (rule_word carrier) ++ report_text entries
 
--- the four lists, one after the other
-abbrev pub all_text : List Entry → List Entry → List Entry → List Entry → List ℕ
-all_text one two long four =
-    ruled_text OnePort one ++ ruled_text TwoPorts two ++ ruled_text LongPrefix long ++ ruled_text FourPorts four
+-- the list of each carrier, one after the other
+abbrev pub all_text : (Carrier → List Entry) → List ℕ
+all_text lists = flat_map (λ carrier. ruled_text carrier (lists carrier)) carriers
 
 -- a cell with its rule
 abbrev pub ruled_value : Carrier → Entry → Data
@@ -35,12 +36,10 @@ ruled_value carrier entry = object (put (codes "rule") (string (rule_word carrie
 abbrev pub ruled_values : Carrier → List Entry → List Data
 ruled_values carrier entries = map (ruled_value carrier) entries
 
--- the cells of the four lists in one array
-abbrev pub all_value : List Entry → List Entry → List Entry → List Entry → Data
-all_value one two long four =
-    array (items_of (ruled_values OnePort one ++ ruled_values TwoPorts two
-    ++ ruled_values LongPrefix long ++ ruled_values FourPorts four))
+-- the cells of the list of each carrier in one array
+abbrev pub all_value : (Carrier → List Entry) → Data
+all_value lists = array (items_of (flat_map (λ carrier. ruled_values carrier (lists carrier)) carriers))
 
--- the JSON of the cells of the four lists, without spaces
-unfoldable pub all_json : List Entry → List Entry → List Entry → List Entry → List ℕ
-all_json one two long four = compact_text (all_value one two long four)
+-- the JSON of the cells of the list of each carrier, without spaces
+unfoldable pub all_json : (Carrier → List Entry) → List ℕ
+all_json lists = compact_text (all_value lists)

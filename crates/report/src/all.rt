@@ -1,57 +1,56 @@
 //! The lists of a recording by every rule.
 
-ghost use Rattle.std.specs.Prelude.{◌≡◌, ◌++◌, IfOk, OnOk, map, string_bytes};
+ghost use Rattle.std.specs.Prelude.{◌≡◌, ◌++◌, IfOk, OnOk, List, length, map, string_bytes};
 ghost use Rattle.serde_json.specs.View.{view};
+ghost use Rattle.lte_types.specs.Carrier.{carriers};
 ghost use Rattle.report.specs.All.{rule_word as word_of, rule_line as line_of, ruled_text as text_of, all_text};
-ghost use Rattle.report.specs.All.{ruled_value as value_of, ruled_values, all_json};
+ghost use Rattle.report.specs.All.{ruled_value as value_of, ruled_values, all_value, all_json};
 
 use crate::as_json::members_of;
 use crate::listing::text;
+use explain::EntryList;
 use lte_types::{Carrier, Entry};
 use serde_json::{ToValue, Value, put};
 use std::alloc::{AllocError, Global};
 use std::fmt::Write;
 
-/// The text of four lists: of the cells of one antenna port, of those of two, of those with the extended prefix, and of
-/// those of four antenna ports. Before each, which is as `text` writes it, stands a line with its rule. Only memory can
-/// be wanting. (own)
-pub fn text_of_all(
-    alloc: Global,
-    one: &[Entry],
-    two: &[Entry],
-    long: &[Entry],
-    four: &[Entry],
-) -> Result<String, AllocError>
-    ensures { IfOk result (λ text. string_bytes text ≡ all_text one.now two.now long.now four.now) }
+/// The text of the lists of all carriers, one for each in the order of `Carrier::ALL`. Before each, which is as
+/// `text` writes it, stands a line with its rule. Only memory can be wanting. (own)
+pub fn text_of_all(alloc: Global, lists: &[EntryList]) -> Result<String, AllocError>
+    requires { length lists.now ≡ length carriers }
+    ensures { (of : Carrier → List Entry) → lists.now ≡ map of carriers →
+        IfOk result (λ text. string_bytes text ≡ all_text of) }
 {
-    let mut all = ruled_text(alloc, Carrier::OnePort, one)?;
-    let second = ruled_text(alloc, Carrier::TwoPorts, two)?;
-    let third = ruled_text(alloc, Carrier::LongPrefix, long)?;
-    let fourth = ruled_text(alloc, Carrier::FourPorts, four)?;
-    all.push_str(&second)?;
-    all.push_str(&third)?;
-    all.push_str(&fourth)?;
+    let mut all = String::new(alloc);
+    for (carrier, list) in Carrier::ALL.iter().zip(lists) {
+        let lines = ruled_text(alloc, *carrier, list.slice())?;
+        all.push_str(&lines)?;
+    }
     Ok(all)
 }
 
-/// The four lists as JSON in one line, without a line feed: an array of the objects of all their cells as `json`
-/// writes them, each with its rule as one key more. Only memory can be wanting. (own)
-pub fn json_of_all(
-    alloc: Global,
-    one: &[Entry],
-    two: &[Entry],
-    long: &[Entry],
-    four: &[Entry],
-) -> Result<String, AllocError>
-    ensures { IfOk result (λ text. string_bytes text ≡ all_json one.now two.now long.now four.now) }
+/// The lists of all carriers, one for each in the order of `Carrier::ALL`, as JSON in one line, without a line feed: an
+/// array of the objects of all their cells as `json` writes them, each with its rule as one key more. Only memory can be
+/// wanting. (own)
+pub fn json_of_all(alloc: Global, lists: &[EntryList]) -> Result<String, AllocError>
+    requires { length lists.now ≡ length carriers }
+    ensures { (of : Carrier → List Entry) → lists.now ≡ map of carriers →
+        IfOk result (λ text. string_bytes text ≡ all_json of) }
 {
-    let mut list = Vec::new(alloc);
-    add_ruled(alloc, Carrier::OnePort, one, &mut list)?;
-    add_ruled(alloc, Carrier::TwoPorts, two, &mut list)?;
-    add_ruled(alloc, Carrier::LongPrefix, long, &mut list)?;
-    add_ruled(alloc, Carrier::FourPorts, four, &mut list)?;
-    let all = Value::from(list);
+    let all = value_of_all(alloc, lists)?;
     all.to_string(alloc)
+}
+
+// The cells of the lists of all carriers in one array.
+fn value_of_all(alloc: Global, lists: &[EntryList]) -> Result<Value, AllocError>
+    ensures { (of : Carrier → List Entry) → lists.now ≡ map of carriers →
+        IfOk result (λ value. view value ≡ all_value of) }
+{
+    let mut values = Vec::new(alloc);
+    for (carrier, list) in Carrier::ALL.iter().zip(lists) {
+        add_ruled(alloc, *carrier, list.slice(), &mut values)?;
+    }
+    Ok(Value::from(values))
 }
 
 // A list under its rule.
