@@ -1,5 +1,5 @@
 -- The ports of a source in one frame, and sums that are made of them port by port.
-use Rattle.std.proofs.Common.{◌≡◌, ℕ, zero, suc, ◌+◌, ◌-◌, ◌*◌, ◌%◌, ◌<◌, ◌≤◌, Bool, true, false, List, slice_index_or, arith, refl, sym, subst, ap, ◌∙◌}
+use Rattle.std.proofs.Common.{◌≡◌, ℕ, zero, suc, ◌+◌, ◌-◌, ◌*◌, ◌%◌, ◌<◌, ◌≤◌, Bool, true, false, nat_eq, List, slice_index_or, arith, refl, sym, subst, ap, ◌∙◌}
 use Rattle.std.specs.Prelude.{if◌then◌else◌}
 use Rattle.std.proofs.lemmas.Nat.{mul-le}
 use Rattle.finite.specs.Sums.{sum_below, total_below}
@@ -13,18 +13,20 @@ use Rattle.cs_num.specs.Sums.{complex_sum_below}
 use Rattle.cs_num.proofs.Sums.{complex_sum_below_none, complex_sum_below_more}
 use Rattle.lte_types.specs.declared.carrier.Carrier.{Carrier}
 use Rattle.lte_types.specs.declared.carrier.Carrier.TheVariants.{OnePort, TwoPorts, LongPrefix, FourPorts}
-use Rattle.lte_types.specs.Carrier.{ports_of}
+use Rattle.lte_types.specs.Carrier.{prefix_of, ports_of}
+use Rattle.lte_types.specs.Numerology.{frame_length}
 use Rattle.lte_types.specs.Timing.{number_of}
 use Rattle.cell_tx.specs.declared.antenna.Port.{Port}
 use Rattle.cell_tx.specs.declared.source.Ports.{Ports}
 use Rattle.cell_tx.specs.declared.source.Ports.TheVariants.{Alone, All}
 use Rattle.cell_tx.specs.declared.source.Source.{Source}
+use Rattle.cell_tx.specs.declared.frame_symbols.Symbols.{Symbols}
 use Rattle.cell_tx.specs.Ports.{port_by, port_prefix}
 use Rattle.cell_tx.specs.Load.{sent_element}
 use Rattle.cell_plan.specs.Gains.{AreGainsOf}
 use Rattle.cell_tx.specs.Emission.{mixed}
-use Rattle.cell_tx.specs.Mixing.{mixed_by, AreGainsBy}
-use Rattle.cell_tx.specs.Emitting.{made, sent_in_frame, framed, AreChanged, added, FitSamples, AreSilent}
+use Rattle.cell_tx.specs.Mixing.{carrier_by, mixed_by, AreGainsBy}
+use Rattle.cell_tx.specs.Emitting.{made, sent_in_frame, framed, is_made_anew, AreOwn, AreChanged, added, FitSamples, AreSilent}
 use Rattle.cell_tx.proofs.Bounds.{amplified, sent_element-square, frame-square}
 use Rattle.cell_tx.proofs.Received.{IsSumOf, product_is, sum_is, sum_fits}
 use Rattle.cell_tx.proofs.Symbols.{prefix_sent_is}
@@ -79,6 +81,19 @@ pub made_is : (s : Source) (i : ℕ) → made s i ≡ framed s (number_of s.timi
 made_is s i =
     ap (λ (f : Port → Cpx). mixed_by s.ports f s.gains)
     (fun_ext (λ port. prefix_sent_is (port_prefix port) (sent_element s.load port s.cell.now) s.timing.sfn (i + s.timing.offset)))
+
+-- ---- the same of ports that send the same
+
+pub mixed_same : (ports : Ports) (gains : List Cpx) (f g : Port → Cpx) → ((port : Port) → port.carrier ≡ carrier_by ports → f port ≡ g port) → mixed_by ports f gains ≡ mixed_by ports g gains
+mixed_same (Alone port) gains f g same = ap (times (value_at gains 0)) (same port refl)
+mixed_same (All carrier) gains f g same =
+    ap (λ (part : ℕ → Cpx). if nat_eq (ports_of carrier) 1 then part 0 else (if nat_eq (ports_of carrier) 2 then plus (part 0) (part 1) else plus (plus (part 0) (part 1)) (plus (part 2) (part 3))))
+    (fun_ext (λ p. ap (times (value_at gains p)) (same (port_by carrier p) refl)))
+
+-- what is not made anew is the same in every frame
+pub framed_same : (s : Source) (symbols : Symbols) (a b i : ℕ) → AreOwn (carrier_by s.ports) s.load symbols → i < frame_length → is_made_anew (prefix_of (carrier_by s.ports)) symbols i ≡ false →
+    framed s a i ≡ framed s b i
+framed_same s symbols a b i own inside kept = mixed_same s.ports s.gains _ _ (λ port is. own port s.cell.now a b i is inside kept)
 
 -- ---- what a port adds
 
