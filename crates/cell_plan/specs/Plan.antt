@@ -4,8 +4,7 @@ use Rattle.std.specs.Prelude.{◌≡◌, ◌⊎◌, ◌+◌, ◌≤◌, Bool, tr
 use Rattle.std.specs.Prelude.{length, Option, None, is_some, is_none, IsSome, IsSomeAnd}
 use Rattle.lte_types.specs.declared.carrier.Carrier.{Carrier}
 use Rattle.lte_types.specs.declared.carrier.Carrier.TheVariants.{OnePort}
-use Rattle.lte_types.specs.Carrier.{prefix_of, ports_of}
-use Rattle.lte_types.specs.Numerology.{is_extended}
+use Rattle.lte_types.specs.Carrier.{ports_of, has_control_by}
 use Rattle.lte_types.specs.Ranges.{IsValid}
 use Rattle.lte_types.specs.Assignment.{AreBlocks}
 use Rattle.dci.specs.Sizes.{size_of}
@@ -41,7 +40,7 @@ IsSendable plan = IsSendableWith (is_resolvable plan ≡ true) plan
 -- each coded bit of a block has to be sent, beside the reference signals of both ports: with two antenna ports. With
 -- the extended cyclic prefix, or four ports, no block is sent
 abbrev pub needs_each_bit : Carrier → Bool
-needs_each_bit carrier = not (is_extended (prefix_of carrier)) && nat_eq (ports_of carrier) 2
+needs_each_bit carrier = has_control_by carrier && nat_eq (ports_of carrier) 2
 
 -- a plan can be sent by a carrier: each coded bit is sent where that is needed, and otherwise the plan is one of one
 -- antenna port, though no block of it may be sent

@@ -143,7 +143,7 @@ fn has_resolvable_block(plan: &CellPlan, size: u16) -> bool
 fn needs_each_bit(carrier: Carrier) -> bool
     ensures { result ≡ needs_each_bit carrier }
 {
-    !carrier.prefix().is_extended() && carrier.ports() == 2
+    carrier.has_control() && carrier.ports() == 2
 }
 
 // Whether the bits that a carrier sends of the transport block are enough.

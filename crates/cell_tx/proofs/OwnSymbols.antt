@@ -2,11 +2,11 @@
 use Rattle.std.proofs.Common.{◌≡◌, ℕ, ◌+◌, ◌*◌, Bool, false, sym, subst, None}
 use Rattle.std.proofs.lemmas.Bool.{or_parts}
 use Rattle.lte_types.specs.declared.carrier.Carrier.{Carrier}
-use Rattle.lte_types.specs.Carrier.{prefix_of}
+use Rattle.lte_types.specs.Carrier.{prefix_of, has_control_by}
 use Rattle.lte_types.specs.Numerology.{symbols_of_slot}
 use Rattle.cell_tx.specs.declared.antenna.Port.{Port}
 use Rattle.cell_plan.specs.declared.cell.CellPlan.{CellPlan}
-use Rattle.cell_tx.specs.Ports.{port_by, has_control_by}
+use Rattle.cell_tx.specs.Ports.{port_by}
 use Rattle.cell_tx.specs.declared.frame_symbols.Symbols.{Symbols}
 use Rattle.cell_tx.specs.Grid.{port_element}
 use Rattle.cell_tx.specs.Rows.{first_sample}

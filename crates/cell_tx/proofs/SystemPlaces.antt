@@ -14,12 +14,12 @@ use Rattle.grid_map.proofs.Apart.{IsInRegion, IsAfterRegion, indicator_place, co
 use Rattle.cell_tx.specs.declared.antenna.Port.{Port}
 use Rattle.lte_types.specs.declared.carrier.Carrier.{Carrier}
 use Rattle.lte_types.specs.declared.carrier.Carrier.TheVariants.{OnePort, TwoPorts, LongPrefix, FourPorts}
-use Rattle.lte_types.specs.Carrier.{prefix_of, ports_of}
+use Rattle.lte_types.specs.Carrier.{prefix_of, ports_of, has_control_by}
 use Rattle.lte_types.specs.Numerology.{symbols_of_slot}
 use Rattle.cell_plan.specs.declared.cell.CellPlan.{CellPlan}
 use Rattle.cell_plan.specs.Transport.{assigned_bits_of}
 use Rattle.cell_plan.specs.Plan.{IsSendableWith}
-use Rattle.cell_tx.specs.Ports.{port_by, port_symbols, has_control_by, has_control, sent_point}
+use Rattle.cell_tx.specs.Ports.{port_by, port_symbols, has_control, sent_point}
 use Rattle.cell_tx.specs.Control.{control_places, indicator_point, control_point}
 use Rattle.cell_tx.specs.Shared.{assigned_places, shared_point}
 use Rattle.cell_tx.specs.Grid.{is_one_of, is_synchronised, has_broadcast, is_indicator, is_control, is_shared, has_system_information, port_channel_value, port_element}

@@ -1,13 +1,13 @@
 -- What an antenna port sends of the points of a channel and of the signals: a cell has one port, with either cyclic
 -- prefix, or two or four with transmit diversity (TS 36.211 sections 6.3.3, 6.3.4, 6.10.1, 6.11 and 6.12).
-use Rattle.std.specs.Prelude.{◌≡◌, ℕ, ◌+◌, ◌-◌, ◌*◌, ◌/◌, ◌%◌, ◌<◌, Bool, not, ◌&&◌, nat_eq, nat_lt, nat_le}
+use Rattle.std.specs.Prelude.{◌≡◌, ℕ, ◌+◌, ◌-◌, ◌*◌, ◌/◌, ◌%◌, ◌<◌, Bool, not, ◌&&◌, nat_eq, nat_lt}
 use Rattle.std.specs.Prelude.{if◌then◌else◌}
 use Rattle.cs_num.specs.declared.Cpx.{Cpx}
 use Rattle.cs_num.specs.Complex.{nothing, negated, conjugate}
 use Rattle.lte_types.specs.declared.carrier.Carrier.{Carrier}
 use Rattle.lte_types.specs.declared.carrier.Carrier.TheVariants.{OnePort, TwoPorts, LongPrefix, FourPorts}
 use Rattle.lte_types.specs.declared.numerology.Prefix.{Prefix}
-use Rattle.lte_types.specs.Carrier.{prefix_of, ports_of}
+use Rattle.lte_types.specs.Carrier.{prefix_of, ports_of, has_control_by}
 use Rattle.lte_types.specs.Numerology.{symbols_of_slot, is_extended}
 use Rattle.crs.specs.declared.pattern.Pattern.{Pattern}
 use Rattle.crs.specs.Reference.{pattern_of, pattern_reference}
@@ -62,10 +62,7 @@ first_pattern port = pattern_of port.carrier 0
 abbrev pub port_block_bits : Port → ℕ
 port_block_bits port = if is_extended (port_prefix port) then 432 else 480
 
--- the control region and system information are sent; with the extended prefix, and of four ports, they are not (own)
-abbrev pub has_control_by : Carrier → Bool
-has_control_by carrier = not (is_extended (prefix_of carrier)) && nat_le (ports_of carrier) 2
-
+-- the control region and system information are sent (own)
 abbrev pub has_control : Port → Bool
 has_control port = has_control_by port.carrier
 

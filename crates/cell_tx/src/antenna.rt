@@ -41,7 +41,7 @@ impl Port {
     pub(crate) fn has_control(self) -> bool
         ensures { result ≡ has_control self }
     {
-        !self.carrier.prefix().is_extended() && self.carrier.ports() <= 2
+        self.carrier.has_control()
     }
 
     // The mask of the check of its master block (TS 36.212 section 5.3.1.1).

@@ -56,7 +56,7 @@ fn channel_symbols(carrier: Carrier) -> Symbols
 {
     let first = carrier.prefix().symbols();
     let last = first + 4;
-    if (Port { carrier, number: 0 }).has_control() {
+    if carrier.has_control() {
         Symbols {
             first,
             last,

@@ -11,10 +11,10 @@ use Rattle.budget.specs.Received.{in_parts, off_by, samples_from}
 use Rattle.budget.proofs.Parts.{square_in_parts, errors_have_energy}
 use Rattle.lte_types.specs.declared.carrier.Carrier.{Carrier}
 use Rattle.lte_types.specs.declared.carrier.Carrier.TheVariants.{OnePort, TwoPorts, LongPrefix, FourPorts}
-use Rattle.lte_types.specs.Carrier.{prefix_of}
+use Rattle.lte_types.specs.Carrier.{prefix_of, has_control_by}
 use Rattle.lte_types.specs.Numerology.{symbols_of_slot, useful_start}
 use Rattle.cell_tx.specs.declared.antenna.Port.{Port}
-use Rattle.cell_tx.specs.Ports.{has_control_by, only_port, first_port, second_port, long_port, port_of_four, port_prefix}
+use Rattle.cell_tx.specs.Ports.{only_port, first_port, second_port, long_port, port_of_four, port_prefix}
 use Rattle.cell_plan.specs.Gains.{AreGainsOf, IsAllowedBy}
 use Rattle.cell_tx.specs.Emission.{mixed}
 use Rattle.cell_tx.specs.Sent.{prefix_sent}

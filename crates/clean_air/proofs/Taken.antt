@@ -11,7 +11,8 @@ use Rattle.crs.specs.Ports.{is_reference_of_any}
 use Rattle.cell_tx.specs.declared.antenna.Port.{Port}
 use Rattle.lte_types.specs.declared.carrier.Carrier.{Carrier}
 use Rattle.lte_types.specs.declared.carrier.Carrier.TheVariants.{OnePort, TwoPorts, LongPrefix, FourPorts}
-use Rattle.cell_tx.specs.Ports.{port_symbols, port_slot, has_control_by, has_control, port_by, crossed_point, paired_point, sent_point, is_own_reference, port_reference}
+use Rattle.lte_types.specs.Carrier.{has_control_by}
+use Rattle.cell_tx.specs.Ports.{port_symbols, port_slot, has_control, port_by, crossed_point, paired_point, sent_point, is_own_reference, port_reference}
 use Rattle.cell_tx.specs.Block.{port_point}
 use Rattle.cell_tx.specs.Control.{indicator_point, control_point}
 use Rattle.cell_tx.specs.Shared.{shared_point}

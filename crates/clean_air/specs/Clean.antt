@@ -13,7 +13,7 @@ use Rattle.lte_types.specs.declared.sib1_reason.Sib1Reason.{Sib1Reason}
 use Rattle.lte_types.specs.declared.sib1_reason.Sib1Reason.TheVariants.{LongPrefix as IsLong, NotOnePort}
 use Rattle.lte_types.specs.declared.entry.Entry.{Entry}
 use Rattle.lte_types.specs.Block.{HasFields}
-use Rattle.lte_types.specs.Carrier.{prefix_of, ports_of}
+use Rattle.lte_types.specs.Carrier.{prefix_of, ports_of, has_control_by}
 use Rattle.lte_types.specs.Numerology.{least_samples, is_extended}
 use Rattle.lte_types.specs.Timing.{start_of, number_at_start}
 use Rattle.explain.specs.Receiver.{Receiver, one_port_receiver}
@@ -21,7 +21,6 @@ use Rattle.explain.specs.Entries.{IsListFor}
 use Rattle.cell_tx.specs.declared.antenna.Port.{Port}
 use Rattle.cell_plan.specs.declared.cell.CellPlan.{CellPlan}
 use Rattle.cell_plan.specs.Plan.{IsSendableBy}
-use Rattle.cell_tx.specs.Ports.{has_control_by}
 use Rattle.cell_tx.specs.Sent.{Elements}
 use Rattle.cell_tx.specs.Emission.{IsCleanBy}
 use Rattle.clean_air.specs.Load.{IsLoadedBy}

@@ -11,14 +11,14 @@ use Rattle.sizes.specs.Sizes.{squares_of_four, energy_below}
 use Rattle.lte_types.specs.declared.carrier.Carrier.{Carrier}
 use Rattle.lte_types.specs.declared.carrier.Carrier.TheVariants.{OnePort}
 use Rattle.lte_types.specs.declared.frame.Half.{Half}
-use Rattle.lte_types.specs.Carrier.{prefix_of, ports_of}
+use Rattle.lte_types.specs.Carrier.{prefix_of, ports_of, has_control_by}
 use Rattle.lte_types.specs.Numerology.{frame_length, half_frame_length, least_samples, subframe_of}
 use Rattle.lte_types.specs.Numerology.{symbols_of_slot, symbol_step, useful_start}
 use Rattle.lte_types.specs.Timing.{IsOffset, number_at_start}
 use Rattle.pss_search.specs.Hits.{last_place}
 use Rattle.budget.specs.Received.{in_parts, off_by, samples_from}
 use Rattle.cell_tx.specs.declared.antenna.Port.{Port}
-use Rattle.cell_tx.specs.Ports.{IsPortOf, has_control_by}
+use Rattle.cell_tx.specs.Ports.{IsPortOf}
 use Rattle.cell_plan.specs.declared.cell.CellPlan.{CellPlan}
 use Rattle.cell_plan.specs.Gains.{ArePairedBy}
 use Rattle.cell_tx.specs.Sent.{Elements}

@@ -1,5 +1,5 @@
 -- Frames, slots and symbols, in samples: 128 to the useful part of a symbol (TS 36.211 sections 4.1 and 6.12).
-use Rattle.std.specs.Prelude.{◌≡◌, ◌⊎◌, ℕ, ◌+◌, ◌-◌, ◌*◌, ◌/◌, Bool, nat_eq, if◌then◌else◌}
+use Rattle.std.specs.Prelude.{◌≡◌, ◌⊎◌, ℕ, ◌+◌, ◌-◌, ◌*◌, ◌/◌, Bool, ◌&&◌, nat_eq, if◌then◌else◌}
 use Rattle.lte_types.specs.declared.frame.Half.{Half}
 use Rattle.lte_types.specs.declared.frame.Half.TheVariants.{Zero, Five}
 use Rattle.lte_types.specs.declared.numerology.Prefix.{Prefix}
@@ -45,7 +45,7 @@ IsPrefix prefix = (prefix ≡ normal) ⊎ (prefix ≡ extended)
 
 -- a prefix is the extended one
 abbrev pub is_extended : Prefix → Bool
-is_extended prefix = nat_eq prefix.first 32
+is_extended prefix = nat_eq prefix.first 32 && nat_eq prefix.other 32
 
 -- the samples of the prefix of a symbol of a slot
 abbrev pub prefix_length : Prefix → ℕ → ℕ

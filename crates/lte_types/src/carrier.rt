@@ -2,7 +2,7 @@
 
 ghost use Rattle.std.specs.Prelude.{◌≡◌};
 ghost use Rattle.std.specs.List.{Contains};
-ghost use Rattle.lte_types.specs.Carrier.{prefix_of, ports_of, carriers};
+ghost use Rattle.lte_types.specs.Carrier.{prefix_of, ports_of, has_control_by, carriers};
 
 use crate::Prefix;
 
@@ -48,6 +48,14 @@ impl Carrier {
             Carrier::TwoPorts => 2,
             Carrier::FourPorts => 4,
         }
+    }
+
+    /// Whether the control region and system information are sent: not with the extended prefix, and not of four
+    /// ports. (own)
+    pub fn has_control(self) -> bool
+        ensures { result ≡ has_control_by self }
+    {
+        !self.prefix().is_extended() && self.ports() <= 2
     }
 }
 

@@ -66,7 +66,7 @@ impl Prefix {
     pub fn is_extended(self) -> bool
         ensures { result ≡ is_extended self }
     {
-        self.first == 32
+        self.first == 32 && self.other == 32
     }
 
     /// Where the useful part of a symbol of a slot begins, in a frame that begins at the given
