@@ -6,7 +6,7 @@ use Rattle.gold.specs.Gold.{gold_bit, gold_bits}
 use Rattle.gold.proofs.Bits.{get_or-gold_bits}
 use Rattle.crs.specs.Qpsk.{component, IsFull, IsPoint}
 use Rattle.crs.specs.declared.pattern.Pattern.{Pattern}
-use Rattle.crs.specs.Reference.{port_0, has_pilots, value_by, pattern_c_init, pattern_reference, pattern_pair, pattern_list, reference_c_init, reference, reference_list, reference_pair, first_subcarrier, is_reference, is_second_reference, upper_pair, upper_list, upper_first, is_upper_reference}
+use Rattle.crs.specs.Reference.{port_0, has_pilots, value_by, pattern_c_init, pattern_reference, pattern_pair, pattern_list, reference_c_init, reference, reference_list, reference_pair, first_subcarrier, is_reference, is_second_reference, upper_first, is_upper_reference}
 use Rattle.cs_num.specs.Complex.{nothing}
 use Rattle.std.specs.List.{range_with_len}
 use Rattle.std.proofs.lemmas.List.FromFn.{length-map-range_with_len, get_or-map-range_with_len}
@@ -94,16 +94,6 @@ both_ports identity symbol k = cases (nat_eq symbol 0) (nat_eq symbol 4) refl re
     cases false false e f = rw (e, f) refl
 
 -- ---- ports 2 and 3 of four
-
-pub upper_list-full : (port identity slot : ℕ) → All (λ pilot. IsPoint pilot.1) (upper_list port identity slot)
-unfolding upper_list
-upper_list-full port identity slot =
-    All-map (λ (pilot : ℕ × Cpx). IsPoint pilot.1) (upper_pair port identity slot) (range_with_len 0 12)
-    (λ k d inside. reference-IsPoint identity slot 1 _)
-
-pub get_or-upper_list : (port identity slot m : ℕ) (d : ℕ × Cpx) → m < 12 → get_or (upper_list port identity slot) m d ≡ upper_pair port identity slot m
-unfolding upper_list
-get_or-upper_list port identity slot m d few = get_or-map-range_with_len (upper_pair port identity slot) 0 12 m m d few (omega arith)
 
 -- the places of ports 2 and 3 are every third subcarrier of symbol 1
 pub both_upper : (identity slot symbol k : ℕ) → (is_upper_reference 2 identity slot symbol k || is_upper_reference 3 identity slot symbol k) ≡ (nat_eq symbol 1 && nat_eq (k % 3) (identity % 3))

@@ -122,7 +122,8 @@ reference_at identity slot symbol k = reference identity slot symbol (k / 6)
 unfoldable pub is_second_reference : ℕ → ℕ → ℕ → Bool
 is_second_reference identity symbol k = is_pattern_place port_1 identity symbol k
 
--- ---- for ports 2 and 3 of four with the normal prefix, which have them in one symbol of a slot, its second
+-- ---- for ports 2 and 3 of four with the normal prefix, which have them in one symbol of a slot, its second, with the
+-- sequence, and so the value by the sixth of a subcarrier, that port 0 has for it
 
 -- what stands before 3 (n_s mod 2) in v: 0 for port 2 and 3 for port 3 (section 6.10.1.2)
 abbrev pub upper_shift : ℕ → ℕ
@@ -135,12 +136,3 @@ upper_first port identity slot = (upper_shift port + 3 * (slot % 2) + identity) 
 -- symbol and subcarrier are one of its reference places in a slot
 unfoldable pub is_upper_reference : ℕ → ℕ → ℕ → ℕ → ℕ → Bool
 is_upper_reference port identity slot symbol k = nat_eq symbol 1 && nat_eq (k % 6) (upper_first port identity slot)
-
--- the subcarrier of value m, and the value; the sequence, and so the value by the sixth of a subcarrier, is that of
--- port 0
-abbrev pub upper_pair : ℕ → ℕ → ℕ → ℕ → ℕ × Cpx
-upper_pair port identity slot m = (6 * m + upper_first port identity slot, reference identity slot 1 m)
-
--- the twelve subcarriers and values of port 2 or 3 in a slot
-unfoldable pub upper_list : ℕ → ℕ → ℕ → List (ℕ × Cpx)
-upper_list port identity slot = map (upper_pair port identity slot) (range_with_len 0 12)

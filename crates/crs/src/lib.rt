@@ -19,7 +19,7 @@ use cs_num::Cpx;
 use lte_types::CellId;
 pub use pattern::{Pattern, patterns};
 pub use qpsk::{POINT_POWER, point};
-pub use upper::{first_of_upper, reference_places_of_upper, upper_pilots};
+pub use upper::{first_of_upper, reference_places_of_upper};
 
 // c_init of the sequence for a slot and a symbol of it.
 fn c_init(pattern: Pattern, id: CellId, slot: u8, symbol: u8) -> u32
@@ -46,7 +46,7 @@ fn value_of(bits: &[bool], m: u8) -> Cpx
 }
 
 /// The first of the subcarriers of a symbol that have reference places by a pattern: each sixth from it on has
-/// one (TS 36.211 section 6.10.1.2). `symbol` is 0 or the pattern's later symbol.
+/// one (TS 36.211 section 6.10.1.2). `symbol` is 0 or the pattern's later symbol; of any other it tells the later one's.
 #[tactic(auto, using(std::proofs::lemmas::Bool::Decides::nat_tests))]
 pub fn first_of_pattern(pattern: Pattern, id: CellId, symbol: u8) -> u8
     requires { IsPattern pattern }
@@ -62,7 +62,8 @@ pub fn first_of_pattern(pattern: Pattern, id: CellId, symbol: u8) -> u8
 }
 
 /// Subcarriers and values of the reference signals of a symbol by a pattern, in the order of subcarriers.
-/// `slot` is 0 to 19, and `symbol` 0 or the pattern's later symbol. Each component of a value is 90 or -90.
+/// `slot` is 0 to 19, and `symbol` 0 or the pattern's later symbol; of any other below 7 the values are those of its own
+/// sequence, and the subcarriers the later one's. Each component of a value is 90 or -90.
 pub fn pattern_pilots(pattern: Pattern, id: CellId, slot: u8, symbol: u8) -> [(u8, Cpx); 12]
     requires pattern { IsPattern pattern }
     requires slot { slot < 20 }

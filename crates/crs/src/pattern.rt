@@ -38,7 +38,7 @@ impl Pattern {
         prefix: 0,
     };
 
-    /// The pattern of port 0 or 1 of a carrier. Ports 2 and 3 have none: `upper_pilots` has theirs.
+    /// The pattern of port 0 or 1 of a carrier. Ports 2 and 3 have none: `first_of_upper` tells of theirs.
     pub fn of(carrier: Carrier, port: u8) -> Pattern
         requires { port < 2 }
         ensures { result ≡ pattern_of carrier port }

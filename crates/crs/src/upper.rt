@@ -1,11 +1,8 @@
 //! The reference signals of ports 2 and 3 of four, which have them in one symbol of a slot.
 
-ghost use Rattle.std.specs.Prelude.{◌≡◌, ◌<◌, ◌+◌, ◌%◌, ◌&&◌, ◌||◌, ℕ, nat_eq, All, IsTrue};
-ghost use Rattle.crs.specs.Qpsk.{IsPoint};
-ghost use Rattle.crs.specs.Reference.{upper_first, upper_list, is_upper_reference};
+ghost use Rattle.std.specs.Prelude.{◌≡◌, ◌<◌, ◌+◌, ◌%◌, ◌&&◌, ◌||◌, ℕ, nat_eq, IsTrue};
+ghost use Rattle.crs.specs.Reference.{upper_first, is_upper_reference};
 
-use crate::{Pattern, pattern_pilots};
-use cs_num::Cpx;
 use lte_types::CellId;
 
 /// The first of the subcarriers of symbol 1 of a slot that have reference places of antenna port 2 or 3: each sixth
@@ -17,24 +14,6 @@ pub fn first_of_upper(port: u8, id: CellId, slot: u8) -> u8
     // What stands before 3 (n_s mod 2) in v.
     let shift = 3 * (u16::from(port) % 2);
     ((shift + 3 * (u16::from(slot) % 2) + id.value()) % 6) as u8
-}
-
-/// Subcarriers and values of the reference signals of antenna port 2 or 3 in symbol 1 of a slot, in the order of
-/// subcarriers. `port` is 2 or 3: only whether the number is odd counts. `slot` is 0 to 19. Each component of a value
-/// is 90 or -90.
-pub fn upper_pilots(port: u8, id: CellId, slot: u8) -> [(u8, Cpx); 12]
-    requires slot { slot < 20 }
-    ensures pilots { result ≡ upper_list port id slot }
-    ensures full { All (λ pilot. IsPoint pilot.1) result }
-{
-    let first = first_of_upper(port, id, slot);
-    // The values are those of port 0, on other subcarriers.
-    let of_port_0 = pattern_pilots(Pattern::FIRST_PORT, id, slot, 1);
-    let mut pilots = [(0, Cpx::ZERO); 12];
-    for m in 0..12_u8 {
-        pilots[m as usize] = (6 * m + first, of_port_0[m as usize].1);
-    }
-    pilots
 }
 
 /// The reference places of ports 2 and 3 of four antenna ports are every third subcarrier of symbol 1 of a slot, from

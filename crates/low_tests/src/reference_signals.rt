@@ -1,6 +1,6 @@
 ghost use Rattle.std.specs.Prelude.{◌<◌};
 
-use crs::{Pattern, pilots, upper_pilots};
+use crs::{Pattern, first_of_upper, pattern_pilots, pilots};
 use cs_num::Cpx;
 use lte_types::{Carrier, CellId};
 use std::process::Abort;
@@ -31,15 +31,24 @@ fn pilots_of_port_0(rt: HostRuntime) {
     assert!(rt; are_points(&pilots(id_of(&rt, 503), 19, 4), 2, b"020111000113"));
 }
 
-// Those of ports 2 and 3 of four, in symbol 1.
+// Whether port 2 or 3 has its first pilot of a slot at `first`, and the sequence of symbol 1 has the points of these
+// digits.
+fn are_upper(port: u8, id: CellId, slot: u8, first: u8, digits: &[u8; 12]) -> bool
+    requires { slot < 20 }
+{
+    let values = pattern_pilots(Pattern::FIRST_PORT, id, slot, 1);
+    first_of_upper(port, id, slot) == first
+        && (0..12).all(|m: usize| values[m].1 == point_of(digits[m]))
+}
+
 #[test]
 fn pilots_of_ports_2_and_3_change_places(rt: HostRuntime) {
     let (two, three) = (2, 3);
     let (first, last) = (id_of(&rt, 0), id_of(&rt, 503));
-    assert!(rt; are_points(&upper_pilots(two, first, 0), 0, b"012313232031"));
-    assert!(rt; are_points(&upper_pilots(two, first, 1), 3, b"311103223120"));
-    assert!(rt; are_points(&upper_pilots(three, first, 0), 3, b"012313232031"));
-    assert!(rt; are_points(&upper_pilots(three, last, 19), 5, b"132230211310"));
+    assert!(rt; are_upper(two, first, 0, 0, b"012313232031"));
+    assert!(rt; are_upper(two, first, 1, 3, b"311103223120"));
+    assert!(rt; are_upper(three, first, 0, 3, b"012313232031"));
+    assert!(rt; are_upper(three, last, 19, 5, b"132230211310"));
 }
 
 #[test]
