@@ -1,10 +1,11 @@
 -- The plan of each number can be sent.
-use Rattle.std.proofs.Common.{◌≡◌, inl, ℕ, ◌+◌, ◌*◌, ◌%◌, ◌≤◌, false, true, cond, nat_eq, if◌then◌else◌, List, length, None, refl, sym, subst, arith}
+use Rattle.std.proofs.Common.{◌≡◌, inl, ℕ, ◌+◌, ◌*◌, ◌%◌, ◌≤◌, false, true, if◌then◌else◌, List, length, None, refl, sym, subst, arith}
 use Rattle.std.specs.Prelude.{Bool, IsSomeAnd}
 use Rattle.std.proofs.lemmas.Bool.{le-leb}
 use Rattle.lte_types.specs.declared.carrier.Carrier.{Carrier}
-use Rattle.lte_types.specs.declared.carrier.Carrier.TheVariants.{OnePort, TwoPorts, LongPrefix, FourPorts}
+use Rattle.lte_types.specs.declared.carrier.Carrier.TheVariants.{OnePort}
 use Rattle.grid_map.specs.Shared.{block_places_of}
+use Rattle.grid_map.proofs.BlockPlaces.{are_few}
 use Rattle.dci.specs.Sizes.{column_2}
 use Rattle.sib1.specs.Text.{text_of}
 use Rattle.sib1.proofs.Texts.{text_of_is}
@@ -16,22 +17,11 @@ use Rattle.cell_plan.proofs.WholeBlocks.{whole_is_resolvable}
 use Rattle.capture_make.specs.Recipe.{plan, information}
 use Rattle.capture_make.proofs.Information.{has_text}
 
--- each carrier has at least 60 places in a block
-least : (a b : ℕ) → 60 ≤ a → 60 ≤ b → (first : Bool) → 60 ≤ cond first a b
-least a b l m true = l
-least a b l m false = m
-
-room : (carrier : Carrier) (cfi : ℕ) → 60 ≤ block_places_of carrier cfi
-room OnePort cfi = least 102 90 (omega arith) (omega arith) (nat_eq cfi 2)
-room TwoPorts cfi = least 96 84 (omega arith) (omega arith) (nat_eq cfi 2)
-room LongPrefix cfi = least 78 68 (omega arith) (omega arith) (nat_eq cfi 2)
-room FourPorts cfi = least 92 80 (omega arith) (omega arith) (nat_eq cfi 2)
-
--- so 172 times three coded bits fit six blocks
+-- 172 times three coded bits fit the places of six blocks, which each carrier has
 whole : (carrier : Carrier) (cfi : ℕ) → 3 * (144 + 24 + 4) ≤ 2 * (block_places_of carrier cfi * 6)
-whole carrier cfi = fit _ (room carrier cfi)
+whole carrier cfi = fit _ (are_few carrier cfi).least
   where
-    fit : (places : ℕ) → 60 ≤ places → 3 * (144 + 24 + 4) ≤ 2 * (places * 6)
+    fit : (places : ℕ) → 68 ≤ places → 3 * (144 + 24 + 4) ≤ 2 * (places * 6)
     fit places l = omega (arith, l)
 
 fits : (n : ℕ) → IsSomeAnd (text_of (information n)) (λ text. length text ≤ 144)

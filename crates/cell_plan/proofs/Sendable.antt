@@ -1,5 +1,5 @@
 -- The plans in which no condition fails are those that can be sent.
-use Rattle.std.proofs.Common.{◌≡◌, ◌⊎◌, ℕ, ◌+◌, ◌*◌, ◌≤◌, Bool, true, false, not, ◌&&◌, ◌||◌, nat_eq, nat_le, List, length, Option, Some, None, if◌then◌else◌, cond, refl, arith, le_refl, le_trans, mul-le-mul}
+use Rattle.std.proofs.Common.{◌≡◌, ◌⊎◌, ℕ, ◌+◌, ◌*◌, ◌≤◌, Bool, true, false, not, ◌&&◌, ◌||◌, nat_eq, nat_le, List, length, Option, Some, None, if◌then◌else◌, refl, arith, le_refl, le_trans, mul-le-mul}
 use Rattle.std.specs.Prelude.{is_some, is_none, IsSome, IsSomeAnd, ◌↔◌}
 use Rattle.std.specs.Bool.{Decides}
 use Rattle.std.specs.Option.{option_map_or}
@@ -7,7 +7,7 @@ use Rattle.std.specs.Cmp.{unsigned_Decides}
 use Rattle.std.proofs.lemmas.Bool.{le-leb, leb-true as leb-le, and_from, or_right}
 use Rattle.std.proofs.lemmas.Bool.Decides.{Decides-and, Decides-or}
 use Rattle.lte_types.specs.declared.carrier.Carrier.{Carrier}
-use Rattle.lte_types.specs.declared.carrier.Carrier.TheVariants.{OnePort, TwoPorts, LongPrefix, FourPorts}
+use Rattle.lte_types.specs.declared.carrier.Carrier.TheVariants.{OnePort}
 use Rattle.lte_types.specs.Ranges.{IsValid}
 use Rattle.dci.specs.Sizes.{size_of}
 use Rattle.sib1.specs.Text.{text_of}
@@ -15,7 +15,7 @@ use Rattle.cell_plan.specs.declared.error.CellError.{CellError}
 use Rattle.cell_plan.specs.declared.cell.CellPlan.{CellPlan}
 use Rattle.cell_plan.specs.Conditions.{first_failed}
 use Rattle.cell_plan.specs.Transport.{block_size, coded_count, assigned_bits_of, text_fits, has_block, is_whole_of, is_whole, is_resolvable}
-use Rattle.grid_map.specs.Shared.{block_places_of}
+use Rattle.grid_map.proofs.BlockPlaces.{are_few}
 use Rattle.cell_plan.specs.Plan.{needs_each_bit, IsSendableWith, IsSendable, conditions_with, plan_refusal}
 use Rattle.cell_plan.specs.Laws.{AcceptedAreSendable, OnePortSendsAll}
 use Rattle.cell_plan.proofs.WholeBlocks.{whole_is_resolvable, enough_is_resolvable}
@@ -162,18 +162,8 @@ with_enough Enough Other plan s other = record {
 }
 
 -- no carrier has more room than one port with the normal prefix
-less_by : (a b c d : ℕ) → a ≤ c → b ≤ d → (first : Bool) → cond first a b ≤ cond first c d
-less_by a b c d l m true = l
-less_by a b c d l m false = m
-
-less_room : (carrier : Carrier) (cfi : ℕ) → block_places_of carrier cfi ≤ block_places_of OnePort cfi
-less_room OnePort cfi = le_refl (block_places_of OnePort cfi)
-less_room TwoPorts cfi = less_by 96 84 102 90 (omega arith) (omega arith) (nat_eq cfi 2)
-less_room LongPrefix cfi = less_by 78 68 102 90 (omega arith) (omega arith) (nat_eq cfi 2)
-less_room FourPorts cfi = less_by 92 80 102 90 (omega arith) (omega arith) (nat_eq cfi 2)
-
 less_bits : (carrier : Carrier) (plan : CellPlan) → assigned_bits_of carrier plan ≤ assigned_bits_of OnePort plan
-less_bits carrier plan = doubled _ _ (mul-le-mul (less_room carrier plan.cfi) (le_refl plan.blocks))
+less_bits carrier plan = doubled _ _ (mul-le-mul (are_few carrier plan.cfi).most (le_refl plan.blocks))
   where
     doubled : (a b : ℕ) → a ≤ b → 2 * a ≤ 2 * b
     doubled a b l = omega (arith, l)

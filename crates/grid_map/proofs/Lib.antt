@@ -8,6 +8,7 @@ pub mod Kept
 pub mod Regions
 pub mod LeftOut
 pub mod Symbols
+pub mod BlockPlaces
 pub mod Carried
 pub mod Pieces
 pub mod Indexed

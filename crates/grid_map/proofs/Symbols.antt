@@ -14,7 +14,6 @@ use Rattle.finite.specs.Lists.{values_below}
 use Rattle.finite.proofs.Lists.{values_below_at, values_below-length}
 use Rattle.lte_types.specs.declared.carrier.Carrier.{Carrier}
 use Rattle.lte_types.specs.declared.carrier.Carrier.TheVariants.{OnePort, TwoPorts, LongPrefix, FourPorts}
-use Rattle.lte_types.specs.Carrier.{ports_of}
 use Rattle.crs.specs.Reference.{pattern_of, pattern_first}
 use Rattle.grid_map.specs.declared.Place.{Place}
 use Rattle.grid_map.specs.Place.{place, symbol_places, places_of, is_in_grid, place_number, same_place}
@@ -205,30 +204,6 @@ pdsch_count carrier identity (suc (suc (suc (suc cfi)))) start blocks low high f
 -- a symbol more
 pub rooms_next : (carrier : Carrier) (s last : ℕ) → s < last → block_rooms carrier s (last - s) ≡ block_room carrier s + block_rooms carrier (s + 1) (last - (s + 1))
 rooms_next carrier s last l = let e : last - s ≡ suc (last - (s + 1)) = omega arith in rw e refl
-
--- a block's places are an even number, at most 102, and with several ports at most 96
-pub record AreFew (carrier : Carrier) (places : ℕ) : Type 0 where
-  pub even : (blocks : ℕ) → (places * blocks) % 2 ≡ 0
-  pub few : places ≤ 102
-  pub fewer : 1 < ports_of carrier → places ≤ 96
-
-few_by : (carrier : Carrier) (a b : ℕ) → AreFew carrier a → AreFew carrier b → (first : Bool) → AreFew carrier (cond first a b)
-few_by carrier a b is or true = is
-few_by carrier a b is or false = or
-
-pub are_few : (carrier : Carrier) (cfi : ℕ) → AreFew carrier (block_places_of carrier cfi)
-are_few OnePort cfi = few_by OnePort 102 90
-    (record { even = λ blocks. omega arith; few = omega arith; fewer = λ l. absurd (omega (arith, l)) })
-    (record { even = λ blocks. omega arith; few = omega arith; fewer = λ l. absurd (omega (arith, l)) }) (nat_eq cfi 2)
-are_few TwoPorts cfi = few_by TwoPorts 96 84
-    (record { even = λ blocks. omega arith; few = omega arith; fewer = λ l. omega arith })
-    (record { even = λ blocks. omega arith; few = omega arith; fewer = λ l. omega arith }) (nat_eq cfi 2)
-are_few LongPrefix cfi = few_by LongPrefix 78 68
-    (record { even = λ blocks. omega arith; few = omega arith; fewer = λ l. omega arith })
-    (record { even = λ blocks. omega arith; few = omega arith; fewer = λ l. omega arith }) (nat_eq cfi 2)
-are_few FourPorts cfi = few_by FourPorts 92 80
-    (record { even = λ blocks. omega arith; few = omega arith; fewer = λ l. omega arith })
-    (record { even = λ blocks. omega arith; few = omega arith; fewer = λ l. omega arith }) (nat_eq cfi 2)
 
 -- ---- the search for a point: point i is number `left` of those from a symbol on
 

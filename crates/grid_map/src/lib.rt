@@ -23,7 +23,7 @@ pub use interleaver::{quadruplet, quadruplets_permute};
 pub use laws::control_places;
 pub use long_broadcast::long_places;
 pub use scrambling::{indicator_bit, pbch_c_init, pcfich_c_init, pdcch_c_init, pdsch_c_init};
-pub use shared::{block_places, pdsch, shared_count, shared_order, shared_place};
+pub use shared::{block_places, block_places_are, pdsch, shared_count, shared_order, shared_place};
 
 /// A place of a subframe's grid: a resource element (TS 36.211 section 6.2.2).
 #[derive(Clone, Copy, Debug, PartialEq, Eq)]

@@ -1,8 +1,9 @@
 //! The places of the physical downlink shared channel.
 
 ghost use Rattle.std.specs.Prelude.{◌≡◌, ◌+◌, ◌*◌, ◌/◌, ◌%◌, ◌<◌, ◌≤◌, ◌&&◌, ℕ, IsTrue, length, slice_get};
+ghost use Rattle.std.specs.Prelude.{nat_eq, if◌then◌else◌};
 ghost use Rattle.lte_types.specs.declared.carrier.Carrier.{Carrier};
-ghost use Rattle.lte_types.specs.declared.carrier.Carrier.TheVariants.{OnePort};
+ghost use Rattle.lte_types.specs.declared.carrier.Carrier.TheVariants.{OnePort, TwoPorts, LongPrefix, FourPorts};
 ghost use Rattle.lte_types.specs.Carrier.{ports_of};
 ghost use Rattle.grid_map.specs.Place.{place_number, is_in_grid};
 ghost use Rattle.grid_map.specs.Shared.{is_shared_of, shared_places_of, shared_place_of, block_places_of};
@@ -81,6 +82,17 @@ pub fn block_places(carrier: Carrier, cfi: u8) -> usize
     }
     places
 }
+
+/// Law: how many places a resource block has. No carrier has fewer than 68, and none more than one antenna port with the
+/// normal prefix.
+pub fn block_places_are()
+    ensures one_port { (cfi : ℕ) → block_places_of OnePort cfi ≡ (if nat_eq cfi 2 then 102 else 90) }
+    ensures two_ports { (cfi : ℕ) → block_places_of TwoPorts cfi ≡ (if nat_eq cfi 2 then 96 else 84) }
+    ensures long_prefix { (cfi : ℕ) → block_places_of LongPrefix cfi ≡ (if nat_eq cfi 2 then 78 else 68) }
+    ensures four_ports { (cfi : ℕ) → block_places_of FourPorts cfi ≡ (if nat_eq cfi 2 then 92 else 80) }
+    ensures least { (carrier : Carrier) (cfi : ℕ) → 68 ≤ block_places_of carrier cfi }
+    ensures most { (carrier : Carrier) (cfi : ℕ) → block_places_of carrier cfi ≤ block_places_of OnePort cfi }
+{}
 
 /// How many places the assigned resource blocks have for it: `block_places` each, an even number. Six have at most
 /// 612, and with several antenna ports 576.

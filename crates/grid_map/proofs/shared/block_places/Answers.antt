@@ -1,7 +1,8 @@
 use Rattle.std.proofs.Common.{◌≡◌, ℕ, ◌+◌, ◌-◌, ◌*◌, ◌<◌, subst, arith}
 use Rattle.lte_types.specs.declared.carrier.Carrier.{Carrier}
 use Rattle.grid_map.specs.Shared.{slot_symbols, subframe_symbols, block_room, block_rooms}
-use Rattle.grid_map.proofs.Symbols.{rooms_next, are_few}
+use Rattle.grid_map.proofs.Symbols.{rooms_next}
+use Rattle.grid_map.proofs.BlockPlaces.{at_most}
 use Rattle.grid_map.proofs.shared.block_places.Goals as goal
 
 -- a symbol more is counted
@@ -20,4 +21,4 @@ loop-symbol-preserved c =
 pub overflow_add-places : goal.overflow_add-places
 overflow_add-places c =
     let next = counted c.args.carrier c.loop-symbol.symbol _ _ c.loop-symbol.places _ c.slot_symbols-symbol-end.ensures.value c.block_room-places.ensures.value c.loop-symbol-test.true c.loop-symbol.invariant in
-    omega (arith, next, (are_few c.args.carrier c.args.cfi).few)
+    omega (arith, next, at_most c.args.carrier c.args.cfi)

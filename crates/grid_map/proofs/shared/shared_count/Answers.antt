@@ -1,6 +1,7 @@
 use Rattle.std.proofs.Common.{ℕ, ◌*◌, ◌∙◌, ap, ap₂, sym, arith, le_refl, le_trans, mul-le-mul}
 use Rattle.grid_map.specs.Shared.{block_places_of}
-use Rattle.grid_map.proofs.Symbols.{pdsch_count, are_few}
+use Rattle.grid_map.proofs.Symbols.{pdsch_count}
+use Rattle.grid_map.proofs.BlockPlaces.{are_few}
 use Rattle.grid_map.proofs.shared.shared_count.Goals as goal
 
 pub returns-clause-value : goal.returns-clause-value
