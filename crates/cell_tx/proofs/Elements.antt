@@ -123,10 +123,6 @@ any_in_first TwoPorts identity slot k = refl
 any_in_first LongPrefix identity slot k = refl
 any_in_first FourPorts identity slot k = sym (or_alike _ _ _ _ refl (or-false _))
 
-pub no_second_row : (port : Port) (identity slot k : ℕ) → nat_lt port.number 2 ≡ true → nat_lt 2 (ports_of port.carrier) ≡ false → port_reference_if port identity slot 1 k ≡ None
-no_second_row port identity slot k low few =
-    none_of port identity slot 1 k (rw low (not_in_first port.carrier port.number identity k)) (any_in_first port.carrier identity slot k ∙ rw few refl)
-
 -- ---- the row of ports 0 and 1
 
 module _ (pattern : Pattern) (pilots : List (ℕ × Cpx)) (identity slot symbol k : ℕ) (is : pilots ≡ pattern_list pattern identity slot symbol) where

@@ -20,7 +20,8 @@ abbrev pub mixed_by : Ports → (Port → Cpx) → List Cpx → Cpx
 mixed_by (Alone port) values gains = times (value_at gains 0) (values port)
 mixed_by (All carrier) values gains = mixed carrier values gains
 
--- what is received with these gains fits 16 bits
+-- gains with which what is received fits 16 bits: the power of a port alone is at most 784, and those of all ports are
+-- gains of clean recordings
 abbrev pub AreGainsBy : Ports → List Cpx → Type 0
 AreGainsBy (Alone port) gains = square (value_at gains 0) ≤ 784
 AreGainsBy (All carrier) gains = AreGainsOf carrier gains

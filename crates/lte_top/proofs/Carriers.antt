@@ -1,12 +1,10 @@
 -- The receiver for a carrier, and what its list holds.
-use Rattle.std.proofs.Common.{◌≡◌, ℕ, suc, Option, List, refl, sym, subst, arith}
-use Rattle.std.specs.List.{Contains}
+use Rattle.std.proofs.Common.{◌≡◌, ℕ, Option, List, refl, sym, subst}
 use Rattle.cs_num.specs.declared.Cpx.{Cpx}
 use Rattle.cs_num.specs.declared.Sample.{Sample}
 use Rattle.lte_types.specs.declared.carrier.Carrier.{Carrier}
 use Rattle.lte_types.specs.declared.carrier.Carrier.TheVariants.{OnePort, TwoPorts, LongPrefix, FourPorts}
 use Rattle.lte_types.specs.declared.entry.Entry.{Entry}
-use Rattle.lte_types.specs.Carrier.{carriers}
 use Rattle.lte_types.specs.Timing.{start_of, number_at_start}
 use Rattle.sample_file.specs.Recording.{IsRecording}
 use Rattle.explain.specs.Entries.{IsListFor}
@@ -21,13 +19,6 @@ use Rattle.long_prefix.proofs.HeldLong.{holds_cells as holds_of_long}
 use Rattle.four_ports.proofs.HeldCells.{holds_cells as holds_of_four}
 use Rattle.evidence.specs.Receivers.{receiver_of}
 use Rattle.lte_top.specs.Searching.{IsListOf}
-
--- where a carrier stands among all
-pub place_of : (carrier : Carrier) → Contains carriers carrier
-place_of OnePort = (0, omega arith, refl)
-place_of TwoPorts = (1, omega arith, refl)
-place_of LongPrefix = (2, omega arith, refl)
-place_of FourPorts = (3, omega arith, refl)
 
 -- its receiver is one for it
 pub of_carrier : (carrier : Carrier) → carrier ≡ (receiver_of carrier).carrier

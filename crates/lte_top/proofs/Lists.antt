@@ -21,7 +21,8 @@ use Rattle.lte_words.specs.declared.form.Rule.{Rule}
 use Rattle.lte_words.specs.declared.form.Rule.TheVariants.{Of, Cancel, All}
 use Rattle.lte_top.specs.Line.{as_line, IsLine}
 use Rattle.evidence.specs.Receivers.{receiver_of}
-use Rattle.lte_top.proofs.Carriers.{place_of, list_holds}
+use Rattle.lte_types.proofs.Carriers.{each_stands}
+use Rattle.lte_top.proofs.Carriers.{list_holds}
 use Rattle.lte_top.specs.Searching.{IsListOf, list_text, lists_text, IsListText, IsTextOfAll, IsCancelled, IsSearch}
 
 -- ---- lists
@@ -61,8 +62,8 @@ pub all_text_is : (output : Output) (samples : List Sample) (lists : List (List 
     ((of : Carrier → List Entry) → lists ≡ map of carriers → IfOk r (λ text. string_bytes text ≡ lists_text output of)) → IfOk r (λ text. IsTextOfAll output samples (string_bytes text))
 all_text_is output samples lists r valid listed texts =
     let Is : Carrier → List Entry → Type 0 = λ carrier. IsListFor (receiver_of carrier) samples in
-    let of : Carrier → List Entry = λ carrier. get_or lists (place_of carrier).0 [] in
-    let each : (carrier : Carrier) → Is carrier (of carrier) = λ carrier. let place = place_of carrier in beside Is carriers lists [] place.0 carrier listed place.1 place.2 in
+    let of : Carrier → List Entry = λ carrier. get_or lists (each_stands carrier).0 [] in
+    let each : (carrier : Carrier) → Is carrier (of carrier) = λ carrier. let place = each_stands carrier in beside Is carriers lists [] place.0 carrier listed place.1 place.2 in
     let same : lists ≡ map of carriers = made_of Is of (λ carrier list is. is_one_list (receiver_of carrier) samples list (of carrier) is (each carrier)) carriers lists listed in
     IfOk-weaker r (λ text. string_bytes text ≡ lists_text output of) (λ text. IsTextOfAll output samples (string_bytes text))
     (λ text is. record { lists = of; are_lists = λ carrier. list_holds carrier samples (of carrier) valid (each carrier); text_is = is }) (texts of same)

@@ -1,3 +1,4 @@
 pub mod RoundTrips
 pub mod Timings
 pub mod Same
+pub mod Carriers
