@@ -1,15 +1,15 @@
 -- The reference values, by the bits of the sequence.
-use Rattle.std.proofs.Common.{subst, ap, ℕ, ◌+◌, ◌*◌, ◌<◌, ◌≡◌, Bool, false, ◌&&◌, ◌||◌, ◌%◌, nat_eq, get_or, length, arith, refl, inl, inr, true, All}
+use Rattle.std.proofs.Common.{subst, ap, ℕ, ◌+◌, ◌*◌, ◌<◌, ◌≡◌, Bool, false, ◌&&◌, ◌||◌, ◌%◌, nat_eq, get_or, arith, refl, inl, inr, true, All}
 use Rattle.std.proofs.lemmas.Bool.Decides.{nat_tests}
 use Rattle.cs_num.specs.declared.Cpx.{Cpx}
 use Rattle.gold.specs.Gold.{gold_bit, gold_bits}
 use Rattle.gold.proofs.Bits.{get_or-gold_bits}
 use Rattle.crs.specs.Qpsk.{component, IsFull, IsPoint}
 use Rattle.crs.specs.declared.pattern.Pattern.{Pattern}
-use Rattle.crs.specs.Reference.{port_0, has_pilots, value_by, pattern_c_init, pattern_reference, pattern_pair, pattern_list, reference_c_init, reference, reference_list, reference_pair, first_subcarrier, is_reference, is_second_reference, upper_first, is_upper_reference}
+use Rattle.crs.specs.Reference.{port_0, has_pilots, value_by, pattern_c_init, pattern_reference, pattern_pair, pattern_list, reference_c_init, reference, reference_list, first_subcarrier, is_reference, is_second_reference, upper_first, is_upper_reference}
 use Rattle.cs_num.specs.Complex.{nothing}
 use Rattle.std.specs.List.{range_with_len}
-use Rattle.std.proofs.lemmas.List.FromFn.{length-map-range_with_len, get_or-map-range_with_len}
+use Rattle.std.proofs.lemmas.List.FromFn.{get_or-map-range_with_len}
 use Rattle.std.proofs.lemmas.List.Elements.{All-map}
 
 -- the pair that stands past the end of a list
@@ -58,14 +58,6 @@ reference_list-of_port_0 identity slot symbol = refl
 
 pub reference-IsPoint : (identity slot symbol m : ℕ) → IsPoint (reference identity slot symbol m)
 reference-IsPoint identity slot symbol m = subst IsPoint (reference-of_port_0 identity slot symbol m) (pattern_reference-IsPoint port_0 identity slot symbol m)
-
-pub length-reference_list : (identity slot symbol : ℕ) → length (reference_list identity slot symbol) ≡ 12
-unfolding reference_list
-length-reference_list identity slot symbol = length-map-range_with_len (reference_pair identity slot symbol) 0 12
-
-pub get_or-reference_list : (identity slot symbol m : ℕ) (d : ℕ × Cpx) → m < 12 → get_or (reference_list identity slot symbol) m d ≡ reference_pair identity slot symbol m
-unfolding reference_list
-get_or-reference_list identity slot symbol m d few = get_or-map-range_with_len (reference_pair identity slot symbol) 0 12 m m d few (omega arith)
 
 -- ---- the places of two ports
 

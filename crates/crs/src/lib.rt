@@ -8,7 +8,7 @@ ghost use Rattle.std.specs.Prelude.{All, IsTrue};
 ghost use Rattle.crs.specs.Qpsk.{IsPoint};
 ghost use Rattle.crs.specs.Reference.{IsPattern, pattern_c_init, pattern_first, pattern_list};
 ghost use Rattle.crs.specs.Reference.{value_by, reference, reference_list};
-ghost use Rattle.crs.specs.Reference.{port_0, has_pilots, first_subcarrier, subcarrier, is_reference};
+ghost use Rattle.crs.specs.Reference.{port_0, has_pilots, subcarrier, is_reference};
 ghost use Rattle.crs.specs.Reference.{is_second_reference, reference_at};
 
 mod pattern;
@@ -17,7 +17,7 @@ mod upper;
 
 use cs_num::Cpx;
 use lte_types::CellId;
-pub use pattern::{Pattern, patterns};
+pub use pattern::Pattern;
 pub use qpsk::{POINT_POWER, point};
 pub use upper::{first_of_upper, reference_places_of_upper};
 
@@ -46,7 +46,7 @@ fn value_of(bits: &[bool], m: u8) -> Cpx
 }
 
 /// The first of the subcarriers of a symbol that have reference places by a pattern: each sixth from it on has
-/// one (TS 36.211 section 6.10.1.2). `symbol` is 0 or the pattern's later symbol; of any other it tells the later one's.
+/// one (TS 36.211 section 6.10.1.2). `symbol` is 0 or the pattern's later symbol; any other is taken as the later one.
 #[tactic(auto, using(std::proofs::lemmas::Bool::Decides::nat_tests))]
 pub fn first_of_pattern(pattern: Pattern, id: CellId, symbol: u8) -> u8
     requires { IsPattern pattern }
@@ -62,8 +62,8 @@ pub fn first_of_pattern(pattern: Pattern, id: CellId, symbol: u8) -> u8
 }
 
 /// Subcarriers and values of the reference signals of a symbol by a pattern, in the order of subcarriers.
-/// `slot` is 0 to 19, and `symbol` 0 or the pattern's later symbol; of any other below 7 the values are those of its own
-/// sequence, and the subcarriers the later one's. Each component of a value is 90 or -90.
+/// `slot` is 0 to 19, and `symbol` 0 or the pattern's later symbol; any other has its own values on the subcarriers of
+/// the later one. Each component of a value is 90 or -90.
 pub fn pattern_pilots(pattern: Pattern, id: CellId, slot: u8, symbol: u8) -> [(u8, Cpx); 12]
     requires pattern { IsPattern pattern }
     requires slot { slot < 20 }
@@ -79,16 +79,6 @@ pub fn pattern_pilots(pattern: Pattern, id: CellId, slot: u8, symbol: u8) -> [(u
         pilots[m as usize] = (6 * m + first, value_of(&bits, m));
     }
     pilots
-}
-
-/// The first of the subcarriers of a symbol that have reference places: each sixth from it on has one
-/// (TS 36.211 section 6.10.1.2). `symbol` is 0 or 4.
-#[tactic(auto, unfolding(crate::specs::Reference::first_subcarrier))]
-pub fn first_subcarrier(id: CellId, symbol: u8) -> u8
-    ensures value { result ≡ first_subcarrier id symbol }
-    ensures bound { result < 6 }
-{
-    first_of_pattern(Pattern::FIRST_PORT, id, symbol)
 }
 
 /// Subcarriers and values of the reference signals of a symbol, in the order of subcarriers.

@@ -1,7 +1,7 @@
 //! What reference signals differ in, by antenna port and cyclic prefix.
 
-ghost use Rattle.std.specs.Prelude.{◌≡◌, ◌<◌, [], ◌∷◌};
-ghost use Rattle.crs.specs.Reference.{port_0, port_1, long_prefix, pattern_of};
+ghost use Rattle.std.specs.Prelude.{◌≡◌, ◌<◌};
+ghost use Rattle.crs.specs.Reference.{pattern_of};
 
 use lte_types::Carrier;
 
@@ -24,13 +24,6 @@ impl Pattern {
         prefix: 1,
     };
 
-    /// Port 1 with the normal prefix, the second of two.
-    pub const SECOND_PORT: Pattern = Pattern {
-        later: 4,
-        shift: 3,
-        prefix: 1,
-    };
-
     /// Port 0 with the extended prefix.
     pub const LONG_PREFIX: Pattern = Pattern {
         later: 3,
@@ -50,16 +43,4 @@ impl Pattern {
             prefix: if prefix.is_extended() { 0 } else { 1 },
         }
     }
-}
-
-/// The patterns in use: those of port 0 and of port 1 with the normal prefix, and that of port 0 with the extended
-/// one.
-pub fn patterns() -> [Pattern; 3]
-    ensures { result ≡ port_0 ∷ port_1 ∷ long_prefix ∷ [] }
-{
-    [
-        Pattern::FIRST_PORT,
-        Pattern::SECOND_PORT,
-        Pattern::LONG_PREFIX,
-    ]
 }

@@ -83,8 +83,8 @@ pub fn block_places(carrier: Carrier, cfi: u8) -> usize
     places
 }
 
-/// Law: how many places a resource block has. No carrier has fewer than 68, and none more than one antenna port with the
-/// normal prefix.
+/// Law: how many places a resource block has for the shared channel, with indicator 2 and otherwise. No carrier has
+/// fewer than 68, and none more than one antenna port with the normal prefix.
 pub fn block_places_are()
     ensures one_port { (cfi : ℕ) → block_places_of OnePort cfi ≡ (if nat_eq cfi 2 then 102 else 90) }
     ensures two_ports { (cfi : ℕ) → block_places_of TwoPorts cfi ≡ (if nat_eq cfi 2 then 96 else 84) }

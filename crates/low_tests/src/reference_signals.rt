@@ -55,11 +55,17 @@ fn pilots_of_ports_2_and_3_change_places(rt: HostRuntime) {
 fn ports_of_carriers_have_patterns(rt: HostRuntime) {
     assert!(rt; Pattern::of(Carrier::OnePort, 0) == Pattern::FIRST_PORT);
     assert!(rt; Pattern::of(Carrier::TwoPorts, 0) == Pattern::FIRST_PORT);
-    assert!(rt; Pattern::of(Carrier::TwoPorts, 1) == Pattern::SECOND_PORT);
+    // TS 36.211 section 6.10.1: l is N_symb - 3 = 4, v is 3 in symbol 0, and N_CP is 1.
+    let second = Pattern {
+        later: 4,
+        shift: 3,
+        prefix: 1,
+    };
+    assert!(rt; Pattern::of(Carrier::TwoPorts, 1) == second);
     assert!(rt; Pattern::of(Carrier::LongPrefix, 0) == Pattern::LONG_PREFIX);
     assert!(rt; Pattern::of(Carrier::FourPorts, 0) == Pattern::FIRST_PORT);
-    assert!(rt; Pattern::of(Carrier::FourPorts, 1) == Pattern::SECOND_PORT);
-    // TS 36.211 section 6.10.1: l is N_symb - 3 = 3, v is 3 in symbol 0, and N_CP is 0.
+    assert!(rt; Pattern::of(Carrier::FourPorts, 1) == second);
+    // With the extended prefix l is 3, and N_CP is 0.
     let second_extended = Pattern {
         later: 3,
         shift: 3,
