@@ -1,6 +1,6 @@
 //! The transport block that told the system information of an entry.
 
-ghost use Rattle.std.specs.Prelude.{◌≡◌, ◌+◌, ◌*◌, ◌<◌, ◌≤◌, ◌↔◌, [], IfOk, IsTrue};
+ghost use Rattle.std.specs.Prelude.{◌≡◌, ◌<◌, ◌≤◌, [], IfOk};
 ghost use Rattle.std.specs.Option.{option_map, unwrap_or};
 ghost use Rattle.dci.specs.Format1A.{IsGrant};
 ghost use Rattle.pdsch.specs.Values.{shared_values_by};
@@ -8,13 +8,12 @@ ghost use Rattle.system_block.specs.Subframe.{subframe_by};
 ghost use Rattle.system_block.specs.Block.{IsBlock};
 ghost use Rattle.explain.specs.Frame.{IsWhole};
 ghost use Rattle.explain.specs.Receiver.{subframes_by};
-ghost use Rattle.explain.specs.System.{even_frame as even_frame_of};
 ghost use Rattle.evidence.specs.Blocks.{IsBlockAt, IsBlockRead, IsSystemBlock};
 
 use crate::receivers::block_by;
 use dci::Grant;
-use explain::slot_of;
-use lte_types::{Carrier, CellPlace, Cfi, Entry, FRAME_LENGTH, Mib, Sfn};
+use explain::{even_frame, is_whole, slot_of};
+use lte_types::{Carrier, CellPlace, Cfi, Entry, Mib, Sfn};
 use pdsch::MOST_VALUES;
 use sample_file::Recording;
 use soft_bits::ReadSlot;
@@ -125,19 +124,4 @@ fn block_granted<S: ReadSlot>(
     let mut values = [0; MOST_VALUES];
     let count = pdsch::values(first, second, cfi, &grant, &mut values);
     block_of(&values[..count], &grant, turbo)
-}
-
-// Number i of the frames of even number, by its number from the first frame on.
-fn even_frame(sfn: Sfn, i: u8) -> u8
-    requires { i < 8 }
-    ensures { result ≡ even_frame_of sfn i }
-{
-    (sfn.value() % 2) as u8 + 2 * i
-}
-
-// Whether frame `j` of a cell lies within the recording.
-fn is_whole(recording: &Recording, place: CellPlace, j: u8) -> bool
-    ensures { IsTrue result ↔ IsWhole recording.now place.start j }
-{
-    place.start() as usize + FRAME_LENGTH * (j as usize + 1) <= recording.len()
 }

@@ -13,8 +13,8 @@ ghost use Rattle.evidence.specs.Evidence.{HasFraction, numbers_by};
 use crate::SlotShown;
 use crate::noise::noise_of;
 use crate::receivers::shown_in;
-use explain::Reading;
-use lte_types::{Carrier, CellPlace, Entry, Evidence, Hit};
+use explain::{Reading, place_in};
+use lte_types::{Carrier, Entry, Evidence, Hit};
 use pbch::total_of;
 use pss_search::signal_power;
 use sample_file::Recording;
@@ -41,14 +41,14 @@ pub fn evidence_of_list(
 {
     let mut list = Vec::with_capacity(alloc, entries.len())?;
     for (i, entry) in entries.iter().enumerate() {
-        let (numbers, _slot) = told_of(recording, carrier, entry, &readings[i]);
+        let (numbers, _slot) = numbers_and_slot(recording, carrier, entry, &readings[i]);
         list.push(numbers)?;
     }
     Ok(list)
 }
 
 // The numbers of an entry, and what its slot shows.
-pub(crate) fn told_of(
+pub(crate) fn numbers_and_slot(
     recording: &Recording,
     carrier: Carrier,
     entry: &Entry,
@@ -86,17 +86,6 @@ fn numbers_of(entry: &Entry, reading: &Reading, slot: &SlotShown) -> Evidence
         phase: entry.phase,
         power: slot.power(),
         noise: noise_of(slot.differences()),
-    }
-}
-
-// The place of the cell of an entry, whose start lies within the samples of a frame.
-pub(crate) fn place_in(entry: &Entry) -> CellPlace
-    requires { entry.now.start < 19200 }
-    ensures { result ≡ place_of entry.now }
-{
-    match CellPlace::new(entry.id, entry.start) {
-        Some(place) => place,
-        None => unreachable!(),
     }
 }
 

@@ -10,8 +10,8 @@ ghost use Rattle.evidence.specs.Evidence.{shown_in as shown_in_of};
 
 use crate::SlotShown;
 use crate::blocks::first_block;
-use crate::listing::place_in;
 use crate::slot::{shown_of, shown_of_long};
+use explain::place_in;
 use four_ports::FourPorts;
 use lte_types::{Carrier, CellPlace, Entry};
 use sample_file::Recording;

@@ -11,7 +11,7 @@ ghost use Rattle.evidence.specs.Shown.{Shown, IsShownFor};
 
 use crate::SlotShown;
 use crate::blocks::system_block;
-use crate::listing::told_of;
+use crate::listing::numbers_and_slot;
 use cs_bits::Bits;
 use explain::Reading;
 use lte_types::{Carrier, Entry, Evidence, Mib};
@@ -132,7 +132,7 @@ fn support_of(
     ensures { IfOk result (IsShownFor receiver recording.now entry.now) }
 {
     let block = system_block(alloc, recording, carrier, entry, work)?;
-    let (numbers, slot) = told_of(recording, carrier, entry, reading);
+    let (numbers, slot) = numbers_and_slot(recording, carrier, entry, reading);
     Ok(Support {
         numbers,
         slot,

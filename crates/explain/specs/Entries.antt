@@ -23,9 +23,6 @@ use Rattle.explain.specs.Window.{AreFirstFrames}
 abbrev pub place_at : List Sample → Hit → Place
 place_at = place_by OnePort
 
-abbrev pub start_at : List Sample → Hit → ℕ
-start_at recording hit = (place_at recording hit).start
-
 -- the place of an entry's cell, and the frames that tell its master block
 abbrev pub place_of : Entry → Place
 place_of entry = record { id = entry.id; start = entry.start }
@@ -70,10 +67,6 @@ abbrev pub IsEntryFor : Receiver → List Sample → Hit → Entry → Type 0
 IsEntryFor receiver recording hit =
     IsEntryAt (IsMasterFor receiver recording) (IsSystemFor receiver recording) recording
     (place_by receiver.carrier recording hit)
-
--- frames tell this master block by one antenna port
-abbrev pub IsMasterAt : List Sample → Telling
-IsMasterAt = IsMasterFor one_port_receiver
 
 abbrev pub IsEntryOf : List Sample → Hit → Entry → Type 0
 IsEntryOf = IsEntryFor one_port_receiver

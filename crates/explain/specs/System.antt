@@ -91,7 +91,3 @@ IsSystemWith carrier (Err reason) recording place sfn ports mib sib1 = sib1 ≡ 
 -- count of antenna ports and its master block
 abbrev pub IsSystemFor : Receiver → List Sample → Informing
 IsSystemFor receiver = IsSystemWith receiver.carrier receiver.subframe
-
--- what is told of the system information of the cell at a place, by one antenna port
-abbrev pub IsSystemOf : List Sample → Informing
-IsSystemOf = IsSystemFor one_port_receiver

@@ -1,21 +1,19 @@
 //! The list of the cells of a recording.
 
-ghost use Rattle.std.specs.Prelude.{◌≡◌, All, IfOk};
+ghost use Rattle.std.specs.Prelude.{◌≡◌, ◌<◌, All, IfOk};
 ghost use Rattle.std.specs.List.{AllZip};
 ghost use Rattle.finite.specs.Sizes.{RowsWithin};
 ghost use Rattle.lte_types.specs.Ranges.{IsValid};
-ghost use Rattle.pss_search.specs.Hits.{IsInSpan};
 ghost use Rattle.pbch.specs.Master.{TellsMaster};
 ghost use Rattle.explain.specs.Readings.{IsReading};
-ghost use Rattle.explain.specs.Entries.{IsExplained, IsInList, master_of, place_at};
+ghost use Rattle.explain.specs.Entries.{IsExplained, IsInList, master_of};
 ghost use Rattle.explain.specs.Entries.{place_of as place_of_entry, values_of_entry};
 
 use crate::frame::broadcast_slot;
-use crate::hit_list::place_told;
 use crate::one_port::OnePort;
 use crate::{EntryList, Workspace, explain_by};
 use arrayvec::ArrayVec;
-use lte_types::{Carrier, CellPlace, Entry, Hit};
+use lte_types::{CellPlace, Entry};
 use pbch::{Received, received, sums_of};
 use sample_file::Recording;
 
@@ -46,7 +44,7 @@ pub fn values_of(recording: &Recording, entry: &Entry) -> [[i32; 3]; 40]
     ensures master { TellsMaster result (master_of entry.now) }
     ensures sizes { RowsWithin 2032 result }
 {
-    let place = place_in(recording, entry);
+    let place = place_in(entry);
     let mut frames = ArrayVec::<Received, 4>::new();
     for m in 0..entry.frames {
         frames.push(received(&broadcast_slot(recording, place, entry.frame + m)));
@@ -54,21 +52,13 @@ pub fn values_of(recording: &Recording, entry: &Entry) -> [[i32; 3]; 40]
     sums_of(entry.id, 480 * entry.phase as usize, frames.as_slice())
 }
 
-/// The place of the cell of an entry, which is in the recording's list.
-pub fn place_in(recording: &Recording, entry: &Entry) -> CellPlace
-    requires { IsInList recording.now entry.now }
+/// The place of the cell of an entry, whose start lies within the samples of a frame.
+pub fn place_in(entry: &Entry) -> CellPlace
+    requires { entry.now.start < 19200 }
     ensures { result ≡ place_of_entry entry.now }
 {
     match CellPlace::new(entry.id, entry.start) {
         Some(place) => place,
         None => unreachable!(),
     }
-}
-
-/// The place that a hit tells: the identity of its cell, and the sample at which its first frame starts.
-pub fn place_of(recording: &Recording, hit: &Hit) -> CellPlace
-    requires { IsInSpan hit.now }
-    ensures { result ≡ place_at recording.now hit.now }
-{
-    place_told(recording, hit, Carrier::OnePort)
 }

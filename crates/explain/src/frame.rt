@@ -15,7 +15,7 @@ use sample_file::Recording;
 use soft_bits::Slot;
 
 /// Whether frame `j` of a cell lies within the recording.
-pub(crate) fn is_whole(recording: &Recording, place: CellPlace, j: u8) -> bool
+pub fn is_whole(recording: &Recording, place: CellPlace, j: u8) -> bool
     ensures { IsTrue result ↔ IsWhole recording.now place.start j }
 {
     place.start() as usize + FRAME_LENGTH * (j as usize + 1) <= recording.len()

@@ -22,7 +22,7 @@ pub fn grant_of(recording: &Recording, entry: &Entry, work: &mut Workspace) -> O
     ensures none { IsNone result ↔ IsErr entry.now.sib1 }
     ensures readings { work.new ≡ work.old }
 {
-    let place = place_in(recording, entry);
+    let place = place_in(entry);
     let master = master_in(entry);
     system_in::<Slot>(
         recording,

@@ -1,9 +1,16 @@
 //! Laws of the list.
 
+ghost use Rattle.std.specs.Prelude.{◌≡◌};
 ghost use Rattle.explain.specs.Laws.{IsOneList, IsSound, IsComplete, IsApart, IsNeverLong};
 ghost use Rattle.explain.specs.Laws.{OneFrameTells, OneFrameAlone, OneFrameIsListed};
-ghost use Rattle.explain.specs.Deciding.{FirstFramesDecide, FirstFramesDecideAll};
+ghost use Rattle.explain.specs.Deciding.{deciding_length, FirstFramesDecide, FirstFramesDecideAll};
+ghost use Rattle.explain.specs.declared.laws.TheConstants.{DECIDING_SAMPLES};
 ghost use Rattle.explain.specs.Readings.{IsOneReading};
+
+use lte_types::FRAME_LENGTH;
+
+/// The samples of 17 frames: a list looks at no later ones. (own)
+pub const DECIDING_SAMPLES: usize = 17 * FRAME_LENGTH;
 
 /// The list of a recording by any receiver in plain words: there is only one; each of its entries is one of some
 /// hit; for each entry of each hit it has that entry or one of the same cell; and no two of it are of
@@ -21,6 +28,7 @@ pub fn the_list_in_plain_words()
 /// recording may be cut there, and nothing of its list is lost. So it is by any receiver that looks at the first 16
 /// frames of a cell alone (`all`). (own)
 pub fn the_first_frames_decide()
+    ensures samples { DECIDING_SAMPLES ≡ deciding_length }
     ensures one_port { FirstFramesDecide }
     ensures all { FirstFramesDecideAll }
 {}

@@ -22,17 +22,18 @@ mod slots;
 mod system;
 mod workspace;
 
-pub use cells::{explain, place_in, place_of, values_of};
+pub use cells::{explain, place_in, values_of};
 pub use entry_list::EntryList;
-pub use frame::broadcast_slot;
+pub use frame::{broadcast_slot, is_whole};
 pub use frame_reader::FrameReader;
 pub use grant::{grant_of, one_grant};
 pub use laws::{
-    one_frame_is_enough, one_reading, the_first_frames_decide, the_list_in_plain_words,
+    DECIDING_SAMPLES, one_frame_is_enough, one_reading, the_first_frames_decide,
+    the_list_in_plain_words,
 };
 pub use one_port::OnePort;
 pub use reading::{explain_by, explain_hits};
 pub use readings::Reading;
 pub use slots::{received_in, slot_of};
-pub use system::{Informed, system_in};
+pub use system::{Informed, even_frame, system_in};
 pub use workspace::Workspace;

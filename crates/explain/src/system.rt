@@ -108,8 +108,8 @@ fn informed_by(attempt: Attempt) -> Informed
     }
 }
 
-// Number i of the frames of even number, by its number from the first frame on.
-fn even_frame(sfn: Sfn, i: u8) -> u8
+/// Number `i`, 0 to 7, of a cell's frames of even number, counted from its first frame, whose number is `sfn`.
+pub fn even_frame(sfn: Sfn, i: u8) -> u8
     requires { i < 8 }
     ensures value { result ≡ even_frame_of sfn i }
     ensures few { result < 16 }

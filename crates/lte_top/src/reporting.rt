@@ -19,7 +19,8 @@ use crate::searching::{read_list, room_for_list, search_text};
 use crate::status::Status;
 use cs_outside::Source;
 use evidence::{evidence_of_list, support_of_list};
-use lte_types::{Carrier, FRAME_LENGTH, Half, Hit, LEAST_SAMPLES, MOST_SAMPLES};
+use explain::DECIDING_SAMPLES;
+use lte_types::{Carrier, Half, Hit, LEAST_SAMPLES, MOST_SAMPLES};
 use lte_words::{Output, Report, Rule};
 use pss_search::{HitList, hits};
 use report::{
@@ -29,9 +30,6 @@ use report::{
 use sample_file::{Recording, SampleForm, read_as, read_front};
 use sss_detect::{cell_id, frame_start, identity};
 use std::alloc::{AllocError, Global};
-
-// The samples of 17 frames, at which lists look.
-const DECIDING: usize = 17 * FRAME_LENGTH;
 
 // The text of a report about the recording of a source, which is read to its end.
 #[inline(never)]
@@ -74,9 +72,9 @@ fn kept_for_list(rule: Rule) -> usize
     ensures few { result ≤ most_samples }
 {
     match rule {
-        Rule::Of(_) => DECIDING,
+        Rule::Of(_) => DECIDING_SAMPLES,
         Rule::Cancel => MOST_SAMPLES,
-        Rule::All => DECIDING,
+        Rule::All => DECIDING_SAMPLES,
     }
 }
 

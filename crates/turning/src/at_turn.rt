@@ -10,16 +10,14 @@ ghost use Rattle.turning.specs.Steps.{IsCentred};
 
 use crate::table::w_at;
 use cs_num::{Cpx, Sample};
-use lte_types::{FRAME_LENGTH, LEAST_SAMPLES};
+use explain::DECIDING_SAMPLES;
+use lte_types::LEAST_SAMPLES;
 use sample_file::Recording;
 use std::alloc::{AllocError, Global};
 use std::marker::Model;
 
 // How many samples are looked at for the hits of a recording.
 const LOOKED_AT: usize = 19_473;
-
-// The samples of 17 frames, at which lists look.
-const DECIDING: usize = 17 * FRAME_LENGTH;
 
 // A recording turned, whose samples are made where they are asked for. Contracts see it as their list.
 #[derive(Drop)]
@@ -85,7 +83,7 @@ impl<'a> Turned<'a> {
     pub(crate) fn front(&self, alloc: Global) -> Result<Recording, AllocError>
         ensures { IfOk result (λ front. front ≡ take deciding_length self.now) }
     {
-        let count = self.len().min(DECIDING);
+        let count = self.len().min(DECIDING_SAMPLES);
         self.with_first(alloc, count, count)
     }
 

@@ -14,13 +14,13 @@ returns-then-not-is_whole g c =
     let whole = tried.whole in
     let j : even_frame c.args.sfn i < even_frame c.args.sfn c.loop-i.i =
     whole_before r c.args.place.start (even_frame c.args.sfn i) (even_frame c.args.sfn c.loop-i.i)
-    (λ w. c.if-not-is_whole.ensures.1 (subst (IsWhole r c.args.place.start) (sym c.even_frame-j.ensures) w)) whole in
+    (λ w. c.if-not-is_whole.ensures.1 (subst (IsWhole r c.args.place.start) (sym c.even_frame-j.ensures.value) w)) whole in
     c.loop-i.invariant i (omega (arith, j)))
 
 pub loop-i-preserved : goal.loop-i-preserved
 loop-i-preserved g c =
     none_so_far _ (λ j. subframes_by g.S.ReadSlot.carrier g.S.ReadSlot.values_by c.args.recording.now c.args.place j c.args.mib.duration c.args.mib.resource)
-    c.args.recording.now c.args.place.start c.args.sfn c.loop-i.i c.even_frame-j.result c.block_at-found.result c.even_frame-j.ensures (sym c.if-is_some.ensures) c.block_at-found.ensures c.loop-i.invariant
+    c.args.recording.now c.args.place.start c.args.sfn c.loop-i.i c.even_frame-j.result c.block_at-found.result c.even_frame-j.ensures.value (sym c.if-is_some.ensures) c.block_at-found.ensures c.loop-i.invariant
 
 pub returns : goal.returns
 returns g c =

@@ -16,8 +16,8 @@ bounds-readings-i g c =
     let inside = c.loop-i-test.true in
     omega (arith, long, inside)
 
-pub told_of-numbers-requires : goal.told_of-numbers-requires
-told_of-numbers-requires g c = (
+pub numbers_and_slot-numbers-requires : goal.numbers_and_slot-numbers-requires
+numbers_and_slot-numbers-requires g c = (
   c.requires.0,
   (
     is_sound g.receiver c.args.recording.now c.args.entries.now _ c.requires.1.0 (c.loop-i.i, c.loop-i-test.true, sym c.index-entries-i.is),
@@ -29,7 +29,7 @@ pub loop-i-preserved : goal.loop-i-preserved
 loop-i-preserved g c =
     let items = sym c.in_ok-push.ensures.items in
     let before = c.loop-i.invariant in
-    let one = c.told_of-numbers.ensures in
+    let one = c.numbers_and_slot-numbers.ensures in
     record {
       each = subst (λ list. AllZip (IsEvidenceFor g.receiver c.args.recording.now) (take (c.loop-i.i + 1) c.args.entries.now) list) items
           (each_more (IsEvidenceFor g.receiver c.args.recording.now) _ _ _ _ _ c.loop-i-test.true c.index-entries-i.is before.each one.evidence);

@@ -10,5 +10,5 @@ invariant-loop-i g l = record {
   ranges : All IsInRange l.list.items;
 }
 
-abbrev pub ghost-told_of : goal.ghost-told_of
-ghost-told_of g a = g.receiver
+abbrev pub ghost-numbers_and_slot : goal.ghost-numbers_and_slot
+ghost-numbers_and_slot g a = g.receiver

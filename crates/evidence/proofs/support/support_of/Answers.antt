@@ -9,8 +9,8 @@ system_block-requires g c = starts_early g.receiver c.args.recording.now c.args.
 
 pub returns : goal.returns
 returns g c = record {
-  numbers = c.told_of-numbers.ensures.evidence;
-  slot = c.told_of-numbers.ensures.slot;
+  numbers = c.numbers_and_slot-numbers.ensures.evidence;
+  slot = c.numbers_and_slot-numbers.ensures.slot;
   master = refl;
   block = subst (λ (k : Carrier). IsSystemBlock k c.args.recording.now c.args.entry.now c.in_ok-block.block.items) c.requires.0 c.in_ok-block.ensures;
 }

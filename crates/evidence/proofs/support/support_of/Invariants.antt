@@ -1,4 +1,4 @@
 use Rattle.evidence.proofs.support.support_of.Given as goal
 
-abbrev pub ghost-told_of : goal.ghost-told_of
-ghost-told_of g a = g.receiver
+abbrev pub ghost-numbers_and_slot : goal.ghost-numbers_and_slot
+ghost-numbers_and_slot g a = g.receiver

@@ -9,7 +9,11 @@ use Rattle.explain.specs.Frame.{IsWhole, broadcast_slot}
 use Rattle.explain.specs.Receiver.{one_port_receiver}
 use Rattle.explain.specs.Entries.{master_of}
 use Rattle.explain.proofs.Listed.{is_sound}
+use Rattle.explain.proofs.Valid.{starts_early}
 use Rattle.explain.proofs.cells.values_of.Goals as goal
+
+pub place_in-place-requires : goal.place_in-place-requires
+place_in-place-requires c = starts_early c.args.recording.now c.args.entry.now c.requires
 
 pub overflow_add-entry : goal.overflow_add-entry
 overflow_add-entry c =

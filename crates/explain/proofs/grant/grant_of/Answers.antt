@@ -1,5 +1,9 @@
+use Rattle.explain.proofs.Valid.{starts_early}
 use Rattle.explain.proofs.Granted.{grant_told, none_told}
 use Rattle.explain.proofs.grant.grant_of.Goals as goal
+
+pub place_in-place-requires : goal.place_in-place-requires
+place_in-place-requires c = starts_early c.args.recording.now c.args.entry.now c.requires
 
 pub returns-clause-grant : goal.returns-clause-grant
 returns-clause-grant c =

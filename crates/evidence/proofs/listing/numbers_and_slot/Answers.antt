@@ -6,7 +6,7 @@ use Rattle.explain.specs.Frame.{IsWhole}
 use Rattle.evidence.specs.Evidence.{shown_in, IsEvidenceFor, IsInRange}
 use Rattle.evidence.proofs.Early.{starts_early, first_is_whole}
 use Rattle.evidence.proofs.Numbers.{has_fraction, are_numbers, are_in_range}
-use Rattle.evidence.proofs.listing.told_of.Goals as goal
+use Rattle.evidence.proofs.listing.numbers_and_slot.Goals as goal
 
 pub place_in-requires : goal.place_in-requires
 place_in-requires g c = starts_early g.receiver c.args.recording.now c.args.entry.now c.requires.1.0
