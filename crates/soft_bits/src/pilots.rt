@@ -120,12 +120,25 @@ fn values_of(seen: &Seen, layout: &Layout) -> [Cpx; 24]
     ensures small { All (IsWithin (180 * 2 ^ 25)) result }
 {
     let early = pattern_pilots(layout.pattern, seen.id, seen.number, layout.early);
-    let late = pattern_pilots(layout.pattern, seen.id, seen.number, layout.late);
+    let late = late_of(seen, layout, &early);
     let mut values = [Cpx::ZERO; 24];
     for i in 0..layout.last + 1 {
         values[i as usize] = pilot_of(seen, layout, &early, &late, i);
     }
     values
+}
+
+// What is sent in the later symbol of a layout, which ports 2 and 3 do not have: their one symbol is both.
+fn late_of(seen: &Seen, layout: &Layout, early: &[(u8, Cpx); 12]) -> [(u8, Cpx); 12]
+    requires valid { IsLayout layout.now }
+    requires early { early.now ≡ pattern_list layout.now.pattern seen.now.id seen.now.number layout.now.early }
+    ensures { result ≡ pattern_list layout.now.pattern seen.now.id seen.now.number layout.now.late }
+{
+    if layout.late == layout.early {
+        *early
+    } else {
+        pattern_pilots(layout.pattern, seen.id, seen.number, layout.late)
+    }
 }
 
 // Pilot i, by the values of both symbols.
