@@ -13,7 +13,7 @@ use Rattle.lte_types.specs.declared.sib1_reason.Sib1Reason.{Sib1Reason}
 use Rattle.lte_types.specs.declared.sib1_reason.Sib1Reason.TheVariants.{NotOnePort, Bandwidth as OtherWidth}
 use Rattle.system_block.specs.Attempt.{Reads}
 use Rattle.explain.specs.Frame.{IsWhole}
-use Rattle.explain.specs.Receiver.{Receiver, Subframes, one_port_receiver}
+use Rattle.explain.specs.Receiver.{Receiver, Subframes}
 use Rattle.explain.specs.Told.{Answering, Informing}
 
 -- ---- the frames that are tried. `Answers` says what a frame answers, by its place after the first

@@ -62,9 +62,6 @@ pattern_channel pattern slot k = estimate (pattern_pilot pattern slot) (slot.ide
 abbrev pub pilot_symbol : ℕ → ℕ → ℕ
 pilot_symbol = pattern_symbol port_0
 
-abbrev pub pilot_seen : SeenSlot → ℕ → Cpx
-pilot_seen = pattern_seen port_0
-
 abbrev pub pilot_sent : ℕ → ℕ → ℕ → Cpx
 pilot_sent = pattern_sent port_0
 

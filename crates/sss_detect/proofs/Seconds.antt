@@ -30,9 +30,6 @@ pub record IsNext (f : ℕ → ℤ) (count taken next : ℕ) : Type 0 where
 before_or_last : (k n : ℕ) → k < n + 1 → (k < n) ⊎ (k ≡ n)
 before_or_last k n l = grind arith
 
-same_or_other : (k n : ℕ) → (k ≡ n) ⊎ (k ≢ n)
-same_or_other k n = grind arith
-
 -- one more place
 top_kept : (f : ℕ → ℤ) (n top : ℕ) → IsTop f n top → f n ≤ℤ f top → IsTop f (n + 1) top
 top_kept f n top p l = record { inside = omega (arith, p.inside); greatest = λ k b. at k (before_or_last k n b); first = p.first }

@@ -104,12 +104,9 @@ IsEarlyEnd count bytes p = (p ≡ length bytes) × (p < count)
 abbrev pub BreaksUpTo : ℕ → List ℕ → ℕ → Type 0
 BreaksUpTo count bytes p = IsOffMark bytes p ⊎ IsLargeValue bytes p ⊎ IsEarlyEnd count bytes p
 
--- the form of a whole certificate is broken at this place, and that of the bytes up to its set
+-- the form of a whole certificate is broken at this place
 abbrev pub Breaks : List ℕ → ℕ → Type 0
 Breaks bytes p = BreaksUpTo (count_of bytes) bytes p
-
-abbrev pub BreaksHead : List ℕ → ℕ → Type 0
-BreaksHead bytes p = BreaksUpTo head_count bytes p
 
 -- the form of a certificate's first bytes, as many as the count says, is nowhere broken
 abbrev pub IsUnbrokenUpTo : ℕ → List ℕ → Type 0
