@@ -54,7 +54,7 @@ use Rattle.budget.proofs.Peaks.{primary_is_listed_within, only_hit_of_root_withi
 use Rattle.budget.proofs.Scores.{sent_pair_is_identified_through}
 use Rattle.clean_air.specs.Broadcast.{TellsFreely}
 use Rattle.clean_air.specs.Carried.{SpeakOfWord}
-use Rattle.clean_air.specs.Clean.{told_of, IsKnownPlan, IsKnownBy, HoldsCellBy, HoldsFaithfulBy, HoldsBy, HoldsCleanBy, IsListBy, HoldsCells}
+use Rattle.clean_air.specs.Clean.{system_of_carrier, IsKnownPlan, IsKnownBy, HoldsCellBy, HoldsFaithfulBy, HoldsBy, HoldsCleanBy, IsListBy, HoldsCells}
 use Rattle.clean_air.specs.Faithful.{IsFaithfulBy}
 use Rattle.clean_air.specs.Through.{ShowsSignals, IsCellThrough, is_seen_through, IsSeenThroughBy}
 use Rattle.clean_air.proofs.Carrying.{sent_elements_carry}
@@ -83,7 +83,7 @@ pub record IsShown (receiver : Receiver) (recording : List Sample) (plan : CellP
   pub speaks : SpeakOfWord (pbch_c_init plan.identity) (receiver.count * (number % 4)) word (receiver.broadcast recording (sent_place plan.identity offset) 0)
   pub single : 1 ≤ receiver.most_frames
   pub taken : receiver.takes (ports_of receiver.carrier) ≡ true
-  pub system : IsSystemFor receiver recording (sent_place plan.identity offset) number (ports_of receiver.carrier) (sent_mib plan range number) (told_of receiver.carrier plan.sib1)
+  pub system : IsSystemFor receiver recording (sent_place plan.identity offset) number (ports_of receiver.carrier) (sent_mib plan range number) (system_of_carrier receiver.carrier plan.sib1)
 
 -- what can be told of a plan is in its ranges
 pub plan_known : (carrier : Carrier) (plan : CellPlan) → IsKnownBy carrier plan → IsKnownPlan plan
@@ -147,7 +147,7 @@ module _ (receiver : Receiver) (recording : List Sample) (plan : CellPlan) (sfn 
   count = ports_of receiver.carrier
 
   abbrev told : Result Sib1 Sib1Reason
-  told = told_of receiver.carrier plan.sib1
+  told = system_of_carrier receiver.carrier plan.sib1
 
   abbrev prefix : Prefix
   prefix = prefix_of receiver.carrier

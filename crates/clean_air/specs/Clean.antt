@@ -39,8 +39,8 @@ abbrev pub IsKnownBy : Carrier → CellPlan → Type 0
 IsKnownBy carrier plan = MatchBool (has_control_by carrier) (IsSendableBy carrier plan) (IsKnownPlan plan)
 
 -- what is told of the system information of a carrier's cell: it is read with the normal prefix, of one or two ports
-abbrev pub told_of : Carrier → Sib1 → Result Sib1 Sib1Reason
-told_of carrier sib1 =
+abbrev pub system_of_carrier : Carrier → Sib1 → Result Sib1 Sib1Reason
+system_of_carrier carrier sib1 =
     if is_extended (prefix_of carrier) then Err IsLong
     else (if nat_lt 2 (ports_of carrier) then Err (NotOnePort (ports_of carrier)) else Ok sib1)
 
@@ -74,7 +74,7 @@ pub record IsSentEntryBy (count : ℕ) (lasting : Duration) (share : Resource) (
 -- the entry is as a plan was sent by a carrier
 abbrev pub IsSentEntryOf : Carrier → CellPlan → ℕ → Entry → Type 0
 IsSentEntryOf carrier plan number =
-    IsSentEntryBy (ports_of carrier) plan.duration plan.resource plan.spare (told_of carrier plan.sib1) number
+    IsSentEntryBy (ports_of carrier) plan.duration plan.resource plan.spare (system_of_carrier carrier plan.sib1) number
 
 -- the list holds the cell of a carrier of which a frame begins at this sample with this number
 abbrev pub HoldsCellBy : Carrier → List Entry → CellPlan → ℕ → ℕ → Type 0

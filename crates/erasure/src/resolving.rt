@@ -96,7 +96,7 @@ fn front_of<'a>(marks: &'a Marks, row: &Row) -> &'a [bool]
 }
 
 /// The bits that the first decoder finds.
-fn first_of(counts: &Counts, row: &Row, known: &Marks) -> Marks
+fn first_marks(counts: &Counts, row: &Row, known: &Marks) -> Marks
     requires row { IsRow row.now }
     ensures found { (k : ℕ) → k < row.now.k → slice_index_or result k false ≡
         first_found row.now (above_zero counts.now) (bit_at known.now) k }
@@ -124,7 +124,7 @@ fn second_in_order_of(counts: &Counts, row: &Row, known: &Marks) -> Marks
 }
 
 /// The bits that the second decoder finds.
-fn second_of(counts: &Counts, row: &Row, known: &Marks) -> Marks
+fn second_marks(counts: &Counts, row: &Row, known: &Marks) -> Marks
     requires row { IsRow row.now }
     ensures found { (k : ℕ) → k < row.now.k → slice_index_or result k false ≡
         second_found row.now (above_zero counts.now) (bit_at known.now) k }
@@ -185,8 +185,8 @@ fn resolves(bits: &[bool], row: &Row, counts: &Counts) -> bool
 {
     let mut known = [false; 1024];
     for _ in 0..ITERATIONS {
-        let first = first_of(counts, row, &known);
-        let second = second_of(counts, row, &first);
+        let first = first_marks(counts, row, &known);
+        let second = second_marks(counts, row, &first);
         let settled = settled_of(counts, row, &first, &second);
         if are_all(front_of(&settled, row)) {
             return true;

@@ -59,7 +59,7 @@ pub(crate) fn first_masters<F: FrameReader>(
         None => {}
     }
     for count in 2..most + 1 {
-        match first_of(reader, &cell, count, frames.as_slice(), work) {
+        match first_together(reader, &cell, count, frames.as_slice(), work) {
             Some(found) => return Some(found),
             None => {}
         }
@@ -108,7 +108,7 @@ fn first_alone<F: FrameReader>(
 }
 
 // The first `count` of the first frames that have a master block together, by what was received of all of these.
-fn first_of<F: FrameReader>(
+fn first_together<F: FrameReader>(
     reader: &F,
     cell: &ScrambledCell,
     count: u8,

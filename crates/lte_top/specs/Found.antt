@@ -7,7 +7,7 @@ use Rattle.lte_types.specs.declared.carrier.Carrier.{Carrier}
 use Rattle.lte_types.specs.Carrier.{ports_of}
 use Rattle.lte_types.specs.Codes.{duration_word, resource_word}
 use Rattle.lte_types.specs.Timing.{start_of, number_at_start}
-use Rattle.clean_air.specs.Clean.{told_of}
+use Rattle.clean_air.specs.Clean.{system_of_carrier}
 use Rattle.cell_plan.specs.declared.cell.CellPlan.{CellPlan}
 use Rattle.cell_plan.specs.declared.emission.Emission.{Emission}
 use Rattle.cell_plan.specs.Gains.{ArePairedBy}
@@ -33,7 +33,7 @@ sent_line carrier plan first number =
 -- antenna ports
 abbrev pub sent_lines : Carrier → CellPlan → ℕ → ℕ → List ℕ
 sent_lines carrier plan first number =
-    sent_line carrier plan first number ++ system_lines (told_of carrier plan.sib1)
+    sent_line carrier plan first number ++ system_lines (system_of_carrier carrier plan.sib1)
 
 -- the described cell is in the samples without an error, and its lines stand together in the text
 pub record IsFoundIn (carrier : Carrier) (load : Option ℕ) (description : List ℕ) (samples : List Sample)

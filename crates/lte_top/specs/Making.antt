@@ -5,7 +5,7 @@ use Rattle.lte_types.specs.declared.bandwidth.Bandwidth.TheVariants.{N6}
 use Rattle.lte_types.specs.declared.entry.Entry.{Entry}
 use Rattle.lte_types.specs.Block.{HasFields}
 use Rattle.lte_types.specs.Timing.{start_of, number_at_start}
-use Rattle.clean_air.specs.Clean.{told_of}
+use Rattle.clean_air.specs.Clean.{system_of_carrier}
 use Rattle.capture_make.specs.declared.made.MadeBy.{MadeBy}
 use Rattle.capture_make.specs.Made.{IsMadeBy}
 use Rattle.capture_make.specs.Recipe.{plan, number, offset}
@@ -40,23 +40,23 @@ pub record TellsHeld (cell : SentCell) (entries : List Entry) (output : List ℕ
 -- ---- recording number n of a carrier
 
 -- where the first frame of the cell of recording number n begins, and that frame's number
-abbrev pub first_of : ℕ → ℕ
-first_of n = start_of (offset n)
+abbrev pub first_start : ℕ → ℕ
+first_start n = start_of (offset n)
 
-abbrev pub number_of : ℕ → ℕ
-number_of n = number_at_start (number n) (offset n)
+abbrev pub first_number : ℕ → ℕ
+first_number n = number_at_start (number n) (offset n)
 
 -- the cell of recording number n, as it is listed
 abbrev pub cell_of : Carrier → ℕ → SentCell
 cell_of carrier n = record {
   identity = (plan n).identity;
-  first = first_of n;
-  number = number_of n;
+  first = first_start n;
+  number = first_number n;
   ports = ports_of carrier;
   duration = (plan n).duration;
   resource = (plan n).resource;
   spare = (plan n).spare;
-  sib1 = told_of carrier (plan n).sib1;
+  sib1 = system_of_carrier carrier (plan n).sib1;
 }
 
 -- the samples are those of recording number n of the carrier
@@ -82,7 +82,7 @@ pub record IsMadeText (carrier : Carrier) (n : ℕ) (output : List ℕ) : Type 0
 -- the line of recording number n ends in `held 1`, and the text of a list follows
 pub record IsHeldOnce (n : ℕ) (output : List ℕ) : Type 0 where
   pub entries : List Entry
-  pub once : output ≡ made_line (plan n).identity (first_of n) (number_of n) 1 ++ report_text entries
+  pub once : output ≡ made_line (plan n).identity (first_start n) (first_number n) 1 ++ report_text entries
 
 -- a law: what `make N` writes ends its line in `held 1`, for each carrier and every number of 32 bits
 abbrev pub WhatIsMadeIsHeld : Type 0

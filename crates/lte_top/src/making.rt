@@ -1,7 +1,7 @@
 //! The lists of recordings by number.
 
 ghost use Rattle.std.specs.Prelude.{◌≡◌, ◌↔◌, ◌≤◌, IfOk, IsTrue, length, string_bytes};
-ghost use Rattle.clean_air.specs.Clean.{told_of};
+ghost use Rattle.clean_air.specs.Clean.{system_of_carrier};
 ghost use Rattle.lte_top.specs.Making.{Counts, IsSentCell, TellsHeld, cell_of, IsMadeList, IsMadeText};
 
 use crate::searching::list_of;
@@ -62,7 +62,7 @@ fn sent_cell(carrier: Carrier, n: u32) -> SentCell
 
 // What is told of the system information of a carrier's cell.
 fn told_by(carrier: Carrier, sib1: Sib1) -> Result<Sib1, Sib1Reason>
-    ensures { result ≡ told_of carrier sib1 }
+    ensures { result ≡ system_of_carrier carrier sib1 }
 {
     if carrier.prefix().is_extended() {
         Err(Sib1Reason::LongPrefix)

@@ -15,7 +15,7 @@ use Rattle.grid_map.specs.declared.Place.{Place}
 use Rattle.soft_bits.specs.Lines.{port_channel, ports_energy}
 use Rattle.soft_bits.specs.Soft.{SeenSlot, seen_at, soft_pair, soft_value}
 use Rattle.soft_bits.proofs.Channel.{soft_value-small}
-use Rattle.soft_bits.specs.Pairs.{Pairing, first_of, second_of, point_values, pair_values, pair_at, paired_by}
+use Rattle.soft_bits.specs.Pairs.{Pairing, first_point, second_point, point_values, pair_values, pair_at, paired_by}
 
 -- ---- lists of four after four
 
@@ -69,8 +69,8 @@ pair-small a energy =
 -- of a pair, by any channels
 pub points-small : (h g : Cpx) (energy : ℕ) (a b : Cpx) → AllWithin 127 (point_values h g energy a b)
 points-small h g energy a b =
-    All-append (λ z. nat_abs z ≤ 127) (soft_pair (first_of h g a b) energy) (soft_pair (second_of h g a b) energy)
-    (pair-small (first_of h g a b) energy) (pair-small (second_of h g a b) energy)
+    All-append (λ z. nat_abs z ≤ 127) (soft_pair (first_point h g a b) energy) (soft_pair (second_point h g a b) energy)
+    (pair-small (first_point h g a b) energy) (pair-small (second_point h g a b) energy)
 
 length-pair : (pairing : Pairing) (i : ℕ) (slot : SeenSlot) (p q : Place) → length (pair_values pairing i slot p q) ≡ 4
 unfolding pair_values

@@ -15,18 +15,18 @@ use Rattle.soft_bits.specs.Soft.{SeenSlot, seen_at, soft_pair}
 
 -- what stands for the first point of a pair, by the channels h and k of the two ports, where a and b were seen at its
 -- two places
-abbrev pub first_of : Cpx → Cpx → Cpx → Cpx → Cpx
-first_of h k a b = plus (times (conjugate h) a) (times k (conjugate b))
+abbrev pub first_point : Cpx → Cpx → Cpx → Cpx → Cpx
+first_point h k a b = plus (times (conjugate h) a) (times k (conjugate b))
 
 -- what stands for the second point of a pair, by the channels h and k of the two ports, where a and b were seen at
 -- its two places
-abbrev pub second_of : Cpx → Cpx → Cpx → Cpx → Cpx
-second_of h k a b = minus (times (conjugate h) b) (times k (conjugate a))
+abbrev pub second_point : Cpx → Cpx → Cpx → Cpx → Cpx
+second_point h k a b = minus (times (conjugate h) b) (times k (conjugate a))
 
 -- the four values of the points of a pair, by these channels and the energy of the pilots: those of the first point,
 -- then those of the second
 abbrev pub point_values : Cpx → Cpx → ℕ → Cpx → Cpx → List ℤ
-point_values h k energy a b = soft_pair (first_of h k a b) energy ++ soft_pair (second_of h k a b) energy
+point_values h k energy a b = soft_pair (first_point h k a b) energy ++ soft_pair (second_point h k a b) energy
 
 -- ---- pairings: by which ports pairs are sent
 

@@ -3,7 +3,7 @@
 ghost use Rattle.std.specs.Prelude.{◌≡◌, ◌*◌, ◌^◌, ◌≤◌};
 ghost use Rattle.finite.specs.Sizes.{AllWithin};
 ghost use Rattle.cs_num.specs.Complex.{IsWithin};
-ghost use Rattle.soft_bits.specs.Pairs.{first_of, second_of, point_values as values_of_points};
+ghost use Rattle.soft_bits.specs.Pairs.{first_point, second_point, point_values as values_of_points};
 
 use crate::soft_pairs;
 use cs_num::Cpx;
@@ -31,7 +31,7 @@ fn first_point(h: Cpx, g: Cpx, a: Cpx, b: Cpx) -> Cpx
     requires g { IsWithin (1080 * 2 ^ 25) g }
     requires a { IsWithin (2 ^ 25) a }
     requires b { IsWithin (2 ^ 25) b }
-    ensures value { result ≡ first_of h g a b }
+    ensures value { result ≡ first_point h g a b }
     ensures small { IsWithin (4320 * 2 ^ 50) result }
 {
     h.conj().mul(a) + g.mul(b.conj())
@@ -43,7 +43,7 @@ fn second_point(h: Cpx, g: Cpx, a: Cpx, b: Cpx) -> Cpx
     requires g { IsWithin (1080 * 2 ^ 25) g }
     requires a { IsWithin (2 ^ 25) a }
     requires b { IsWithin (2 ^ 25) b }
-    ensures value { result ≡ second_of h g a b }
+    ensures value { result ≡ second_point h g a b }
     ensures small { IsWithin (4320 * 2 ^ 50) result }
 {
     h.conj().mul(b) - g.mul(a.conj())

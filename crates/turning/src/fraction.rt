@@ -71,13 +71,13 @@ fn best_of(first: &Hit, rest: &[Hit]) -> Hit
 {
     let mut best = *first;
     for hit in rest {
-        best = better(&best, hit);
+        best = stronger_hit(&best, hit);
     }
     best
 }
 
 // The one of greater fraction, and of equals the first.
-fn better(first: &Hit, second: &Hit) -> Hit
+fn stronger_hit(first: &Hit, second: &Hit) -> Hit
     requires first { IsSmallHit first.now }
     requires second { IsSmallHit second.now }
     ensures value { result ≡ greater fraction_of_hit first.now second.now }

@@ -76,13 +76,13 @@ fn greatest_by(first: &Candidate, rest: &[Candidate]) -> Candidate
 {
     let mut best = *first;
     for candidate in rest {
-        best = better(&best, candidate);
+        best = better_turn(&best, candidate);
     }
     best
 }
 
 // The one of greater fraction, and of equals the first.
-fn better(first: &Candidate, second: &Candidate) -> Candidate
+fn better_turn(first: &Candidate, second: &Candidate) -> Candidate
     requires first { IsSmallCandidate first.now }
     requires second { IsSmallCandidate second.now }
     ensures value { result ≡ greater (λ c. c.fraction) first.now second.now }

@@ -114,7 +114,7 @@ fn told_among(
     let mut list = EntryList::new(alloc)?;
     let mut first = None;
     for candidate in taken {
-        let told = told_of(alloc, centred, candidate, &mut work, &mut list)?;
+        let told = turn_told_of(alloc, centred, candidate, &mut work, &mut list)?;
         if told.cells > 0 {
             return Ok(Some(told));
         }
@@ -124,7 +124,7 @@ fn told_among(
 }
 
 // What a candidate tells.
-fn told_of(
+fn turn_told_of(
     alloc: Global,
     centred: &Centred,
     candidate: &Candidate,

@@ -12,11 +12,11 @@ use Rattle.sizes.proofs.Algebra.{plus-nothing_right, plus-exchanges, times-assoc
 use Rattle.sizes.proofs.Squares.{times_conjugate, square-times, square-conjugate, square-plus}
 use Rattle.sizes.proofs.TwoTerms.{two_term_cauchy}
 use Rattle.sizes.proofs.Products.{turned_back}
-use Rattle.soft_bits.specs.Pairs.{first_of}
+use Rattle.soft_bits.specs.Pairs.{first_point}
 
 -- of two received numbers, by the channels of two ports
 abbrev pub combined : Cpx → Cpx → Cpx → Cpx → Cpx
-combined h k a b = first_of h k a b
+combined h k a b = first_point h k a b
 
 -- ---- sums and multiples
 

@@ -8,7 +8,7 @@ use Rattle.sizes.proofs.Algebra.{plus-minus, minus-plus, multiple_twice}
 use Rattle.sizes.proofs.Sized.{sized-plus, sized_re, sized_im}
 use Rattle.sizes.proofs.Products.{sized-multiple}
 use Rattle.budget.specs.Received.{in_parts}
-use Rattle.soft_bits.specs.Pairs.{second_of}
+use Rattle.soft_bits.specs.Pairs.{second_point}
 use Rattle.two_ports.proofs.Combined.{combined, combined-plus_right, combined-plus_left, combined-multiple_left, combined-multiple_right, combined_cauchy, at_first, at_second, combined_gains, pair_energy, times-negated, square-negated, plus-negated, turned_twice, conjugate-negated, multiple-negated, minus-negated}
 
 -- h and k are c times the gains, each off by a number whose square is at most s times the sum of the gains' squares
@@ -107,7 +107,7 @@ module _ (c s t u v w : ℕ) (roots : AreRoots s t u v w) where
 
   -- ---- the second: the pair (y, -x), seen as b and -a
 
-  second_is : (h k a b : Cpx) → second_of h k a b ≡ combined h k b (negated a)
+  second_is : (h k a b : Cpx) → second_point h k a b ≡ combined h k b (negated a)
   second_is h k a b =
       sym (plus-negated (times (conjugate h) b) (times k (conjugate a)))
       ∙ ap (plus (times (conjugate h) b)) (sym (ap (times k) (conjugate-negated a) ∙ times-negated k (conjugate a)))
@@ -122,7 +122,7 @@ module _ (c s t u v w : ℕ) (roots : AreRoots s t u v w) where
   pub pair_is_combined : (gain other h k x y a b : Cpx) → AreEstimates c s gain other (in_parts h) (in_parts k) → square x ≤ 16200 → square y ≤ 16200 →
       IsPairNear t gain other x y (in_parts a) (in_parts b) →
       IsNearAmplitude (c * 64) (c * u + (64 * v + w)) (square gain + square other) x (combined h k a b)
-      × IsNearAmplitude (c * 64) (c * u + (64 * v + w)) (square gain + square other) y (second_of h k a b)
+      × IsNearAmplitude (c * 64) (c * u + (64 * v + w)) (square gain + square other) y (second_point h k a b)
   pair_is_combined gain other h k x y a b near small small_too seen = (
     near_amplitude n h k x a b (first_sized gain other (in_parts h) (in_parts k) x y (in_parts a) (in_parts b) near small small_too seen),
     subst (IsNearAmplitude (c * 64) total n y) (sym (second_is h k a b)) (near_amplitude n h k y b (negated a)

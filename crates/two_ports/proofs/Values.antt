@@ -7,7 +7,7 @@ use Rattle.lte_types.specs.declared.carrier.Carrier.{Carrier}
 use Rattle.lte_types.specs.Carrier.{ports_of}
 use Rattle.crs.specs.Qpsk.{point}
 use Rattle.soft_bits.specs.Lines.{line_of, port_channel, ports_energy}
-use Rattle.soft_bits.specs.Pairs.{Pairing, over_two, first_of, second_of}
+use Rattle.soft_bits.specs.Pairs.{Pairing, over_two, first_point, second_point}
 use Rattle.soft_bits.specs.Soft.{SeenSlot}
 use Rattle.budget.specs.Received.{in_parts, IsSeenBy}
 use Rattle.budget.proofs.Near.{near-off}
@@ -125,10 +125,10 @@ module _ (pairing : Pairing) (most weight part whole s t u v w e least : ℕ) (i
       (record { first = seen_off i (point b c) (negated (conjugate (point d f))) at_first pair.first; second = seen_off i (point d f) (conjugate (point b c)) at_second pair.second }) in
       let speaks = near_component_speaks least (pairing.scale * 1036800 * 64) (pairing.scale * 1036800 * u + (64 * v + w)) e margins.speak margins.fit margins.speaks (2 ^ 28) m q in
       record {
-        first = speaks b (first_of h r at_first at_second).re (omega arith) some few near.0.within.re;
-        second = speaks c (first_of h r at_first at_second).im (omega arith) some few near.0.within.im;
-        third = speaks d (second_of h r at_first at_second).re (omega arith) some few near.1.within.re;
-        fourth = speaks f (second_of h r at_first at_second).im (omega arith) some few near.1.within.im;
+        first = speaks b (first_point h r at_first at_second).re (omega arith) some few near.0.within.re;
+        second = speaks c (first_point h r at_first at_second).im (omega arith) some few near.0.within.im;
+        third = speaks d (second_point h r at_first at_second).re (omega arith) some few near.1.within.re;
+        fourth = speaks f (second_point h r at_first at_second).im (omega arith) some few near.1.within.im;
       }
 
 -- ---- two ports

@@ -11,19 +11,19 @@ pub returns-then-are_all : goal.returns-then-are_all
 returns-then-are_all c =
     let row = c.args.row.now in
     let sent = above_zero c.args.counts.now in
-    let now = iterated row sent c.args.bits.now c.loop.known c.first_of-first.result c.second_of-second.result c.settled_of-settled.result c.loop.counter c.requires.row c.loop.invariant
-    c.first_of-first.ensures.found c.second_of-second.ensures.found c.settled_of-settled.ensures.marks in
-    let full = sym (filled_is row sent c.loop.counter c.second_of-second.result c.settled_of-settled.result _ now c.front_of.ensures.count c.front_of.ensures.marks) ∙ sym c.are_all.ensures ∙ c.if-are_all.true in
+    let now = iterated row sent c.args.bits.now c.loop.known c.first_marks-first.result c.second_marks-second.result c.settled_of-settled.result c.loop.counter c.requires.row c.loop.invariant
+    c.first_marks-first.ensures.found c.second_marks-second.ensures.found c.settled_of-settled.ensures.marks in
+    let full = sym (filled_is row sent c.loop.counter c.second_marks-second.result c.settled_of-settled.result _ now c.front_of.ensures.count c.front_of.ensures.marks) ∙ sym c.are_all.ensures ∙ c.if-are_all.true in
     resolved row sent c.args.bits.now c.loop.known c.loop.counter (omega (arith, c.loop-test.true)) c.loop.invariant full
 
 pub returns-then-has_check_24 : goal.returns-then-has_check_24
 returns-then-has_check_24 c =
     let row = c.args.row.now in
     let sent = above_zero c.args.counts.now in
-    let now = iterated row sent c.args.bits.now c.loop.known c.first_of-first.result c.second_of-second.result c.settled_of-settled.result c.loop.counter c.requires.row c.loop.invariant
-    c.first_of-first.ensures.found c.second_of-second.ensures.found c.settled_of-settled.ensures.marks in
-    let unfilled = sym (filled_is row sent c.loop.counter c.second_of-second.result c.settled_of-settled.result _ now c.front_of.ensures.count c.front_of.ensures.marks) ∙ sym c.are_all.ensures ∙ c.if-are_all.false in
-    let told = told_is row sent c.args.bits.now c.loop.counter c.second_of-second.result c.settled_of-settled.result c.word_of-word.result _ c.requires.row c.requires.count now
+    let now = iterated row sent c.args.bits.now c.loop.known c.first_marks-first.result c.second_marks-second.result c.settled_of-settled.result c.loop.counter c.requires.row c.loop.invariant
+    c.first_marks-first.ensures.found c.second_marks-second.ensures.found c.settled_of-settled.ensures.marks in
+    let unfilled = sym (filled_is row sent c.loop.counter c.second_marks-second.result c.settled_of-settled.result _ now c.front_of.ensures.count c.front_of.ensures.marks) ∙ sym c.are_all.ensures ∙ c.if-are_all.false in
+    let told = told_is row sent c.args.bits.now c.loop.counter c.second_marks-second.result c.settled_of-settled.result c.word_of-word.result _ c.requires.row c.requires.count now
     c.word_of-word.ensures.size c.word_of-word.ensures.word c.front_of-in-loop.ensures.marks in
     unresolved row sent c.args.bits.now c.loop.known c.loop.counter c.loop.invariant unfilled (ap has_check_24 (sym told) ∙ sym c.has_check_24.ensures ∙ c.if-has_check_24.true)
 
@@ -31,12 +31,12 @@ pub loop-preserved : goal.loop-preserved
 loop-preserved c =
     let row = c.args.row.now in
     let sent = above_zero c.args.counts.now in
-    let now = iterated row sent c.args.bits.now c.loop.known c.first_of-first.result c.second_of-second.result c.settled_of-settled.result c.loop.counter c.requires.row c.loop.invariant
-    c.first_of-first.ensures.found c.second_of-second.ensures.found c.settled_of-settled.ensures.marks in
-    let unfilled = sym (filled_is row sent c.loop.counter c.second_of-second.result c.settled_of-settled.result _ now c.front_of.ensures.count c.front_of.ensures.marks) ∙ sym c.are_all.ensures ∙ c.if-are_all.false in
-    let told = told_is row sent c.args.bits.now c.loop.counter c.second_of-second.result c.settled_of-settled.result c.word_of-word.result _ c.requires.row c.requires.count now
+    let now = iterated row sent c.args.bits.now c.loop.known c.first_marks-first.result c.second_marks-second.result c.settled_of-settled.result c.loop.counter c.requires.row c.loop.invariant
+    c.first_marks-first.ensures.found c.second_marks-second.ensures.found c.settled_of-settled.ensures.marks in
+    let unfilled = sym (filled_is row sent c.loop.counter c.second_marks-second.result c.settled_of-settled.result _ now c.front_of.ensures.count c.front_of.ensures.marks) ∙ sym c.are_all.ensures ∙ c.if-are_all.false in
+    let told = told_is row sent c.args.bits.now c.loop.counter c.second_marks-second.result c.settled_of-settled.result c.word_of-word.result _ c.requires.row c.requires.count now
     c.word_of-word.ensures.size c.word_of-word.ensures.word c.front_of-in-loop.ensures.marks in
-    after_more row sent c.args.bits.now c.loop.known c.second_of-second.result c.settled_of-settled.result c.loop.counter c.loop.invariant now unfilled
+    after_more row sent c.args.bits.now c.loop.known c.second_marks-second.result c.settled_of-settled.result c.loop.counter c.loop.invariant now unfilled
     (ap has_check_24 (sym told) ∙ sym c.has_check_24.ensures ∙ c.if-has_check_24.false)
 
 pub returns : goal.returns

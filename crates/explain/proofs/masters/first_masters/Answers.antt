@@ -31,34 +31,34 @@ loop-count-init g c few some below =
     let one : 1 ≡ few = omega (arith, some, below) in
     subst (NoneTell (IsMasterFor g.F.FrameReader.receiver c.args.recording.now) c.new-cell.result c.whole_frames-whole.result) one c.in-None.ensures.found
 
-pub returns-in-Some-first_of-clause-masters : goal.returns-in-Some-first_of-clause-masters
-returns-in-Some-first_of-clause-masters g c =
+pub returns-in-Some-first_together-clause-masters : goal.returns-in-Some-first_together-clause-masters
+returns-in-Some-first_together-clause-masters g c =
     let receiver = g.F.FrameReader.receiver in
     let recording = c.args.recording.now in
     let tells = IsMasterFor receiver recording in
     let here = c.new-cell.ensures in
     let place = c.new-cell.result in
     let whole = whole_at recording _ _ here c.whole_frames-whole.result c.whole_frames-whole.ensures.whole c.whole_frames-whole.ensures.all in
-    let found = c.in-Some-first_of.found in
+    let found = c.in-Some-first_together.found in
     let test = c.loop-count-test.true in
     let most = c.most_frames-most.ensures.few in
     let from = c.loop-count.auto in
     let (all, received) = c.in-None.ensures.received in
     let size : length c.as_slice.result.now ≡ c.whole_frames-whole.result = ap length c.as_slice.ensures.value ∙ all in
-    let (counts, first) = c.in-Some-first_of.ensures.masters recording (subst (AreReceived (receiver.broadcast recording place) 0) (sym c.as_slice.ensures.value) received) in
+    let (counts, first) = c.in-Some-first_together.ensures.masters recording (subst (AreReceived (receiver.broadcast recording place) 0) (sym c.as_slice.ensures.value) received) in
     subst (λ n. AreFirstWith tells recording c.args.place n found.frame found.at) (sym counts)
     (subst (λ place. AreFirstWith tells recording place c.loop-count.count found.frame found.at) here
     (first_with tells recording place c.whole_frames-whole.result c.whole_frames-whole.ensures.few whole.0 whole.1 c.loop-count.count found.frame found.at (omega arith) (omega (arith, test, most))
     c.loop-count.invariant (subst (λ n. AreFirstOf tells place n c.loop-count.count found.frame found.at) size first)))
 
-pub returns-in-Some-first_of-clause-sums : goal.returns-in-Some-first_of-clause-sums
-returns-in-Some-first_of-clause-sums g c =
+pub returns-in-Some-first_together-clause-sums : goal.returns-in-Some-first_together-clause-sums
+returns-in-Some-first_together-clause-sums g c =
     let receiver = g.F.FrameReader.receiver in
     let recording = c.args.recording.now in
-    let found = c.in-Some-first_of.found in
+    let found = c.in-Some-first_together.found in
     let (all, received) = c.in-None.ensures.received in
     subst (λ place. AreSums (sums_by receiver recording place) found.frames found.frame found.sums) c.new-cell.ensures
-    (c.in-Some-first_of.ensures.sums recording (subst (AreReceived (receiver.broadcast recording c.new-cell.result) 0) (sym c.as_slice.ensures.value) received))
+    (c.in-Some-first_together.ensures.sums recording (subst (AreReceived (receiver.broadcast recording c.new-cell.result) 0) (sym c.as_slice.ensures.value) received))
 
 pub loop-count-preserved : goal.loop-count-preserved
 loop-count-preserved g c few some below =
@@ -71,7 +71,7 @@ loop-count-preserved g c few some below =
     let size : length c.as_slice.result.now ≡ whole = ap length c.as_slice.ensures.value ∙ all in
     below_more (λ n. 1 ≤ n → NoneTell tells place whole n) c.loop-count.count (λ n less one. c.loop-count.invariant n one less)
     (λ one. subst (λ n. NoneTell tells place n c.loop-count.count) size
-    (c.in-None-first_of.ensures.masters recording (subst (AreReceived (receiver.broadcast recording place) 0) (sym c.as_slice.ensures.value) received))) few below some
+    (c.in-None-first_together.ensures.masters recording (subst (AreReceived (receiver.broadcast recording place) 0) (sym c.as_slice.ensures.value) received))) few below some
 
 pub returns-clause-masters : goal.returns-clause-masters
 returns-clause-masters g c =

@@ -3,7 +3,7 @@ use Rattle.explain.specs.Window.{TellNone}
 use Rattle.explain.specs.Entries.{IsMasterFor}
 use Rattle.explain.specs.Masters.{HaveMasters}
 use Rattle.explain.proofs.FirstFrame.{length-part, received_part}
-use Rattle.explain.proofs.masters.first_of.Goals as goal
+use Rattle.explain.proofs.masters.first_together.Goals as goal
 
 pub loop-frame-init : goal.loop-frame-init
 loop-frame-init g c recording are i below = absurd (omega (arith, below))

@@ -3,7 +3,7 @@ use Rattle.cs_num.specs.declared.Sample.{Sample}
 use Rattle.explain.specs.Entries.{IsMasterFor}
 use Rattle.explain.specs.Received.{AreReceived}
 use Rattle.explain.specs.Window.{TellNone}
-use Rattle.explain.proofs.masters.first_of.Given as goal
+use Rattle.explain.proofs.masters.first_together.Given as goal
 
 -- none from a frame so far on have a master block
 abbrev pub invariant-loop-frame : goal.invariant-loop-frame

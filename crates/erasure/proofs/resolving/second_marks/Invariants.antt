@@ -1,6 +1,6 @@
 use Rattle.std.proofs.Common.{◌≡◌, ℕ, ◌<◌, false, get_or, length}
 use Rattle.turbo_code.specs.Table.{interleaver}
-use Rattle.erasure.proofs.resolving.second_of.Given as goal
+use Rattle.erasure.proofs.resolving.second_marks.Given as goal
 
 abbrev pub invariant-loop-i : goal.invariant-loop-i
 invariant-loop-i l = record {

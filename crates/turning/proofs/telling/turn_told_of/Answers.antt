@@ -3,7 +3,7 @@ use Rattle.std.proofs.lemmas.Int.{to_z-of_z}
 use Rattle.explain.specs.Deciding.{deciding_length}
 use Rattle.turning.specs.Turned.{turned}
 use Rattle.turning.proofs.Fronts.{cells_of_front}
-use Rattle.turning.proofs.telling.told_of.Goals as goal
+use Rattle.turning.proofs.telling.turn_told_of.Goals as goal
 
 pub returns : goal.returns
 returns c =

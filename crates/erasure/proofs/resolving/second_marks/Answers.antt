@@ -4,7 +4,7 @@ use Rattle.turbo_code.specs.Table.{interleaver}
 use Rattle.turbo_code.proofs.TableFacts.{is_small}
 use Rattle.turbo_code.proofs.Orders.{placed_more}
 use Rattle.erasure.proofs.Agree.{placed_all}
-use Rattle.erasure.proofs.resolving.second_of.Goals as goal
+use Rattle.erasure.proofs.resolving.second_marks.Goals as goal
 
 pub bounds-found-i : goal.bounds-found-i
 bounds-found-i c = let high = (is_small c.args.row.now c.requires.row).high in omega (arith, high, c.loop-i-test.true)
