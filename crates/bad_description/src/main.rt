@@ -1,7 +1,7 @@
 //! The program `lte_cli` over a description without fields, so that the gate runs a refusal of it: code 9.
 #![tactic(auto)]
 
-use lte_shell::run_process;
+use lte_process::run_process;
 use lte_top::Program;
 use std::process::ExitCode;
 

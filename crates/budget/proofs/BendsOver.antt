@@ -18,13 +18,13 @@ use Rattle.observe.specs.Seen.{seen, seen_symbol}
 use Rattle.crs.specs.declared.pattern.Pattern.{Pattern}
 use Rattle.soft_bits.specs.Estimate.{between_by, pilot_place, estimate}
 use Rattle.soft_bits.specs.Soft.{SeenSlot, seen_at, pilot_subcarrier, pattern_symbol, pattern_seen, pattern_sent}
-use Rattle.sizes.specs.Sizes.{IsSized, energy_below}
-use Rattle.sizes.proofs.Naturals.{root-le}
-use Rattle.sizes.proofs.Algebra.{plus-exchanges, multiple-plus, times-multiple, times-minus}
-use Rattle.sizes.proofs.Squares.{square-multiple}
-use Rattle.sizes.proofs.TwoTerms.{weighted_term}
-use Rattle.sizes.proofs.Sized.{sized_plain, sized-plus, sized-times, sized-sum_by}
-use Rattle.sizes.proofs.Products.{sized-multiple}
+use Rattle.norms.specs.Sizes.{IsSized, energy_below}
+use Rattle.norms.proofs.Naturals.{root-le}
+use Rattle.norms.proofs.Algebra.{plus-exchanges, multiple-plus, times-multiple, times-minus}
+use Rattle.norms.proofs.Squares.{square-multiple}
+use Rattle.norms.proofs.TwoTerms.{weighted_term}
+use Rattle.norms.proofs.Sized.{sized_plain, sized-plus, sized-times, sized-sum_by}
+use Rattle.norms.proofs.Products.{sized-multiple}
 use Rattle.fold128.specs.Tables.{quarter, cosine, w_at}
 use Rattle.budget.specs.Received.{received_of, IsSeenNear}
 use Rattle.budget.specs.Through.{at_pilot, BothSpeak}

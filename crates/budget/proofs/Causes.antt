@@ -8,13 +8,13 @@ use Rattle.cs_num.specs.Complex.{IsWithin, plus, times, square, minus, multiple}
 use Rattle.cs_num.specs.Rounding.{rounded}
 use Rattle.cs_num.specs.Sums.{complex_sum_below}
 use Rattle.cs_num.proofs.Complex.{square-within, pair, plus-associates, times-plus}
-use Rattle.sizes.specs.Sizes.{IsSized, energy_below, correlation_below}
-use Rattle.sizes.proofs.Algebra.{plus-minus, minus-plus, plus-exchanges, times-minus, times-multiple}
-use Rattle.sizes.proofs.Squares.{square-multiple, square-times}
-use Rattle.sizes.proofs.TwoTerms.{two_term_cauchy}
-use Rattle.sizes.proofs.Sized.{sized_plain, sized-plus}
-use Rattle.sizes.proofs.Cauchy.{cauchy, correlation_same, correlation_plus, correlation_times, correlation_multiple}
-use Rattle.sizes.proofs.Rounding.{rounded_near}
+use Rattle.norms.specs.Sizes.{IsSized, energy_below, correlation_below}
+use Rattle.norms.proofs.Algebra.{plus-minus, minus-plus, plus-exchanges, times-minus, times-multiple}
+use Rattle.norms.proofs.Squares.{square-multiple, square-times}
+use Rattle.norms.proofs.TwoTerms.{two_term_cauchy}
+use Rattle.norms.proofs.Sized.{sized_plain, sized-plus}
+use Rattle.norms.proofs.Cauchy.{cauchy, correlation_same, correlation_plus, correlation_times, correlation_multiple}
+use Rattle.norms.proofs.Rounding.{rounded_near}
 use Rattle.fold128.specs.Symbol.{frequency, useful_term, useful_at}
 use Rattle.fold128.specs.Spectrum.{spectrum_at}
 use Rattle.fold128.proofs.EntrySizes.{w-square}

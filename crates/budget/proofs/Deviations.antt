@@ -3,9 +3,9 @@ use Rattle.std.proofs.Common.{◌≡◌, ℕ, ◌*◌, ap, sym, ◌∙◌, pos}
 use Rattle.cs_num.specs.declared.Cpx.{Cpx}
 use Rattle.cs_num.specs.Complex.{plus, times, conjugate, square, minus, multiple}
 use Rattle.cs_num.proofs.Complex.{times-plus_left}
-use Rattle.sizes.specs.Sizes.{IsSized}
-use Rattle.sizes.proofs.Algebra.{plus-minus, times-associates, times-multiple, multiple-times, times_real, multiple_twice}
-use Rattle.sizes.proofs.Squares.{times_conjugate}
+use Rattle.norms.specs.Sizes.{IsSized}
+use Rattle.norms.proofs.Algebra.{plus-minus, times-associates, times-multiple, multiple-times, times_real, multiple_twice}
+use Rattle.norms.proofs.Squares.{times_conjugate}
 use Rattle.budget.specs.Received.{in_parts, IsSeenNear}
 
 unfoldable pub deviation : Cpx → Cpx → Cpx → Cpx

@@ -13,9 +13,9 @@ use Rattle.finite.proofs.Ring.{var, lit, same}
 use Rattle.finite.proofs.Ring as ring
 use Rattle.cs_num.proofs.Complex.{pair, plus-commutes, times-plus, times-commutes}
 use Rattle.cs_num.proofs.Sums.{complex_sum_below_same, complex_sum_below_plus, complex_sum_below_split, complex_sum_below_swap}
-use Rattle.sizes.specs.Sizes.{IsSized, correlation_below}
-use Rattle.sizes.proofs.Algebra.{plus-minus, times-nothing, times-associates, sum-times, sum-multiple, sum_of_one, sum-times_right}
-use Rattle.sizes.proofs.Sized.{sized_plain, sized-times, sized-sum, sized-sum_by}
+use Rattle.norms.specs.Sizes.{IsSized, correlation_below}
+use Rattle.norms.proofs.Algebra.{plus-minus, times-nothing, times-associates, sum-times, sum-multiple, sum_of_one, sum-times_right}
+use Rattle.norms.proofs.Sized.{sized_plain, sized-times, sized-sum, sized-sum_by}
 use Rattle.fold128.specs.Tables.{quarter, cosine, w_at}
 use Rattle.fold128.specs.Symbol.{frequency, useful_term}
 use Rattle.fold128.proofs.Laws.{w_same, quarter_turn_is_j, backward_is_conjugate, tones_that_turn_cancel}

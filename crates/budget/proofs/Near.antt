@@ -7,10 +7,10 @@ use Rattle.std.proofs.lemmas.Nat.{mod_below}
 use Rattle.std.proofs.Math.Nat.{div-lt_iff_lt-mul}
 use Rattle.cs_num.specs.declared.Cpx.{Cpx}
 use Rattle.cs_num.specs.Complex.{plus, minus, multiple, square}
-use Rattle.sizes.specs.Sizes.{IsSized}
-use Rattle.sizes.proofs.Algebra.{minus-plus, plus-exchanges, multiple-plus, multiple_twice, multiple_sum}
-use Rattle.sizes.proofs.Sized.{sized-plus}
-use Rattle.sizes.proofs.Products.{sized-multiple}
+use Rattle.norms.specs.Sizes.{IsSized}
+use Rattle.norms.proofs.Algebra.{minus-plus, plus-exchanges, multiple-plus, multiple_twice, multiple_sum}
+use Rattle.norms.proofs.Sized.{sized-plus}
+use Rattle.norms.proofs.Products.{sized-multiple}
 use Rattle.budget.specs.Received.{in_parts}
 use Rattle.budget.proofs.Parts.{multiple-swaps}
 use Rattle.soft_bits.specs.Estimate.{place_by, between_by, line_by, estimate}

@@ -7,10 +7,10 @@ use Rattle.cs_num.proofs.Complex.{pair, square-within}
 use Rattle.finite.proofs.Ring.{var, same}
 use Rattle.finite.proofs.Ring as ring
 use Rattle.finite.proofs.Sums.{total_below-within}
-use Rattle.sizes.specs.Sizes.{energy_below}
-use Rattle.sizes.proofs.Algebra.{conjugate-multiple, times-multiple, multiple-times, multiple_twice}
-use Rattle.sizes.proofs.Squares.{square-multiple}
-use Rattle.sizes.proofs.Cauchy.{energy_same}
+use Rattle.norms.specs.Sizes.{energy_below}
+use Rattle.norms.proofs.Algebra.{conjugate-multiple, times-multiple, multiple-times, multiple_twice}
+use Rattle.norms.proofs.Squares.{square-multiple}
+use Rattle.norms.proofs.Cauchy.{energy_same}
 use Rattle.fold128.specs.Symbol.{useful_at}
 use Rattle.budget.specs.Received.{in_parts, off_by}
 use Rattle.budget.specs.Budget.{ErrorsHaveEnergy, WholeGainIsReceived, IsReceivedByMore}

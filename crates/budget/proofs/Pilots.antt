@@ -7,9 +7,9 @@ use Rattle.crs.specs.Qpsk.{IsFull, IsPoint}
 use Rattle.crs.specs.declared.pattern.Pattern.{Pattern}
 use Rattle.crs.proofs.Values.{pattern_reference-IsPoint}
 use Rattle.soft_bits.specs.Soft.{pilot_subcarrier, pattern_symbol, pattern_sent}
-use Rattle.sizes.specs.Sizes.{IsSized}
-use Rattle.sizes.proofs.Squares.{square-times, square-conjugate, square-multiple}
-use Rattle.sizes.proofs.TwoTerms.{weighted, weighted_term}
+use Rattle.norms.specs.Sizes.{IsSized}
+use Rattle.norms.proofs.Squares.{square-times, square-conjugate, square-multiple}
+use Rattle.norms.proofs.TwoTerms.{weighted, weighted_term}
 use Rattle.budget.proofs.Parts.{square_in_parts}
 use Rattle.budget.proofs.Deviations.{deviation, seen_is, channel_is}
 use Rattle.budget.proofs.Near.{IsNear}

@@ -17,12 +17,12 @@ use Rattle.lte_types.specs.declared.numerology.Prefix.{Prefix}
 use Rattle.lte_types.specs.declared.frame.Half.{Half}
 use Rattle.lte_types.specs.declared.frame.Half.TheVariants.{Zero, Five}
 use Rattle.lte_types.specs.Numerology.{symbol_step}
-use Rattle.sizes.specs.Sizes.{IsSized}
-use Rattle.sizes.proofs.Squares.{square-multiple, square-conjugate}
-use Rattle.sizes.proofs.Algebra.{multiple-plus, multiple-times, multiple_twice}
-use Rattle.sizes.proofs.Sized.{sized_plain, sized-times}
-use Rattle.sizes.proofs.Products.{product_near, sign-turns}
-use Rattle.sizes.proofs.Sums.{terms_same}
+use Rattle.norms.specs.Sizes.{IsSized}
+use Rattle.norms.proofs.Squares.{square-multiple, square-conjugate}
+use Rattle.norms.proofs.Algebra.{multiple-plus, multiple-times, multiple_twice}
+use Rattle.norms.proofs.Sized.{sized_plain, sized-times}
+use Rattle.norms.proofs.Products.{product_near, sign-turns}
+use Rattle.norms.proofs.Sums.{terms_same}
 use Rattle.fold128.specs.Tables.{z_real, z_imaginary, z_at}
 use Rattle.fold128.proofs.Laws.{z_same}
 use Rattle.sync_seq.specs.Primary.{pss_at}

@@ -5,9 +5,9 @@ use Rattle.finite.specs.Sums.{sum_below, total_below}
 use Rattle.cs_num.specs.declared.Cpx.{Cpx}
 use Rattle.cs_num.specs.Complex.{nothing, plus, times, square, minus, multiple}
 use Rattle.cs_num.proofs.Complex.{plus-nothing}
-use Rattle.sizes.specs.Sizes.{IsSized, energy_below}
-use Rattle.sizes.proofs.Squares.{square-multiple}
-use Rattle.sizes.proofs.Sized.{sized-plus}
+use Rattle.norms.specs.Sizes.{IsSized, energy_below}
+use Rattle.norms.proofs.Squares.{square-multiple}
+use Rattle.norms.proofs.Sized.{sized-plus}
 use Rattle.fold128.specs.Symbol.{useful_at}
 use Rattle.observe.specs.Seen.{seen}
 use Rattle.budget.specs.Received.{AreAmplitudes, in_parts, off_by, received_of, samples_from}

@@ -13,13 +13,13 @@ use Rattle.cs_num.specs.Rounding.{rounded}
 use Rattle.cs_num.specs.Sums.{complex_sum_below}
 use Rattle.cs_num.proofs.Complex.{pair, square-within, plus-commutes, times-plus, times-plus_left, times-commutes}
 use Rattle.cs_num.proofs.Sums.{complex_sum_below_same, complex_sum_below_split, complex_sum_below_plus}
-use Rattle.sizes.specs.Sizes.{IsSized, energy_below, correlation_below}
-use Rattle.sizes.proofs.Algebra.{plus-minus, minus-plus, times-minus, times-nothing, times-associates, times-multiple, multiple-times, sum-times_right, conjugate-times, conjugate-plus, conjugate-multiple, multiple-plus, multiple_twice, sum-times, sum-multiple, sum_zero, plus-nothing_right}
-use Rattle.sizes.proofs.Squares.{square-multiple, square-times, square-conjugate}
-use Rattle.sizes.proofs.Sized.{sized_gain, sized_plain, sized_more, sized-plus, sized-times, sized-sum, sized-sum_by}
-use Rattle.sizes.proofs.Products.{sized-multiple}
-use Rattle.sizes.proofs.Cauchy.{energy_same, correlation_plus, correlation_times}
-use Rattle.sizes.proofs.Rounding.{rounded_near}
+use Rattle.norms.specs.Sizes.{IsSized, energy_below, correlation_below}
+use Rattle.norms.proofs.Algebra.{plus-minus, minus-plus, times-minus, times-nothing, times-associates, times-multiple, multiple-times, sum-times_right, conjugate-times, conjugate-plus, conjugate-multiple, multiple-plus, multiple_twice, sum-times, sum-multiple, sum_zero, plus-nothing_right}
+use Rattle.norms.proofs.Squares.{square-multiple, square-times, square-conjugate}
+use Rattle.norms.proofs.Sized.{sized_gain, sized_plain, sized_more, sized-plus, sized-times, sized-sum, sized-sum_by}
+use Rattle.norms.proofs.Products.{sized-multiple}
+use Rattle.norms.proofs.Cauchy.{energy_same, correlation_plus, correlation_times}
+use Rattle.norms.proofs.Rounding.{rounded_near}
 use Rattle.fold128.specs.Tables.{w_at}
 use Rattle.fold128.specs.Symbol.{frequency, useful_term, useful_at}
 use Rattle.fold128.specs.Spectrum.{spectrum_at}

@@ -8,11 +8,11 @@ use Rattle.cs_num.specs.declared.Cpx.{Cpx}
 use Rattle.cs_num.specs.declared.Sample.{Sample}
 use Rattle.cs_num.specs.Complex.{nothing, plus, times, square, minus}
 use Rattle.cs_num.proofs.Complex.{pair, plus-commutes}
-use Rattle.sizes.specs.Sizes.{inner, energy_below, correlation_below}
-use Rattle.sizes.proofs.Naturals.{root-le}
-use Rattle.sizes.proofs.Squares.{inner-le}
-use Rattle.sizes.proofs.Cauchy.{cauchy, energy_same, energy_split, energy_weighted}
-use Rattle.sizes.proofs.Gram.{energy_with_errors}
+use Rattle.norms.specs.Sizes.{inner, energy_below, correlation_below}
+use Rattle.norms.proofs.Naturals.{root-le}
+use Rattle.norms.proofs.Squares.{inner-le}
+use Rattle.norms.proofs.Cauchy.{cauchy, energy_same, energy_split, energy_weighted}
+use Rattle.norms.proofs.Gram.{energy_with_errors}
 use Rattle.fold128.specs.Symbol.{useful_at}
 use Rattle.lte_types.specs.Numerology.{symbol_step}
 use Rattle.pss_search.specs.Correlation.{pss_grid, wave, wave_power}

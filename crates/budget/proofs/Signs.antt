@@ -10,7 +10,7 @@ use Rattle.finite.proofs.Ring.{var, lit, same}
 use Rattle.finite.proofs.Ring as ring
 use Rattle.cs_num.specs.Rounding.{clamped}
 use Rattle.cs_bits.specs.Signs.{Supports}
-use Rattle.sizes.proofs.Products.{sign-turns, one-times}
+use Rattle.norms.proofs.Products.{sign-turns, one-times}
 use Rattle.crs.specs.Qpsk.{component}
 use Rattle.soft_bits.specs.Soft.{soft_value}
 use Rattle.budget.specs.Sign.{sign, LargeComponentSpeaks, NearComponentSpeaks}

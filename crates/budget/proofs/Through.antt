@@ -9,14 +9,14 @@ use Rattle.finite.proofs.Ring as ring
 use Rattle.cs_num.specs.declared.Cpx.{Cpx}
 use Rattle.cs_num.specs.Complex.{IsWithin, nothing, plus, times, conjugate, square, minus, multiple}
 use Rattle.cs_num.proofs.Complex.{pair, plus-nothing, plus-associates}
-use Rattle.sizes.specs.Sizes.{IsSized, inner, real, energy_below, correlation_below}
-use Rattle.sizes.proofs.Naturals.{root-le}
-use Rattle.sizes.proofs.Algebra.{plus-minus, multiple-plus, multiple_twice, times-multiple}
-use Rattle.sizes.proofs.Squares.{square-times, square-multiple, square-conjugate, inner-le, re-le}
-use Rattle.sizes.proofs.Sized.{sized-plus}
-use Rattle.sizes.proofs.Products.{product_near}
-use Rattle.sizes.proofs.Cauchy.{cauchy, energy_same}
-use Rattle.sizes.proofs.Gram.{energy_with_errors}
+use Rattle.norms.specs.Sizes.{IsSized, inner, real, energy_below, correlation_below}
+use Rattle.norms.proofs.Naturals.{root-le}
+use Rattle.norms.proofs.Algebra.{plus-minus, multiple-plus, multiple_twice, times-multiple}
+use Rattle.norms.proofs.Squares.{square-times, square-multiple, square-conjugate, inner-le, re-le}
+use Rattle.norms.proofs.Sized.{sized-plus}
+use Rattle.norms.proofs.Products.{product_near}
+use Rattle.norms.proofs.Cauchy.{cauchy, energy_same}
+use Rattle.norms.proofs.Gram.{energy_with_errors}
 use Rattle.cs_bits.specs.Signs.{Supports}
 use Rattle.crs.specs.Qpsk.{component, point}
 use Rattle.crs.specs.declared.pattern.Pattern.{Pattern}

@@ -2,12 +2,12 @@
 use Rattle.std.proofs.Common.{◌≡◌, ℕ, ◌+◌, ◌-◌, ◌*◌, ◌<◌, ◌≤◌, arith, ap, mul-le-mul, mul-le-mul_left, mul-le-mul_right, mul-pos}
 use Rattle.cs_num.specs.declared.Cpx.{Cpx}
 use Rattle.cs_num.specs.Complex.{plus, times, square, multiple}
-use Rattle.sizes.specs.Sizes.{energy_below, correlation_below}
-use Rattle.sizes.proofs.Algebra.{multiple-plus}
-use Rattle.sizes.proofs.Squares.{square-times, square-multiple}
-use Rattle.sizes.proofs.TwoTerms.{two_term_cauchy, weighted}
-use Rattle.sizes.proofs.Cauchy.{cauchy, energy_gain, energy_weighted_term, correlation_gain}
-use Rattle.sizes.proofs.Gram.{gram_le}
+use Rattle.norms.specs.Sizes.{energy_below, correlation_below}
+use Rattle.norms.proofs.Algebra.{multiple-plus}
+use Rattle.norms.proofs.Squares.{square-times, square-multiple}
+use Rattle.norms.proofs.TwoTerms.{two_term_cauchy, weighted}
+use Rattle.norms.proofs.Cauchy.{cauchy, energy_gain, energy_weighted_term, correlation_gain}
+use Rattle.norms.proofs.Gram.{gram_le}
 use Rattle.budget.proofs.PeakSums.{IsFaint}
 
 -- a gain times a signal, and errors

@@ -10,7 +10,7 @@ use Rattle.cs_num.specs.declared.Cpx.{Cpx}
 use Rattle.cs_num.specs.declared.Sample.{Sample}
 use Rattle.cs_num.specs.Complex.{nothing, plus, times, conjugate, square, minus, multiple}
 use Rattle.cs_num.specs.Rounding.{rounded}
-use Rattle.sizes.specs.Sizes.{energy_below}
+use Rattle.norms.specs.Sizes.{energy_below}
 use Rattle.fold128.specs.Tables.{w_at}
 use Rattle.fold128.specs.Symbol.{frequency, useful_at}
 use Rattle.fold128.specs.Spectrum.{spectrum_at}

@@ -5,7 +5,7 @@ use Rattle.cs_num.specs.declared.Cpx.{Cpx}
 use Rattle.cs_num.specs.declared.Sample.{Sample}
 use Rattle.cs_num.specs.Complex.{times, square, sample_at, minus, multiple}
 use Rattle.cs_num.specs.Sums.{complex_sum_below}
-use Rattle.sizes.specs.Sizes.{energy_below}
+use Rattle.norms.specs.Sizes.{energy_below}
 use Rattle.fold128.specs.Symbol.{useful_at}
 
 -- the amplitudes of a grid have size at most 256

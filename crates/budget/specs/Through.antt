@@ -3,7 +3,7 @@
 use Rattle.std.specs.Prelude.{ℕ, ◌+◌, ◌*◌, ◌%◌, ◌<◌, ◌≤◌, Bool}
 use Rattle.cs_num.specs.declared.Cpx.{Cpx}
 use Rattle.cs_num.specs.Complex.{times, conjugate, square, minus, multiple}
-use Rattle.sizes.specs.Sizes.{energy_below}
+use Rattle.norms.specs.Sizes.{energy_below}
 use Rattle.cs_bits.specs.Signs.{Supports}
 use Rattle.crs.specs.Qpsk.{point}
 use Rattle.crs.specs.declared.pattern.Pattern.{Pattern}

@@ -10,12 +10,12 @@ use Rattle.cs_num.specs.Complex.{plus, times, minus, multiple, square}
 use Rattle.cs_num.specs.Rounding.{rounded_quotient, quotient}
 use Rattle.cs_num.proofs.Rounding.{quotient-near}
 use Rattle.cs_num.proofs.Complex.{pair, square-within}
-use Rattle.sizes.specs.Sizes.{energy_below, correlation_below}
-use Rattle.sizes.proofs.Algebra.{plus-minus, times_real}
-use Rattle.sizes.proofs.Squares.{square-multiple}
-use Rattle.sizes.proofs.TwoTerms.{weighted}
-use Rattle.sizes.proofs.Cauchy.{cauchy, correlation_same, correlation_gain}
-use Rattle.sizes.proofs.Gram.{correlation_self}
+use Rattle.norms.specs.Sizes.{energy_below, correlation_below}
+use Rattle.norms.proofs.Algebra.{plus-minus, times_real}
+use Rattle.norms.proofs.Squares.{square-multiple}
+use Rattle.norms.proofs.TwoTerms.{weighted}
+use Rattle.norms.proofs.Cauchy.{cauchy, correlation_same, correlation_gain}
+use Rattle.norms.proofs.Gram.{correlation_self}
 use Rattle.cancel.specs.Gain.{estimate}
 use Rattle.cancel.specs.Laws.{IsGainSeen, EstimateIsNear, GainIsCandidate}
 

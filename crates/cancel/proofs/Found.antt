@@ -7,7 +7,7 @@ use Rattle.std.proofs.lemmas.Bool.{cases_lt}
 use Rattle.cs_num.specs.declared.Cpx.{Cpx}
 use Rattle.cs_num.specs.Complex.{minus, square}
 use Rattle.cs_num.proofs.Complex.{pair}
-use Rattle.sizes.proofs.Squares.{re-le, im-le}
+use Rattle.norms.proofs.Squares.{re-le, im-le}
 use Rattle.cancel.specs.declared.choosing.GainChoice.{GainChoice}
 use Rattle.cancel.specs.Gain.{IsCandidate, GoesBefore}
 use Rattle.cancel.specs.Laws.{IsOneBest}

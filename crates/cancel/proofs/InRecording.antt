@@ -9,7 +9,7 @@ use Rattle.cs_num.specs.Complex.{IsWithin, square, minus, times, sample_at, sile
 use Rattle.cs_num.proofs.Complex.{within_more}
 use Rattle.cs_num.specs.Rounding.{nearest_sample}
 use Rattle.cs_num.proofs.Samples.{nearest_sample-kept}
-use Rattle.sizes.proofs.Naturals.{root-le}
+use Rattle.norms.proofs.Naturals.{root-le}
 use Rattle.fold128.specs.Symbol.{useful_at}
 use Rattle.lte_types.specs.declared.carrier.Carrier.TheVariants.{OnePort}
 use Rattle.lte_types.specs.Numerology.{primary_start}

@@ -5,7 +5,7 @@ use Rattle.finite.proofs.Sums.{total_below-term}
 use Rattle.finite.proofs.Lists.{values_below_at}
 use Rattle.cs_num.specs.declared.Cpx.{Cpx}
 use Rattle.cs_num.specs.Complex.{IsWithin, square}
-use Rattle.sizes.proofs.Squares.{re-le, im-le}
+use Rattle.norms.proofs.Squares.{re-le, im-le}
 use Rattle.fold128.specs.Symbol.{useful_part}
 use Rattle.pss_search.specs.Correlation.{wave, wave_list, wave_power}
 use Rattle.pss_search.proofs.Symmetry.{power_range}

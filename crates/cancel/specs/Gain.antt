@@ -5,7 +5,7 @@ use Rattle.cs_num.specs.declared.Cpx.{Cpx}
 use Rattle.cs_num.specs.Complex.{minus, square, size}
 use Rattle.cs_num.specs.Rounding.{quotient}
 use Rattle.cs_num.specs.Gain.{IsGain}
-use Rattle.sizes.specs.Sizes.{energy_below, correlation_below}
+use Rattle.norms.specs.Sizes.{energy_below, correlation_below}
 
 -- the gain that 128 samples tell by a known signal
 abbrev pub estimate : (ℕ → Cpx) → (ℕ → Cpx) → Cpx

@@ -4,7 +4,7 @@ use Rattle.cs_num.specs.declared.Cpx.{Cpx}
 use Rattle.cs_num.specs.declared.Sample.{Sample}
 use Rattle.cs_num.specs.Complex.{IsWithin, times, minus, square}
 use Rattle.cs_num.specs.Gain.{IsGain}
-use Rattle.sizes.specs.Sizes.{energy_below}
+use Rattle.norms.specs.Sizes.{energy_below}
 use Rattle.sample_file.specs.Recording.{IsRecording}
 use Rattle.cell_plan.specs.declared.cell.CellPlan.{CellPlan}
 use Rattle.cancel.specs.declared.subtracted.Subtracted.{Subtracted}

@@ -3,7 +3,7 @@
 ghost use Rattle.std.specs.Prelude.{◌≡◌, ◌+◌, ◌%◌, ◌^◌, ◌<◌, ◌≤◌, All, length};
 ghost use Rattle.finite.specs.Lists.{values_below};
 ghost use Rattle.cs_num.specs.Complex.{IsWithin, value_of, sample_at, times, conjugate};
-ghost use Rattle.sizes.specs.Sizes.{correlation_below};
+ghost use Rattle.norms.specs.Sizes.{correlation_below};
 ghost use Rattle.lte_types.specs.Numerology.{frame_length};
 ghost use Rattle.pss_search.specs.Correlation.{pss_grid, wave, wave_list};
 ghost use Rattle.cancel.specs.Residue.{estimate_at};

@@ -1,7 +1,7 @@
 //! Runs a command on the recording that ships with the repository, so that the gate runs it.
 #![tactic(auto)]
 
-use lte_shell::run_process;
+use lte_process::run_process;
 use lte_top::Program;
 use std::process::ExitCode;
 

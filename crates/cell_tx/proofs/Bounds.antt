@@ -8,13 +8,13 @@ use Rattle.cs_num.specs.declared.Cpx.{Cpx}
 use Rattle.cs_num.specs.Complex.{IsWithin, nothing, plus, times, square, size, minus, multiple}
 use Rattle.cs_num.specs.Rounding.{rounded}
 use Rattle.cs_num.specs.Sums.{complex_sum_below}
-use Rattle.sizes.specs.Sizes.{IsSized}
-use Rattle.sizes.proofs.Algebra.{plus-minus}
+use Rattle.norms.specs.Sizes.{IsSized}
+use Rattle.norms.proofs.Algebra.{plus-minus}
 use Rattle.cs_num.proofs.Complex.{square-within}
 use Rattle.cs_num.specs.Gain.{IsGain}
-use Rattle.sizes.proofs.Squares.{re-le, im-le, square-multiple, square-times}
-use Rattle.sizes.proofs.Rounding.{rounded_near}
-use Rattle.sizes.proofs.Sized.{sized-plus, sized-times, sized-sum, sized_plain}
+use Rattle.norms.proofs.Squares.{re-le, im-le, square-multiple, square-times}
+use Rattle.norms.proofs.Rounding.{rounded_near}
+use Rattle.norms.proofs.Sized.{sized-plus, sized-times, sized-sum, sized_plain}
 use Rattle.fold128.specs.Tables.{w_at}
 use Rattle.fold128.specs.Symbol.{frequency, useful_term, useful_at}
 use Rattle.fold128.proofs.EntrySizes.{w-square, z-square}

@@ -8,8 +8,8 @@ use Rattle.finite.proofs.Lists.{values_below_at, values_below-length}
 use Rattle.cs_num.specs.declared.Cpx.{Cpx}
 use Rattle.cs_num.specs.declared.Sample.{Sample}
 use Rattle.cs_num.specs.Complex.{IsWithin, plus, minus, times, square, silence, value_at, value_of, sample_of}
-use Rattle.sizes.proofs.Squares.{re-le, im-le, square-times}
-use Rattle.sizes.proofs.TwoTerms.{two_term_cauchy}
+use Rattle.norms.proofs.Squares.{re-le, im-le, square-times}
+use Rattle.norms.proofs.TwoTerms.{two_term_cauchy}
 use Rattle.cell_tx.specs.Clean.{AreNear, received_of_two}
 use Rattle.lte_types.specs.declared.carrier.Carrier.TheVariants.{OnePort, TwoPorts, LongPrefix, FourPorts}
 use Rattle.cell_tx.specs.Ports.{only_port, first_port, second_port, long_port, port_of_four}

@@ -28,10 +28,10 @@ use Rattle.pcfich.specs.Indicator.{IsIndicator, Speak}
 use Rattle.pcfich.specs.Values.{indicator_values, indicator_values_by}
 use Rattle.pcfich.proofs.Indicators.{some_indicator, spoken_indicator}
 use Rattle.pdcch.specs.Candidate.{stream_values_by, candidate_values}
-use Rattle.system_block.specs.Subframe.{Subframe, one_port}
-use Rattle.system_block.specs.Control.{Grants}
-use Rattle.system_block.specs.Attempt.{Follows}
-use Rattle.system_block.proofs.Once.{one_grant}
+use Rattle.sib1_reader.specs.Subframe.{Subframe, one_port}
+use Rattle.sib1_reader.specs.Control.{Grants}
+use Rattle.sib1_reader.specs.Attempt.{Follows}
+use Rattle.sib1_reader.proofs.Once.{one_grant}
 use Rattle.cell_tx.specs.Block.{coded_bit}
 use Rattle.clean_air.specs.Words.{SpeakInOrder, IsOnlyWord}
 use Rattle.clean_air.specs.Carried.{AreHeard}

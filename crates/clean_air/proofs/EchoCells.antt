@@ -6,8 +6,8 @@ use Rattle.std.proofs.lemmas.Bool.Decides.{nat_tests}
 use Rattle.cs_num.specs.declared.Cpx.{Cpx}
 use Rattle.cs_num.specs.declared.Sample.{Sample}
 use Rattle.cs_num.specs.Complex.{times, square, minus}
-use Rattle.sizes.proofs.Algebra.{plus-nothing_right}
-use Rattle.sizes.proofs.Cauchy.{energy_same}
+use Rattle.norms.proofs.Algebra.{plus-nothing_right}
+use Rattle.norms.proofs.Cauchy.{energy_same}
 use Rattle.fold128.specs.Symbol.{useful_at}
 use Rattle.crs.specs.Reference.{port_0}
 use Rattle.lte_types.specs.declared.carrier.Carrier.TheVariants.{OnePort}

@@ -5,8 +5,8 @@ use Rattle.std.proofs.Math.ListN.{get_or-map}
 use Rattle.std.proofs.lemmas.Bool.Decides.{nat_tests}
 use Rattle.cs_num.specs.declared.Cpx.{Cpx}
 use Rattle.cs_num.specs.Complex.{nothing, plus, minus, times, square, value_at}
-use Rattle.sizes.proofs.Algebra.{multiple-plus, multiple-times}
-use Rattle.sizes.proofs.Cauchy.{energy_same}
+use Rattle.norms.proofs.Algebra.{multiple-plus, multiple-times}
+use Rattle.norms.proofs.Cauchy.{energy_same}
 use Rattle.budget.specs.Received.{in_parts, off_by, samples_from}
 use Rattle.budget.proofs.Parts.{square_in_parts, errors_have_energy}
 use Rattle.lte_types.specs.declared.carrier.Carrier.{Carrier}

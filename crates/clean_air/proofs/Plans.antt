@@ -11,9 +11,9 @@ use Rattle.lte_types.specs.declared.sib1_reason.Sib1Reason.{Sib1Reason}
 use Rattle.lte_types.specs.declared.entry.Entry.{Entry}
 use Rattle.dci.specs.declared.grant.Grant.{Grant}
 use Rattle.soft_bits.specs.Places.{placed_values}
-use Rattle.system_block.specs.declared.reading.Attempt.{Attempt}
-use Rattle.system_block.specs.Subframe.{Subframe, one_port}
-use Rattle.system_block.specs.Attempt.{IsAttempt}
+use Rattle.sib1_reader.specs.declared.reading.Attempt.{Attempt}
+use Rattle.sib1_reader.specs.Subframe.{Subframe, one_port}
+use Rattle.sib1_reader.specs.Attempt.{IsAttempt}
 use Rattle.explain.specs.Frame.{frame_at, seen_slot}
 use Rattle.explain.specs.Receiver.{subframes_by, one_port_receiver}
 use Rattle.explain.specs.Entries.{place_of, IsInList}

@@ -5,7 +5,7 @@ use Rattle.turbo_code.specs.declared.rows.Row.{Row}
 use Rattle.turbo_code.specs.Encoder.{coded}
 use Rattle.turbo_code.specs.Reading.{item_of, bit_of}
 use Rattle.erasure.specs.Known.{resolvable, sent_of}
-use Rattle.system_block.specs.Block.{BlockSays}
+use Rattle.sib1_reader.specs.Block.{BlockSays}
 use Rattle.cell_plan.specs.declared.cell.CellPlan.{CellPlan}
 use Rattle.cell_plan.specs.Plan.{IsSendableWith}
 use Rattle.cell_plan.specs.Transport.{checked_size, row_with, shared_word, shared_coded}

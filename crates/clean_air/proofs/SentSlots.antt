@@ -6,7 +6,7 @@ use Rattle.std.proofs.lemmas.Bool.Decides.{nat_tests}
 use Rattle.cs_num.specs.declared.Cpx.{Cpx}
 use Rattle.cs_num.specs.declared.Sample.{Sample}
 use Rattle.cs_num.specs.Complex.{times, minus, square, value_at}
-use Rattle.sizes.proofs.Cauchy.{energy_same}
+use Rattle.norms.proofs.Cauchy.{energy_same}
 use Rattle.fold128.specs.Symbol.{useful_at}
 use Rattle.finite.proofs.Lists.{values_below_at}
 use Rattle.crs.specs.Reference.{port_0, is_reference, is_second_reference, is_upper_reference, first_subcarrier, pattern_reference, reference, reference_c_init, reference_at}

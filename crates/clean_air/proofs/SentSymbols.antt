@@ -4,8 +4,8 @@ use Rattle.std.proofs.lemmas.Bool.Decides.{nat_tests}
 use Rattle.cs_num.specs.declared.Cpx.{Cpx}
 use Rattle.cs_num.specs.declared.Sample.{Sample}
 use Rattle.cs_num.specs.Complex.{plus, times, minus, value_at}
-use Rattle.sizes.specs.Sizes.{energy_below}
-use Rattle.sizes.proofs.Cauchy.{energy_same}
+use Rattle.norms.specs.Sizes.{energy_below}
+use Rattle.norms.proofs.Cauchy.{energy_same}
 use Rattle.fold128.specs.Symbol.{useful_at}
 use Rattle.budget.specs.Received.{in_parts, off_by, samples_from}
 use Rattle.lte_types.specs.declared.carrier.Carrier.{Carrier}

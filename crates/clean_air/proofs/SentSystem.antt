@@ -5,9 +5,9 @@ use Rattle.cs_num.specs.declared.Sample.{Sample}
 use Rattle.lte_types.specs.Timing.{start_of, number_at_start}
 use Rattle.soft_bits.specs.Soft.{SeenSlot}
 use Rattle.grid_map.specs.Control.{pcfich_places}
-use Rattle.system_block.specs.Subframe.{one_port}
-use Rattle.system_block.specs.Block.{BlockSays}
-use Rattle.system_block.specs.Attempt.{Reads}
+use Rattle.sib1_reader.specs.Subframe.{one_port}
+use Rattle.sib1_reader.specs.Block.{BlockSays}
+use Rattle.sib1_reader.specs.Attempt.{Reads}
 use Rattle.pdsch.specs.Values.{shared_values}
 use Rattle.cell_tx.specs.Ports.{only_port}
 use Rattle.cell_plan.specs.declared.cell.CellPlan.{CellPlan}

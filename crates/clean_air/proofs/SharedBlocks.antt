@@ -3,8 +3,8 @@ use Rattle.std.proofs.Common.{◌≡◌, ◌*◌, true, length, sym, subst, arit
 use Rattle.lte_types.specs.declared.carrier.Carrier.TheVariants.{OnePort}
 use Rattle.grid_map.specs.Shared.{shared_places_of}
 use Rattle.erasure.specs.Known.{resolvable, sent_of}
-use Rattle.clean_turbo.specs.Tells.{ValuesSupport}
-use Rattle.clean_turbo.proofs.ReceivedSums.{received_sums_tell, whole_sums_speak, punctured_block_is_told}
+use Rattle.turbo_convergence.specs.Tells.{ValuesSupport}
+use Rattle.turbo_convergence.proofs.ReceivedSums.{received_sums_tell, whole_sums_speak, punctured_block_is_told}
 use Rattle.clean_air.specs.Block.{matched_bit, HeardBlockIsTold, HeardSubframeTells, CarriedBlockIsTold}
 use Rattle.clean_air.proofs.Subframes.{values_of_blocks_are_heard, carried_blocks_are_heard}
 

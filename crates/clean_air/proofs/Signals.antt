@@ -8,8 +8,8 @@ use Rattle.cs_num.specs.declared.Sample.{Sample}
 use Rattle.cs_num.specs.Complex.{nothing, plus, times, minus, square, value_at}
 use Rattle.cs_num.specs.Rounding.{rounded}
 use Rattle.cs_num.proofs.Complex.{times-commutes}
-use Rattle.sizes.proofs.Algebra.{plus-nothing_right, times-nothing, sum_zero}
-use Rattle.sizes.proofs.Cauchy.{energy_same}
+use Rattle.norms.proofs.Algebra.{plus-nothing_right, times-nothing, sum_zero}
+use Rattle.norms.proofs.Cauchy.{energy_same}
 use Rattle.fold128.specs.Tables.{w_at}
 use Rattle.fold128.specs.Symbol.{useful_at, useful_term, frequency}
 use Rattle.fold128.proofs.Samples.{useful_same}

@@ -5,11 +5,11 @@ use Rattle.finite.specs.Sums.{total_below}
 use Rattle.cs_num.specs.declared.Cpx.{Cpx}
 use Rattle.cs_num.specs.declared.Sample.{Sample}
 use Rattle.cs_num.specs.Complex.{plus, times, square, minus, multiple}
-use Rattle.sizes.specs.Sizes.{IsSized, energy_below}
-use Rattle.sizes.proofs.Algebra.{plus-minus, minus-plus, multiple-plus}
-use Rattle.sizes.proofs.Squares.{square-multiple}
-use Rattle.sizes.proofs.Sized.{sized-plus}
-use Rattle.sizes.proofs.Products.{sized-multiple}
+use Rattle.norms.specs.Sizes.{IsSized, energy_below}
+use Rattle.norms.proofs.Algebra.{plus-minus, minus-plus, multiple-plus}
+use Rattle.norms.proofs.Squares.{square-multiple}
+use Rattle.norms.proofs.Sized.{sized-plus}
+use Rattle.norms.proofs.Products.{sized-multiple}
 use Rattle.crs.specs.Reference.{port_0}
 use Rattle.soft_bits.specs.Estimate.{estimate}
 use Rattle.soft_bits.specs.Soft.{SeenSlot, seen_at, pilot_subcarrier, pattern_symbol, pattern_seen}

@@ -13,8 +13,8 @@ use Rattle.finite.proofs.Tests.{any_below_at}
 use Rattle.finite.specs.Lists.{values_below}
 use Rattle.finite.proofs.Lists.{values_below_at, values_below_same}
 use Rattle.finite.proofs.Sums.{total_zero, terms_zero}
-use Rattle.paths.specs.Words.{IsBefore}
-use Rattle.paths.proofs.Words.{number-before}
+use Rattle.trellis.specs.Words.{IsBefore}
+use Rattle.trellis.proofs.Words.{number-before}
 use Rattle.conv_code.specs.Code.{coded_bits, coded_word}
 use Rattle.sub_block.specs.declared.Item.{Item}
 use Rattle.sub_block.specs.Items.{item, is_at, summed_at}
@@ -29,8 +29,8 @@ use Rattle.cs_bits.proofs.Signs.{supports-speaks}
 use Rattle.tailbite.specs.Clean.{Speaks}
 use Rattle.tailbite.proofs.Only.{free_place, same_place}
 use Rattle.cs_bits.specs.Signs.{Supports}
-use Rattle.clean_turbo.specs.Tells.{Tells}
-use Rattle.clean_turbo.proofs.ReceivedSums.{item_tells}
+use Rattle.turbo_convergence.specs.Tells.{Tells}
+use Rattle.turbo_convergence.proofs.ReceivedSums.{item_tells}
 use Rattle.clean_air.specs.Words.{FourSpeakTogether, DescramblingKeeps, SpeakByReading, SpeakInTurn, SumsSpeakFrom, SumsSpeak, SpokenWordIsOnly}
 
 -- ---- single values

@@ -4,7 +4,7 @@ use Rattle.std.specs.Prelude.{if◌then◌else◌}
 use Rattle.std.proofs.lemmas.Int.{ints}
 use Rattle.cs_num.specs.declared.Cpx.{Cpx}
 use Rattle.cs_num.specs.Complex.{nothing, negated, conjugate, square}
-use Rattle.sizes.proofs.Squares.{square-conjugate}
+use Rattle.norms.proofs.Squares.{square-conjugate}
 use Rattle.sync_seq.specs.Middle.{is_middle}
 use Rattle.crs.specs.Qpsk.{IsPoint}
 use Rattle.crs.specs.Ports.{is_reference_of_any}

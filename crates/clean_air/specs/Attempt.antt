@@ -10,10 +10,10 @@ use Rattle.dci.specs.declared.grant.Grant.{Grant}
 use Rattle.dci.specs.Format1A.{IsGrant}
 use Rattle.soft_bits.specs.Soft.{SeenSlot}
 use Rattle.pcfich.specs.Indicator.{Speak}
-use Rattle.system_block.specs.declared.reading.Attempt.{Attempt}
-use Rattle.system_block.specs.Subframe.{Subframe, one_port}
-use Rattle.system_block.specs.Block.{Tells}
-use Rattle.system_block.specs.Attempt.{IsAttempt, Reads}
+use Rattle.sib1_reader.specs.declared.reading.Attempt.{Attempt}
+use Rattle.sib1_reader.specs.Subframe.{Subframe, one_port}
+use Rattle.sib1_reader.specs.Block.{Tells}
+use Rattle.sib1_reader.specs.Attempt.{IsAttempt, Reads}
 use Rattle.clean_air.specs.Values.{IsSlotHeard}
 use Rattle.clean_air.specs.Words.{SpeakInOrder}
 use Rattle.clean_air.specs.Carried.{ArePlacesHeard}

@@ -13,7 +13,7 @@ use Rattle.grid_map.specs.Shared.{shared_places_of}
 use Rattle.soft_bits.specs.Soft.{SeenSlot}
 use Rattle.pdsch.specs.Values.{shared_values}
 use Rattle.erasure.specs.Known.{resolvable, sent_of}
-use Rattle.clean_turbo.specs.Tells.{SumsSupport, SumsTell}
+use Rattle.turbo_convergence.specs.Tells.{SumsSupport, SumsTell}
 use Rattle.clean_air.specs.Carried.{AreHeard}
 use Rattle.clean_air.specs.Subframe.{IsSubframeHeard, shared_scrambled, AreSlotsHeard, CarryInSubframe}
 

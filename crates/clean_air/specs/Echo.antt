@@ -4,7 +4,7 @@ use Rattle.std.specs.Prelude.{◌≡◌, ℕ, ◌+◌, ◌*◌, ◌^◌, ◌<◌
 use Rattle.cs_num.specs.declared.Cpx.{Cpx}
 use Rattle.cs_num.specs.declared.Sample.{Sample}
 use Rattle.cs_num.specs.Complex.{square}
-use Rattle.sizes.specs.Sizes.{energy_below}
+use Rattle.norms.specs.Sizes.{energy_below}
 use Rattle.crs.specs.Reference.{port_0}
 use Rattle.lte_types.specs.declared.carrier.Carrier.TheVariants.{OnePort}
 use Rattle.lte_types.specs.Numerology.{frame_length, least_samples, normal, useful_start}

@@ -16,7 +16,7 @@ use Rattle.dci.specs.Fields.{system_information_rnti}
 use Rattle.dci.specs.Format1A.{IsGrant, sent_word}
 use Rattle.soft_bits.specs.Soft.{SeenSlot}
 use Rattle.pdcch.specs.Candidate.{candidate_values}
-use Rattle.system_block.specs.Control.{Grants}
+use Rattle.sib1_reader.specs.Control.{Grants}
 use Rattle.cell_tx.specs.Block.{scrambled_bit}
 use Rattle.clean_air.specs.Values.{IsSlotHeard}
 use Rattle.clean_air.specs.Words.{SpeakInOrder, IsOnlyWord}

@@ -5,8 +5,8 @@ use Rattle.finite.proofs.Sums.{total_below-within}
 use Rattle.cs_num.specs.declared.Cpx.{Cpx}
 use Rattle.cs_num.specs.Complex.{plus, square, minus, multiple}
 use Rattle.cs_num.proofs.Complex.{pair}
-use Rattle.sizes.proofs.Algebra.{plus-minus, minus-plus, multiple-plus}
-use Rattle.sizes.proofs.TwoTerms.{weighted_term}
+use Rattle.norms.proofs.Algebra.{plus-minus, minus-plus, multiple-plus}
+use Rattle.norms.proofs.TwoTerms.{weighted_term}
 use Rattle.crs.specs.Reference.{port_0}
 use Rattle.soft_bits.specs.Soft.{SeenSlot, pilot, pilot_energy}
 use Rattle.budget.specs.Received.{in_parts}

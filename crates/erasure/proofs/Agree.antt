@@ -7,7 +7,7 @@ use Rattle.std.proofs.lemmas.List.{get_or-take, get_or-replicate}
 use Rattle.finite.specs.Tests.{every_below}
 use Rattle.finite.proofs.Tests.{any_below_at, any_below_all, any_below_same, every_below_at, every_below_all, every_below_same}
 use Rattle.finite.proofs.Lists.{front_is, values_below_same}
-use Rattle.paths.specs.AllWords.{every_word}
+use Rattle.trellis.specs.AllWords.{every_word}
 use Rattle.turbo_code.specs.declared.rows.Row.{Row}
 use Rattle.turbo_code.specs.Table.{IsRow, interleaver, step_of}
 use Rattle.turbo_code.specs.Encoder.{bit_at, parity, tail_x, tail_z}

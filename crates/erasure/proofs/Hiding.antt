@@ -7,12 +7,12 @@ use Rattle.finite.specs.Sums.{total_below}
 use Rattle.finite.specs.Tests.{any_below}
 use Rattle.finite.proofs.Sums.{positive, positive-sum, positive_from, total_below_changed, total_below-positive}
 use Rattle.finite.proofs.Tests.{any_below_none, any_below_some}
-use Rattle.paths.proofs.AllWords.{every_word_at, every_word_all}
-use Rattle.paths.proofs.Words.{bit_between, with_bit}
-use Rattle.paths.specs.Paths.{end_of, path_cost, best}
-use Rattle.paths.proofs.Best.{best-le, best_reached}
-use Rattle.paths.proofs.Paths.{end_of-append, path_cost-split, end_below}
-use Rattle.paths.proofs.Forward.{least_to_none, least_to_more}
+use Rattle.trellis.proofs.AllWords.{every_word_at, every_word_all}
+use Rattle.trellis.proofs.Words.{bit_between, with_bit}
+use Rattle.trellis.specs.Paths.{end_of, path_cost, best}
+use Rattle.trellis.proofs.Best.{best-le, best_reached}
+use Rattle.trellis.proofs.Paths.{end_of-append, path_cost-split, end_below}
+use Rattle.trellis.proofs.Forward.{least_to_none, least_to_more}
 use Rattle.turbo_code.specs.Encoder.{bit_at, back, before, parity, tail_x, tail_z}
 use Rattle.turbo_code.specs.Machine.{next, parity_bit, tail_bit, tail_parity, first_from, second_from, bit_to}
 use Rattle.turbo_code.proofs.Registers.{state, state_at, parity_at, tail_bit_is, tail_parity_is, half_is, path_is}

@@ -7,9 +7,9 @@ use Rattle.std.proofs.Math.Bool.{and-false}
 use Rattle.finite.specs.Tests.{any_below, every_below}
 use Rattle.finite.proofs.Tests.{any_below_all, every_below_at}
 use Rattle.cs_bits.specs.Checks.{has_check_24}
-use Rattle.paths.specs.AllWords.{every_word}
-use Rattle.paths.proofs.AllWords.{every_word_at}
-use Rattle.paths.proofs.Words.{bit_between}
+use Rattle.trellis.specs.AllWords.{every_word}
+use Rattle.trellis.proofs.AllWords.{every_word_at}
+use Rattle.trellis.proofs.Words.{bit_between}
 use Rattle.turbo_code.specs.declared.rows.Row.{Row}
 use Rattle.turbo_code.specs.Table.{IsRow, interleaver, step_of}
 use Rattle.turbo_code.specs.Encoder.{bit_at, parity, tail_x, tail_z}

@@ -4,7 +4,7 @@ use Rattle.std.specs.Prelude.{ℕ, zero, suc, ◌+◌, ◌*◌, Bool, false, not
 use Rattle.finite.specs.Lists.{values_below}
 use Rattle.finite.specs.Tests.{any_below, every_below}
 use Rattle.cs_bits.specs.Checks.{has_check_24}
-use Rattle.paths.specs.AllWords.{every_word}
+use Rattle.trellis.specs.AllWords.{every_word}
 use Rattle.sub_block.specs.Items.{is_at}
 use Rattle.turbo_code.specs.declared.rows.Row.{Row}
 use Rattle.turbo_code.specs.Table.{interleaver, step_of}

@@ -3,7 +3,7 @@
 use Rattle.std.specs.Prelude.{◌≡◌, ℕ, zero, suc, ◌+◌, ◌*◌, ◌/◌, ◌<◌, ◌≤◌, Bool, true, false, not, cond, ◌&&◌, ◌||◌}
 use Rattle.std.specs.Prelude.{List, [], length, slice_index_or, nat_eq, pos, int_lt, ℤ}
 use Rattle.finite.specs.Tables.{sum_at}
-use Rattle.paths.specs.Least.{IsLeastTo}
+use Rattle.trellis.specs.Least.{IsLeastTo}
 use Rattle.turbo_code.specs.Encoder.{bit_at}
 use Rattle.turbo_code.specs.Machine.{next, parity_bit, tail_bit, tail_parity, first_from, second_from, bit_to}
 use Rattle.erasure.specs.Known.{Sent, found}

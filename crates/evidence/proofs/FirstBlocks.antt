@@ -11,12 +11,12 @@ use Rattle.lte_types.specs.declared.mib.Mib.{Mib}
 use Rattle.lte_types.specs.CellPlace.{Place}
 use Rattle.dci.specs.declared.grant.Grant.{Grant}
 use Rattle.dci.specs.Format1A.{IsGrant}
-use Rattle.system_block.specs.Subframe.{Subframe}
-use Rattle.system_block.specs.Block.{IsBlock}
-use Rattle.system_block.specs.declared.reading.Attempt.{Attempt}
-use Rattle.system_block.specs.Attempt.{IsAttempt, granted_by}
-use Rattle.system_block.proofs.Once.{one_attempt, one_text}
-use Rattle.system_block.proofs.GrantRead.{has_read, none_read}
+use Rattle.sib1_reader.specs.Subframe.{Subframe}
+use Rattle.sib1_reader.specs.Block.{IsBlock}
+use Rattle.sib1_reader.specs.declared.reading.Attempt.{Attempt}
+use Rattle.sib1_reader.specs.Attempt.{IsAttempt, granted_by}
+use Rattle.sib1_reader.proofs.Once.{one_attempt, one_text}
+use Rattle.sib1_reader.proofs.GrantRead.{has_read, none_read}
 use Rattle.explain.specs.Receiver.{Subframes}
 use Rattle.explain.specs.System.{even_frame, IsTried}
 use Rattle.evidence.specs.Blocks.{HasNoBlock, IsBlockRead, IsBlockWith, IsBlockAt}

@@ -10,11 +10,11 @@ use Rattle.lte_types.specs.declared.sib1.Sib1.{Sib1}
 use Rattle.lte_types.specs.declared.sib1_reason.Sib1Reason.{Sib1Reason}
 use Rattle.lte_types.specs.CellPlace.{Place}
 use Rattle.dci.specs.declared.grant.Grant.{Grant}
-use Rattle.system_block.specs.Subframe.{Subframe}
-use Rattle.system_block.specs.declared.reading.Attempt.{Attempt}
-use Rattle.system_block.specs.Attempt.{Reads}
-use Rattle.system_block.specs.Block.{IsBlock}
-use Rattle.system_block.proofs.Once.{one_attempt, one_block}
+use Rattle.sib1_reader.specs.Subframe.{Subframe}
+use Rattle.sib1_reader.specs.declared.reading.Attempt.{Attempt}
+use Rattle.sib1_reader.specs.Attempt.{Reads}
+use Rattle.sib1_reader.specs.Block.{IsBlock}
+use Rattle.sib1_reader.proofs.Once.{one_attempt, one_block}
 use Rattle.explain.specs.Receiver.{Subframes}
 use Rattle.explain.specs.System.{even_frame}
 use Rattle.explain.specs.Entries.{place_of}

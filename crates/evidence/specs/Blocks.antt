@@ -11,9 +11,9 @@ use Rattle.lte_types.specs.declared.entry.Entry.{Entry}
 use Rattle.lte_types.specs.Codes.{bandwidth_code, duration_code, resource_code}
 use Rattle.lte_types.specs.CellPlace.{Place}
 use Rattle.dci.specs.declared.grant.Grant.{Grant}
-use Rattle.system_block.specs.Subframe.{Subframe}
-use Rattle.system_block.specs.Attempt.{IsAttempt, Reads}
-use Rattle.system_block.specs.Block.{IsBlock}
+use Rattle.sib1_reader.specs.Subframe.{Subframe}
+use Rattle.sib1_reader.specs.Attempt.{IsAttempt, Reads}
+use Rattle.sib1_reader.specs.Block.{IsBlock}
 use Rattle.explain.specs.Receiver.{Subframes}
 use Rattle.explain.specs.System.{even_frame, IsTried}
 use Rattle.explain.specs.Entries.{place_of}

@@ -4,8 +4,8 @@ ghost use Rattle.std.specs.Prelude.{◌≡◌, ◌<◌, ◌≤◌, [], IfOk};
 ghost use Rattle.std.specs.Option.{option_map, unwrap_or};
 ghost use Rattle.dci.specs.Format1A.{IsGrant};
 ghost use Rattle.pdsch.specs.Values.{shared_values_by};
-ghost use Rattle.system_block.specs.Subframe.{subframe_by};
-ghost use Rattle.system_block.specs.Block.{IsBlock};
+ghost use Rattle.sib1_reader.specs.Subframe.{subframe_by};
+ghost use Rattle.sib1_reader.specs.Block.{IsBlock};
 ghost use Rattle.explain.specs.Frame.{IsWhole};
 ghost use Rattle.explain.specs.Receiver.{subframes_by};
 ghost use Rattle.evidence.specs.Blocks.{IsBlockAt, IsBlockRead, IsSystemBlock};
@@ -18,7 +18,7 @@ use pdsch::MOST_VALUES;
 use sample_file::Recording;
 use soft_bits::ReadSlot;
 use std::alloc::{AllocError, Global};
-use system_block::{Decoders, attempt_in, block_of};
+use sib1_reader::{Decoders, attempt_in, block_of};
 use turbo_dec::{Block, Work};
 
 // The bits of the transport block that told the system information of an entry; none where it has none.

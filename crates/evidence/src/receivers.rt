@@ -16,7 +16,7 @@ use four_ports::FourPorts;
 use lte_types::{Carrier, CellPlace, Entry};
 use sample_file::Recording;
 use soft_bits::{Single, Slot};
-use system_block::Decoders;
+use sib1_reader::Decoders;
 use turbo_dec::Block;
 use two_ports::{PairSlot, TwoPorts};
 

@@ -18,7 +18,7 @@ use lte_types::{Carrier, Entry, Evidence, Mib};
 use sample_file::Recording;
 use std::alloc::{AllocError, Global};
 use std::marker::Model;
-use system_block::Decoders;
+use sib1_reader::Decoders;
 
 /// What supports an entry of a list, what its slot shows, and its blocks. Contracts see it as these. (own)
 #[derive(Drop)]

@@ -15,8 +15,8 @@ use Rattle.lte_types.specs.declared.sib1_reason.Sib1Reason.{Sib1Reason}
 use Rattle.lte_types.specs.declared.sib1_reason.Sib1Reason.TheVariants.{NotOnePort, Bandwidth as OtherWidth}
 use Rattle.lte_types.specs.declared.carrier.Carrier.{Carrier}
 use Rattle.lte_types.specs.Carrier.{prefix_of}
-use Rattle.system_block.specs.Subframe.{Subframe, subframe_by}
-use Rattle.system_block.specs.Attempt.{Reads}
+use Rattle.sib1_reader.specs.Subframe.{Subframe, subframe_by}
+use Rattle.sib1_reader.specs.Attempt.{Reads}
 use Rattle.pss_search.specs.Hits.{IsInSpan}
 use Rattle.pss_search.proofs.Agree.{hits_agree}
 use Rattle.sample_file.specs.Recording.{AgreeBefore}

@@ -11,11 +11,11 @@ use Rattle.lte_types.specs.declared.mib.Mib.{Mib}
 use Rattle.lte_types.specs.CellPlace.{Place}
 use Rattle.lte_types.specs.declared.carrier.Carrier.TheVariants.{OnePort}
 use Rattle.dci.specs.declared.grant.Grant.{Grant}
-use Rattle.system_block.specs.declared.reading.Attempt.{Attempt}
-use Rattle.system_block.specs.Subframe.{Subframe}
-use Rattle.system_block.specs.Attempt.{IsAttempt, granted_with, granted_by}
-use Rattle.system_block.proofs.Once.{one_attempt}
-use Rattle.system_block.proofs.GrantRead.{has_read, none_read}
+use Rattle.sib1_reader.specs.declared.reading.Attempt.{Attempt}
+use Rattle.sib1_reader.specs.Subframe.{Subframe}
+use Rattle.sib1_reader.specs.Attempt.{IsAttempt, granted_with, granted_by}
+use Rattle.sib1_reader.proofs.Once.{one_attempt}
+use Rattle.sib1_reader.proofs.GrantRead.{has_read, none_read}
 use Rattle.explain.specs.Told.{Attempting, Answering}
 use Rattle.explain.proofs.Once.{AnswersOnce}
 use Rattle.explain.specs.Receiver.{Subframes, one_port_receiver}

@@ -10,8 +10,8 @@ use Rattle.lte_types.specs.declared.sib1.Sib1.{Sib1}
 use Rattle.lte_types.specs.declared.sib1_reason.Sib1Reason.{Sib1Reason}
 use Rattle.lte_types.specs.declared.sib1_reason.Sib1Reason.TheVariants.{NotOnePort, Bandwidth as OtherWidth, LongPrefix}
 use Rattle.lte_types.specs.Ranges.{IsValid}
-use Rattle.system_block.proofs.Once.{one_reading}
-use Rattle.system_block.proofs.Exists.{read_is_valid, never_long}
+use Rattle.sib1_reader.proofs.Once.{one_reading}
+use Rattle.sib1_reader.proofs.Exists.{read_is_valid, never_long}
 use Rattle.lte_types.specs.CellPlace.{Place}
 use Rattle.lte_types.specs.declared.carrier.Carrier.{Carrier}
 use Rattle.lte_types.specs.Carrier.{ports_of}

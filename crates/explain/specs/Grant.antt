@@ -7,8 +7,8 @@ use Rattle.lte_types.specs.CellPlace.{Place}
 use Rattle.lte_types.specs.declared.mib.Mib.{Mib}
 use Rattle.lte_types.specs.declared.entry.Entry.{Entry}
 use Rattle.dci.specs.declared.grant.Grant.{Grant}
-use Rattle.system_block.specs.declared.reading.Attempt.{Attempt}
-use Rattle.system_block.specs.Attempt.{IsAttempt, granted_by}
+use Rattle.sib1_reader.specs.declared.reading.Attempt.{Attempt}
+use Rattle.sib1_reader.specs.Attempt.{IsAttempt, granted_by}
 use Rattle.explain.specs.Receiver.{Receiver, Subframes, one_port_receiver}
 use Rattle.explain.specs.Told.{Answering, Attempting, Granting}
 use Rattle.explain.specs.System.{even_frame, IsTried}

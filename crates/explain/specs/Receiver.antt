@@ -15,7 +15,7 @@ use Rattle.pss_search.specs.Hits.{IsInSpan, hits_of}
 use Rattle.sss_detect.specs.Place.{prefix_place}
 use Rattle.soft_bits.specs.Places.{Valuing, placed_values}
 use Rattle.pbch.specs.Values.{received_values_by, summed_values}
-use Rattle.system_block.specs.Subframe.{Subframe, subframe_by}
+use Rattle.sib1_reader.specs.Subframe.{Subframe, subframe_by}
 use Rattle.explain.specs.Frame.{seen_slot, frame_at, broadcast_slot, values_in}
 
 -- the values of subframe 5 of frame j of the cell at a place, with PHICH of this duration and resource

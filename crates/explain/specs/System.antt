@@ -11,7 +11,7 @@ use Rattle.lte_types.specs.declared.mib.Mib.{Mib}
 use Rattle.lte_types.specs.declared.sib1.Sib1.{Sib1}
 use Rattle.lte_types.specs.declared.sib1_reason.Sib1Reason.{Sib1Reason}
 use Rattle.lte_types.specs.declared.sib1_reason.Sib1Reason.TheVariants.{NotOnePort, Bandwidth as OtherWidth}
-use Rattle.system_block.specs.Attempt.{Reads}
+use Rattle.sib1_reader.specs.Attempt.{Reads}
 use Rattle.explain.specs.Frame.{IsWhole}
 use Rattle.explain.specs.Receiver.{Receiver, Subframes}
 use Rattle.explain.specs.Told.{Answering, Informing}

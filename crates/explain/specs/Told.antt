@@ -7,7 +7,7 @@ use Rattle.lte_types.specs.declared.sib1.Sib1.{Sib1}
 use Rattle.lte_types.specs.declared.sib1_reason.Sib1Reason.{Sib1Reason}
 use Rattle.dci.specs.declared.grant.Grant.{Grant}
 use Rattle.pbch.specs.declared.master.Master.{Master}
-use Rattle.system_block.specs.declared.reading.Attempt.{Attempt}
+use Rattle.sib1_reader.specs.declared.reading.Attempt.{Attempt}
 
 -- which master block frames of the cell at a place tell
 abbrev pub Telling : Type 1

@@ -10,7 +10,7 @@ use crate::Informed;
 use lte_types::{Carrier, CellPlace, Sfn};
 use pbch::{Master, Received};
 use sample_file::Recording;
-use system_block::Decoders;
+use sib1_reader::Decoders;
 
 /// A way to read the cells of a recording that send by one kind of carrier: the values of the broadcast channel of
 /// each frame, the count of frames of which they are added, the counts of antenna ports that a master block may tell,

@@ -9,7 +9,7 @@ use lte_types::{Carrier, CellPlace, Sfn};
 use pbch::{Master, Received};
 use sample_file::Recording;
 use soft_bits::Slot;
-use system_block::Decoders;
+use sib1_reader::Decoders;
 
 /// The way to read frames by one antenna port: each master block is taken, whatever ports it tells. (own)
 pub struct OnePort;

@@ -25,7 +25,7 @@ use lte_types::{CellPlace, Cfi, Entry, Frames, Hit};
 use pbch::Master;
 use pss_search::{hits, hits_are_right};
 use sample_file::Recording;
-use system_block::Decoders;
+use sib1_reader::Decoders;
 
 // What a hit tells: the place of a cell, and the master blocks of its first frames that have any.
 #[derive(Drop)]

@@ -4,14 +4,14 @@ ghost use Rattle.std.specs.Prelude.{◌≡◌, ◌<◌, length};
 ghost use Rattle.soft_bits.specs.Front.{HaveOneFront};
 ghost use Rattle.explain.specs.Frame.{IsWhole, frame_at, seen_slot, broadcast_slot as broadcast_slot_of};
 ghost use Rattle.explain.specs.Receiver.{broadcast_by, subframes_by};
-ghost use Rattle.system_block.specs.Attempt.{IsAttempt};
+ghost use Rattle.sib1_reader.specs.Attempt.{IsAttempt};
 
 use crate::frame::{broadcast_front, symbols_of};
 use lte_types::{CellPlace, Mib};
 use pbch::{Received, received};
 use sample_file::Recording;
 use soft_bits::ReadSlot;
-use system_block::{Attempt, Decoders, attempt_in};
+use sib1_reader::{Attempt, Decoders, attempt_in};
 
 /// A slot of frame `j` of a cell by its number, 0 to 19, as it is seen. The frame lies within the recording.
 pub fn slot_of<S: ReadSlot>(recording: &Recording, place: CellPlace, j: u8, number: u8) -> S

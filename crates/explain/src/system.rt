@@ -3,7 +3,7 @@
 ghost use Rattle.std.specs.Prelude.{◌≡◌, ◌<◌, ◌+◌, ◌*◌, ◌%◌, None, Ok, Err};
 ghost use Rattle.explain.specs.Receiver.{subframes_by};
 ghost use Rattle.explain.specs.System.{even_frame as even_frame_of, FrameAnswers, IsReadFrom, IsSystemWith};
-ghost use Rattle.system_block.specs.Attempt.{granted_by};
+ghost use Rattle.sib1_reader.specs.Attempt.{granted_by};
 ghost use Rattle.explain.specs.Grant.{IsFrameAttempt, IsGrantBy, IsGrantWith};
 
 use crate::frame::is_whole;
@@ -13,7 +13,7 @@ use lte_types::{Bandwidth, CellPlace, Cfi, Mib, Sfn, Sib1, Sib1Reason};
 use pbch::Master;
 use sample_file::Recording;
 use soft_bits::ReadSlot;
-use system_block::{Attempt, Decoders};
+use sib1_reader::{Attempt, Decoders};
 
 /// What is told of the system information of a cell, and by which indicator and grant it was read.
 #[derive(Drop)]

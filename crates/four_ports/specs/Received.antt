@@ -1,7 +1,7 @@
 -- The values of pairs of four antenna ports speak for the bits that were sent, where no pair of ports is weak. (own)
 use Rattle.std.specs.Prelude.{ℕ}
 use Rattle.cs_num.specs.declared.Cpx.{Cpx}
-use Rattle.sizes.specs.Sizes.{ArePaired}
+use Rattle.norms.specs.Sizes.{ArePaired}
 use Rattle.soft_bits.specs.Pairs.{over_four}
 use Rattle.two_ports.specs.Received.{SpeakWith, SpeakReceivedWith}
 

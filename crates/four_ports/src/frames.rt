@@ -8,7 +8,7 @@ use lte_types::{Carrier, CellPlace, Sfn, Sib1Reason};
 use pbch::{Master, Received};
 use sample_file::Recording;
 use soft_bits::{PortSlot, Ports};
-use system_block::Decoders;
+use sib1_reader::Decoders;
 
 /// The way to read frames with four antenna ports, to the master block: those that tell four are taken, and no
 /// others. (own)

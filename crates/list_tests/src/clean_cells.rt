@@ -19,7 +19,7 @@ use sample_file::Recording;
 use soft_bits::Slot;
 use std::alloc::Global;
 use std::test::Fail;
-use system_block::{Attempt, Decoders, attempt_in};
+use sib1_reader::{Attempt, Decoders, attempt_in};
 use test_support::{information, silent, silent_recording};
 
 #[test]

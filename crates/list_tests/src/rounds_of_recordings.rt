@@ -5,7 +5,7 @@ use cell_tx::send_all;
 use cs_num::{Sample, clamp_div};
 use explain::Workspace;
 use report::{cancel_text, one_cancel_text};
-use rounds::{Round, cancel_rounds, clean_cell_is_taken_first, rounds_in_plain_words};
+use successive_cancel::{Round, cancel_rounds, clean_cell_is_taken_first, rounds_in_plain_words};
 use sample_file::Recording;
 use std::alloc::Global;
 use std::test::Fail;

@@ -8,7 +8,7 @@ use sample_file::Recording;
 use std::alloc::{AllocError, Global};
 use std::test::Fail;
 use test_support::{has_sums, silent_recording};
-use turning::{Told, applied, tell, turned};
+use frequency_offset::{Told, applied, tell, turned};
 
 // Recording number n, turned.
 fn made_and_turned(alloc: Global, n: u32, m: i16) -> Result<Recording, AllocError> {

@@ -5,7 +5,7 @@ use sample_file::Recording;
 use std::alloc::{AllocError, Global};
 use std::test::Fail;
 use test_support::has_sums;
-use turning::turned;
+use frequency_offset::turned;
 
 // 57,600 samples of all sizes.
 fn samples(alloc: Global) -> Result<Vec<Sample>, AllocError> {

@@ -22,7 +22,7 @@ use observe::symbol;
 use pbch::{Master, Received};
 use sample_file::Recording;
 use soft_bits::{Pilots, Seen, energy_of, pilots_of, soft_pair};
-use system_block::Decoders;
+use sib1_reader::Decoders;
 
 /// The way to read frames with the extended cyclic prefix, to the master block: each is taken, whatever ports it
 /// tells. (own)

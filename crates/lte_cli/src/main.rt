@@ -1,7 +1,7 @@
 //! The program `lte_cli`: a command over standard input and output.
 #![tactic(auto)]
 
-use lte_shell::run_process;
+use lte_process::run_process;
 use lte_top::Program;
 use std::process::ExitCode;
 

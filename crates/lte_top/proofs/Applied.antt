@@ -12,10 +12,10 @@ use Rattle.cs_num.specs.Complex.{silence}
 use Rattle.cs_num.specs.Rounding.{nearest_sample}
 use Rattle.cs_num.proofs.Samples.{in_16_bits-fits}
 use Rattle.sample_file.specs.Recording.{component_of, samples_of, samples_in, sample_bytes, bytes_of, IsRecording}
-use Rattle.turning.specs.declared.telling.Told.{Told}
-use Rattle.turning.specs.Turned.{turned_back, turned_at, turned}
-use Rattle.turning.specs.Telling.{HasCells, IsTold, IsApplied, turn_of}
-use Rattle.turning.specs.Laws.{Has16Bits, ToldCellsAreThere, TurnedIsRecording}
+use Rattle.frequency_offset.specs.declared.telling.Told.{Told}
+use Rattle.frequency_offset.specs.Turned.{turned_back, turned_at, turned}
+use Rattle.frequency_offset.specs.Telling.{HasCells, IsTold, IsApplied, turn_of}
+use Rattle.frequency_offset.specs.Laws.{Has16Bits, ToldCellsAreThere, TurnedIsRecording}
 use Rattle.lte_top.specs.Applied.{WhatIsAppliedIsTold}
 
 nearest_fits : (z : Cpx) → Has16Bits (nearest_sample z)

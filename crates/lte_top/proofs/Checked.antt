@@ -3,17 +3,17 @@ use Rattle.std.proofs.Common.{◌≡◌, ℕ, ◌+◌, ◌≤◌, inl, inr, Bool
 use Rattle.std.specs.List.{AllZip}
 use Rattle.cs_num.specs.declared.Sample.{Sample}
 use Rattle.cs_outside.specs.Outside.{SourceTold}
-use Rattle.cert_stream.specs.Stream.{most_bytes, IsFirstBroken}
-use Rattle.cert_stream.specs.Certifying.{Certifies}
-use Rattle.cert_stream.specs.Reading.{HasReadAnswers, IsCause}
-use Rattle.cert_stream.specs.declared.error.StreamError.{StreamError}
-use Rattle.cert_stream.specs.declared.error.StreamError.TheVariants.{Broken, TooLong as PastBytes, ReadFault as Stopped, OutOfMemory as Refused}
-use Rattle.cert_stream.proofs.Certified.{certified_length}
-use Rattle.cert_stream.proofs.Judged.{all_whole, one_answers}
-use Rattle.cert_stream.proofs.Rest.{none_broken}
+use Rattle.certificates.specs.Stream.{most_bytes, IsFirstBroken}
+use Rattle.certificates.specs.Certifying.{Certifies}
+use Rattle.certificates.specs.Reading.{HasReadAnswers, IsCause}
+use Rattle.certificates.specs.declared.error.StreamError.{StreamError}
+use Rattle.certificates.specs.declared.error.StreamError.TheVariants.{Broken, TooLong as PastBytes, ReadFault as Stopped, OutOfMemory as Refused}
+use Rattle.certificates.proofs.Certified.{certified_length}
+use Rattle.certificates.proofs.Judged.{all_whole, one_answers}
+use Rattle.certificates.proofs.Rest.{none_broken}
 use Rattle.lte_types.specs.declared.carrier.Carrier.{Carrier}
 use Rattle.report.specs.Answers.{check_text}
-use Rattle.lte_words.specs.declared.form.Form.TheVariants.{Check}
+use Rattle.lte_args.specs.declared.form.Form.TheVariants.{Check}
 use Rattle.lte_top.specs.declared.status.Status.{Status}
 use Rattle.lte_top.specs.declared.status.Status.TheVariants.{Done, Usage, Ragged, TooShort, TooLong, ReadFault, WriteFault, OutOfMemory, BadCell, BadCertificate}
 use Rattle.lte_top.specs.Certificates.{IsChecked, IsCertified}

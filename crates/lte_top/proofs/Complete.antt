@@ -5,24 +5,24 @@ use Rattle.cs_outside.specs.Counts.{Rose}
 use Rattle.cs_outside.specs.Outside.{SourceTold, Outside}
 use Rattle.cs_outside.proofs.Reading.{read_whole, read_front}
 use Rattle.sample_file.specs.Recording.{samples_in}
-use Rattle.lte_words.specs.declared.form.Program.{Program}
-use Rattle.lte_words.specs.declared.form.Form.{Form}
-use Rattle.lte_words.specs.declared.form.Form.TheVariants.{Report as Reports, Certify, Check, Transmit, Make, Apply, Print}
+use Rattle.lte_args.specs.declared.form.Program.{Program}
+use Rattle.lte_args.specs.declared.form.Form.{Form}
+use Rattle.lte_args.specs.declared.form.Form.TheVariants.{Report as Reports, Certify, Check, Transmit, Make, Apply, Print}
 use Rattle.lte_top.specs.declared.status.Status.{Status}
 use Rattle.lte_top.specs.declared.status.Status.TheVariants.{Done, Usage, Ragged, TooShort, TooLong, ReadFault, WriteFault, OutOfMemory, BadCell, BadCertificate}
-use Rattle.cert_stream.specs.Stream.{IsBrokenAt}
-use Rattle.lte_words.specs.Words.{IsWordsOf}
+use Rattle.certificates.specs.Stream.{IsBrokenAt}
+use Rattle.lte_args.specs.Words.{IsWordsOf}
 use Rattle.lte_top.specs.Forms.{Input, nothing, recording, certificates, description, input_of, limit_of, Refuses, RefusesCertificates, RefusesDescription, IsTooLong, IsValid, IsOutput}
 use Rattle.lte_top.specs.Run.{IsRead, HasReadInput, HasOutput, HasRefusal, IsReadTooLong, IsWriteFault, Ends, RunsForm, Outcome, IsAnswerTo, HasOneAnswer, MayAnswer, IsTold, IsAnswered, IsComplete, HasRoom}
 use Rattle.lte_types.specs.declared.carrier.Carrier.{Carrier}
 use Rattle.cell_plan.specs.declared.error.CellError.{CellError}
 use Rattle.cell_json.specs.Reading.{refusal_by}
 use Rattle.lte_top.proofs.Transmitted.{one_transmitted_length}
-use Rattle.cert_stream.proofs.Rest.{one_first_broken}
+use Rattle.certificates.proofs.Rest.{one_first_broken}
 use Rattle.lte_top.proofs.Checked.{one_check, one_certified_length}
 use Rattle.lte_top.proofs.Reported.{one_report, one_turned}
 use Rattle.lte_top.proofs.Made.{one_made}
-use Rattle.lte_words.proofs.OneForm.{one_form}
+use Rattle.lte_args.proofs.OneForm.{one_form}
 
 -- ---- outputs: a new form adds a line
 

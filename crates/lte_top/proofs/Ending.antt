@@ -10,13 +10,13 @@ use Rattle.sample_file.specs.Recording.{width, bytes_of}
 use Rattle.sample_file.specs.Reading.{HasReadRecording, least_bytes}
 use Rattle.lte_types.specs.declared.carrier.Carrier.{Carrier}
 use Rattle.lte_types.specs.declared.entry.Entry.{Entry}
-use Rattle.lte_words.specs.declared.form.Form.TheVariants.{Certify, Apply}
-use Rattle.lte_words.specs.declared.form.Turn.{Turn}
-use Rattle.lte_words.specs.declared.form.Turn.TheVariants.{AsTold, Steps}
+use Rattle.lte_args.specs.declared.form.Form.TheVariants.{Certify, Apply}
+use Rattle.lte_args.specs.declared.form.Turn.{Turn}
+use Rattle.lte_args.specs.declared.form.Turn.TheVariants.{AsTold, Steps}
 use Rattle.lte_top.specs.declared.status.Status.{Status}
 use Rattle.lte_top.specs.Certificates.{IsCertified}
-use Rattle.cert_stream.specs.Certifying.{HasCertifiedAll, HasCertifiedSome}
-use Rattle.cert_stream.specs.Stream.{all_bytes}
+use Rattle.certificates.specs.Certifying.{HasCertifiedAll, HasCertifiedSome}
+use Rattle.certificates.specs.Stream.{all_bytes}
 use Rattle.evidence.specs.Receivers.{receiver_of}
 use Rattle.lte_top.specs.Searching.{IsListOf}
 use Rattle.lte_top.specs.Forms.{recording_refusal, RefusesRecording}

@@ -7,7 +7,7 @@ use Rattle.cs_num.specs.declared.Cpx.{Cpx}
 use Rattle.cs_num.specs.declared.Sample.{Sample}
 use Rattle.cs_num.specs.Complex.{IsWithin, nothing, plus, silence, value_of, sample_of}
 use Rattle.cs_num.proofs.Complex.{within_more}
-use Rattle.sizes.proofs.Algebra.{plus-nothing_right}
+use Rattle.norms.proofs.Algebra.{plus-nothing_right}
 use Rattle.sample_file.specs.Recording.{samples_of, bytes_of}
 use Rattle.sample_file.proofs.Samples.{samples_back}
 use Rattle.lte_types.specs.declared.carrier.Carrier.{Carrier}

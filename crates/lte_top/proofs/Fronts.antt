@@ -26,12 +26,12 @@ use Rattle.two_ports.specs.Entries.{are_two}
 use Rattle.long_prefix.proofs.Deciding.{long_looks}
 use Rattle.report.specs.Hits.{hits_text, ids_text}
 use Rattle.report.specs.HitsJson.{hits_json, ids_json}
-use Rattle.lte_words.specs.declared.form.Form.TheVariants.{Report as Reports}
-use Rattle.lte_words.specs.declared.form.Report.{Report}
-use Rattle.lte_words.specs.declared.form.Report.TheVariants.{Hits, Ids, Search, Evidence, Tell}
-use Rattle.lte_words.specs.declared.form.Rule.TheVariants.{Of, Cancel, All as AllLists}
-use Rattle.lte_words.specs.declared.form.Output.{Output}
-use Rattle.lte_words.specs.declared.form.Output.TheVariants.{Text, Json}
+use Rattle.lte_args.specs.declared.form.Form.TheVariants.{Report as Reports}
+use Rattle.lte_args.specs.declared.form.Report.{Report}
+use Rattle.lte_args.specs.declared.form.Report.TheVariants.{Hits, Ids, Search, Evidence, Tell}
+use Rattle.lte_args.specs.declared.form.Rule.TheVariants.{Of, Cancel, All as AllLists}
+use Rattle.lte_args.specs.declared.form.Output.{Output}
+use Rattle.lte_args.specs.declared.form.Output.TheVariants.{Text, Json}
 use Rattle.lte_top.specs.Line.{as_line}
 use Rattle.lte_top.specs.Reports.{identified, identified_by, measured, measured_id, kept_for, IsReport}
 use Rattle.lte_top.specs.Run.{HasOutput}

@@ -15,10 +15,10 @@ use Rattle.explain.specs.Entries.{IsListFor}
 use Rattle.explain.proofs.Listed.{is_one_list}
 use Rattle.report.specs.RoundsJson.{IsCancelJson}
 use Rattle.report.proofs.OneText.{one_cancel_text, one_cancel_json}
-use Rattle.lte_words.specs.declared.form.Output.{Output}
-use Rattle.lte_words.specs.declared.form.Output.TheVariants.{Text, Json}
-use Rattle.lte_words.specs.declared.form.Rule.{Rule}
-use Rattle.lte_words.specs.declared.form.Rule.TheVariants.{Of, Cancel, All}
+use Rattle.lte_args.specs.declared.form.Output.{Output}
+use Rattle.lte_args.specs.declared.form.Output.TheVariants.{Text, Json}
+use Rattle.lte_args.specs.declared.form.Rule.{Rule}
+use Rattle.lte_args.specs.declared.form.Rule.TheVariants.{Of, Cancel, All}
 use Rattle.lte_top.specs.Line.{as_line, IsLine}
 use Rattle.evidence.specs.Receivers.{receiver_of}
 use Rattle.lte_types.proofs.Carriers.{each_stands}

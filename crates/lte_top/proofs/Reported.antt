@@ -10,15 +10,15 @@ use Rattle.evidence.proofs.Only.{one_for_each, one_shown_for_each}
 use Rattle.report.specs.Evidence.{evidence_text}
 use Rattle.report.specs.EvidenceJson.{evidence_json}
 use Rattle.report.specs.ToldJson.{telling_json, IsTellJson}
-use Rattle.turning.specs.Candidates.{taken_of}
+use Rattle.frequency_offset.specs.Candidates.{taken_of}
 use Rattle.report.specs.Told.{told_text}
-use Rattle.turning.proofs.OneTold.{is_one_told, is_one_applied}
-use Rattle.lte_words.specs.declared.form.Report.{Report}
-use Rattle.lte_words.specs.declared.form.Report.TheVariants.{Hits, Ids, Search, Evidence, Tell}
-use Rattle.lte_words.specs.declared.form.Output.{Output}
-use Rattle.lte_words.specs.declared.form.Output.TheVariants.{Text, Json}
-use Rattle.lte_words.specs.declared.form.Turn.{Turn}
-use Rattle.lte_words.specs.declared.form.Turn.TheVariants.{AsTold, Steps}
+use Rattle.frequency_offset.proofs.OneTold.{is_one_told, is_one_applied}
+use Rattle.lte_args.specs.declared.form.Report.{Report}
+use Rattle.lte_args.specs.declared.form.Report.TheVariants.{Hits, Ids, Search, Evidence, Tell}
+use Rattle.lte_args.specs.declared.form.Output.{Output}
+use Rattle.lte_args.specs.declared.form.Output.TheVariants.{Text, Json}
+use Rattle.lte_args.specs.declared.form.Turn.{Turn}
+use Rattle.lte_args.specs.declared.form.Turn.TheVariants.{AsTold, Steps}
 use Rattle.lte_top.specs.Reports.{IsEvidence, IsEvidenceJson, IsEvidenceText, IsTelling, IsHits, IsIds, IsReport}
 use Rattle.evidence.specs.Receivers.{receiver_of}
 use Rattle.lte_top.specs.Tuning.{IsTurnedAsBytes}

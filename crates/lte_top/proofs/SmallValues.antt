@@ -12,7 +12,7 @@ use Rattle.soft_bits.specs.Pairs.{Pairing, over_two, over_four, paired_by}
 use Rattle.soft_bits.specs.Soft.{SeenSlot}
 use Rattle.soft_bits.proofs.Paired.{length-paired_by, paired_by-small}
 use Rattle.pbch.proofs.FrameSums.{length-received_values, received_values-small}
-use Rattle.cert_stream.specs.Certifying.{HasSmallValues}
+use Rattle.certificates.specs.Certifying.{HasSmallValues}
 use Rattle.explain.specs.Entries.{IsListFor}
 use Rattle.explain.specs.Frame.{broadcast_slot}
 use Rattle.explain.specs.Readings.{IsReadingFor}

@@ -13,7 +13,7 @@ use Rattle.cell_tx.specs.Emission.{received_by}
 use Rattle.std.specs.Prelude.{codes}
 use Rattle.cell_json.specs.Description.{number_at}
 use Rattle.cell_json.specs.Reading.{DescribesBy}
-use Rattle.lte_words.specs.declared.form.Form.TheVariants.{Transmit}
+use Rattle.lte_args.specs.declared.form.Form.TheVariants.{Transmit}
 use Rattle.lte_top.specs.declared.status.Status.{Status}
 use Rattle.lte_top.specs.declared.status.Status.TheVariants.{Done, Usage, Ragged, TooShort, TooLong, ReadFault, WriteFault, OutOfMemory, BadCell, BadCertificate}
 use Rattle.lte_top.specs.Forms.{RefusesDescription}

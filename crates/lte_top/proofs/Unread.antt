@@ -4,7 +4,7 @@ use Rattle.std.specs.Prelude.{OnOk, OnErr, IfErr}
 use Rattle.cs_outside.specs.Counts.{Rose}
 use Rattle.cs_outside.specs.Outside.{SourceTold, SinkTold}
 use Rattle.cs_outside.specs.Streams.{HasWritten, HasWrittenFront, IsShortOf}
-use Rattle.lte_words.specs.declared.form.Form.{Form}
+use Rattle.lte_args.specs.declared.form.Form.{Form}
 use Rattle.lte_top.specs.declared.status.Status.{Status}
 use Rattle.lte_top.specs.declared.status.Status.TheVariants.{WriteFault}
 use Rattle.lte_top.specs.Forms.{Input, nothing, input_of, Refuses, IsOutput}

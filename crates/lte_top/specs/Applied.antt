@@ -3,13 +3,13 @@ use Rattle.std.specs.Prelude.{◌≡◌, ℕ, List, Option, IfSome}
 use Rattle.cs_num.specs.declared.Sample.{Sample}
 use Rattle.sample_file.specs.declared.form.SampleForm.{SampleForm}
 use Rattle.sample_file.specs.Recording.{samples_of, samples_in, IsRecording}
-use Rattle.turning.specs.declared.telling.Told.{Told}
-use Rattle.turning.specs.Telling.{HasCells}
+use Rattle.frequency_offset.specs.declared.telling.Told.{Told}
+use Rattle.frequency_offset.specs.Telling.{HasCells}
 use Rattle.report.specs.Told.{told_text}
-use Rattle.lte_words.specs.declared.form.Form.TheVariants.{Report as Reports, Apply}
-use Rattle.lte_words.specs.declared.form.Report.TheVariants.{Tell}
-use Rattle.lte_words.specs.declared.form.Output.TheVariants.{Text}
-use Rattle.lte_words.specs.declared.form.Turn.TheVariants.{AsTold}
+use Rattle.lte_args.specs.declared.form.Form.TheVariants.{Report as Reports, Apply}
+use Rattle.lte_args.specs.declared.form.Report.TheVariants.{Tell}
+use Rattle.lte_args.specs.declared.form.Output.TheVariants.{Text}
+use Rattle.lte_args.specs.declared.form.Turn.TheVariants.{AsTold}
 use Rattle.lte_top.specs.Forms.{IsOutput}
 
 -- the samples are a recording, which has as many cells as the text tells

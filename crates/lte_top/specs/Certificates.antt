@@ -5,8 +5,8 @@ use Rattle.cs_num.specs.declared.Sample.{Sample}
 use Rattle.lte_types.specs.declared.entry.Entry.{Entry}
 use Rattle.lte_types.specs.declared.carrier.Carrier.{Carrier}
 use Rattle.tail_cert.specs.Certificate.{Held}
-use Rattle.cert_stream.specs.Stream.{all_bytes, AreAnswers}
-use Rattle.cert_stream.specs.Certifying.{Certifies}
+use Rattle.certificates.specs.Stream.{all_bytes, AreAnswers}
+use Rattle.certificates.specs.Certifying.{Certifies}
 use Rattle.report.specs.Answers.{check_text}
 use Rattle.evidence.specs.Receivers.{receiver_of}
 use Rattle.lte_top.specs.Searching.{IsListOf}

@@ -8,9 +8,9 @@ use Rattle.sample_file.specs.declared.reading.FileError.TheVariants.{TooLong as 
 use Rattle.sample_file.specs.declared.reading.FileError.TheVariants.{OutOfMemory as Memory}
 use Rattle.cell_json.specs.declared.error.JsonError.{JsonError}
 use Rattle.cell_json.specs.declared.error.JsonError.TheVariants.{Cell, OutOfMemory as Wanting}
-use Rattle.cert_stream.specs.declared.error.StreamError.{StreamError}
-use Rattle.cert_stream.specs.declared.error.StreamError.TheVariants.{Broken, TooLong as PastBytes}
-use Rattle.cert_stream.specs.declared.error.StreamError.TheVariants.{ReadFault as Stopped, OutOfMemory as Refused}
+use Rattle.certificates.specs.declared.error.StreamError.{StreamError}
+use Rattle.certificates.specs.declared.error.StreamError.TheVariants.{Broken, TooLong as PastBytes}
+use Rattle.certificates.specs.declared.error.StreamError.TheVariants.{ReadFault as Stopped, OutOfMemory as Refused}
 use Rattle.lte_top.specs.declared.status.Status.{Status}
 use Rattle.lte_top.specs.declared.status.Status.TheVariants.{Ragged, TooShort, TooLong, ReadFault, OutOfMemory}
 use Rattle.lte_top.specs.declared.status.Status.TheVariants.{BadCell, BadCertificate}

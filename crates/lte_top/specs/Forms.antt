@@ -4,15 +4,15 @@ use Rattle.sample_file.specs.declared.form.SampleForm.{SampleForm}
 use Rattle.sample_file.specs.Recording.{width, samples_in}
 use Rattle.sample_file.specs.Reading.{least_bytes, most_bytes}
 use Rattle.lte_types.specs.declared.carrier.Carrier.{Carrier}
-use Rattle.lte_words.specs.declared.form.Form.{Form}
-use Rattle.lte_words.specs.declared.form.Form.TheVariants.{Report as Reports, Certify, Check, Transmit, Make}
-use Rattle.lte_words.specs.declared.form.Form.TheVariants.{Apply, Print}
+use Rattle.lte_args.specs.declared.form.Form.{Form}
+use Rattle.lte_args.specs.declared.form.Form.TheVariants.{Report as Reports, Certify, Check, Transmit, Make}
+use Rattle.lte_args.specs.declared.form.Form.TheVariants.{Apply, Print}
 use Rattle.lte_top.specs.declared.status.Status.{Status}
 use Rattle.lte_top.specs.declared.status.Status.TheVariants.{Ragged, TooShort, BadCell, BadCertificate}
 use Rattle.cell_json.specs.Reading.{refusal_by}
 use Rattle.lte_top.specs.Transmitting.{most_description_bytes, IsTransmitted}
 use Rattle.lte_top.specs.Certificates.{IsChecked, IsCertified}
-use Rattle.cert_stream.specs.Stream.{most_bytes as most_certificate_bytes, IsBrokenAt}
+use Rattle.certificates.specs.Stream.{most_bytes as most_certificate_bytes, IsBrokenAt}
 use Rattle.lte_top.specs.Reports.{IsReport}
 use Rattle.lte_top.specs.Making.{IsMadeText}
 use Rattle.lte_top.specs.Tuning.{IsTurnedAsBytes}

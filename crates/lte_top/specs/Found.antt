@@ -15,10 +15,10 @@ use Rattle.cell_tx.specs.Emission.{IsCleanBy}
 use Rattle.cell_json.specs.Reading.{DescribesBy}
 use Rattle.report.specs.Lines.{place_part, block_part, system_lines}
 use Rattle.report.specs.Pieces.{IsPiece}
-use Rattle.lte_words.specs.declared.form.Form.TheVariants.{Report as Reports, Transmit}
-use Rattle.lte_words.specs.declared.form.Report.TheVariants.{Search}
-use Rattle.lte_words.specs.declared.form.Rule.TheVariants.{Of}
-use Rattle.lte_words.specs.declared.form.Output.TheVariants.{Text}
+use Rattle.lte_args.specs.declared.form.Form.TheVariants.{Report as Reports, Transmit}
+use Rattle.lte_args.specs.declared.form.Report.TheVariants.{Search}
+use Rattle.lte_args.specs.declared.form.Rule.TheVariants.{Of}
+use Rattle.lte_args.specs.declared.form.Output.TheVariants.{Text}
 use Rattle.lte_top.specs.Forms.{IsOutput}
 
 -- the line of a sent cell: its identity, where its first frame begins, that frame's number, its antenna ports, and its

@@ -1,10 +1,10 @@
 -- The pages about a program. (own)
 use Rattle.std.specs.Prelude.{ℕ, List, ◌++◌, codes}
-use Rattle.lte_words.specs.declared.form.Program.{Program}
-use Rattle.lte_words.specs.declared.form.Program.TheVariants.{Receiver, Tuner}
-use Rattle.lte_words.specs.declared.form.Page.{Page}
-use Rattle.lte_words.specs.declared.form.Page.TheVariants.{Help, Version}
-use Rattle.lte_words.specs.Words.{name_of}
+use Rattle.lte_args.specs.declared.form.Program.{Program}
+use Rattle.lte_args.specs.declared.form.Program.TheVariants.{Receiver, Tuner}
+use Rattle.lte_args.specs.declared.form.Page.{Page}
+use Rattle.lte_args.specs.declared.form.Page.TheVariants.{Help, Version}
+use Rattle.lte_args.specs.Words.{name_of}
 
 -- the versions of the programs, and of the definition of a list
 abbrev pub version : List ℕ

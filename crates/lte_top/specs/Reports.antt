@@ -20,12 +20,12 @@ use Rattle.report.specs.Evidence.{evidence_text}
 use Rattle.report.specs.Hits.{hits_text, ids_text}
 use Rattle.report.specs.EvidenceJson.{evidence_json}
 use Rattle.report.specs.HitsJson.{hits_json, ids_json}
-use Rattle.lte_words.specs.declared.form.Report.{Report}
-use Rattle.lte_words.specs.declared.form.Report.TheVariants.{Hits, Ids, Search, Evidence, Tell}
-use Rattle.lte_words.specs.declared.form.Rule.{Rule}
-use Rattle.lte_words.specs.declared.form.Rule.TheVariants.{Of, Cancel, All}
-use Rattle.lte_words.specs.declared.form.Output.{Output}
-use Rattle.lte_words.specs.declared.form.Output.TheVariants.{Text, Json}
+use Rattle.lte_args.specs.declared.form.Report.{Report}
+use Rattle.lte_args.specs.declared.form.Report.TheVariants.{Hits, Ids, Search, Evidence, Tell}
+use Rattle.lte_args.specs.declared.form.Rule.{Rule}
+use Rattle.lte_args.specs.declared.form.Rule.TheVariants.{Of, Cancel, All}
+use Rattle.lte_args.specs.declared.form.Output.{Output}
+use Rattle.lte_args.specs.declared.form.Output.TheVariants.{Text, Json}
 use Rattle.pss_search.specs.Correlation.{wave_power}
 use Rattle.report.specs.ToldJson.{IsTellJson}
 use Rattle.report.specs.Told.{IsTellText}

@@ -5,12 +5,12 @@ use Rattle.cs_outside.specs.Counts.{Rose}
 use Rattle.cs_outside.specs.Outside.{SourceTold, Outside, NothingRead, NothingWritten}
 use Rattle.cs_outside.specs.Streams.{HasRead, HasReadAll, HasFailedAfter, IsAtEnd, HasWritten}
 use Rattle.cs_outside.specs.Streams.{HasWrittenFront, IsShortOf}
-use Rattle.lte_words.specs.declared.form.Program.{Program}
-use Rattle.lte_words.specs.declared.form.Form.{Form}
+use Rattle.lte_args.specs.declared.form.Program.{Program}
+use Rattle.lte_args.specs.declared.form.Form.{Form}
 use Rattle.lte_top.specs.declared.status.Status.{Status}
 use Rattle.lte_top.specs.declared.status.Status.TheVariants.{Done, Usage, TooLong, ReadFault, WriteFault, OutOfMemory}
-use Rattle.cert_stream.specs.Stream.{IsUnbroken}
-use Rattle.lte_words.specs.Words.{IsWordsOf, IsNoForm}
+use Rattle.certificates.specs.Stream.{IsUnbroken}
+use Rattle.lte_args.specs.Words.{IsWordsOf, IsNoForm}
 use Rattle.lte_top.specs.Forms.{Input, nothing, recording, certificates, description, input_of}
 use Rattle.lte_top.specs.Forms.{limit_of, Refuses, IsTooLong, IsValid, IsOutput}
 

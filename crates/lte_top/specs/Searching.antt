@@ -11,10 +11,10 @@ use Rattle.report.specs.Rounds.{IsCancelText}
 use Rattle.report.specs.All.{all_text, all_json}
 use Rattle.report.specs.Json.{json_text}
 use Rattle.report.specs.Lines.{report_text}
-use Rattle.lte_words.specs.declared.form.Rule.{Rule}
-use Rattle.lte_words.specs.declared.form.Rule.TheVariants.{Of, Cancel, All}
-use Rattle.lte_words.specs.declared.form.Output.{Output}
-use Rattle.lte_words.specs.declared.form.Output.TheVariants.{Text, Json}
+use Rattle.lte_args.specs.declared.form.Rule.{Rule}
+use Rattle.lte_args.specs.declared.form.Rule.TheVariants.{Of, Cancel, All}
+use Rattle.lte_args.specs.declared.form.Output.{Output}
+use Rattle.lte_args.specs.declared.form.Output.TheVariants.{Text, Json}
 use Rattle.lte_top.specs.Line.{as_line, IsLine}
 
 -- ---- the list of a carrier

@@ -2,10 +2,10 @@
 use Rattle.std.specs.Prelude.{◌≡◌, ℕ, List}
 use Rattle.cs_num.specs.declared.Sample.{Sample}
 use Rattle.sample_file.specs.Recording.{bytes_of}
-use Rattle.turning.specs.Telling.{IsApplied}
-use Rattle.turning.specs.Turned.{turned}
-use Rattle.lte_words.specs.declared.form.Turn.{Turn}
-use Rattle.lte_words.specs.declared.form.Turn.TheVariants.{AsTold, Steps}
+use Rattle.frequency_offset.specs.Telling.{IsApplied}
+use Rattle.frequency_offset.specs.Turned.{turned}
+use Rattle.lte_args.specs.declared.form.Turn.{Turn}
+use Rattle.lte_args.specs.declared.form.Turn.TheVariants.{AsTold, Steps}
 
 -- these samples are the recording as it is turned
 abbrev pub IsTurned : Turn → List Sample → List Sample → Type 0

@@ -43,6 +43,6 @@ pub fn the_first_frames_decide_each_list()
 pub fn what_is_applied_is_told()
     ensures { WhatIsAppliedIsTold }
 {
-    turning::turned_recordings();
-    turning::the_turn_told();
+    frequency_offset::turned_recordings();
+    frequency_offset::the_turn_told();
 }

@@ -1,7 +1,7 @@
 //! The top call: the words of a command line, a source and a sink in, a status out.
 #![tactic(auto)]
 
-mod certificates;
+mod certifying;
 mod laws;
 mod making;
 mod measuring;
@@ -18,7 +18,7 @@ pub use laws::{
     an_input_has_one_answer, the_first_frames_decide_each_list, what_is_applied_is_told,
     what_is_made_is_held, what_is_sent_is_found,
 };
-pub use lte_words::{Form, Output, Page, Program, Report, Rule, Turn, Words};
+pub use lte_args::{Form, Output, Page, Program, Report, Rule, Turn, Words};
 pub use status::Status;
 pub use top::{run, run_in_memory, run_program};
 pub use version::{DEFINITION, VERSION};

@@ -4,7 +4,7 @@ ghost use Rattle.std.specs.Prelude.{◌≡◌, IfOk, string_bytes};
 ghost use Rattle.lte_top.specs.Pages.{help_text, version_after, page_text as page_of};
 
 use crate::version::{DEFINITION, VERSION};
-use lte_words::{Page, Program};
+use lte_args::{Page, Program};
 use std::alloc::{AllocError, Global};
 use std::fmt::Write;
 

@@ -12,7 +12,7 @@ ghost use Rattle.lte_top.specs.Reports.{identified as identified_in, identified_
 ghost use Rattle.lte_top.specs.Reports.{IsEvidenceText, IsHits, IsIds, IsReport, IsTelling, kept_for as kept_in};
 ghost use Rattle.lte_top.specs.Reports.{kept_for_list as kept_in_list};
 ghost use Rattle.lte_top.specs.Run.{Cause, HasOutput};
-ghost use Rattle.lte_words.specs.declared.form.Form.TheVariants.{Report as Reports};
+ghost use Rattle.lte_args.specs.declared.form.Form.TheVariants.{Report as Reports};
 
 use crate::measuring::{measured_hits, measured_ids};
 use crate::searching::{read_list, room_for_list, search_text};
@@ -21,7 +21,7 @@ use cs_outside::Source;
 use evidence::{evidence_of_list, support_of_list};
 use explain::DECIDING_SAMPLES;
 use lte_types::{Carrier, Half, Hit, LEAST_SAMPLES, MOST_SAMPLES};
-use lte_words::{Output, Report, Rule};
+use lte_args::{Output, Report, Rule};
 use pss_search::{HitList, hits};
 use report::{
     IdentifiedHit, json_of_evidence, json_of_hits, json_of_ids, tell_json, tell_text,

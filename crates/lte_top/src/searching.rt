@@ -16,7 +16,7 @@ use explain::{EntryList, FrameReader, OnePort, Workspace, explain_hits};
 use four_ports::FourPorts;
 use long_prefix::ExtendedPrefix;
 use lte_types::{Carrier, Entry, Hit};
-use lte_words::{Output, Rule};
+use lte_args::{Output, Rule};
 use report::{cancel_json, cancel_text, json, json_of_all, text, text_of_all};
 use sample_file::Recording;
 use std::alloc::{AllocError, Global};

@@ -7,7 +7,7 @@ ghost use Rattle.lte_top.specs.declared.status.Status.TheVariants.{OutOfMemory};
 
 use cell_json::JsonError;
 use cell_plan::CellError;
-use cert_stream::StreamError;
+use certificates::StreamError;
 use cs_outside::ReadError;
 use sample_file::FileError;
 use std::alloc::AllocError;

@@ -6,10 +6,10 @@ ghost use Rattle.cs_outside.specs.Outside.{SourceTold, SinkTold};
 ghost use Rattle.cs_outside.specs.Streams.{HasWritten, HasWrittenFront, IsShortOf};
 ghost use Rattle.lte_top.specs.Memory.{in_memory, taken_by};
 ghost use Rattle.lte_top.specs.Run.{IsDone, Ends, Outcome, Runs};
-ghost use Rattle.lte_words.specs.declared.form.Program.TheVariants.{Receiver};
+ghost use Rattle.lte_args.specs.declared.form.Program.TheVariants.{Receiver};
 ghost use Rattle.lte_top.specs.declared.status.Status.TheVariants.{WriteFault};
 
-use crate::certificates::{answers_text, certify_recording};
+use crate::certifying::{answers_text, certify_recording};
 use crate::making::made_text;
 use crate::pages::page_text;
 use crate::reporting::report_text;
@@ -17,7 +17,7 @@ use crate::status::Status;
 use crate::transmitting::transmit;
 use crate::tuning::apply_turn;
 use cs_outside::{Failed, MemSink, MemSource, Sink, Source, write_whole};
-use lte_words::{Form, Program, Words};
+use lte_args::{Form, Program, Words};
 use std::alloc::Global;
 
 /// Runs the words' form of a program: reads its input from the source, makes its output and writes it to the

@@ -9,7 +9,7 @@ ghost use Rattle.cell_tx.specs.Emission.{emitted_samples};
 ghost use Rattle.lte_top.specs.Transmitting.{sent_samples, HasDescription};
 ghost use Rattle.lte_top.specs.Forms.{description};
 ghost use Rattle.lte_top.specs.Run.{Cause, IsDone, Ends};
-ghost use Rattle.lte_words.specs.declared.form.Form.TheVariants.{Transmit};
+ghost use Rattle.lte_args.specs.declared.form.Form.TheVariants.{Transmit};
 
 use crate::status::Status;
 use cell_json::read_by;

@@ -2,17 +2,17 @@
 
 ghost use Rattle.std.specs.Prelude.{◌≤◌, IfOk, IfErr, OnOk};
 ghost use Rattle.cs_outside.specs.Outside.{SourceTold, SinkTold};
-ghost use Rattle.lte_words.specs.declared.form.Form.TheVariants.{Apply};
+ghost use Rattle.lte_args.specs.declared.form.Form.TheVariants.{Apply};
 ghost use Rattle.lte_top.specs.Run.{IsDone, Ends};
 ghost use Rattle.lte_top.specs.Tuning.{IsTurned};
 
 use crate::reporting::recording_of;
 use crate::status::Status;
 use cs_outside::{Failed, Sink, Source};
-use lte_words::Turn;
+use lte_args::Turn;
 use sample_file::{Recording, SampleForm, write_samples};
 use std::alloc::{AllocError, Global};
-use turning::{applied, turned};
+use frequency_offset::{applied, turned};
 
 // Writes the recording of a source, which is read to its end, as it is turned, as bytes of 16-bit numbers. All memory
 // is taken before the first is written.

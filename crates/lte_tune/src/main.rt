@@ -1,7 +1,7 @@
 //! The program `lte_tune`: the frequency offset of a recording on standard input.
 #![tactic(auto)]
 
-use lte_shell::run_process;
+use lte_process::run_process;
 use lte_top::Program;
 use std::process::ExitCode;
 

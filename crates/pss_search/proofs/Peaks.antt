@@ -3,7 +3,7 @@ use Rattle.std.proofs.Common.{ℕ, ◌+◌, ◌*◌, ◌^◌, ◌<◌, ◌≤◌
 use Rattle.std.proofs.lemmas.Nat.{mul-le}
 use Rattle.cs_num.specs.declared.Sample.{Sample}
 use Rattle.cs_num.specs.Complex.{sample_at}
-use Rattle.sizes.proofs.Cauchy.{cauchy}
+use Rattle.norms.proofs.Cauchy.{cauchy}
 use Rattle.pss_search.specs.Correlation.{wave, peak, energy, wave_power}
 use Rattle.pss_search.proofs.Symmetry.{power_range}
 

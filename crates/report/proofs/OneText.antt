@@ -5,8 +5,8 @@ use Rattle.std.specs.Prelude.{if◌then◌else◌, [], codes}
 use Rattle.serde_json.specs.Data.{boolean, object, member, no_members}
 use Rattle.serde_json.specs.Written.{compact_text}
 use Rattle.lte_types.specs.declared.entry.Entry.{Entry}
-use Rattle.rounds.specs.declared.round.Round.{Round}
-use Rattle.rounds.proofs.Once.{one_made}
+use Rattle.successive_cancel.specs.declared.round.Round.{Round}
+use Rattle.successive_cancel.proofs.Once.{one_made}
 use Rattle.report.specs.Values.{list_of}
 use Rattle.report.specs.Lines.{report_text}
 use Rattle.report.specs.Cancelled.{cancelled_none}

@@ -2,8 +2,8 @@
 use Rattle.std.proofs.Common.{◌≡◌, false, refl}
 use Rattle.std.proofs.lemmas.Bool.{or_from}
 use Rattle.serde_json.specs.Written.{has_float}
-use Rattle.rounds.specs.declared.round.Round.{Round}
-use Rattle.rounds.specs.declared.round.Rounds.{Rounds}
+use Rattle.successive_cancel.specs.declared.round.Round.{Round}
+use Rattle.successive_cancel.specs.declared.round.Rounds.{Rounds}
 use Rattle.cell_plan.specs.Pair.{gain_of}
 use Rattle.report.specs.Json.{entry_value}
 use Rattle.report.proofs.Floats.{in_complex, in_list, in_entry}

@@ -2,8 +2,8 @@
 use Rattle.std.proofs.Common.{◌≡◌, List, Option, false, refl}
 use Rattle.std.proofs.lemmas.Bool.{or_from}
 use Rattle.serde_json.specs.Written.{has_float}
-use Rattle.turning.specs.declared.candidate.Candidate.{Candidate}
-use Rattle.turning.specs.declared.telling.Told.{Told}
+use Rattle.frequency_offset.specs.declared.candidate.Candidate.{Candidate}
+use Rattle.frequency_offset.specs.declared.telling.Told.{Told}
 use Rattle.report.proofs.Floats.{in_integer, in_list, in_option}
 use Rattle.report.specs.ToldJson.{told_value, candidate_value, telling_value}
 

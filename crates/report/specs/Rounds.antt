@@ -3,9 +3,9 @@ use Rattle.std.specs.Prelude.{◌≡◌, ℕ, ◌-◌, ◌^◌, nat_le, if◌the
 use Rattle.std.specs.List.{flat_map}
 use Rattle.cs_num.specs.declared.Sample.{Sample}
 use Rattle.cell_plan.specs.Pair.{gain_of}
-use Rattle.rounds.specs.declared.round.Round.{Round}
-use Rattle.rounds.specs.declared.round.Rounds.{Rounds}
-use Rattle.rounds.specs.Rounds.{IsCancelled}
+use Rattle.successive_cancel.specs.declared.round.Round.{Round}
+use Rattle.successive_cancel.specs.declared.round.Rounds.{Rounds}
+use Rattle.successive_cancel.specs.Rounds.{IsCancelled}
 use Rattle.report.specs.Lines.{report_text}
 use Rattle.report.specs.Cancelled.{cancelled_lines, cancelled_none}
 

@@ -4,9 +4,9 @@ use Rattle.serde_json.specs.Data.{Data, boolean, object, member, no_members}
 use Rattle.serde_json.specs.Written.{compact_text}
 use Rattle.cs_num.specs.declared.Sample.{Sample}
 use Rattle.cell_plan.specs.Pair.{gain_of}
-use Rattle.rounds.specs.declared.round.Round.{Round}
-use Rattle.rounds.specs.declared.round.Rounds.{Rounds}
-use Rattle.rounds.specs.Rounds.{IsCancelled}
+use Rattle.successive_cancel.specs.declared.round.Round.{Round}
+use Rattle.successive_cancel.specs.declared.round.Rounds.{Rounds}
+use Rattle.successive_cancel.specs.Rounds.{IsCancelled}
 use Rattle.report.specs.Values.{natural, list_of}
 use Rattle.report.specs.Json.{report_value}
 use Rattle.report.specs.EvidenceJson.{complex_value}

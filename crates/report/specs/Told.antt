@@ -2,8 +2,8 @@
 use Rattle.std.specs.Prelude.{◌≡◌, ℕ, List, ◌++◌, codes, ℤ, Option, Some, None}
 use Rattle.std.specs.Fmt.{signed_decimal}
 use Rattle.cs_num.specs.declared.Sample.{Sample}
-use Rattle.turning.specs.declared.telling.Told.{Told}
-use Rattle.turning.specs.Telling.{IsTold}
+use Rattle.frequency_offset.specs.declared.telling.Told.{Told}
+use Rattle.frequency_offset.specs.Telling.{IsTold}
 use Rattle.report.specs.Hits.{hits_head}
 use Rattle.report.specs.Lines.{head_line}
 

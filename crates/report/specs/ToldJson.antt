@@ -3,10 +3,10 @@ use Rattle.std.specs.Prelude.{◌≡◌, ℕ, List, Option, codes}
 use Rattle.serde_json.specs.Data.{Data, object, member, no_members}
 use Rattle.serde_json.specs.Written.{compact_text}
 use Rattle.cs_num.specs.declared.Sample.{Sample}
-use Rattle.turning.specs.declared.candidate.Candidate.{Candidate}
-use Rattle.turning.specs.declared.telling.Told.{Told}
-use Rattle.turning.specs.Candidates.{taken_of}
-use Rattle.turning.specs.Telling.{IsTold}
+use Rattle.frequency_offset.specs.declared.candidate.Candidate.{Candidate}
+use Rattle.frequency_offset.specs.declared.telling.Told.{Told}
+use Rattle.frequency_offset.specs.Candidates.{taken_of}
+use Rattle.frequency_offset.specs.Telling.{IsTold}
 use Rattle.report.specs.Values.{natural, integer, or_null, list_of}
 
 -- what is told: how many cells, how many hits, and the turn

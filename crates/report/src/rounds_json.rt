@@ -7,7 +7,7 @@ ghost use Rattle.report.specs.RoundsJson.{powers_value, round_value, rounds_valu
 use crate::rounds_text::told_power;
 use crate::values::{ToJson, list_value, pair_value};
 use explain::Workspace;
-use rounds::{Round, Rounds, cancel_rounds};
+use successive_cancel::{Round, Rounds, cancel_rounds};
 use sample_file::Recording;
 use serde_json::{Value, json};
 use std::alloc::{AllocError, Global};

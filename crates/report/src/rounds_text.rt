@@ -6,7 +6,7 @@ ghost use Rattle.report.specs.Rounds.{told_power as told_of, round_text, rounds_
 use crate::cancelled::{text_of_cancelled, text_of_cancelled_none};
 use crate::listing::text;
 use explain::Workspace;
-use rounds::{Round, Rounds, cancel_rounds};
+use successive_cancel::{Round, Rounds, cancel_rounds};
 use sample_file::Recording;
 use std::alloc::{AllocError, Global};
 

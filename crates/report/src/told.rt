@@ -8,7 +8,7 @@ ghost use Rattle.report.specs.Told.{IsTellText, told_text, turn_line};
 use sample_file::Recording;
 use std::alloc::{AllocError, Global};
 use std::fmt::Write;
-use turning::{Told, tell};
+use frequency_offset::{Told, tell};
 
 /// The text of what is told of a recording's offset: `hits`, the count of hits at the coarse turn, and below it
 /// `turn`, the turn, and `cells`, the count of entries of the list of the recording turned by it. `hits 0` alone where

@@ -7,7 +7,7 @@ use lte_types::{Duration, Resource, Sib1Reason};
 use soft_bits::Slot;
 use std::process::Abort;
 use std::test::Fail;
-use system_block::{Attempt, Decoders, attempt_in, one_answer, read};
+use sib1_reader::{Attempt, Decoders, attempt_in, one_answer, read};
 use test_support::{EMPTY, Rows};
 
 // Slots 10 and 11 with system information, by `scripts/peers/subframe_reference.py`.

@@ -1,10 +1,10 @@
 -- Least costs make tables that hold.
 use Rattle.std.proofs.Common.{◌≡◌, ◌≢◌, ℕ, zero, suc, ◌^◌, ◌<◌, ◌≤◌, List, [], Some, length, get_or, ℤ, refl, sym, ◌∙◌, inl, inr, arith}
 use Rattle.std.proofs.lemmas.Bool.Decides.{eqb_tells}
-use Rattle.paths.specs.Paths.{end_of}
-use Rattle.paths.proofs.Rounds.{ends_in_same, ends_in_other}
-use Rattle.paths.specs.Least.{IsLeastTo, ends_in}
-use Rattle.paths.proofs.Forward.{least_to_none, least_to-le}
+use Rattle.trellis.specs.Paths.{end_of}
+use Rattle.trellis.proofs.Rounds.{ends_in_same, ends_in_other}
+use Rattle.trellis.specs.Least.{IsLeastTo, ends_in}
+use Rattle.trellis.proofs.Forward.{least_to_none, least_to-le}
 use Rattle.tailbite.specs.Machine.{shift, step_cost}
 use Rattle.tailbite.proofs.Windows.{same_end, shift_below}
 use Rattle.tailbite.proofs.Branches.{word_cost-path}

@@ -6,8 +6,8 @@ use Rattle.std.proofs.lemmas.List.{get_or-replicate, length-replicate}
 use Rattle.finite.specs.Sizes.{RowsWithin}
 use Rattle.finite.specs.Lists.{values_below}
 use Rattle.finite.proofs.Lists.{values_below-length, values_below_at}
-use Rattle.paths.specs.Least.{ends_in}
-use Rattle.paths.proofs.Rounds.{ends_in_same, ends_in_other}
+use Rattle.trellis.specs.Least.{ends_in}
+use Rattle.trellis.proofs.Rounds.{ends_in_same, ends_in_other}
 use Rattle.conv_code.specs.Code.{parity, taps_0, taps_1, taps_2}
 use Rattle.conv_code.specs.Cost.{word_cost}
 use Rattle.tailbite.specs.LeastWord.{IsLeastWord}

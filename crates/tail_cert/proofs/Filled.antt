@@ -4,7 +4,7 @@ use Rattle.std.specs.Prelude.{IfSome, IsSome, is_some, nat_lt, replicate}
 use Rattle.std.proofs.lemmas.Bool.{cases_lt, lt-ltb, ltb-true, ltb-false}
 use Rattle.std.proofs.lemmas.List.{get_or-replicate, get_or_past, length-replicate}
 use Rattle.std.proofs.Math.Path.{fun_ext}
-use Rattle.paths.specs.Least.{IsLeastTo}
+use Rattle.trellis.specs.Least.{IsLeastTo}
 use Rattle.finite.specs.Sizes.{RowsWithin}
 use Rattle.finite.proofs.Lists.{values_below_at}
 use Rattle.finite.proofs.Sums.{total_below_same}

@@ -2,7 +2,7 @@
 use Rattle.std.proofs.Common.{◌≡◌, ◌≢◌, ℕ, suc, ◌+◌, ◌*◌, ◌^◌, ◌<◌, ◌≤◌, List, [], length, get_or, set, ℤ, refl, ◌∙◌, inl, inr, arith, get_or-set_other, get_or-set_same}
 use Rattle.std.proofs.lemmas.Bool.{cases_lt}
 use Rattle.std.proofs.lemmas.List.{get_or_default}
-use Rattle.paths.proofs.Rows.{row_first}
+use Rattle.trellis.proofs.Rows.{row_first}
 use Rattle.tailbite.specs.Costs.{AreCosts, shared_least}
 use Rattle.tailbite.specs.Machine.{shift, step_cost, first_from, forward_least}
 use Rattle.tailbite.proofs.Edges.{forward_row_is}

@@ -2,8 +2,8 @@
 use Rattle.std.proofs.Common.{◌≡◌, ℕ, suc, ◌+◌, ◌^◌, ◌<◌, ◌≤◌, Bool, List, [], Option, Some, None, length, get_or, ℤ, refl, ap, inl, inr, arith}
 use Rattle.std.proofs.lemmas.Bool.{eq-eqb}
 use Rattle.std.proofs.lemmas.Bool.Decides.{eqb_tells}
-use Rattle.paths.specs.Paths.{path_cost, end_of}
-use Rattle.paths.proofs.Potential.{potential-le}
+use Rattle.trellis.specs.Paths.{path_cost, end_of}
+use Rattle.trellis.proofs.Potential.{potential-le}
 use Rattle.tailbite.specs.Machine.{shift, step_cost}
 use Rattle.tailbite.proofs.Windows.{same_end, end_below, shift_below}
 use Rattle.tailbite.proofs.Branches.{word_cost-path}

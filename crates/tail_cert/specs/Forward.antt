@@ -1,7 +1,7 @@
 -- The least costs up to each state, step by step, and the tables that are needed (own).
 use Rattle.std.specs.Prelude.{◌≡◌, ◌↔◌, ℕ, suc, ◌*◌, ◌^◌, ◌<◌, ◌≤◌, List, [], Some, None, IfSome, IsSome, length, slice_index, slice_index_or, ℤ}
-use Rattle.paths.specs.Least.{IsLeastTo, ends_in}
-use Rattle.paths.specs.Rows.{IsLeastRow}
+use Rattle.trellis.specs.Least.{IsLeastTo, ends_in}
+use Rattle.trellis.specs.Rows.{IsLeastRow}
 use Rattle.tailbite.specs.Machine.{shift, step_cost}
 use Rattle.tail_cert.specs.Certificate.{Held, IsLowerBound, StartHolds, bound, from_any}
 

@@ -3,8 +3,8 @@ use Rattle.std.proofs.Common.{◌≡◌, ◌≢◌, ℕ, zero, suc, ◌+◌, ◌
 use Rattle.std.specs.Prelude.{min, nat_lt}
 use Rattle.std.proofs.lemmas.Bool.{cases_lt}
 use Rattle.std.proofs.lemmas.List.{length-set}
-use Rattle.paths.specs.Paths.{best, best_bit}
-use Rattle.paths.specs.Rows.{least_out}
+use Rattle.trellis.specs.Paths.{best, best_bit}
+use Rattle.trellis.specs.Rows.{least_out}
 use Rattle.tailbite.specs.Machine.{shift, step_cost}
 use Rattle.tailbite.specs.Costs.{AreCosts, HaveCosts, shared_cost}
 use Rattle.tailbite.specs.Passes.{told_bit, IsPass}

@@ -1,8 +1,8 @@
 -- A word of the code is a path from a state back to it, and its cost is the path's.
 use Rattle.std.proofs.Common.{◌≡◌, ℕ, zero, suc, ◌+◌, ◌<◌, ◌≤◌, Bool, List, [], ◌∷◌, ◌++◌, length, map, get_or, ℤ, refl, sym, ◌∙◌, arith, append_assoc, length-append}
 use Rattle.finite.specs.Sums.{total_below}
-use Rattle.paths.specs.Paths.{end_of, path_cost}
-use Rattle.paths.proofs.Paths.{end_of-append}
+use Rattle.trellis.specs.Paths.{end_of, path_cost}
+use Rattle.trellis.proofs.Paths.{end_of-append}
 use Rattle.conv_code.specs.Code.{parity, bit_back, taps_0, taps_1, taps_2}
 use Rattle.conv_code.specs.Cost.{triple_cost, cost_at, word_cost}
 use Rattle.tailbite.specs.Machine.{shift, window_bit, step_cost}

@@ -2,9 +2,9 @@
 use Rattle.std.proofs.Common.{◌≡◌, ℕ, suc, ◌+◌, ◌*◌, ◌/◌, ◌%◌, ◌<◌, ◌≤◌, Bool, true, false, List, [], get_or, ℤ, refl, inl, inr, arith}
 use Rattle.std.proofs.lemmas.Bool.{cases_lt}
 use Rattle.finite.specs.Bits.{odd}
-use Rattle.paths.specs.Rows.{IsLeastRow}
-use Rattle.paths.proofs.Forward.{HasEdges}
-use Rattle.paths.proofs.Rows.{row_later}
+use Rattle.trellis.specs.Rows.{IsLeastRow}
+use Rattle.trellis.proofs.Forward.{HasEdges}
+use Rattle.trellis.proofs.Rows.{row_later}
 use Rattle.tailbite.specs.Machine.{shift, step_cost, first_from, second_from, newest_bit, forward_least}
 use Rattle.tailbite.proofs.Windows.{shift_below}
 

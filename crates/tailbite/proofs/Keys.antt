@@ -6,13 +6,13 @@ use Rattle.std.proofs.Math.Pow.{pow_mono}
 use Rattle.finite.specs.Sizes.{RowsWithin}
 use Rattle.cs_bits.specs.Numbers.{number, bits_of}
 use Rattle.cs_bits.proofs.Numbers.{number_below, bits_of_is, length-bits_of}
-use Rattle.paths.specs.Paths.{end_of, path_cost, walked}
-use Rattle.paths.specs.Words.{IsFirstLeast}
-use Rattle.paths.specs.Least.{ends_in, IsLeastTo}
-use Rattle.paths.proofs.Walks.{length-walked, walked_first, first_least_is_best}
-use Rattle.paths.proofs.Keys.{first_least-key, first_least_by_key}
-use Rattle.paths.proofs.Best.{min_cases}
-use Rattle.paths.proofs.Rounds.{ends_in_same, ends_in_other}
+use Rattle.trellis.specs.Paths.{end_of, path_cost, walked}
+use Rattle.trellis.specs.Words.{IsFirstLeast}
+use Rattle.trellis.specs.Least.{ends_in, IsLeastTo}
+use Rattle.trellis.proofs.Walks.{length-walked, walked_first, first_least_is_best}
+use Rattle.trellis.proofs.Keys.{first_least-key, first_least_by_key}
+use Rattle.trellis.proofs.Best.{min_cases}
+use Rattle.trellis.proofs.Rounds.{ends_in_same, ends_in_other}
 use Rattle.conv_code.specs.Cost.{word_cost}
 use Rattle.conv_code.proofs.Costs.{word_cost-le}
 use Rattle.tailbite.specs.LeastWord.{IsLeastWord}

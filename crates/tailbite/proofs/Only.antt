@@ -9,8 +9,8 @@ use Rattle.cs_bits.specs.Signs.{disagreement}
 use Rattle.cs_bits.proofs.Signs.{speaks_for_one}
 use Rattle.conv_code.specs.Cost.{cost_at, word_cost}
 use Rattle.conv_code.proofs.OneToOne.{one_to_one}
-use Rattle.paths.proofs.Words.{either_before}
-use Rattle.paths.proofs.Exists.{some_first_least}
+use Rattle.trellis.proofs.Words.{either_before}
+use Rattle.trellis.proofs.Exists.{some_first_least}
 use Rattle.tailbite.specs.Laws.{IsOneWord, IsSomeWord}
 use Rattle.tailbite.specs.Clean.{Speaks, IsOnlyLeast}
 

@@ -1,8 +1,8 @@
 -- What a step costs by the shared table, pair of states by pair.
 use Rattle.std.proofs.Common.{◌≡◌, ◌≢◌, ℕ, ◌+◌, ◌*◌, ◌/◌, ◌%◌, ◌<◌, min, false, List, length, get_or, set, ℤ, refl, ap, ap₂, arith, get_or-set_other, get_or-set_same, below_more}
 use Rattle.std.proofs.lemmas.List.{length-set}
-use Rattle.paths.specs.Rows.{least_out}
-use Rattle.paths.proofs.Rows.{row_more}
+use Rattle.trellis.specs.Rows.{least_out}
+use Rattle.trellis.proofs.Rows.{row_more}
 use Rattle.tailbite.specs.Machine.{shift, first_from, newest_bit, second_from, forward_least}
 use Rattle.tailbite.specs.Costs.{AreCosts, shared_cost, shared_least}
 

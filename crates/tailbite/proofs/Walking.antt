@@ -3,8 +3,8 @@ use Rattle.std.proofs.Common.{◌≡◌, ℕ, suc, ◌+◌, ◌-◌, ◌*◌, �
 use mir.Val.{bool_byte}
 use Rattle.std.proofs.Math.Nat.{pow-suc}
 use Rattle.cs_bits.specs.Numbers.{number}
-use Rattle.paths.specs.Paths.{end_of, walked}
-use Rattle.paths.proofs.Walks.{length-walked}
+use Rattle.trellis.specs.Paths.{end_of, walked}
+use Rattle.trellis.proofs.Walks.{length-walked}
 use Rattle.tailbite.specs.Machine.{shift}
 use Rattle.tailbite.proofs.Windows.{shift_below}
 

@@ -5,8 +5,8 @@ use Rattle.std.proofs.Math.Nat.{add-mod_right, mod-eq_of_lt}
 use Rattle.std.proofs.lemmas.Bool.Decides.{nat_tests}
 use Rattle.std.proofs.Math.ListN.{get_or-append}
 use Rattle.std.proofs.Math.Seq.{get_or-append_seam}
-use Rattle.paths.specs.Paths.{end_of}
-use Rattle.paths.proofs.Paths as paths
+use Rattle.trellis.specs.Paths.{end_of}
+use Rattle.trellis.proofs.Paths as paths
 use Rattle.conv_code.specs.Code.{bit_back}
 use Rattle.finite.specs.Bits.{odd}
 use Rattle.tailbite.specs.Machine.{shift, window_bit}

@@ -1,7 +1,7 @@
 -- The costs of a place's steps in a table, which is made once for all passes (own).
 use Rattle.std.specs.Prelude.{◌≡◌, ℕ, ◌-◌, ◌*◌, ◌/◌, ◌^◌, ◌<◌, ◌≤◌, Bool, List, [], ◌∷◌, ◌++◌, map, slice_index, slice_index_or, ℤ}
 use Rattle.finite.specs.Bits.{odd, xor}
-use Rattle.paths.specs.Rows.{least_in}
+use Rattle.trellis.specs.Rows.{least_in}
 use Rattle.conv_code.specs.Cost.{triple_cost}
 use Rattle.tailbite.specs.Machine.{shift, branch_cost, first_from, newest_bit, second_from}
 

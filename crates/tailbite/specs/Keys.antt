@@ -1,7 +1,7 @@
 -- Keys: the cost of a word and its number in one number, so that the least key is that of the least word (own).
 use Rattle.std.specs.Prelude.{◌≡◌, ℕ, ◌*◌, ◌^◌, ◌<◌, ◌≤◌, Bool, List, length, slice_index, ℤ}
-use Rattle.paths.specs.Paths.{end_of}
-use Rattle.paths.specs.Words.{key}
+use Rattle.trellis.specs.Paths.{end_of}
+use Rattle.trellis.specs.Words.{key}
 use Rattle.conv_code.specs.Cost.{word_cost}
 use Rattle.tailbite.specs.Machine.{shift}
 

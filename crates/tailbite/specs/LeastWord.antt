@@ -1,6 +1,6 @@
 -- The word that received values speak for (own).
 use Rattle.std.specs.Prelude.{◌≡◌, ◌<◌, ◌≤◌, Bool, List, length, ℤ}
-use Rattle.paths.specs.Words.{IsBefore}
+use Rattle.trellis.specs.Words.{IsBefore}
 use Rattle.conv_code.specs.Cost.{word_cost}
 
 -- no word of as many bits as there are places costs less, and each that stands before it costs more

@@ -2,7 +2,7 @@
 -- 5.1.3.1).
 use Rattle.std.specs.Prelude.{ℕ, zero, suc, ◌+◌, ◌-◌, ◌*◌, ◌/◌, ◌%◌, ◌^◌, Bool, cond, List, [], map, slice_index_or, ℤ}
 use Rattle.finite.specs.Bits.{odd}
-use Rattle.paths.specs.Rows.{least_in}
+use Rattle.trellis.specs.Rows.{least_in}
 use Rattle.conv_code.specs.Code.{parity, taps_0, taps_1, taps_2}
 use Rattle.conv_code.specs.Cost.{triple_cost}
 

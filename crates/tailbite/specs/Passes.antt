@@ -1,7 +1,7 @@
 -- Passes back over all places (own).
 use Rattle.std.specs.Prelude.{◌≡◌, ℕ, ◌+◌, ◌^◌, ◌<◌, ◌≤◌, Bool, List, [], length, slice_index, slice_index_or, ℤ}
-use Rattle.paths.specs.Paths.{best}
-use Rattle.paths.specs.Rows.{bit_out}
+use Rattle.trellis.specs.Paths.{best}
+use Rattle.trellis.specs.Rows.{bit_out}
 use Rattle.tailbite.specs.Machine.{shift, step_cost}
 use Rattle.tailbite.specs.Costs.{shared_cost}
 

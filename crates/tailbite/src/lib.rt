@@ -11,11 +11,11 @@ mod laws;
 mod passes;
 mod search;
 mod steps;
-mod trellis;
+mod memory;
 
 pub use costs::{StepCosts, cost_at, fill_costs};
 pub use laws::{one_least_word, values_tell_the_word};
 pub use passes::{CostRow, step_on};
 pub use search::{free_at, least, least_by};
 pub use steps::next;
-pub use trellis::Trellis;
+pub use memory::Trellis;

@@ -2,9 +2,9 @@
 
 ghost use Rattle.std.specs.Prelude.{◌≡◌, ◌≢◌, ℕ, ◌+◌, ◌*◌, ◌^◌, ◌<◌, ◌≤◌, false, [], length};
 ghost use Rattle.std.specs.Prelude.{slice_index, slice_index_or};
-ghost use Rattle.paths.specs.Least.{IsLeastTo};
-ghost use Rattle.paths.specs.Paths.{end_of, walked};
-ghost use Rattle.paths.specs.Rows.{bit_out, least_out};
+ghost use Rattle.trellis.specs.Least.{IsLeastTo};
+ghost use Rattle.trellis.specs.Paths.{end_of, walked};
+ghost use Rattle.trellis.specs.Rows.{bit_out, least_out};
 ghost use Rattle.cs_bits.specs.Numbers.{number};
 ghost use Rattle.tailbite.specs.Machine.{first_from, shift, step_cost};
 ghost use Rattle.tailbite.specs.Costs.{HaveCosts, shared_cost, shared_least};

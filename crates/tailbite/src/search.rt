@@ -10,7 +10,7 @@
 
 ghost use Rattle.std.specs.Prelude.{◌≡◌, ℕ, ◌+◌, ◌-◌, ◌*◌, ◌^◌, ◌<◌, ◌≤◌, length, slice_index};
 ghost use Rattle.finite.specs.Sizes.{RowsWithin};
-ghost use Rattle.paths.specs.Least.{ends_in};
+ghost use Rattle.trellis.specs.Least.{ends_in};
 ghost use Rattle.conv_code.specs.Cost.{word_cost};
 ghost use Rattle.tailbite.specs.Costs.{HaveCosts};
 ghost use Rattle.tailbite.specs.Keys.{AreBounds, IsBound, IsKeyOrFar, IsLeastKey, far, scale};
@@ -19,7 +19,7 @@ ghost use Rattle.tailbite.specs.LeastWord.{IsLeastWord};
 
 use crate::costs::{StepCosts, fill_costs};
 use crate::passes::{CostRow, pass, reach, walk};
-use crate::trellis::Trellis;
+use crate::memory::Trellis;
 use cs_bits::Bits;
 
 const STATES: usize = 64;

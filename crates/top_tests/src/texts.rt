@@ -2,7 +2,7 @@
 
 use cell_json::JsonError;
 use cell_tx::CellError;
-use cert_stream::StreamError;
+use certificates::StreamError;
 use cs_outside::{Failed, ReadError};
 use lte_top::Status;
 use sample_file::FileError;

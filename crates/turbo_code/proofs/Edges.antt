@@ -1,7 +1,7 @@
 -- The two edges into each state.
 use Rattle.std.proofs.Common.{◌≡◌, ℕ, zero, suc, ◌+◌, ◌/◌, ◌<◌, Bool, true, false, cond, refl, inl, inr, ◌⊎◌, arith}
 use Rattle.turbo_code.specs.Machine.{next, register, first_from, second_from, bit_to}
-use Rattle.paths.proofs.Forward.{HasEdges}
+use Rattle.trellis.proofs.Forward.{HasEdges}
 
 pub next_below : (x : ℕ) (b : Bool) → x < 8 → next x b < 8
 next_below x b h = elim (register x b) as (λ t. x / 2 + cond t 4 0 < 8) [ true ↦ omega arith | false ↦ omega arith ]

@@ -3,8 +3,8 @@ use Rattle.std.proofs.Common.{◌≡◌, ℕ, zero, suc, ◌+◌, ◌/◌, ◌�
 use Rattle.std.proofs.lemmas.List.{length-take-le, take_all}
 use Rattle.std.proofs.Math.Seq.{take-suc}
 use Rattle.finite.specs.Sums.{total_below}
-use Rattle.paths.specs.Paths.{end_of, path_cost}
-use Rattle.paths.proofs.Paths.{end_of-append, path_cost-last}
+use Rattle.trellis.specs.Paths.{end_of, path_cost}
+use Rattle.trellis.proofs.Paths.{end_of-append, path_cost-last}
 use Rattle.finite.specs.Bits.{xor}
 use Rattle.turbo_code.specs.Encoder.{bit_at, back, before, parity}
 use Rattle.turbo_code.specs.Machine.{parity_bit, next, tail_bit, tail_parity}

@@ -3,9 +3,9 @@ use Rattle.std.proofs.Common.{◌≡◌, ◌≢◌, ℕ, suc, ◌+◌, ◌-◌, 
 use Rattle.std.proofs.lemmas.Bool.{cases_lt}
 use Rattle.std.proofs.lemmas.Int.{ints}
 use Rattle.finite.proofs.Lists.{values_below_is}
-use Rattle.paths.specs.Paths.{best}
-use Rattle.paths.specs.Least.{IsLeastVia}
-use Rattle.paths.proofs.Through.{least_split}
+use Rattle.trellis.specs.Paths.{best}
+use Rattle.trellis.specs.Least.{IsLeastVia}
+use Rattle.trellis.proofs.Through.{least_split}
 use Rattle.turbo_dec.specs.Decoder.{Values, values_of, at, within_2047, extrinsic, extrinsics}
 use Rattle.turbo_dec.specs.Laws.{IsGreatest}
 use Rattle.turbo_code.specs.Machine.{next}

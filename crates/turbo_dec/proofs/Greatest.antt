@@ -4,12 +4,12 @@ use Rattle.std.specs.Prelude.{nat_abs}
 use Rattle.std.proofs.lemmas.Bool.Decides.{eqb_tells}
 use Rattle.std.proofs.lemmas.Int.{ints}
 use Rattle.cs_bits.proofs.Signs.{disagreement-le}
-use Rattle.paths.specs.Paths.{end_of}
-use Rattle.paths.specs.Least.{IsLeastWith}
-use Rattle.paths.specs.AllWords.{greatest}
-use Rattle.paths.proofs.AllWords.{greatest-le, greatest_reached}
-use Rattle.paths.proofs.Paths.{path_cost-le}
-use Rattle.paths.proofs.Words.{bit_between, with_bit}
+use Rattle.trellis.specs.Paths.{end_of}
+use Rattle.trellis.specs.Least.{IsLeastWith}
+use Rattle.trellis.specs.AllWords.{greatest}
+use Rattle.trellis.proofs.AllWords.{greatest-le, greatest_reached}
+use Rattle.trellis.proofs.Paths.{path_cost-le}
+use Rattle.trellis.proofs.Words.{bit_between, with_bit}
 use Rattle.turbo_dec.specs.Decoder.{Values, at, score, greatest_score, extrinsic, within_2047}
 use Rattle.turbo_dec.specs.Laws.{IsGreatest}
 use Rattle.turbo_code.specs.Machine.{next, tail_bit, tail_parity, parity_bit}

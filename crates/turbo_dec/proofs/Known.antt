@@ -1,7 +1,7 @@
 -- Extrinsic values that the definition tells, by computation over all words.
 use Rattle.std.proofs.Common.{◌≡◌, [], ◌∷◌, pos, negsuc, refl}
 use Rattle.turbo_dec.specs.Decoder.{values_of, score, greatest_score, extrinsic, extrinsics}
-use Rattle.paths.specs.AllWords.{greatest}
+use Rattle.trellis.specs.AllWords.{greatest}
 use Rattle.finite.specs.Sums.{sum_below}
 use Rattle.turbo_code.specs.Encoder.{before, tail_x, tail_z}
 

@@ -5,7 +5,7 @@ use Rattle.std.proofs.lemmas.Bool.{cases_lt}
 use Rattle.turbo_dec.specs.Decoder.{Values, at}
 use Rattle.turbo_code.specs.Machine.{next, first_from, second_from, bit_to}
 use Rattle.turbo_dec.specs.Costs.{step_cost, starts, far, forward_least, IsForwardRow, HasRows}
-use Rattle.paths.proofs.Rows.{row_first, row_later}
+use Rattle.trellis.proofs.Rows.{row_first, row_later}
 use Rattle.turbo_code.proofs.Edges.{edges, next_below}
 
 pub first_row : (v : Values) (row : List ℕ) → ((x : ℕ) → x < 8 → get_or row x 0 ≡ starts x) → IsForwardRow v 0 row

@@ -4,7 +4,7 @@ use Rattle.std.proofs.lemmas.Int.{ints}
 use Rattle.finite.specs.Sums.{sum_below, total_below}
 use Rattle.finite.proofs.Sums.{sum_below_plus, sum_below_pos, sum_below_same}
 use Rattle.cs_bits.specs.Signs.{disagreement}
-use Rattle.paths.specs.Paths.{end_of, path_cost}
+use Rattle.trellis.specs.Paths.{end_of, path_cost}
 use Rattle.turbo_code.specs.Encoder.{bit_at, back, before, parity, tail_x, tail_z}
 use Rattle.turbo_dec.specs.Decoder.{Values, at, taken, score_at, tail_score, score}
 use Rattle.turbo_code.specs.Machine.{next, tail_bit, tail_parity}

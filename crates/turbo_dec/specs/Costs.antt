@@ -1,6 +1,6 @@
 -- What the encoder's steps cost by the values of a decoder (own).
 use Rattle.std.specs.Prelude.{ℕ, ◌+◌, ◌*◌, ◌/◌, ◌^◌, ◌≤◌, Bool, cond, List, [], slice_index_or, nat_eq, ℤ, ◌+ℤ◌}
-use Rattle.paths.specs.Rows.{least_in, least_out, IsLeastRow}
+use Rattle.trellis.specs.Rows.{least_in, least_out, IsLeastRow}
 use Rattle.cs_bits.specs.Signs.{disagreement}
 use Rattle.turbo_code.specs.Machine.{parity_bit, next, tail_bit, tail_parity, first_from, second_from, bit_to}
 use Rattle.turbo_dec.specs.Decoder.{Values, at}

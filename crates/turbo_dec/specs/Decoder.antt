@@ -4,7 +4,7 @@ use Rattle.std.specs.Prelude.{ℕ, ◌+◌, ◌-◌, ◌*◌, ◌≤◌, Bool, t
 use Rattle.std.specs.Int.{int_min, int_max}
 use Rattle.finite.specs.Sums.{sum_below}
 use Rattle.finite.specs.Lists.{values_below}
-use Rattle.paths.specs.AllWords.{greatest}
+use Rattle.trellis.specs.AllWords.{greatest}
 use Rattle.turbo_code.specs.Encoder.{bit_at, parity, tail_x, tail_z}
 
 -- what a decoder is given: a value for each bit of the word and for each of its parity bits, one for each of the six tail bits

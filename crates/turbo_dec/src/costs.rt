@@ -1,7 +1,7 @@
 //! The costs of the encoder's steps, and rows of least costs.
 
 ghost use Rattle.std.specs.Prelude.{◌≡◌, ℕ, ◌+◌, ◌*◌, ◌/◌, ◌^◌, ◌<◌, ◌≤◌, All, false, length, nat_abs, slice_index};
-ghost use Rattle.paths.specs.Least.{IsLeastVia};
+ghost use Rattle.trellis.specs.Least.{IsLeastVia};
 ghost use Rattle.turbo_dec.specs.Decoder.{IsSmall};
 ghost use Rattle.turbo_code.specs.Machine.{register, parity_bit, next, first_from};
 ghost use Rattle.turbo_dec.specs.Costs.{edge_cost, tail_step_cost, tail_cost, forward_least, backward_least};

@@ -6,8 +6,8 @@ use Rattle.cs_num.specs.declared.Cpx.{Cpx}
 use Rattle.cs_num.specs.Complex.{plus, minus, times, square, multiple}
 use Rattle.cs_num.proofs.Complex.{plus-nothing}
 use Rattle.cs_num.proofs.Sums.{complex_sum_below_same, complex_sum_below_plus}
-use Rattle.sizes.specs.Sizes.{energy_below}
-use Rattle.sizes.proofs.Algebra.{plus-nothing_right, times-nothing, sum_of_one}
+use Rattle.norms.specs.Sizes.{energy_below}
+use Rattle.norms.proofs.Algebra.{plus-nothing_right, times-nothing, sum_of_one}
 use Rattle.lte_types.specs.declared.carrier.Carrier.{Carrier}
 use Rattle.lte_types.specs.Carrier.{ports_of}
 use Rattle.crs.specs.Reference.{pattern_of, reference}

@@ -3,10 +3,10 @@ use Rattle.std.proofs.Common.{◌≡◌, ℕ, ◌+◌, ◌*◌, ◌^◌, ◌≤�
 use Rattle.cs_num.specs.declared.Cpx.{Cpx}
 use Rattle.cs_num.specs.Complex.{IsWithin, plus, minus, times, conjugate, negated, square, multiple}
 use Rattle.cs_num.proofs.Complex.{plus-associates}
-use Rattle.sizes.specs.Sizes.{IsSized}
-use Rattle.sizes.proofs.Algebra.{plus-minus, minus-plus, multiple_twice}
-use Rattle.sizes.proofs.Sized.{sized-plus, sized_re, sized_im}
-use Rattle.sizes.proofs.Products.{sized-multiple}
+use Rattle.norms.specs.Sizes.{IsSized}
+use Rattle.norms.proofs.Algebra.{plus-minus, minus-plus, multiple_twice}
+use Rattle.norms.proofs.Sized.{sized-plus, sized_re, sized_im}
+use Rattle.norms.proofs.Products.{sized-multiple}
 use Rattle.budget.specs.Received.{in_parts}
 use Rattle.soft_bits.specs.Pairs.{second_point}
 use Rattle.two_ports.proofs.Combined.{combined, combined-plus_right, combined-plus_left, combined-multiple_left, combined-multiple_right, combined_cauchy, at_first, at_second, combined_gains, pair_energy, times-negated, square-negated, plus-negated, turned_twice, conjugate-negated, multiple-negated, minus-negated}

@@ -6,7 +6,7 @@ use Rattle.finite.specs.Sums.{sum_below}
 use Rattle.cs_num.specs.declared.Cpx.{Cpx}
 use Rattle.cs_num.specs.Complex.{nothing, plus, times, conjugate, negated, value_at}
 use Rattle.cs_num.proofs.Complex.{plus-nothing, plus-associates}
-use Rattle.sizes.specs.Sizes.{energy_below}
+use Rattle.norms.specs.Sizes.{energy_below}
 use Rattle.grid_map.specs.declared.Place.{Place}
 use Rattle.grid_map.specs.Scrambling.{pbch_c_init}
 use Rattle.lte_types.specs.declared.carrier.Carrier.{Carrier}

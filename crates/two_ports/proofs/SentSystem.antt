@@ -25,9 +25,9 @@ use Rattle.lte_types.specs.declared.carrier.Carrier.TheVariants.{TwoPorts}
 use Rattle.pcfich.specs.Values.{indicator_values_by}
 use Rattle.pdcch.specs.Candidate.{stream_values_by, candidate_values_by}
 use Rattle.pdsch.specs.Values.{shared_values_by}
-use Rattle.system_block.specs.Subframe.{subframe_by}
-use Rattle.system_block.specs.Block.{BlockSays}
-use Rattle.system_block.specs.Attempt.{Reads}
+use Rattle.sib1_reader.specs.Subframe.{subframe_by}
+use Rattle.sib1_reader.specs.Block.{BlockSays}
+use Rattle.sib1_reader.specs.Attempt.{Reads}
 use Rattle.cell_tx.specs.declared.antenna.Port.{Port}
 use Rattle.lte_types.specs.Carrier.{ports_of}
 use Rattle.cell_tx.specs.Ports.{first_port, second_port}

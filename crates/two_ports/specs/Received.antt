@@ -4,7 +4,7 @@ use Rattle.std.specs.Prelude.{◌≡◌, ℕ, ◌%◌, ◌^◌, ◌<◌, ◌≤�
 use Rattle.cs_num.specs.declared.Cpx.{Cpx}
 use Rattle.cs_num.specs.declared.Sample.{Sample}
 use Rattle.cs_num.specs.Complex.{nothing, conjugate, negated}
-use Rattle.sizes.specs.Sizes.{energy_below}
+use Rattle.norms.specs.Sizes.{energy_below}
 use Rattle.cs_bits.specs.Signs.{Supports}
 use Rattle.crs.specs.Qpsk.{point}
 use Rattle.observe.specs.Seen.{seen_symbol}

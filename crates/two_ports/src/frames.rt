@@ -8,7 +8,7 @@ use lte_types::{Carrier, CellPlace, Sfn};
 use pbch::{Master, Received};
 use sample_file::Recording;
 use soft_bits::{PortSlot, Ports};
-use system_block::Decoders;
+use sib1_reader::Decoders;
 
 /// The way to read frames with two antenna ports: master blocks that tell two are taken, and no others. (own)
 pub struct TwoPorts;

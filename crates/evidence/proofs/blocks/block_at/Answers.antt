@@ -1,7 +1,7 @@
 use Rattle.std.proofs.Common.{ap, ap₂, sym, subst, ◌∙◌}
 use Rattle.std.specs.Option.{option_map}
 use Rattle.soft_bits.specs.Soft.{SeenSlot}
-use Rattle.system_block.specs.Subframe.{Subframe, subframe_by}
+use Rattle.sib1_reader.specs.Subframe.{Subframe, subframe_by}
 use Rattle.explain.specs.Frame.{frame_at}
 use Rattle.explain.proofs.FirstFrame.{slot_number, slot_identity}
 use Rattle.evidence.specs.Blocks.{IsBlockAt}

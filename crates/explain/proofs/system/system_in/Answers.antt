@@ -1,7 +1,7 @@
 use Rattle.std.proofs.Common.{rules, ◌≡◌, ◌∙◌, ap}
 use Rattle.lte_types.specs.Carrier.{ports_of}
 use Rattle.lte_types.specs.declared.bandwidth.Bandwidth.TheVariants.{N6}
-use Rattle.system_block.proofs.Exists.{never_ports, never_width}
+use Rattle.sib1_reader.proofs.Exists.{never_ports, never_width}
 use Rattle.explain.specs.Receiver.{subframes_by}
 use Rattle.explain.specs.System.{FrameAnswers}
 use Rattle.explain.proofs.Information.{one_of_frame, searched}

@@ -1,6 +1,6 @@
 use Rattle.std.proofs.Common.{◌≡◌, refl, sym, subst, ◌∙◌}
 use Rattle.std.specs.Prelude.{OnOk, IfErr}
-use Rattle.lte_words.specs.declared.form.Form.TheVariants.{Make, Print}
+use Rattle.lte_args.specs.declared.form.Form.TheVariants.{Make, Print}
 use Rattle.lte_top.specs.Making.{IsMadeText}
 use Rattle.lte_top.specs.Pages.{page_text}
 use Rattle.lte_top.specs.Run.{IsDone, Ends}

@@ -1,4 +1,4 @@
-use Rattle.paths.proofs.Rows.{one_zero}
+use Rattle.trellis.proofs.Rows.{one_zero}
 use Rattle.tail_cert.specs.Certificate.{unbounded}
 use Rattle.tail_cert.proofs.checker.row_from.Goals as goal
 

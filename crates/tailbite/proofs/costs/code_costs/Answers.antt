@@ -1,5 +1,5 @@
 use Rattle.std.proofs.Common.{◌≡◌, ◌*◌, ◌^◌, ◌≤◌, arith, length-set}
-use Rattle.paths.proofs.Rows.{row_more}
+use Rattle.trellis.proofs.Rows.{row_more}
 use Rattle.tailbite.specs.Costs.{code_cost}
 use Rattle.tailbite.proofs.costs.code_costs.Goals as goal
 

@@ -1,5 +1,5 @@
 use Rattle.std.proofs.Common.{◌≡◌, ◌^◌, ◌*◌, ◌+◌, suc, arith, refl, length, get_or, ◌∙◌}
-use Rattle.paths.proofs.Rows.{row_first}
+use Rattle.trellis.proofs.Rows.{row_first}
 use Rattle.tailbite.specs.Machine.{shift, step_cost}
 use Rattle.tailbite.proofs.Edges.{forward_row_is}
 use Rattle.tailbite.proofs.Pairs.{shared_least-is}

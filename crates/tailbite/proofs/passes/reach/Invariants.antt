@@ -1,5 +1,5 @@
 use Rattle.std.proofs.Common.{◌*◌, ◌^◌, get_or}
-use Rattle.paths.specs.Rows.{IsLeastRow}
+use Rattle.trellis.specs.Rows.{IsLeastRow}
 use Rattle.tailbite.specs.Machine.{shift, step_cost}
 use Rattle.tailbite.proofs.passes.reach.Given as goal
 

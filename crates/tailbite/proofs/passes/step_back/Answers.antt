@@ -1,6 +1,6 @@
 use Rattle.std.proofs.Common.{◌≡◌, ◌+◌, ◌*◌, ◌^◌, ◌<◌, ◌≤◌, false, get_or, set, sym, ◌∙◌, arith, length, length-set}
-use Rattle.paths.specs.Rows.{least_out}
-use Rattle.paths.proofs.Rows.{row_more}
+use Rattle.trellis.specs.Rows.{least_out}
+use Rattle.trellis.proofs.Rows.{row_more}
 use Rattle.tailbite.specs.Machine.{shift}
 use Rattle.tailbite.specs.Costs.{shared_cost}
 use Rattle.tailbite.proofs.Pairs.{even_out, odd_out, even_half, odd_half}

@@ -1,5 +1,5 @@
 use Rattle.std.proofs.Common.{◌≡◌, ℕ, ◌+◌, ◌*◌, ◌^◌, ◌<◌, ◌≤◌, false, get_or, length, List}
-use Rattle.paths.specs.Rows.{least_out}
+use Rattle.trellis.specs.Rows.{least_out}
 use Rattle.tailbite.specs.Machine.{shift}
 use Rattle.tailbite.specs.Costs.{shared_cost}
 use Rattle.tailbite.proofs.passes.step_back.Given as goal

@@ -1,5 +1,5 @@
-use Rattle.paths.proofs.Rows.{one_zero}
-use Rattle.paths.proofs.Rounds.{ends_in-le}
+use Rattle.trellis.proofs.Rows.{one_zero}
+use Rattle.trellis.proofs.Rounds.{ends_in-le}
 use Rattle.tailbite.proofs.search.free_at.Goals as goal
 
 pub returns-clause-row : goal.returns-clause-row

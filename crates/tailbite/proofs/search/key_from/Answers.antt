@@ -1,5 +1,5 @@
 use Rattle.std.proofs.Common.{◌∙◌, refl}
-use Rattle.paths.proofs.Rounds.{ends_in_same}
+use Rattle.trellis.proofs.Rounds.{ends_in_same}
 use Rattle.tailbite.proofs.Keys.{pass_bound, pass_key_or_far}
 use Rattle.tailbite.proofs.search.key_from.Goals as goal
 

@@ -1,7 +1,7 @@
 use Rattle.std.proofs.Common.{◌<◌, length, length-set, arith}
 use Rattle.tailbite.specs.Keys.{AreBounds}
 use Rattle.std.proofs.Math.Nat.{min-le_left, min-le_right}
-use Rattle.paths.proofs.Rows.{fewer_below}
+use Rattle.trellis.proofs.Rows.{fewer_below}
 use Rattle.tailbite.proofs.Keys.{cost_bound, bounds_with, least_or_far, no_bound_below}
 use Rattle.tailbite.proofs.search.least_key.Goals as goal
 

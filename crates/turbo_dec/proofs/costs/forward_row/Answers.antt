@@ -1,7 +1,7 @@
 use Rattle.std.proofs.Common.{◌≡◌, ◌+◌, ◌≤◌, get_or, arith, length-set}
 use Rattle.turbo_code.specs.Machine.{first_from}
 use Rattle.turbo_dec.specs.Costs.{forward_least}
-use Rattle.paths.proofs.Rows.{row_more}
+use Rattle.trellis.proofs.Rows.{row_more}
 use Rattle.turbo_dec.proofs.costs.forward_row.Goals as goal
 
 pub loop-x-preserved : goal.loop-x-preserved

@@ -1,5 +1,5 @@
 use Rattle.std.proofs.Common.{refl}
-use Rattle.paths.proofs.Through.{via_more}
+use Rattle.trellis.proofs.Through.{via_more}
 use Rattle.turbo_dec.proofs.costs.least_through.Goals as goal
 
 pub loop-x-preserved : goal.loop-x-preserved

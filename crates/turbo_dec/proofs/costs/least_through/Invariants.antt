@@ -1,5 +1,5 @@
 use Rattle.std.proofs.Common.{get_or}
-use Rattle.paths.specs.Least.{IsLeastVia}
+use Rattle.trellis.specs.Least.{IsLeastVia}
 use Rattle.turbo_code.specs.Machine.{next}
 use Rattle.turbo_dec.specs.Costs.{edge_cost}
 use Rattle.turbo_dec.proofs.costs.least_through.Given as goal

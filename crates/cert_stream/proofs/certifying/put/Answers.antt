@@ -1,7 +1,0 @@
-use Rattle.std.proofs.Common.{arith}
-use Rattle.cert_stream.proofs.Certified.{tables_most}
-use Rattle.cert_stream.proofs.certifying.put.Goals as goal
-
-pub unreachable-requires : goal.unreachable-requires
-unreachable-requires c =
-    omega (arith, c.in-Err.ensures.full, tables_most c.args.certificate.now.tables, c.length.ensures.count, c.requires)

@@ -1,0 +1,11 @@
+-- What certificates that were not answered are answered with. (own)
+use Rattle.std.specs.Prelude.{ℕ, List, codes}
+use Rattle.tail_cert.specs.Form.{broken_text}
+use Rattle.certificates.specs.declared.error.StreamError.{StreamError}
+use Rattle.certificates.specs.declared.error.StreamError.TheVariants.{Broken, TooLong, ReadFault, OutOfMemory}
+
+abbrev pub error_text : StreamError → List ℕ
+error_text (Broken place) = broken_text place
+error_text TooLong = codes "too long"
+error_text ReadFault = codes "read fault"
+error_text OutOfMemory = codes "out of memory"

@@ -1,0 +1,121 @@
+//! A certificate for each master block of the list of a recording.
+
+ghost use Rattle.std.specs.Prelude.{◌≡◌, ◌≤◌, OnOk, OnErr};
+ghost use Rattle.std.specs.Vec.{vec_capacity};
+ghost use Rattle.std.specs.List.{AllZip};
+ghost use Rattle.cs_outside.specs.Counts.{Rose};
+ghost use Rattle.explain.specs.Receiver.{Receiver, hits_by};
+ghost use Rattle.explain.specs.Entries.{IsEntryFor, IsListFor};
+ghost use Rattle.explain.specs.Laws.{IsEntryOfSome};
+ghost use Rattle.explain.specs.Readings.{IsReadingFor};
+ghost use Rattle.tail_cert.specs.Certificate.{IsWhole};
+ghost use Rattle.tail_cert.specs.Form.{bytes_of, most_count};
+ghost use Rattle.certificates.specs.Certifying.{HasSmallValues, IsCertificateOf, HasCertified, HasCertifiedFront, HasCertifiedAll, HasCertifiedSome};
+
+use cs_outside::{Failed, Sink, write_whole};
+use explain::Reading;
+use lte_types::Entry;
+use sample_file::Recording;
+use std::alloc::{AllocError, Global};
+use tail_cert::{Certificate, MOST_BYTES, fill, length, to_bytes};
+use tailbite::Trellis;
+
+/// The memory in which certificates are made: that of one certificate, of the search for its word,
+/// and of the bytes of the longest. What it holds between two calls means nothing.
+#[derive(Drop)]
+pub struct CertificateWork {
+    certificate: Certificate,
+    trellis: Trellis,
+    buffer: Vec<u8>,
+    ghost room: { most_count ≤ vec_capacity buffer },
+}
+
+impl CertificateWork {
+    /// Takes all the memory. Only memory can be wanting.
+    pub fn new(alloc: Global) -> Result<CertificateWork, AllocError> {
+        let certificate = Certificate::new(alloc)?;
+        let trellis = Trellis::new(alloc)?;
+        let buffer = Vec::with_capacity(alloc, MOST_BYTES)?;
+        Ok(CertificateWork {
+            certificate,
+            trellis,
+            buffer,
+        })
+    }
+}
+
+/// Writes a certificate for each entry of a recording's list by a receiver, in order: the sums of the values of the
+/// entry's frames, their least word, which tells the entry's master block, and its cost. `readings` are how the
+/// entries were read, in the order of the list. Of a frame the receiver has at most 480 values, of size at most 127.
+/// The certificates are accepted. `Failed` means that the sink counted a fault, after a front of them was written;
+/// where the sink tells its room, that was too little for all. It takes no memory. (own)
+pub fn certify<K: Sink>(
+    recording: &Recording,
+    entries: &[Entry],
+    readings: &[Reading],
+    work: &mut CertificateWork,
+    sink: &mut K,
+) -> Result<(), Failed>
+    ghost receiver: { Receiver }
+    requires small { HasSmallValues receiver }
+    requires list { IsListFor receiver recording.now entries.now }
+    requires readings { AllZip (IsReadingFor receiver recording.now) entries.now readings.now }
+    ensures ok { OnOk result (HasCertifiedAll receiver recording.now entries.now (K.told sink.old) (K.told sink.new)) }
+    ensures err { OnErr result
+        (HasCertifiedSome receiver recording.now entries.now (K.told sink.old) (K.told sink.new)) }
+    ensures fault { OnErr result (Rose (K.told sink.old).faults (K.told sink.new).faults) }
+    ensures never_falls { (K.told sink.old).faults ≤ (K.told sink.new).faults }
+{
+    for (i, entry) in entries.iter().enumerate() {
+        certify_one(recording, entry, &readings[i], work, sink)?;
+    }
+    Ok(())
+}
+
+// Writes the certificate of an entry.
+fn certify_one<K: Sink>(
+    recording: &Recording,
+    entry: &Entry,
+    reading: &Reading,
+    work: &mut CertificateWork,
+    sink: &mut K,
+) -> Result<(), Failed>
+    ghost receiver: { Receiver }
+    requires entry { IsEntryOfSome (IsEntryFor receiver recording.now)
+        (hits_by receiver.carrier recording.now) entry.now }
+    requires reading { IsReadingFor receiver recording.now entry.now reading.now }
+    ensures ok { OnOk result (HasCertified receiver recording.now entry.now (K.told sink.old) (K.told sink.new)) }
+    ensures err { OnErr result
+        (HasCertifiedFront receiver recording.now entry.now (K.told sink.old) (K.told sink.new)) }
+    ensures fault { OnErr result (Rose (K.told sink.old).faults (K.told sink.new).faults) }
+    ensures never_falls { (K.told sink.old).faults ≤ (K.told sink.new).faults }
+{
+    make(recording, entry, reading, work);
+    write_whole(sink, work.buffer.as_slice())
+}
+
+// Makes the certificate of an entry, and its bytes.
+fn make(recording: &Recording, entry: &Entry, reading: &Reading, work: &mut CertificateWork)
+    ghost receiver: { Receiver }
+    requires entry { IsEntryOfSome (IsEntryFor receiver recording.now)
+        (hits_by receiver.carrier recording.now) entry.now }
+    requires reading { IsReadingFor receiver recording.now entry.now reading.now }
+    ensures { IsCertificateOf receiver recording.now entry.now work.new.buffer.items }
+{
+    let values = reading.sums.rows();
+    fill(&mut work.certificate, &values, &mut work.trellis);
+    put(&work.certificate, &mut work.buffer)
+}
+
+// Writes the bytes of a certificate over what a buffer has, which has memory for them.
+fn put(certificate: &Certificate, buffer: &mut Vec<u8>)
+    requires { most_count ≤ vec_capacity buffer.old }
+    ensures bytes { buffer.new.items ≡ bytes_of certificate.now }
+    ensures whole { IsWhole certificate.now }
+    ensures room { most_count ≤ vec_capacity buffer.new }
+{
+    match buffer.resize(length(certificate), 0) {
+        Ok(()) => to_bytes(certificate, buffer.as_mut_slice()),
+        Err(_) => unreachable!(),
+    }
+}

@@ -1,0 +1,44 @@
+//! Why the certificates of a source were not answered.
+
+ghost use Rattle.std.specs.Prelude.{◌≡◌, Some};
+ghost use Rattle.certificates.specs.Words.{error_text};
+ghost use Rattle.certificates.specs.declared.error.StreamError.TheVariants.{OutOfMemory};
+
+use std::alloc::AllocError;
+use std::fmt;
+use thiserror::Error;
+
+/// Why the certificates of a source were not answered. (own)
+#[derive(Clone, Copy, Debug, PartialEq, Eq, Error)]
+pub enum StreamError {
+    /// The place, from 0, of the first byte that breaks the form of certificates; where the input
+    /// ends within one, its length.
+    Broken(u64),
+    /// The input is longer than 67,108,864 bytes, of which none breaks the form.
+    TooLong,
+    /// A call of the source failed before a byte that breaks the form was read.
+    ReadFault,
+    /// Memory was refused.
+    OutOfMemory,
+}
+
+impl From<AllocError> for StreamError {
+    ghost from_gives = { λ _ error. error ≡ OutOfMemory };
+
+    fn from(_error: AllocError) -> StreamError {
+        StreamError::OutOfMemory
+    }
+}
+
+impl fmt::Display for StreamError {
+    ghost output = { λ error. Some (error_text error) };
+
+    fn fmt<W: fmt::Write>(&self, f: &mut fmt::Formatter<W>) -> fmt::Result {
+        match self {
+            StreamError::Broken(place) => write!(f, "bad certificate at byte {place}"),
+            StreamError::TooLong => f.write_str("too long"),
+            StreamError::ReadFault => f.write_str("read fault"),
+            StreamError::OutOfMemory => f.write_str("out of memory"),
+        }
+    }
+}

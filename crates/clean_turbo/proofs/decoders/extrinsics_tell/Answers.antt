@@ -1,5 +1,0 @@
-use Rattle.clean_turbo.proofs.Found.{extrinsic_tells}
-use Rattle.clean_turbo.proofs.decoders.extrinsics_tell.Goals as goal
-
-pub returns : goal.returns
-returns c = λ word sent known v told k inside. extrinsic_tells word sent known v told k inside

@@ -1,0 +1,70 @@
+//! A recording with its mean.
+
+ghost use Rattle.std.specs.Prelude.{◌≡◌, ◌*◌, ◌<◌, ◌≤◌, length};
+ghost use Rattle.cs_num.specs.Complex.{IsWithin};
+ghost use Rattle.frequency_offset.specs.Turned.{mean as mean_of_all, sum_of as sum_of_all, turned as turned_by};
+ghost use Rattle.lte_types.specs.Numerology.{most_samples};
+
+use crate::at_turn::Turned;
+use cs_num::{Cpx, Sample};
+use sample_file::Recording;
+use std::marker::Model;
+
+// A recording with its mean. Contracts see it as its samples.
+#[derive(Drop)]
+pub(crate) struct Centred<'a> {
+    samples: &'a [Sample],
+    mean: Cpx,
+}
+
+impl<'a> Model for Centred<'a> {
+    ghost use Rattle.std.specs.Prelude.{List};
+    ghost use Rattle.cs_num.specs.declared.Sample.{Sample as SampleValue};
+    ghost use Rattle.frequency_offset.specs.Steps.{IsCentred};
+
+    ghost Value = { List SampleValue };
+
+    ghost view = { λ c. c.samples.now };
+
+    ghost invariant = { λ c. IsCentred c.samples.now c.mean };
+}
+
+impl<'a> Centred<'a> {
+    // A recording with its mean, made once for all turns.
+    pub(crate) fn new(recording: &'a Recording) -> Centred<'a>
+        ensures { result ≡ recording.now }
+    {
+        let samples = recording.as_slice();
+        let mean = mean(samples);
+        Centred { samples, mean }
+    }
+
+    // The recording turned by m.
+    pub(crate) fn turned(&self, m: i16) -> Turned<'a>
+        ensures { result ≡ turned_by self.now m }
+    {
+        Turned::new(self.samples, self.mean, m)
+    }
+}
+
+// The mean of samples.
+fn mean(samples: &[Sample]) -> Cpx
+    requires some { 0 < length samples.now }
+    requires few { length samples.now ≤ most_samples }
+    ensures value { result ≡ mean_of_all samples.now }
+    ensures small { IsWithin 32768 result }
+{
+    sum_of(samples).quotient(samples.len() as u64)
+}
+
+fn sum_of(samples: &[Sample]) -> Cpx
+    requires { length samples.now ≤ most_samples }
+    ensures value { result ≡ sum_of_all samples.now }
+    ensures small { IsWithin (length samples.now * 32768) result }
+{
+    let mut sum = Cpx::ZERO;
+    for i in 0..samples.len() {
+        sum = sum + Cpx::from(samples[i]);
+    }
+    sum
+}

@@ -1,0 +1,160 @@
+//! The rest of a turn, by the cyclic prefixes.
+
+ghost use Rattle.std.specs.Prelude.{◌≡◌, ◌+◌, ◌-◌, ◌*◌, ◌^◌, ◌<◌, ◌≤◌, length, nat_abs, int_lt, nat_le};
+ghost use Rattle.std.specs.Prelude.{◌&&◌, if◌then◌else◌};
+ghost use Rattle.cs_num.specs.Complex.{IsWithin};
+ghost use Rattle.lte_types.specs.Numerology.{half_frame_length};
+ghost use Rattle.frequency_offset.specs.Order.{by_size as by_size_of};
+ghost use Rattle.frequency_offset.specs.Fine.{half_start as half_start_of, is_carried as is_carried_at};
+ghost use Rattle.frequency_offset.specs.Fine.{repeat_term as repeat_term_at, repeat_sum as repeat_sum_at};
+ghost use Rattle.frequency_offset.specs.Fine.{symbol_sum as symbol_sum_at, slot_sum as slot_sum_at, prefix_sum as prefix_sum_of};
+ghost use Rattle.frequency_offset.specs.Fine.{fit as fit_of, best_fit as best_fit_of, fine_turn as fine_turn_of};
+
+use crate::at_turn::Turned;
+use crate::order::by_size;
+use crate::table::w_at;
+use cs_num::Cpx;
+use lte_types::{HALF_FRAME_LENGTH, Half, Prefix};
+
+// The rest of a turn by m, by the primary signal at place t: -64 to 63.
+pub(crate) fn fine_turn(turned: &Turned, t: usize) -> i16
+    requires { t < 19600 }
+    ensures value { result ≡ fine_turn_of turned.now t }
+    ensures small { nat_abs result ≤ 64 }
+{
+    best_fit(prefix_sum(turned, t))
+}
+
+// The turn that fits a sum best.
+fn best_fit(sum: Cpx) -> i16
+    requires { IsWithin (2 ^ 46) sum }
+    ensures value { result ≡ best_fit_of sum }
+    ensures small { nat_abs result ≤ 64 }
+{
+    let mut best = 0;
+    for k in 1..128 {
+        best = better_fit(sum, best, k);
+    }
+    by_size(best)
+}
+
+// The one of two numbers of turns that fits better, and of equals the first.
+fn better_fit(sum: Cpx, first: usize, second: usize) -> usize
+    requires sum { IsWithin (2 ^ 46) sum }
+    requires first { first < 128 }
+    requires second { second < 128 }
+    ensures { result ≡ (if int_lt (fit_of sum (by_size_of first)) (fit_of sum (by_size_of second))
+        then second else first) }
+{
+    if fit(sum, by_size(first)) < fit(sum, by_size(second)) {
+        second
+    } else {
+        first
+    }
+}
+
+// How well a sum fits a turn by m.
+fn fit(sum: Cpx, m: i16) -> i64
+    requires { IsWithin (2 ^ 46) sum }
+    ensures { result ≡ fit_of sum m }
+{
+    sum.mul(w_at(m as i64).conj()).re
+}
+
+// The sum of 160 slots of a recording turned by m.
+fn prefix_sum(turned: &Turned, t: usize) -> Cpx
+    requires { t < 19600 }
+    ensures value { result ≡ prefix_sum_of turned.now t }
+    ensures small { IsWithin (2 ^ 46) result }
+{
+    let start = half_start(t);
+    let mut sum = Cpx::ZERO;
+    for slot in 0..160 {
+        sum = sum + slot_sum(turned, start, slot);
+    }
+    sum
+}
+
+// Where the first half of a frame begins, by the place of a primary signal.
+fn half_start(t: usize) -> usize
+    requires { t < 19600 }
+    ensures value { result ≡ half_start_of t }
+    ensures early { result < half_frame_length }
+{
+    let primary = Half::Zero.primary_start() as usize;
+    (t + (HALF_FRAME_LENGTH - primary)) % HALF_FRAME_LENGTH
+}
+
+// The sum of a slot.
+fn slot_sum(turned: &Turned, start: usize, slot: usize) -> Cpx
+    requires start { start < half_frame_length }
+    requires slot { slot < 160 }
+    ensures value { result ≡ slot_sum_at turned.now start slot }
+    ensures small { IsWithin (63 * 2 ^ 31) result }
+{
+    let mut sum = Cpx::ZERO;
+    for symbol in 0..7 {
+        sum = sum + symbol_sum(turned, start, slot, symbol);
+    }
+    sum
+}
+
+// Whether a symbol of a slot carries something in every cell.
+fn is_carried(slot: usize, symbol: usize) -> bool
+    ensures { result ≡ is_carried_at slot symbol }
+{
+    symbol == 0 || symbol == 4 || (slot % 10 == 0 && (symbol == 5 || symbol == 6))
+}
+
+// The sum of a symbol, where it carries something and lies in the recording.
+fn symbol_sum(turned: &Turned, start: usize, slot: usize, symbol: usize) -> Cpx
+    requires start { start < half_frame_length }
+    requires slot { slot < 160 }
+    requires symbol { symbol < 7 }
+    ensures value { result ≡ symbol_sum_at turned.now start slot symbol }
+    ensures small { IsWithin (9 * 2 ^ 31) result }
+{
+    let u = Prefix::NORMAL.useful_start(start, slot, symbol);
+    if counts(turned, u, slot, symbol) {
+        repeat_sum(turned, u)
+    } else {
+        Cpx::ZERO
+    }
+}
+
+// Whether a symbol, whose useful part begins at u, carries something in every cell and lies in the recording.
+fn counts(turned: &Turned, u: usize, slot: usize, symbol: usize) -> bool
+    requires { u < 170000 }
+    ensures { result ≡ (is_carried_at slot symbol && nat_le (u + 128) (length turned.now)) }
+{
+    is_carried(slot, symbol) && u + 128 <= turned.len()
+}
+
+// What the last nine samples of the prefix before place u give.
+fn repeat_sum(turned: &Turned, u: usize) -> Cpx
+    requires first { 9 ≤ u }
+    requires few { u < 170000 }
+    requires last { u + 128 ≤ length turned.now }
+    ensures value { result ≡ repeat_sum_at turned.now u }
+    ensures small { IsWithin (9 * 2 ^ 31) result }
+{
+    let mut sum = Cpx::ZERO;
+    for i in 0..9 {
+        sum = sum + repeat_term(turned, u, i);
+    }
+    sum
+}
+
+// What one of the nine samples of a prefix gives.
+fn repeat_term(turned: &Turned, u: usize, i: usize) -> Cpx
+    requires first { 9 ≤ u }
+    requires few { u < 170000 }
+    requires last { u + 128 ≤ length turned.now }
+    requires i { i < 9 }
+    ensures value { result ≡ repeat_term_at turned.now u i }
+    ensures small { IsWithin (2 ^ 31) result }
+{
+    let early = Cpx::from(turned.at(u - 9 + i));
+    let late = Cpx::from(turned.at(u + 119 + i));
+    early.conj().mul(late)
+}

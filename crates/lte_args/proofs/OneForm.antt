@@ -1,0 +1,232 @@
+-- Words are of one form.
+use Rattle.std.proofs.Common.{◌≡◌, inl, inr, ℕ, suc, ◌<◌, ◌^◌, ℤ, pos, negsuc, List, [], ◌∷◌, drop, ◌++◌, Option, Some, None, Bool, true, false, nat_eq, refl, ap, sym, subst, ◌∙◌, append-nil, append_assoc, arith}
+use Rattle.std.specs.Prelude.{if◌then◌else◌, neg_ℤ, codes}
+use Rattle.std.specs.Cmp.Lexicographic.{pointwise}
+use Rattle.std.specs.Fmt.{decimal, signed_decimal}
+use Rattle.std.specs.Str.Parse.{digits_value, IsNumeral}
+use Rattle.std.proofs.lemmas.Bool.{eqb-true}
+use Rattle.std.proofs.lemmas.Fmt.{decimal_is_IsNumeral}
+use Rattle.std.proofs.lemmas.Int.{ints}
+use Rattle.std.proofs.lemmas.Str.Parse.{digit_from_value}
+use Rattle.sample_file.specs.declared.form.SampleForm.{SampleForm}
+use Rattle.sample_file.specs.declared.form.SampleForm.TheVariants.{Ci16, Cu8}
+use Rattle.lte_types.specs.declared.carrier.Carrier.{Carrier}
+use Rattle.lte_types.specs.declared.carrier.Carrier.TheVariants.{OnePort, TwoPorts, LongPrefix, FourPorts}
+use Rattle.lte_args.specs.declared.form.Program.{Program}
+use Rattle.lte_args.specs.declared.form.Form.{Form}
+use Rattle.lte_args.specs.declared.form.Form.TheVariants.{Report as Reports, Certify, Check, Transmit, Make, Apply, Print}
+use Rattle.lte_args.specs.declared.form.Report.TheVariants.{Hits, Ids, Search, Evidence, Tell}
+use Rattle.lte_args.specs.declared.form.Rule.{Rule}
+use Rattle.lte_args.specs.declared.form.Rule.TheVariants.{Of, Cancel, All}
+use Rattle.lte_args.specs.declared.form.Output.{Output}
+use Rattle.lte_args.specs.declared.form.Output.TheVariants.{Text, Json}
+use Rattle.lte_args.specs.declared.form.Turn.{Turn}
+use Rattle.lte_args.specs.declared.form.Turn.TheVariants.{AsTold, Steps}
+use Rattle.lte_args.specs.declared.form.Page.{Page}
+use Rattle.lte_args.specs.declared.form.Page.TheVariants.{Help, Version}
+use Rattle.lte_args.specs.Words.{samples_words, output_words, rule_words, carrier_words, load_words, turn_words, ArePageWords, AreWordsOf, IsAskedLoad, IsTurn, IsAskedTurn, IsInRange, program_of, IsWordsOf}
+
+-- the word is this one
+abbrev is_word : List ℕ → List ℕ → Bool
+is_word = pointwise nat_eq
+
+-- ---- last parts
+
+abbrev samples_in : List (List ℕ) → SampleForm
+samples_in [] = Ci16
+samples_in (word ∷ words) = Cu8
+
+abbrev load_in : List (List ℕ) → Option ℕ
+load_in [] = None
+load_in (word ∷ []) = None
+load_in (word ∷ digits ∷ rest) = Some (digits_value 10 digits)
+
+load_back : (load : Option ℕ) → IsAskedLoad load → load_in (load_words load) ≡ load
+load_back None asked = refl
+load_back (Some n) small = ap (λ k. Some k) (decimal_is_IsNumeral n (omega (arith, small))).1
+
+-- ---- parts before others: `of` tells the form by the part and the words after it. Words that follow a part begin with
+-- none of its own, so that they tell the form by its usual value
+
+abbrev output_in : (Output → List (List ℕ) → Form) → List (List ℕ) → Form
+output_in of [] = of Text []
+output_in of (word ∷ words) = if is_word word (codes "--json") then of Json words else of Text (word ∷ words)
+
+abbrev report_in : (Output → SampleForm → Form) → List (List ℕ) → Form
+report_in of = output_in (λ output words. of output (samples_in words))
+
+report_back : (of : Output → SampleForm → Form) (output : Output) (form : SampleForm) → report_in of (output_words output ++ samples_words form) ≡ of output form
+report_back of Text Ci16 = refl
+report_back of Text Cu8 = refl
+report_back of Json Ci16 = refl
+report_back of Json Cu8 = refl
+
+-- the carrier, by the word after "--ports"
+abbrev ports_in : List (List ℕ) → Carrier
+ports_in [] = TwoPorts
+ports_in (word ∷ words) = if is_word word (codes "4") then FourPorts else TwoPorts
+
+abbrev carrier_in : (Carrier → List (List ℕ) → Form) → List (List ℕ) → Form
+carrier_in of [] = of OnePort []
+carrier_in of (word ∷ words) =
+    if is_word word (codes "--ports") then of (ports_in words) (drop 1 words)
+    else if is_word word (codes "--prefix") then of LongPrefix (drop 1 words)
+    else of OnePort (word ∷ words)
+
+carrier_back : (of : Carrier → List (List ℕ) → Form) (carrier : Carrier) (rest : List (List ℕ)) → carrier_in of rest ≡ of OnePort rest →
+    carrier_in of (carrier_words carrier ++ rest) ≡ of carrier rest
+carrier_back of OnePort rest usual = usual
+carrier_back of TwoPorts rest usual = refl
+carrier_back of LongPrefix rest usual = refl
+carrier_back of FourPorts rest usual = refl
+
+carrier_before : (of : Carrier → List (List ℕ) → Form) (output : Output) (form : SampleForm) →
+    carrier_in of (output_words output ++ samples_words form) ≡ of OnePort (output_words output ++ samples_words form)
+carrier_before of Text Ci16 = refl
+carrier_before of Text Cu8 = refl
+carrier_before of Json form = refl
+
+abbrev rule_in : (Rule → List (List ℕ) → Form) → List (List ℕ) → Form
+rule_in of [] = of (Of OnePort) []
+rule_in of (word ∷ words) =
+    if is_word word (codes "--cancel") then of Cancel words
+    else if is_word word (codes "--all") then of All words
+    else carrier_in (λ carrier. of (Of carrier)) (word ∷ words)
+
+rule_back : (of : Rule → List (List ℕ) → Form) (rule : Rule) (rest : List (List ℕ)) → rule_in of rest ≡ of (Of OnePort) rest →
+    rule_in of (rule_words rule ++ rest) ≡ of rule rest
+rule_back of (Of OnePort) rest usual = usual
+rule_back of (Of TwoPorts) rest usual = refl
+rule_back of (Of LongPrefix) rest usual = refl
+rule_back of (Of FourPorts) rest usual = refl
+rule_back of Cancel rest usual = refl
+rule_back of All rest usual = refl
+
+rule_before : (of : Rule → List (List ℕ) → Form) (output : Output) (form : SampleForm) →
+    rule_in of (output_words output ++ samples_words form) ≡ of (Of OnePort) (output_words output ++ samples_words form)
+rule_before of Text Ci16 = refl
+rule_before of Text Cu8 = refl
+rule_before of Json form = refl
+
+-- ---- the parts of a command
+
+abbrev searched_by : Rule → List (List ℕ) → Form
+searched_by rule words = report_in (Reports (Search rule)) words
+
+search_back : (rule : Rule) (output : Output) (form : SampleForm) → rule_in searched_by (rule_words rule ++ output_words output ++ samples_words form) ≡ Reports (Search rule) output form
+search_back rule output form =
+    ap (rule_in searched_by) (append_assoc (rule_words rule) (output_words output) (samples_words form))
+    ∙ rule_back searched_by rule (output_words output ++ samples_words form) (rule_before searched_by output form) ∙ report_back (Reports (Search rule)) output form
+
+abbrev supported_by : Carrier → List (List ℕ) → Form
+supported_by carrier words = report_in (Reports (Evidence carrier)) words
+
+evidence_back : (carrier : Carrier) (output : Output) (form : SampleForm) →
+    carrier_in supported_by (carrier_words carrier ++ output_words output ++ samples_words form) ≡ Reports (Evidence carrier) output form
+evidence_back carrier output form =
+    ap (carrier_in supported_by) (append_assoc (carrier_words carrier) (output_words output) (samples_words form))
+    ∙ carrier_back supported_by carrier (output_words output ++ samples_words form) (carrier_before supported_by output form) ∙ report_back (Reports (Evidence carrier)) output form
+
+abbrev certified_by : Carrier → List (List ℕ) → Form
+certified_by carrier words = Certify carrier (samples_in words)
+
+certify_back : (carrier : Carrier) (form : SampleForm) → carrier_in certified_by (carrier_words carrier ++ samples_words form) ≡ Certify carrier form
+certify_back carrier Ci16 = carrier_back certified_by carrier [] refl
+certify_back carrier Cu8 = carrier_back certified_by carrier (samples_words Cu8) refl
+
+abbrev sent_by : Carrier → List (List ℕ) → Form
+sent_by carrier words = Transmit carrier (load_in words)
+
+transmit_back : (carrier : Carrier) (load : Option ℕ) → IsAskedLoad load → carrier_in sent_by (carrier_words carrier ++ load_words load) ≡ Transmit carrier load
+transmit_back carrier None asked = carrier_back sent_by carrier [] refl
+transmit_back carrier (Some n) asked = carrier_back sent_by carrier (load_words (Some n)) refl ∙ ap (Transmit carrier) (load_back (Some n) asked)
+
+abbrev make_in : List (List ℕ) → Form
+make_in [] = Check
+make_in (digits ∷ words) = carrier_in (λ carrier rest. Make carrier (digits_value 10 digits)) words
+
+make_back : (carrier : Carrier) (n : ℕ) → n < 2 ^ 32 → make_in (decimal n ∷ carrier_words carrier) ≡ Make carrier n
+make_back carrier n small =
+    ap (λ words. make_in (decimal n ∷ words)) (sym (append-nil (carrier_words carrier)))
+    ∙ carrier_back (λ c rest. Make c (digits_value 10 (decimal n))) carrier [] refl ∙ ap (Make carrier) (decimal_is_IsNumeral n (omega (arith, small))).1
+
+-- the number that is written so
+abbrev turn_in : List ℕ → ℤ
+turn_in [] = pos 0
+turn_in (c ∷ cs) = if nat_eq c 45 then neg_ℤ (pos (digits_value 10 cs)) else pos (digits_value 10 (c ∷ cs))
+
+-- digits tell their number
+of_digits : (ds : List ℕ) → IsNumeral 10 ds → turn_in ds ≡ pos (digits_value 10 ds)
+of_digits [] is = absurd (omega (arith, is.0))
+of_digits (c ∷ cs) is = by (nat_eq c 45) refl
+  where
+    by : (b : Bool) → nat_eq c 45 ≡ b → turn_in (c ∷ cs) ≡ pos (digits_value 10 (c ∷ cs))
+    by true e = let digit = digit_from_value c is.1.0 in let minus = eqb-true c 45 e in absurd (omega (arith, minus, digit.0))
+    by false e = rw e refl
+
+-- what is written for a turn tells it
+turn_back : (m : ℤ) → IsTurn m → turn_in (signed_decimal m) ≡ m
+turn_back (pos n) small =
+    let high = small.1 in
+    let numeral = decimal_is_IsNumeral n (omega (arith, ints, high)) in of_digits (decimal n) numeral.0 ∙ ap (λ k. pos k) numeral.1
+turn_back (negsuc n) small =
+    let low = small.0 in
+    let numeral = decimal_is_IsNumeral (suc n) (omega (arith, ints, low)) in ap (λ k. neg_ℤ (pos k)) numeral.1
+
+-- the words of a turn and a form of samples are told by how many they are
+abbrev apply_in : List (List ℕ) → Form
+apply_in [] = Apply AsTold Ci16
+apply_in (m ∷ []) = Apply (Steps (turn_in m)) Ci16
+apply_in (word ∷ next ∷ []) = Apply AsTold Cu8
+apply_in (m ∷ word ∷ next ∷ rest) = Apply (Steps (turn_in m)) Cu8
+
+apply_back : (turn : Turn) (form : SampleForm) → IsAskedTurn turn → apply_in (turn_words turn ++ samples_words form) ≡ Apply turn form
+apply_back AsTold Ci16 within = refl
+apply_back AsTold Cu8 within = refl
+apply_back (Steps m) Ci16 within = ap (λ k. Apply (Steps k) Ci16) (turn_back m within)
+apply_back (Steps m) Cu8 within = ap (λ k. Apply (Steps k) Cu8) (turn_back m within)
+
+-- ---- the form of words: a new form adds a line here, and one below
+
+abbrev form_of : Program → List (List ℕ) → Form
+form_of program [] = Check
+form_of program (word ∷ words) =
+    if is_word word (codes "hits") then report_in (Reports Hits) words
+    else if is_word word (codes "ids") then report_in (Reports Ids) words
+    else if is_word word (codes "search") then rule_in searched_by words
+    else if is_word word (codes "evidence") then carrier_in supported_by words
+    else if is_word word (codes "tell") then report_in (Reports Tell) words
+    else if is_word word (codes "certify") then carrier_in certified_by words
+    else if is_word word (codes "check") then Check
+    else if is_word word (codes "transmit") then carrier_in sent_by words
+    else if is_word word (codes "make") then make_in words
+    else if is_word word (codes "apply") then apply_in words
+    else if is_word word (codes "version") then Print program Version
+    else if is_word word (codes "--version") then Print program Version
+    else Print program Help
+
+form_of_page : (program : Program) (page : Page) (words : List (List ℕ)) → ArePageWords page words → form_of program words ≡ Print program page
+form_of_page program Help words (inl e) = ap (form_of program) e
+form_of_page program Help words (inr (inl e)) = ap (form_of program) e
+form_of_page program Help words (inr (inr e)) = ap (form_of program) e
+form_of_page program Version words (inl e) = ap (form_of program) e
+form_of_page program Version words (inr e) = ap (form_of program) e
+
+form_of_words : (form : Form) (words : List (List ℕ)) → AreWordsOf form words → IsInRange form → form_of (program_of form) words ≡ form
+form_of_words (Reports Hits output form) words e within = ap (form_of (program_of (Reports Hits output form))) e ∙ report_back (Reports Hits) output form
+form_of_words (Reports Ids output form) words e within = ap (form_of (program_of (Reports Ids output form))) e ∙ report_back (Reports Ids) output form
+form_of_words (Reports (Search rule) output form) words e within = ap (form_of (program_of (Reports (Search rule) output form))) e ∙ search_back rule output form
+form_of_words (Reports (Evidence carrier) output form) words e within = ap (form_of (program_of (Reports (Evidence carrier) output form))) e ∙ evidence_back carrier output form
+form_of_words (Reports Tell output form) words e within = ap (form_of (program_of (Reports Tell output form))) e ∙ report_back (Reports Tell) output form
+form_of_words (Certify carrier form) words e within = ap (form_of (program_of (Certify carrier form))) e ∙ certify_back carrier form
+form_of_words Check words e within = ap (form_of (program_of Check)) e
+form_of_words (Transmit carrier load) words e within = ap (form_of (program_of (Transmit carrier load))) e ∙ transmit_back carrier load within
+form_of_words (Make carrier n) words e within = ap (form_of (program_of (Make carrier n))) e ∙ make_back carrier n within
+form_of_words (Apply turn form) words e within = ap (form_of (program_of (Apply turn form))) e ∙ apply_back turn form within
+form_of_words (Print program page) words e within = form_of_page program page words e
+
+form_of_program : (program : Program) (words : List (List ℕ)) (form : Form) → IsWordsOf program words form → form_of program words ≡ form
+form_of_program program words form w = subst (λ p. form_of p words ≡ form) w.known (form_of_words form words w.words_are w.in_range)
+
+pub one_form : (program : Program) (words : List (List ℕ)) (first second : Form) → IsWordsOf program words first → IsWordsOf program words second → first ≡ second
+one_form program words first second a b = sym (form_of_program program words first a) ∙ form_of_program program words second b

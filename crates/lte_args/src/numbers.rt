@@ -1,0 +1,55 @@
+//! Numbers that are written without leading zero.
+
+ghost use Rattle.std.specs.Prelude.{◌≡◌, ◌≢◌, ◌<◌, ◌^◌, ℕ, ℤ, IfSome, IsNone};
+ghost use Rattle.std.specs.Fmt.{decimal, signed_decimal};
+ghost use Rattle.lte_args.specs.Words.{IsTurn};
+
+use itoa::Buffer;
+
+// The number of 32 bits that is written so, without leading zero.
+pub(crate) fn number_of(text: &str) -> Option<u32>
+    ensures some { IfSome result (λ n. text.now ≡ decimal n) }
+    ensures none { IsNone result → (n : ℕ) → n < 2 ^ 32 → text.now ≡ decimal n → ⊥ }
+{
+    match text.parse::<u32>() {
+        Ok(n) => exactly(n, text),
+        Err(_) => None,
+    }
+}
+
+// The number, where it is written so.
+fn exactly(n: u32, text: &str) -> Option<u32>
+    ensures some { IfSome result (λ same. (same ≡ n) × (text.now ≡ decimal n)) }
+    ensures none { IsNone result → text.now ≢ decimal n }
+{
+    let mut digits = Buffer::new();
+    if digits.format(n) == text {
+        Some(n)
+    } else {
+        None
+    }
+}
+
+// The steps of a turn that are written so, without leading zero.
+pub(crate) fn steps_of(text: &str) -> Option<i16>
+    ensures some { IfSome result (λ m. IsTurn m × (text.now ≡ signed_decimal m)) }
+    ensures none { IsNone result → (m : ℤ) → IsTurn m → text.now ≡ signed_decimal m → ⊥ }
+{
+    match text.parse::<i16>() {
+        Ok(m) => exact_steps(m, text),
+        Err(_) => None,
+    }
+}
+
+// The steps, where they are written so and in their range.
+fn exact_steps(m: i16, text: &str) -> Option<i16>
+    ensures some { IfSome result (λ same. (same ≡ m) × IsTurn m × (text.now ≡ signed_decimal m)) }
+    ensures none { IsNone result → IsTurn m → text.now ≢ signed_decimal m }
+{
+    let mut digits = Buffer::new();
+    if -2048 <= m && m <= 2047 && digits.format(m) == text {
+        Some(m)
+    } else {
+        None
+    }
+}

@@ -1,4 +1,0 @@
-use Rattle.lte_top.proofs.certificates.certify_list.Given as goal
-
-abbrev pub ghost-certify : goal.ghost-certify
-ghost-certify g a = g.receiver

@@ -1,0 +1,103 @@
+//! The certificates of a recording, and the answers to certificates.
+
+ghost use Rattle.std.specs.Prelude.{◌≡◌, ◌≤◌, IfOk, IfErr, OnOk, OnErr, string_bytes};
+ghost use Rattle.cs_outside.specs.Counts.{Rose};
+ghost use Rattle.cs_outside.specs.Outside.{SourceTold, SinkTold};
+ghost use Rattle.certificates.specs.Certifying.{HasCertifiedAll, HasCertifiedSome};
+ghost use Rattle.lte_top.specs.Forms.{certificates};
+ghost use Rattle.lte_top.specs.Run.{Cause, HasOutput, IsDone, Ends};
+ghost use Rattle.explain.specs.Receiver.{Receiver};
+ghost use Rattle.evidence.specs.Receivers.{receiver_of};
+ghost use Rattle.lte_top.specs.Searching.{IsListOf};
+ghost use Rattle.lte_args.specs.declared.form.Form.TheVariants.{Certify, Check};
+
+use crate::reporting::recording_of;
+use crate::searching::{read_list, room_for_list};
+use crate::status::Status;
+use certificates::{CertificateWork, certify, read_answers};
+use cs_outside::{Failed, Sink, Source};
+use explain::{EntryList, Workspace};
+use lte_types::Carrier;
+use report::text_of_answers;
+use sample_file::{Recording, SampleForm};
+use std::alloc::{AllocError, Global};
+
+// The memory in which a list is certified: those of the list, of the search for it, and of certificates.
+#[derive(Drop)]
+struct Rooms {
+    search: Workspace,
+    list: EntryList,
+    work: CertificateWork,
+}
+
+// Writes the certificates of a source's recording: one for each entry of the list of a carrier, in order. All
+// memory is taken before the first is written.
+#[inline(never)]
+pub(crate) fn certify_recording<S: Source, K: Sink>(
+    alloc: Global,
+    carrier: Carrier,
+    form: SampleForm,
+    source: &mut S,
+    sink: &mut K,
+) -> Result<(), Status>
+    ensures done { OnOk result (IsDone (Certify carrier form)
+        (S.told source.old, K.told sink.old) (S.told source.new, K.told sink.new)) }
+    ensures ended { IfErr result (Ends (Certify carrier form)
+        (S.told source.old, K.told sink.old) (S.told source.new, K.told sink.new)) }
+    ensures reads { (S.told source.old).faults ≤ (S.told source.new).faults }
+    ensures writes { (K.told sink.old).faults ≤ (K.told sink.new).faults }
+{
+    let recording = recording_of(alloc, form, source)?;
+    let mut rooms = rooms_of(alloc)?;
+    match certify_list(&recording, carrier, &mut rooms, sink) {
+        Ok(()) => Ok(()),
+        Err(Failed) => Err(Status::WriteFault),
+    }
+}
+
+// Takes all memory that a list and its certificates need.
+fn rooms_of(alloc: Global) -> Result<Rooms, AllocError> {
+    let (search, list) = room_for_list(alloc)?;
+    let work = CertificateWork::new(alloc)?;
+    Ok(Rooms { search, list, work })
+}
+
+// Makes the list of a carrier, and writes its certificates.
+fn certify_list<K: Sink>(
+    recording: &Recording,
+    carrier: Carrier,
+    rooms: &mut Rooms,
+    sink: &mut K,
+) -> Result<(), Failed>
+    ghost receiver: { Receiver }
+    requires { receiver ≡ receiver_of carrier }
+    ensures list { IsListOf carrier recording.now rooms.new.list }
+    ensures ok { OnOk result (HasCertifiedAll receiver recording.now rooms.new.list
+        (K.told sink.old) (K.told sink.new)) }
+    ensures err { OnErr result (HasCertifiedSome receiver recording.now rooms.new.list
+        (K.told sink.old) (K.told sink.new)) }
+    ensures fault { OnErr result (Rose (K.told sink.old).faults (K.told sink.new).faults) }
+    ensures never_falls { (K.told sink.old).faults ≤ (K.told sink.new).faults }
+{
+    read_list(recording, carrier, &mut rooms.search, &mut rooms.list);
+    certify(
+        recording,
+        rooms.list.slice(),
+        rooms.search.readings(),
+        &mut rooms.work,
+        sink,
+    )
+}
+
+// The text of the answers to the certificates of a source, which are read to the end of the input.
+#[inline(never)]
+pub(crate) fn answers_text<S: Source>(alloc: Global, source: &mut S) -> Result<String, Status>
+    ensures ok { IfOk result (λ text.
+        HasOutput Check (string_bytes text) (S.told source.old) (S.told source.new)) }
+    ensures err { IfErr result (Cause certificates (S.told source.old) (S.told source.new)) }
+    ensures never_falls { (S.told source.old).faults ≤ (S.told source.new).faults }
+{
+    let answers = read_answers(alloc, source)?;
+    let text = text_of_answers(alloc, &answers)?;
+    Ok(text)
+}

@@ -1,5 +1,0 @@
-use Rattle.rounds.proofs.Plain.{rounds_are_in_plain_words}
-use Rattle.rounds.proofs.laws.rounds_in_plain_words.Goals as goal
-
-pub returns : goal.returns
-returns c = rounds_are_in_plain_words

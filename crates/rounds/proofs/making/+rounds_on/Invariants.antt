@@ -1,4 +1,0 @@
-use Rattle.rounds.proofs.making.+rounds_on.Given as goal
-
-abbrev pub decreases-rounds_on : goal.decreases-rounds_on
-decreases-rounds_on l = l.most

@@ -1,0 +1,28 @@
+-- The indicator and the grant by which an attempt has read its fields.
+use Rattle.std.proofs.Common.{◌≡◌, ℕ, Option, Some, None, Result, Ok, Err, refl, sym}
+use Rattle.lte_types.specs.declared.sib1.Sib1.{Sib1}
+use Rattle.lte_types.specs.declared.sib1_reason.Sib1Reason.{Sib1Reason}
+use Rattle.dci.specs.declared.grant.Grant.{Grant}
+use Rattle.sib1_reader.specs.declared.reading.Attempt.{Attempt}
+use Rattle.sib1_reader.specs.Subframe.{Subframe}
+use Rattle.sib1_reader.specs.Attempt.{Follows, granted_with}
+
+-- an attempt has read fields, by this indicator and this grant
+pub record HasRead (attempt : Attempt) (told : ℕ × Grant) : Type 0 where
+  pub fields : Sib1
+  pub is : attempt ≡ record { cfi = told.0; grant = Some told.1; answer = Ok fields }
+
+pub has_read : (i : ℕ) (g : Option Grant) (a : Result Sib1 Sib1Reason) (told : ℕ × Grant) → granted_with i g a ≡ Some told →
+    HasRead (record { cfi = i; grant = g; answer = a }) told
+has_read i (Some g) (Ok fields) told e = let same : (i, g) ≡ told = cc in record { fields = fields; is = rw (sym same) refl }
+has_read i (Some g) (Err reason) told e = absurd cc
+has_read i None (Ok fields) told e = absurd cc
+has_read i None (Err reason) told e = absurd cc
+
+-- one without them has read no fields
+pub none_read : (values : Subframe) (i : ℕ) (g : Option Grant) (a : Result Sib1 Sib1Reason) (fields : Sib1) → Follows values i g a →
+    granted_with i g a ≡ None → a ≡ Ok fields → ⊥
+none_read values i (Some g) (Ok told) fields follows e same = absurd cc
+none_read values i (Some g) (Err reason) fields follows e same = absurd cc
+none_read values i None (Ok told) fields follows e same = follows
+none_read values i None (Err reason) fields follows e same = absurd cc

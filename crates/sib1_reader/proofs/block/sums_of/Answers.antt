@@ -1,0 +1,7 @@
+use Rattle.std.proofs.Common.{arith}
+use Rattle.sib1_reader.proofs.block.sums_of.Goals as goal
+
+pub returns-clause-small : goal.returns-clause-small
+returns-clause-small c = λ k d inside j e within.
+    let few = c.combine.ensures.sizes 127 c.requires.sizes k d inside j e within in
+    omega (arith, few)

@@ -1,0 +1,27 @@
+-- Laws of attempts.
+use Rattle.std.specs.Prelude.{◌≡◌, Result, Ok}
+use Rattle.lte_types.specs.declared.sib1.Sib1.{Sib1}
+use Rattle.lte_types.specs.Ranges.{IsValid}
+use Rattle.lte_types.specs.declared.sib1_reason.Sib1Reason.{Sib1Reason}
+use Rattle.sib1_reader.specs.Subframe.{Subframe}
+use Rattle.sib1_reader.specs.declared.reading.Attempt.{Attempt}
+use Rattle.sib1_reader.specs.Attempt.{IsAttempt, Reads}
+
+-- there is only one attempt on a subframe
+abbrev pub IsOneAttempt : Type 0
+IsOneAttempt = (values : Subframe) (a b : Attempt) → IsAttempt values a → IsAttempt values b → a ≡ b
+
+-- there is only one answer of a subframe
+abbrev pub IsOneAnswer : Type 0
+IsOneAnswer = (values : Subframe) (a b : Result Sib1 Sib1Reason) → Reads values a → Reads values b → a ≡ b
+
+-- there is an attempt on each subframe
+abbrev pub IsSomeAttempt : Type 0
+IsSomeAttempt = (values : Subframe) → (attempt : Attempt) × IsAttempt values attempt
+
+abbrev pub IsSomeAnswer : Type 0
+IsSomeAnswer = (values : Subframe) → (answer : Result Sib1 Sib1Reason) × Reads values answer
+
+-- fields that are read are in their ranges
+abbrev pub IsReadValid : Type 0
+IsReadValid = (values : Subframe) (fields : Sib1) → Reads values (Ok fields) → IsValid fields

@@ -1,0 +1,94 @@
+//! The transport block.
+
+ghost use Rattle.std.specs.Prelude.{◌≡◌, ◌+◌, ◌<◌, ◌≤◌, All, IfOk, length};
+ghost use Rattle.std.specs.Option.{option_map};
+ghost use Rattle.finite.specs.Sizes.{AllWithin};
+ghost use Rattle.lte_types.specs.Ranges.{IsValid};
+ghost use Rattle.dci.specs.Format1A.{IsGrant};
+ghost use Rattle.turbo_code.specs.Table.{IsRow};
+ghost use Rattle.turbo_code.specs.Reading.{summed};
+ghost use Rattle.turbo_dec.specs.Decoder.{IsSmall};
+ghost use Rattle.pdsch.specs.Values.{shared_values_by};
+ghost use Rattle.sib1_reader.specs.Block.{IsBlock, Tells};
+
+use dci::Grant;
+use lte_types::{Cfi, Sib1, Sib1Reason};
+use pdsch::MOST_VALUES;
+use soft_bits::ReadSlot;
+use turbo_code::{Combined, Row, combine, row_of};
+use turbo_dec::{Block, Work, decode};
+
+/// The fields that the blocks of a grant tell, as `fields_of` gives them. `first` and `second` are slots 10
+/// and 11 of one cell, `cfi` is 2 or 3, and the grant is one that `dci::read` can answer.
+pub(crate) fn fields_in<S: ReadSlot>(
+    first: &S,
+    second: &S,
+    cfi: Cfi,
+    grant: &Grant,
+    turbo: &mut Work,
+) -> Result<Sib1, Sib1Reason>
+    requires first { (S.seen_as first.now).number ≡ 10 }
+    requires second { (S.seen_as second.now).number ≡ 11 }
+    requires cell { (S.seen_as second.now).identity ≡ (S.seen_as first.now).identity }
+    requires cfi { 2 ≤ cfi }
+    requires grant { IsGrant grant.now }
+    ensures answer { Tells (shared_values_by S.carrier S.values_by (S.seen_as first.now) (S.seen_as second.now)
+        cfi grant.now.start grant.now.blocks) grant.now result }
+    ensures valid { IfOk result IsValid }
+{
+    let mut values = [0; MOST_VALUES];
+    let count = pdsch::values(first, second, cfi, grant, &mut values);
+    fields_of(&values[..count], grant, turbo)
+}
+
+/// The fields that the values of the shared channel tell, at most 1,224 and each of size at most 127, or
+/// why they tell none: `NotDecoded` where no block passes its check; otherwise the answer is that of
+/// `sib1::read`. The grant is one that `dci::read` can answer.
+pub fn fields_of(values: &[i16], grant: &Grant, turbo: &mut Work) -> Result<Sib1, Sib1Reason>
+    requires count { length values.now ≤ 1224 }
+    requires sizes { AllWithin 127 values.now }
+    requires grant { IsGrant grant.now }
+    ensures answer { Tells values.now grant.now result }
+    ensures valid { IfOk result IsValid }
+{
+    match block_of(values, grant, turbo) {
+        Some(block) => sib1::read(block.as_slice()),
+        None => Err(Sib1Reason::NotDecoded),
+    }
+}
+
+/// The transport block that the values of the shared channel tell, at most 1,224 and each of size at most
+/// 127; `None` exactly where no iterate passes its check. The grant is one that `dci::read` can answer.
+pub fn block_of(values: &[i16], grant: &Grant, turbo: &mut Work) -> Option<Block>
+    requires count { length values.now ≤ 1224 }
+    requires sizes { AllWithin 127 values.now }
+    requires grant { IsGrant grant.now }
+    ensures { IsBlock values.now grant.now (option_map (λ found. found.items) result) }
+{
+    let row = row_for(grant);
+    decode(&sums_of(values, row, grant.rv), row, turbo)
+}
+
+// The row of the table for the grant's size.
+fn row_for(grant: &Grant) -> Row
+    requires { IsGrant grant.now }
+    ensures row { IsRow result }
+    ensures size { result.k ≡ grant.now.size + 24 }
+{
+    match row_of(grant.size) {
+        Some(row) => row,
+        None => unreachable!(),
+    }
+}
+
+// The sums of the values by coded bit.
+fn sums_of(values: &[i16], row: Row, rv: u8) -> Combined
+    requires count { length values.now ≤ 1224 }
+    requires sizes { AllWithin 127 values.now }
+    requires row { IsRow row }
+    requires version { rv < 4 }
+    ensures sums { result.d ≡ summed row.k rv values.now }
+    ensures small { All (All IsSmall) result.d }
+{
+    combine(values, row, rv)
+}

@@ -1,0 +1,13 @@
+//! Laws of attempts.
+
+ghost use Rattle.sib1_reader.specs.Laws.{IsOneAttempt, IsOneAnswer, IsSomeAttempt, IsSomeAnswer, IsReadValid};
+
+/// On each subframe there is one attempt and no other, and so one answer; fields that are read are in their
+/// ranges.
+pub fn one_answer()
+    ensures attempt { IsOneAttempt }
+    ensures answer { IsOneAnswer }
+    ensures some_attempt { IsSomeAttempt }
+    ensures some_answer { IsSomeAnswer }
+    ensures valid { IsReadValid }
+{}

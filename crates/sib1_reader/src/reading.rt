@@ -1,0 +1,91 @@
+//! System information, read from one frame.
+
+ghost use Rattle.std.specs.Prelude.{◌≡◌, IfOk, IfSome};
+ghost use Rattle.lte_types.specs.Ranges.{IsValid};
+ghost use Rattle.dci.specs.Format1A.{IsGrant};
+ghost use Rattle.sib1_reader.specs.Subframe.{subframe_by};
+ghost use Rattle.sib1_reader.specs.Attempt.{IsAttempt, Reads, granted_by};
+
+use crate::Decoders;
+use crate::block::fields_in;
+use crate::control::granted;
+use dci::Grant;
+use lte_types::{Cfi, Mib, Sib1, Sib1Reason};
+use pcfich::cfi;
+use soft_bits::ReadSlot;
+
+/// One attempt to read SystemInformationBlockType1: what was read on the way, and the answer. (own)
+#[derive(Debug, Drop)]
+pub struct Attempt {
+    /// The control format indicator.
+    pub cfi: Cfi,
+    /// The grant, where one was read.
+    pub grant: Option<Grant>,
+    /// The fields, or the first reason that applies why there are none.
+    pub answer: Result<Sib1, Sib1Reason>,
+}
+
+impl Attempt {
+    /// The indicator and the grant by which the fields were read; `None` where there are no fields, or no grant.
+    pub fn granted(&self) -> Option<(Cfi, Grant)>
+        ensures { result ≡ granted_by self.now }
+    {
+        match (&self.grant, &self.answer) {
+            (Some(grant), Ok(_)) => Some((self.cfi, *grant)),
+            (Some(_), Err(_)) => None,
+            (None, _) => None,
+        }
+    }
+}
+
+/// The attempt on subframe 5 of a frame. Its answer is the fields, each in its range, or the first reason
+/// that applies why there are none:
+///
+/// - `NoSearchSpace` with the count of control channel elements, where there are fewer than four;
+/// - `NoControl`, where the least word of the first four fails its check;
+/// - `NotFormat1A`, `Distributed`, `BadRiv`, `ReservedMcs` or `BlockTooLarge`, as `dci::read` gives them;
+/// - `NotDecoded`, where no transport block passes its check;
+/// - `NotSib1` or `BadFields`, as `sib1::read` gives them.
+///
+/// `first` and `second` are slots 10 and 11 of one cell, and `mib` is its master
+/// block, of which only the duration and the resource of the PHICH are looked at.
+pub fn attempt_in<S: ReadSlot>(first: &S, second: &S, mib: Mib, work: &mut Decoders) -> Attempt
+    requires first { (S.seen_as first.now).number ≡ 10 }
+    requires second { (S.seen_as second.now).number ≡ 11 }
+    requires cell { (S.seen_as second.now).identity ≡ (S.seen_as first.now).identity }
+    ensures attempt { IsAttempt (subframe_by S.carrier S.values_by
+        (S.seen_as first.now) (S.seen_as second.now) mib.duration mib.resource) result }
+    ensures grant { IfSome result.grant IsGrant }
+    ensures valid { IfOk result.answer IsValid }
+{
+    let cfi = cfi(first);
+    match granted(first, cfi, mib, &mut work.trellis) {
+        Ok(grant) => Attempt {
+            cfi,
+            grant: Some(grant),
+            answer: fields_in(first, second, cfi, &grant, &mut work.turbo),
+        },
+        Err(reason) => Attempt {
+            cfi,
+            grant: None,
+            answer: Err(reason),
+        },
+    }
+}
+
+/// The answer of the attempt on subframe 5 of a frame, as `attempt_in` gives it.
+pub fn read<S: ReadSlot>(
+    first: &S,
+    second: &S,
+    mib: Mib,
+    work: &mut Decoders,
+) -> Result<Sib1, Sib1Reason>
+    requires first { (S.seen_as first.now).number ≡ 10 }
+    requires second { (S.seen_as second.now).number ≡ 11 }
+    requires cell { (S.seen_as second.now).identity ≡ (S.seen_as first.now).identity }
+    ensures answer { Reads (subframe_by S.carrier S.values_by
+        (S.seen_as first.now) (S.seen_as second.now) mib.duration mib.resource) result }
+    ensures valid { IfOk result IsValid }
+{
+    attempt_in(first, second, mib, work).answer
+}

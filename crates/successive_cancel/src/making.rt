@@ -1,0 +1,144 @@
+//! The rounds of a recording.
+
+ghost use Rattle.std.specs.Prelude.{◌≡◌, IfOk, IfSome};
+ghost use Rattle.std.specs.List.{AllZip};
+ghost use Rattle.explain.specs.Entries.{IsInList, IsExplained};
+ghost use Rattle.explain.specs.Grant.{IsGrantOf};
+ghost use Rattle.explain.specs.Readings.{IsReading};
+ghost use Rattle.clean_air.specs.Clean.{IsListOfCells};
+ghost use Rattle.cancel.specs.Residue.{power_of as sum_of};
+ghost use Rattle.successive_cancel.specs.Rounds.{AreRounds, IsCancelled};
+ghost use Rattle.successive_cancel.specs.Steps.{IsTakenIf, IsNextRound};
+
+use crate::{Round, Rounds};
+use cancel::{Subtracted, power_of, subtract_from};
+use clean_air::{explain_clean, plan_granted};
+use dci::Grant;
+use explain::{EntryList, Workspace};
+use lte_types::{Cfi, Entry};
+use sample_file::Recording;
+use std::alloc::{AllocError, Global};
+
+// No more rounds are made.
+const MOST_ROUNDS: u8 = 4;
+
+/// The list of a recording, and its rounds: each takes the first entry of the last list whose cell can be taken off
+/// what was left before (`plan_granted` gives its cell, and `subtract_from` takes it off), and makes the list of what is
+/// left then. A round without such an entry is the last, and no more than four are made. Only memory can be wanting. (own)
+pub fn cancel_rounds(
+    alloc: Global,
+    recording: &Recording,
+    work: &mut Workspace,
+) -> Result<Rounds, AllocError>
+    ensures { IfOk result (IsCancelled recording.now) }
+{
+    let first = list_of(alloc, recording, work)?;
+    let power = power_of(recording) as u128;
+    let (taken, ended) = rounds_on(alloc, MOST_ROUNDS, recording, power, first.slice(), work)?;
+    Ok(Rounds {
+        first,
+        taken,
+        ended,
+    })
+}
+
+// The list of a recording. The workspace then has how its entries were read.
+fn list_of(
+    alloc: Global,
+    recording: &Recording,
+    work: &mut Workspace,
+) -> Result<EntryList, AllocError>
+    ensures list { IfOk result (IsListOfCells recording.now) }
+    ensures readings { IfOk result (λ list. AllZip (IsReading recording.now) list work.new) }
+{
+    let mut list = EntryList::new(alloc)?;
+    explain_clean(recording, work, &mut list);
+    Ok(list)
+}
+
+// The rounds on a recording with this power and list, at most `most`, and whether one without an entry is the last.
+// The workspace has how the entries of the list were read.
+fn rounds_on(
+    alloc: Global,
+    most: u8,
+    recording: &Recording,
+    power: u128,
+    list: &[Entry],
+    work: &mut Workspace,
+) -> Result<(Vec<Round>, bool), AllocError>
+    requires power { power ≡ sum_of recording.now }
+    requires list { IsExplained recording.now list.now }
+    requires readings { AllZip (IsReading recording.now) list.now work.old }
+    ensures { IfOk result (λ told. AreRounds most recording.now list.now told.0.items told.1) }
+{
+    if most == 0 {
+        return Ok((Vec::new(alloc), false));
+    }
+    match round_on(alloc, recording, power, list, work)? {
+        Some(round) => {
+            let (mut rest, ended) = rounds_on(
+                alloc,
+                most - 1,
+                &round.taken.residue,
+                round.taken.after,
+                round.list.slice(),
+                work,
+            )?;
+            rest.insert(0, round)?;
+            Ok((rest, ended))
+        }
+        None => Ok((Vec::new(alloc), true)),
+    }
+}
+
+// A round on a recording with this power and list; `None` exactly where no entry's cell can be taken off. The workspace
+// has how the entries of the list were read, and then those of the round's list.
+fn round_on(
+    alloc: Global,
+    recording: &Recording,
+    power: u128,
+    list: &[Entry],
+    work: &mut Workspace,
+) -> Result<Option<Round>, AllocError>
+    requires power { power ≡ sum_of recording.now }
+    requires list { IsExplained recording.now list.now }
+    requires readings { AllZip (IsReading recording.now) list.now work.old }
+    ensures next { IfOk result (IsNextRound recording.now list.now) }
+    ensures readings { IfOk result (λ next.
+        IfSome next (λ round. AllZip (IsReading round.taken.residue) round.list work.new)) }
+{
+    for (i, entry) in list.iter().enumerate() {
+        let granted = work.readings()[i].granted;
+        match taken_off(alloc, recording, power, entry, granted)? {
+            Some(taken) => {
+                let list = list_of(alloc, &taken.residue, work)?;
+                return Ok(Some(Round {
+                    id: entry.id,
+                    taken,
+                    list,
+                }));
+            }
+            None => {}
+        }
+    }
+    Ok(None)
+}
+
+// A recording of this power without an entry's cell; `None` exactly where it cannot be taken off.
+fn taken_off(
+    alloc: Global,
+    recording: &Recording,
+    power: u128,
+    entry: &Entry,
+    granted: Option<(Cfi, Grant)>,
+) -> Result<Option<Subtracted>, AllocError>
+    requires power { power ≡ sum_of recording.now }
+    requires entry { IsInList recording.now entry.now }
+    requires granted { IsGrantOf recording.now entry.now granted }
+    ensures { IfOk result (IsTakenIf recording.now entry.now) }
+{
+    match plan_granted(recording, entry, granted) {
+        Some(cell) => subtract_from(alloc, recording, power, &cell, entry.start, entry.sfn),
+        None => Ok(None),
+    }
+}

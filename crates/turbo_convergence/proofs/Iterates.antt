@@ -1,0 +1,173 @@
+-- What each iteration makes of sums that tell the sent bits of a block, and the block that is told.
+use Rattle.std.proofs.Common.{◌≡◌, ◌≢◌, ℕ, zero, suc, ◌+◌, ◌*◌, ◌<◌, Bool, true, false, List, length, map, Some, ℤ, pos, negsuc, refl, ap, sym, subst, ◌∙◌, arith}
+use Rattle.std.specs.Prelude.{◌&&◌, ◌||◌, not, nat_abs}
+use Rattle.std.specs.Option.{option_map}
+use Rattle.std.proofs.Math.Bool.{and-true}
+use Rattle.std.proofs.lemmas.Bool.{and_parts, not-true}
+use Rattle.std.proofs.lemmas.List.{get_or-map, get_or-replicate}
+use Rattle.finite.specs.Tables.{sum_at}
+use Rattle.finite.specs.Tests.{every_below}
+use Rattle.finite.proofs.Sums.{positive}
+use Rattle.finite.proofs.Tests.{any_below_some, every_below_at}
+use Rattle.finite.proofs.Lists.{values_below-length, values_below_at, values_below_is, values_below_same, find_below_first}
+use Rattle.cs_bits.specs.Checks.{message_of, has_check_24}
+use Rattle.turbo_code.specs.declared.rows.Row.{Row}
+use Rattle.turbo_code.specs.Table.{IsRow, interleaver, step_of}
+use Rattle.turbo_code.specs.Encoder.{bit_at, interleaved}
+use Rattle.turbo_code.specs.Streams.{bits_of_stream, tail_items, in_order, in_word_order}
+use Rattle.turbo_code.proofs.CodedBits.{length-interleaved, interleaved_at, information_at}
+use Rattle.turbo_code.proofs.Orders.{read_at_step}
+use Rattle.turbo_dec.specs.Decoder.{Values, at, values_of, extrinsic, extrinsics}
+use Rattle.turbo_dec.specs.Block.{handed_on, prior_after, word_by, block, first_extrinsics, second_extrinsics, second_after}
+use Rattle.erasure.specs.Known.{Sent, found, first_sent, second_sent, first_found, second_found, known_after, settled, settles_all, word_after, resolves, resolvable}
+use Rattle.erasure.proofs.Whole.{resolved_at_once}
+use Rattle.turbo_convergence.specs.Tells.{Tells, AllTell, SumsTell}
+use Rattle.turbo_convergence.specs.Laws.{ExtrinsicsSpeak, IterationTells, SpokenBlockIsTold}
+use Rattle.turbo_convergence.proofs.Telling.{tells-sum, tells-handed_on, tells_below, tells_allows, allows_tells}
+use Rattle.turbo_convergence.proofs.Found.{extrinsic_tells}
+use Rattle.turbo_convergence.proofs.BothDecoders.{length-stream, first_tells, second_tells, in_stream}
+
+-- ---- one decoder, signs alone
+
+-- values that do not speak against a word tell it where they are not 0
+told_by_values : Values → Sent
+told_by_values v = record {
+  information = λ k. positive (nat_abs (at v.systematic k));
+  parity = λ k. positive (nat_abs (at v.parity k));
+  tail = λ i. positive (nat_abs (at v.tail i));
+}
+
+pub extrinsics_speak : ExtrinsicsSpeak
+unfolding told_by_values
+extrinsics_speak word v allow k inside =
+    let known : ℕ → Bool = λ k. positive (nat_abs (at v.prior k)) in
+    let told : AllTell word (told_by_values v) known v = record {
+      size = allow.size;
+      systematic = λ k l. allows_tells (bit_at word k) (at v.systematic k) (allow.systematic k l);
+      parity = λ k l. allows_tells _ (at v.parity k) (allow.parity k l);
+      tail_x = λ j l. allows_tells _ (at v.tail (2 * j)) (allow.tail_x j l);
+      tail_z = λ j l. allows_tells _ (at v.tail (2 * j + 1)) (allow.tail_z j l);
+      prior = λ k l. allows_tells (bit_at word k) (at v.prior k) (allow.prior k l);
+    } in
+    tells_allows (found (length word) (told_by_values v) known k) (bit_at word k) (extrinsic v k)
+    (extrinsic_tells word (told_by_values v) known v told k inside)
+
+-- ---- the iterations
+
+module _ (row : Row) (word : List Bool) (sent : ℕ → ℕ → Bool) (sums : List (List ℤ)) (is_row : IsRow row) (size : length word ≡ row.k) (told : SumsTell row word sent sums) where
+  handed : (known : ℕ → Bool) (values : List ℤ) → length values ≡ row.k → ((k : ℕ) → k < row.k → Tells (known k) (bit_at word k) (at values k)) →
+      (k : ℕ) → k < row.k → Tells (known k) (bit_at word k) (at (map handed_on values) k)
+  handed known values long each k inside =
+      subst (Tells (known k) (bit_at word k)) (sym (get_or-map handed_on values k (pos 0) (pos 0) (omega (arith, long, inside))))
+      (tells-handed_on (known k) (bit_at word k) (at values k) (each k inside))
+
+  -- the first decoder
+  length-first : (prior : List ℤ) → length (first_extrinsics row sums prior) ≡ row.k
+  unfolding first_extrinsics extrinsics
+  length-first prior =
+      values_below-length (length (bits_of_stream (pos 0) row sums 0))
+      (extrinsic (values_of (bits_of_stream (pos 0) row sums 0) (bits_of_stream (pos 0) row sums 1) (tail_items (pos 0) sums row.k) prior))
+      ∙ length-stream row sums 0
+
+  first_is : (known : ℕ → Bool) (prior : List ℤ) → ((k : ℕ) → k < row.k → Tells (known k) (bit_at word k) (at prior k)) →
+      (k : ℕ) → k < row.k → Tells (first_found row sent known k) (bit_at word k) (at (first_extrinsics row sums prior) k)
+  unfolding first_extrinsics extrinsics
+  first_is known prior priors k inside =
+      let v : Values = values_of (bits_of_stream (pos 0) row sums 0) (bits_of_stream (pos 0) row sums 1) (tail_items (pos 0) sums row.k) prior in
+      let whole = length-stream row sums 0 in
+      let tells = extrinsic_tells word (first_sent row sent) known v (first_tells row word sent sums size told known prior priors) k (omega (arith, size, inside)) in
+      let here : at (first_extrinsics row sums prior) k ≡ extrinsic v k = values_below_at (extrinsic v) (length (bits_of_stream (pos 0) row sums 0)) k (pos 0) (omega (arith, whole, inside)) in
+      subst (Tells (first_found row sent known k) (bit_at word k)) (sym here)
+      (subst (λ n. Tells (found n (first_sent row sent) known k) (bit_at word k) (extrinsic v k)) size tells)
+
+  -- the second
+  length-second : (prior : List ℤ) → length (second_after row sums prior) ≡ row.k
+  unfolding second_extrinsics in_word_order
+  length-second prior = values_below-length row.k _
+
+  second_is : (known : ℕ → Bool) (prior : List ℤ) → ((k : ℕ) → k < row.k → Tells (known k) (bit_at word k) (at (first_extrinsics row sums prior) k)) →
+      (k : ℕ) → k < row.k → Tells (second_found row sent known k) (bit_at word k) (at (second_after row sums prior) k)
+  unfolding second_extrinsics in_word_order extrinsics in_order
+  second_is known prior firsts k inside =
+      let q : List ℤ = map handed_on (first_extrinsics row sums prior) in
+      let v : Values = values_of (in_order (pos 0) row (bits_of_stream (pos 0) row sums 0)) (bits_of_stream (pos 0) row sums 2) (tail_items (pos 0) sums (row.k + 2)) (in_order (pos 0) row q) in
+      let read = read_at_step row k is_row inside in
+      let i : ℕ = step_of row k in
+      let below = read.below in
+      let long = length-interleaved row word in
+      let count : length v.systematic ≡ row.k = values_below-length row.k (λ i. at (bits_of_stream (pos 0) row sums 0) (interleaver row i)) in
+      let priors = handed known (first_extrinsics row sums prior) (length-first prior) firsts in
+      let tells = extrinsic_tells (interleaved row word) (second_sent row sent) (λ i. known (interleaver row i)) v
+      (second_tells row word sent sums size told known q is_row priors) i (omega (arith, long, below)) in
+      let bit : bit_at (interleaved row word) i ≡ bit_at word k = interleaved_at row word i below ∙ ap (bit_at word) read.there in
+      let there : at (second_after row sums prior) k ≡ extrinsic v i =
+      values_below_at (λ k. at (extrinsics v) (step_of row k)) row.k k (pos 0) inside
+      ∙ values_below_at (extrinsic v) (length v.systematic) i (pos 0) (omega (arith, count, below)) in
+      subst (Tells (second_found row sent known k) (bit_at word k)) (sym there)
+      (subst (λ b. Tells (second_found row sent known k) b (extrinsic v i)) bit
+      (subst (λ n. Tells (found n (second_sent row sent) (λ i. known (interleaver row i)) i) (bit_at (interleaved row word) i) (extrinsic v i)) long tells))
+
+  -- the induction
+  prior_is : (n k : ℕ) → k < row.k → Tells (known_after row sent n k) (bit_at word k) (at (prior_after row sums n) k)
+  unfolding prior_after known_after
+  prior_is zero k inside = get_or-replicate row.k k (pos 0) (pos 0) inside
+  prior_is (suc n) k inside =
+      handed (known_after row sent (suc n)) (second_after row sums (prior_after row sums n)) (length-second (prior_after row sums n))
+      (second_is (first_found row sent (known_after row sent n)) (prior_after row sums n)
+      (first_is (known_after row sent n) (prior_after row sums n) (prior_is n))) k inside
+
+  pub iteration_tells : (n : ℕ) → IterationTells row word sent sums n
+  unfolding known_after word_by
+  iteration_tells n = record {
+    first = firsts;
+    second = seconds;
+    told =
+        values_below_same row.k _ _ (λ k inside.
+        let own = in_stream row word sent sums told 0 k (bit_at word k) (omega arith) inside (information_at row word size k inside) in
+        tells_below (settled row sent n k) (bit_at word k) _
+        (tells-sum (sent 0 k || first_found row sent (known_after row sent n) k) (known_after row sent (suc n) k) (bit_at word k) _ _
+        (tells-sum (sent 0 k) (first_found row sent (known_after row sent n) k) (bit_at word k) _ _ own (firsts k inside)) (seconds k inside)));
+  }
+    where
+      firsts : (k : ℕ) → k < row.k → Tells (first_found row sent (known_after row sent n) k) (bit_at word k) (at (first_extrinsics row sums (prior_after row sums n)) k)
+      firsts = first_is (known_after row sent n) (prior_after row sums n) (prior_is n)
+
+      seconds : (k : ℕ) → k < row.k → Tells (known_after row sent (suc n) k) (bit_at word k) (at (second_after row sums (prior_after row sums n)) k)
+      seconds = second_is (first_found row sent (known_after row sent n)) (prior_after row sums n) firsts
+
+  -- ---- the block
+
+  -- an iteration that settles every bit tells the sent word
+  settled_tells : (n : ℕ) → settles_all row sent n ≡ true → word_by row sums (prior_after row sums n) ≡ word
+  settled_tells n full =
+      let tells = iteration_tells n in
+      tells.told ∙ sym (values_below_is false row.k (λ k. bit_at word k && settled row sent n k) word size (λ k inside.
+      sym (ap (λ s. bit_at word k && s) (every_below_at row.k (settled row sent n) full k inside) ∙ and-true (bit_at word k))))
+
+  pub resolvable_is_told : has_check_24 word ≡ true → resolvable row sent word ≡ true → block row sums ≡ Some (message_of 24 word)
+  unfolding block resolvable
+  resolvable_is_told passed can =
+      let (n, below, is) = any_below_some 8 (resolves row sent word) can in
+      let (full, early) = and_parts (settles_all row sent n) (every_below n (λ m. not (settles_all row sent m) && not (has_check_24 (word_after row sent word m)))) is in
+      let told_here = settled_tells n full in
+      let before : (m : ℕ) → m < n → has_check_24 (word_by row sums (prior_after row sums m)) ≡ false = λ m l.
+      let tells = iteration_tells m in
+      ap has_check_24 tells.told ∙ not-true (has_check_24 (word_after row sent word m))
+      (and_parts (not (settles_all row sent m)) (not (has_check_24 (word_after row sent word m))) (every_below_at n _ early m l)).1 in
+      let first = find_below_first has_check_24 (λ m. word_by row sums (prior_after row sums m)) 8 n below before (ap has_check_24 told_here ∙ passed) in
+      ap (option_map (message_of 24)) first ∙ ap (λ w. Some (message_of 24 w)) told_here
+
+-- ---- no bit of the block is missing
+
+pub spoken_is_told : SpokenBlockIsTold
+spoken_is_told row word sums is_row size passed allow some =
+    resolvable_is_told row word sent sums is_row size (λ t p l m. allows_tells _ (sum_at sums t p) (allow t p l m)) passed
+    (resolved_at_once row sent word (λ k inside. nonzero (sum_at sums 0 k) (some k inside)))
+  where
+    sent : ℕ → ℕ → Bool
+    sent t p = positive (nat_abs (sum_at sums t p))
+
+    nonzero : (z : ℤ) → z ≢ pos 0 → positive (nat_abs z) ≡ true
+    nonzero (pos zero) ne = absurd (ne refl)
+    nonzero (pos (suc n)) ne = refl
+    nonzero (negsuc n) ne = refl

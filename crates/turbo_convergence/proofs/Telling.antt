@@ -1,0 +1,74 @@
+-- Values that tell a bit where they are there, and are 0 elsewhere.
+use Rattle.std.proofs.Common.{◌≡◌, zero, suc, Bool, true, false, refl, ap, arith}
+use Rattle.std.specs.Prelude.{◌&&◌, ◌||◌, cond, ℤ, pos, negsuc, ◌+ℤ◌, nat_abs, int_lt}
+use Rattle.std.proofs.lemmas.Int.{ints, clamps}
+use Rattle.std.proofs.lemmas.Bool.{le-ltb}
+use Rattle.finite.specs.Bits.{xor}
+use Rattle.finite.proofs.Sums.{positive, positive_from}
+use Rattle.cs_bits.specs.Signs.{Supports}
+use Rattle.turbo_dec.specs.Decoder.{taken, within_2047}
+use Rattle.turbo_dec.specs.Block.{handed_on}
+use Rattle.turbo_convergence.specs.Tells.{Tells}
+
+-- it is not 0 exactly where it is there
+pub tells_size : (there bit : Bool) (z : ℤ) → Tells there bit z → positive (nat_abs z) ≡ there
+tells_size false bit z h = ap (λ n. positive (nat_abs n)) h
+tells_size true false z h = positive_from (nat_abs z) (omega (arith, ints, h))
+tells_size true true z h = positive_from (nat_abs z) (omega (arith, ints, h))
+
+-- it does not speak against the bit
+pub tells_allows : (there bit : Bool) (z : ℤ) → Tells there bit z → Supports 0 bit z
+tells_allows false false z h = omega (arith, ints, h)
+tells_allows false true z h = omega (arith, ints, h)
+tells_allows true false z h = omega (arith, ints, h)
+tells_allows true true z h = omega (arith, ints, h)
+
+-- and a value that does not tells the bit where it is not 0
+pub allows_tells : (bit : Bool) (z : ℤ) → Supports 0 bit z → Tells (positive (nat_abs z)) bit z
+allows_tells false (pos zero) h = refl
+allows_tells false (pos (suc n)) h = omega (arith, ints)
+allows_tells false (negsuc n) h = absurd (omega (arith, ints, h))
+allows_tells true (pos zero) h = refl
+allows_tells true (pos (suc n)) h = absurd (omega (arith, ints, h))
+allows_tells true (negsuc n) h = omega (arith, ints)
+
+-- ---- what is made of them
+
+pub tells-sum : (a b bit : Bool) (y z : ℤ) → Tells a bit y → Tells b bit z → Tells (a || b) bit (y +ℤ z)
+tells-sum false false bit y z h k = omega (arith, ints, h, k)
+tells-sum false true false y z h k = omega (arith, ints, h, k)
+tells-sum false true true y z h k = omega (arith, ints, h, k)
+tells-sum true false false y z h k = omega (arith, ints, h, k)
+tells-sum true false true y z h k = omega (arith, ints, h, k)
+tells-sum true true false y z h k = omega (arith, ints, h, k)
+tells-sum true true true y z h k = omega (arith, ints, h, k)
+
+pub tells-within_2047 : (there bit : Bool) (z : ℤ) → Tells there bit z → Tells there bit (within_2047 z)
+tells-within_2047 false bit z h = omega (arith, ints, clamps, h)
+tells-within_2047 true false z h = omega (arith, ints, clamps, h)
+tells-within_2047 true true z h = omega (arith, ints, clamps, h)
+
+-- 1, 2 and 3 are handed on as they are
+pub tells-handed_on : (there bit : Bool) (z : ℤ) → Tells there bit z → Tells there bit (handed_on z)
+tells-handed_on false bit z h = ap handed_on h
+tells-handed_on true false (pos n) h = omega (arith, ints, h)
+tells-handed_on true false (negsuc n) h = absurd (omega (arith, ints, h))
+tells-handed_on true true (pos n) h = absurd (omega (arith, ints, h))
+tells-handed_on true true (negsuc n) h = omega (arith, ints, h)
+
+-- a bit is told as 1 where its value is there and it is 1
+pub tells_below : (there bit : Bool) (z : ℤ) → Tells there bit z → int_lt z (pos 0) ≡ (bit && there)
+tells_below false false z h = ap (λ n. int_lt n (pos 0)) h
+tells_below false true z h = ap (λ n. int_lt n (pos 0)) h
+tells_below true false (pos n) h = le-ltb n 0 (omega arith)
+tells_below true false (negsuc n) h = absurd (omega (arith, ints, h))
+tells_below true true (pos n) h = absurd (omega (arith, ints, h))
+tells_below true true (negsuc n) h = refl
+
+-- ---- what a value loses where its bit is changed
+
+pub taken_loses : (there bit changed : Bool) (z : ℤ) → Tells there bit z → taken z bit ≡ taken z (xor bit changed) +ℤ pos (cond changed (nat_abs z) 0)
+taken_loses there false false z h = omega (arith, ints)
+taken_loses there true false z h = refl
+taken_loses there false true z h = let s = tells_allows there false z h in omega (arith, ints, s)
+taken_loses there true true z h = let s = tells_allows there true z h in omega (arith, ints, s)

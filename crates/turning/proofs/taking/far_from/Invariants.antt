@@ -1,6 +1,0 @@
-use Rattle.std.proofs.Common.{◌≡◌, filter, take}
-use Rattle.turning.specs.Candidates.{is_far}
-use Rattle.turning.proofs.taking.far_from.Given as goal
-
-abbrev pub invariant-loop-candidate : goal.invariant-loop-candidate
-invariant-loop-candidate l = l.far.items ≡ filter (is_far l.best) (take l.candidate-index l.candidates)

@@ -1,8 +1,0 @@
-use Rattle.std.proofs.Common.{◌≡◌, fold, take}
-use Rattle.turning.specs.declared.candidate.Candidate.{Candidate}
-use Rattle.turning.specs.Fractions.{greater}
-use Rattle.turning.specs.Steps.{IsSmallCandidate}
-use Rattle.turning.proofs.taking.greatest_by.Given as goal
-
-abbrev pub invariant-loop-candidate : goal.invariant-loop-candidate
-invariant-loop-candidate l = record { is : l.best ≡ fold (greater (λ (c : Candidate). c.fraction)) l.first (take l.candidate-index l.rest); small : IsSmallCandidate l.best }
