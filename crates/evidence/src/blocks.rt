@@ -16,9 +16,9 @@ use explain::{even_frame, is_whole, slot_of};
 use lte_types::{Carrier, CellPlace, Cfi, Entry, Mib, Sfn};
 use pdsch::MOST_VALUES;
 use sample_file::Recording;
+use sib1_reader::{Decoders, attempt_in, block_of};
 use soft_bits::ReadSlot;
 use std::alloc::{AllocError, Global};
-use sib1_reader::{Decoders, attempt_in, block_of};
 use turbo_dec::{Block, Work};
 
 // The bits of the transport block that told the system information of an entry; none where it has none.

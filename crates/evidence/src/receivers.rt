@@ -15,8 +15,8 @@ use explain::place_in;
 use four_ports::FourPorts;
 use lte_types::{Carrier, CellPlace, Entry};
 use sample_file::Recording;
-use soft_bits::{Single, Slot};
 use sib1_reader::Decoders;
+use soft_bits::{Single, Slot};
 use turbo_dec::Block;
 use two_ports::{PairSlot, TwoPorts};
 

@@ -16,9 +16,9 @@ use cs_bits::Bits;
 use explain::Reading;
 use lte_types::{Carrier, Entry, Evidence, Mib};
 use sample_file::Recording;
+use sib1_reader::Decoders;
 use std::alloc::{AllocError, Global};
 use std::marker::Model;
-use sib1_reader::Decoders;
 
 /// What supports an entry of a list, what its slot shows, and its blocks. Contracts see it as these. (own)
 #[derive(Drop)]

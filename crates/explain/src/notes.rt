@@ -4,8 +4,8 @@ ghost use Rattle.std.specs.Prelude.{◌≡◌, [], IfOk};
 
 use crate::places::Places;
 use crate::reading_list::Readings;
-use std::alloc::{AllocError, Global};
 use sib1_reader::Decoders;
+use std::alloc::{AllocError, Global};
 
 /// What a search keeps beside its list: the places of cells that it has met, how each entry was read, and the decoders
 /// by which it was.

@@ -8,8 +8,8 @@ use crate::{FrameReader, Informed};
 use lte_types::{Carrier, CellPlace, Sfn};
 use pbch::{Master, Received};
 use sample_file::Recording;
-use soft_bits::Slot;
 use sib1_reader::Decoders;
+use soft_bits::Slot;
 
 /// The way to read frames by one antenna port: each master block is taken, whatever ports it tells. (own)
 pub struct OnePort;

@@ -10,8 +10,8 @@ use crate::frame::{broadcast_front, symbols_of};
 use lte_types::{CellPlace, Mib};
 use pbch::{Received, received};
 use sample_file::Recording;
-use soft_bits::ReadSlot;
 use sib1_reader::{Attempt, Decoders, attempt_in};
+use soft_bits::ReadSlot;
 
 /// A slot of frame `j` of a cell by its number, 0 to 19, as it is seen. The frame lies within the recording.
 pub fn slot_of<S: ReadSlot>(recording: &Recording, place: CellPlace, j: u8, number: u8) -> S

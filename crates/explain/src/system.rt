@@ -12,8 +12,8 @@ use dci::Grant;
 use lte_types::{Bandwidth, CellPlace, Cfi, Mib, Sfn, Sib1, Sib1Reason};
 use pbch::Master;
 use sample_file::Recording;
-use soft_bits::ReadSlot;
 use sib1_reader::{Attempt, Decoders};
+use soft_bits::ReadSlot;
 
 /// What is told of the system information of a cell, and by which indicator and grant it was read.
 #[derive(Drop)]

@@ -7,8 +7,8 @@ use explain::{FrameReader, Informed, received_in};
 use lte_types::{Carrier, CellPlace, Sfn, Sib1Reason};
 use pbch::{Master, Received};
 use sample_file::Recording;
-use soft_bits::{PortSlot, Ports};
 use sib1_reader::Decoders;
+use soft_bits::{PortSlot, Ports};
 
 /// The way to read frames with four antenna ports, to the master block: those that tell four are taken, and no
 /// others. (own)

@@ -16,10 +16,10 @@ use observe::symbol;
 use pdcch::candidate;
 use pdsch::{MOST_VALUES, values};
 use sample_file::Recording;
+use sib1_reader::{Attempt, Decoders, attempt_in};
 use soft_bits::Slot;
 use std::alloc::Global;
 use std::test::Fail;
-use sib1_reader::{Attempt, Decoders, attempt_in};
 use test_support::{information, silent, silent_recording};
 
 #[test]

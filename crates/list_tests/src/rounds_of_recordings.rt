@@ -5,10 +5,10 @@ use cell_tx::send_all;
 use cs_num::{Sample, clamp_div};
 use explain::Workspace;
 use report::{cancel_text, one_cancel_text};
-use successive_cancel::{Round, cancel_rounds, clean_cell_is_taken_first, rounds_in_plain_words};
 use sample_file::Recording;
 use std::alloc::Global;
 use std::test::Fail;
+use successive_cancel::{Round, cancel_rounds, clean_cell_is_taken_first, rounds_in_plain_words};
 use test_support::{description, silent, wide_cell};
 
 // Expected texts are those of `scripts/peers/second_cancel.py`.

@@ -3,12 +3,12 @@
 
 use capture_make::make;
 use cs_num::Sample;
+use frequency_offset::{Told, applied, tell, turned};
 use report::tell_text;
 use sample_file::Recording;
 use std::alloc::{AllocError, Global};
 use std::test::Fail;
 use test_support::{has_sums, silent_recording};
-use frequency_offset::{Told, applied, tell, turned};
 
 // Recording number n, turned.
 fn made_and_turned(alloc: Global, n: u32, m: i16) -> Result<Recording, AllocError> {

@@ -1,11 +1,11 @@
 //! Recordings turned. The sums are those of another program, `scripts/peers/tune_reference.py`.
 
 use cs_num::Sample;
+use frequency_offset::turned;
 use sample_file::Recording;
 use std::alloc::{AllocError, Global};
 use std::test::Fail;
 use test_support::has_sums;
-use frequency_offset::turned;
 
 // 57,600 samples of all sizes.
 fn samples(alloc: Global) -> Result<Vec<Sample>, AllocError> {

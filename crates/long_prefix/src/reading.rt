@@ -21,8 +21,8 @@ use lte_types::{Carrier, CellPlace, FRAME_LENGTH, Prefix, Sfn, Sib1Reason};
 use observe::symbol;
 use pbch::{Master, Received};
 use sample_file::Recording;
-use soft_bits::{Pilots, Seen, energy_of, pilots_of, soft_pair};
 use sib1_reader::Decoders;
+use soft_bits::{Pilots, Seen, energy_of, pilots_of, soft_pair};
 
 /// The way to read frames with the extended cyclic prefix, to the master block: each is taken, whatever ports it
 /// tells. (own)

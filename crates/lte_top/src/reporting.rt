@@ -20,8 +20,8 @@ use crate::status::Status;
 use cs_outside::Source;
 use evidence::{evidence_of_list, support_of_list};
 use explain::DECIDING_SAMPLES;
-use lte_types::{Carrier, Half, Hit, LEAST_SAMPLES, MOST_SAMPLES};
 use lte_args::{Output, Report, Rule};
+use lte_types::{Carrier, Half, Hit, LEAST_SAMPLES, MOST_SAMPLES};
 use pss_search::{HitList, hits};
 use report::{
     IdentifiedHit, json_of_evidence, json_of_hits, json_of_ids, tell_json, tell_text,

@@ -9,10 +9,10 @@ ghost use Rattle.lte_top.specs.Tuning.{IsTurned};
 use crate::reporting::recording_of;
 use crate::status::Status;
 use cs_outside::{Failed, Sink, Source};
+use frequency_offset::{applied, turned};
 use lte_args::Turn;
 use sample_file::{Recording, SampleForm, write_samples};
 use std::alloc::{AllocError, Global};
-use frequency_offset::{applied, turned};
 
 // Writes the recording of a source, which is read to its end, as it is turned, as bytes of 16-bit numbers. All memory
 // is taken before the first is written.

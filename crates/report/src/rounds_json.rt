@@ -7,10 +7,10 @@ ghost use Rattle.report.specs.RoundsJson.{powers_value, round_value, rounds_valu
 use crate::rounds_text::told_power;
 use crate::values::{ToJson, list_value, pair_value};
 use explain::Workspace;
-use successive_cancel::{Round, Rounds, cancel_rounds};
 use sample_file::Recording;
 use serde_json::{Value, json};
 use std::alloc::{AllocError, Global};
+use successive_cancel::{Round, Rounds, cancel_rounds};
 
 /// What `cancel_text` tells of a recording as JSON in one line, without a line feed: an object with `cells`, the list
 /// as `json` writes it, `ended`, whether a round followed in which no cell could be taken off, and `rounds`, an

@@ -6,9 +6,9 @@ ghost use Rattle.report.specs.Rounds.{told_power as told_of, round_text, rounds_
 use crate::cancelled::{text_of_cancelled, text_of_cancelled_none};
 use crate::listing::text;
 use explain::Workspace;
-use successive_cancel::{Round, Rounds, cancel_rounds};
 use sample_file::Recording;
 use std::alloc::{AllocError, Global};
+use successive_cancel::{Round, Rounds, cancel_rounds};
 
 /// The text of a recording: that of its list as `text` gives it, then for each round that takes a cell off its
 /// two lines and the text of the list of what is left, and the line `cancelled none` where a round follows that takes

@@ -5,10 +5,10 @@ ghost use Rattle.report.specs.Hits.{hits_head};
 ghost use Rattle.report.specs.Lines.{head_line};
 ghost use Rattle.report.specs.Told.{IsTellText, told_text, turn_line};
 
+use frequency_offset::{Told, tell};
 use sample_file::Recording;
 use std::alloc::{AllocError, Global};
 use std::fmt::Write;
-use frequency_offset::{Told, tell};
 
 /// The text of what is told of a recording's offset: `hits`, the count of hits at the coarse turn, and below it
 /// `turn`, the turn, and `cells`, the count of entries of the list of the recording turned by it. `hits 0` alone where

@@ -7,10 +7,10 @@ ghost use Rattle.report.specs.ToldJson.{told_value as told_of, candidate_value, 
 ghost use Rattle.report.specs.ToldJson.{telling_json, IsTellJson};
 
 use crate::values::{ToJson, list_value};
+use frequency_offset::{Candidate, Told, tell_with_candidates};
 use sample_file::Recording;
 use serde_json::{Value, json};
 use std::alloc::{AllocError, Global};
-use frequency_offset::{Candidate, Told, tell_with_candidates};
 
 /// What is told of a recording's offset, and why, as JSON in one line, without a line feed: an object with `told`, null
 /// where nothing is told, else an object with `cells`, `hits` and `turn` as `tell_text` writes them; and `candidates`,

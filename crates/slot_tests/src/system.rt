@@ -4,10 +4,10 @@ use crate::control::mib_of;
 use crate::seen::{SlotRows, subframe_of};
 use dci::Grant;
 use lte_types::{Duration, Resource, Sib1Reason};
+use sib1_reader::{Attempt, Decoders, attempt_in, one_answer, read};
 use soft_bits::Slot;
 use std::process::Abort;
 use std::test::Fail;
-use sib1_reader::{Attempt, Decoders, attempt_in, one_answer, read};
 use test_support::{EMPTY, Rows};
 
 // Slots 10 and 11 with system information, by `scripts/peers/subframe_reference.py`.

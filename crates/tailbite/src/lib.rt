@@ -8,14 +8,14 @@
 
 mod costs;
 mod laws;
+mod memory;
 mod passes;
 mod search;
 mod steps;
-mod memory;
 
 pub use costs::{StepCosts, cost_at, fill_costs};
 pub use laws::{one_least_word, values_tell_the_word};
+pub use memory::Trellis;
 pub use passes::{CostRow, step_on};
 pub use search::{free_at, least, least_by};
 pub use steps::next;
-pub use memory::Trellis;

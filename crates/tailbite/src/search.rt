@@ -18,8 +18,8 @@ ghost use Rattle.tailbite.specs.Passes.{IsFreePass};
 ghost use Rattle.tailbite.specs.LeastWord.{IsLeastWord};
 
 use crate::costs::{StepCosts, fill_costs};
-use crate::passes::{CostRow, pass, reach, walk};
 use crate::memory::Trellis;
+use crate::passes::{CostRow, pass, reach, walk};
 use cs_bits::Bits;
 
 const STATES: usize = 64;

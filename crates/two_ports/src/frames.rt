@@ -7,8 +7,8 @@ use explain::{FrameReader, Informed, received_in, system_in};
 use lte_types::{Carrier, CellPlace, Sfn};
 use pbch::{Master, Received};
 use sample_file::Recording;
-use soft_bits::{PortSlot, Ports};
 use sib1_reader::Decoders;
+use soft_bits::{PortSlot, Ports};
 
 /// The way to read frames with two antenna ports: master blocks that tell two are taken, and no others. (own)
 pub struct TwoPorts;
