@@ -16,16 +16,16 @@ fn has_row(size: u16, row: Row) -> bool {
 
 // The first bit of a coded word, where its size is not 0.
 fn first_bit(coded: &Coded) -> bool {
-    let k: u16 = coded.k;
-    let streams: &[[bool; 1028]; 3] = &coded.d;
-    k != 0 && streams[0][0]
+    let Coded { k, d } = coded;
+    let (k, streams): (&u16, &[[bool; 1028]; 3]) = (k, d);
+    *k != 0 && streams[0][0]
 }
 
 // The first sum of values, or 0 where there is no size.
 fn first_sum(sums: &Combined) -> i32 {
-    let k: u16 = sums.k;
-    let streams: &[[i32; 1028]; 3] = &sums.d;
-    if k == 0 { 0 } else { streams[0][0] }
+    let Combined { k, d } = sums;
+    let (k, streams): (&u16, &[[i32; 1028]; 3]) = (k, d);
+    if *k == 0 { 0 } else { streams[0][0] }
 }
 
 // Bit i of what is sent of a word, and the first sum of values.

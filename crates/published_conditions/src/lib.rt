@@ -1,0 +1,17 @@
+//! Published conditions in numbers, and the published order of variants. A published call may state its condition by a
+//! definition of its crate; here each is called under numbers of its own, so a call that asks for more is not proved,
+//! even where its definition has changed.
+#![tactic(auto)]
+
+mod conditions;
+mod listed;
+mod orders;
+mod outside;
+
+pub use conditions::{
+    carried, coded, combined, first_group, indication, information, later_group, row_at, sent_bit,
+    shared_point_of_three, shared_point_of_two, slot_of, written,
+};
+pub use listed::{grant_at, values_at};
+pub use orders::{bandwidths, cell_errors, durations, file_errors, halves, resources};
+pub use outside::{Discarded, NoInput};
