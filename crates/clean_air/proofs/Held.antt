@@ -32,7 +32,7 @@ use Rattle.sss_detect.specs.Identity.{prefix_identity}
 use Rattle.grid_map.specs.Scrambling.{pbch_c_init}
 use Rattle.pbch.specs.declared.master.Master.{Master}
 use Rattle.pbch.specs.Values.{summed_values}
-use Rattle.explain.specs.Receiver.{Receiver, Subframes, hits_by, sums_by}
+use Rattle.explain.specs.Receiver.{Receiver, Subframes, is_wanted, hits_by, sums_by}
 use Rattle.explain.specs.Entries.{place_of, frames_of, master_of, epoch, distance, is_same_cell, IsMasterFor, IsEntryFor, IsListFor}
 use Rattle.explain.specs.System.{even_frame, FrameAnswers, IsSystemWith, IsSystemFor}
 use Rattle.explain.specs.Window.{IsInWindow, ComeBefore}
@@ -82,7 +82,7 @@ pub record IsShown (receiver : Receiver) (recording : List Sample) (plan : CellP
   pub block : IsBlockOf (ports_of receiver.carrier) plan number word
   pub speaks : SpeakOfWord (pbch_c_init plan.identity) (receiver.count * (number % 4)) word (receiver.broadcast recording (sent_place plan.identity offset) 0)
   pub single : 1 ≤ receiver.most_frames
-  pub taken : receiver.takes (ports_of receiver.carrier) ≡ true
+  pub taken : is_wanted receiver.ports (ports_of receiver.carrier) ≡ true
   pub system : IsSystemFor receiver recording (sent_place plan.identity offset) number (ports_of receiver.carrier) (sent_mib plan range number) (system_of_carrier receiver.carrier plan.sib1)
 
 -- what can be told of a plan is in its ranges

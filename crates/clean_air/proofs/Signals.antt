@@ -1,6 +1,6 @@
 -- The synchronisation signals of a cell of any carrier, whatever else its ports send: they are received as from the first port alone, in a recording that
 -- is faithful to it with little errors.
-use Rattle.std.proofs.Common.{◌≡◌, ℕ, ◌+◌, ◌-◌, ◌*◌, ◌^◌, ◌/◌, ◌%◌, ◌<◌, ◌≤◌, Bool, true, false, inl, inr, nat_eq, nat_le, nat_lt, arith, refl, ap, ap₂, subst, ◌∙◌, List}
+use Rattle.std.proofs.Common.{◌≡◌, ℕ, ◌+◌, ◌-◌, ◌*◌, ◌^◌, ◌/◌, ◌%◌, ◌<◌, ◌≤◌, Bool, true, false, ◌⊎◌, inl, inr, None, nat_eq, nat_le, nat_lt, arith, refl, ap, ap₂, sym, subst, ◌∙◌, List}
 use Rattle.std.specs.Prelude.{if◌then◌else◌, ◌&&◌, MatchBool}
 use Rattle.std.proofs.lemmas.Bool.Decides.{nat_tests}
 use Rattle.cs_num.specs.declared.Cpx.{Cpx}
@@ -23,8 +23,9 @@ use Rattle.lte_types.specs.Numerology.{IsPrefix, symbols_of_slot, symbol_step, u
 use Rattle.pss_search.specs.Correlation.{pss_grid}
 use Rattle.cell_tx.specs.declared.antenna.Port.{Port}
 use Rattle.cell_plan.specs.declared.cell.CellPlan.{CellPlan}
-use Rattle.cell_tx.specs.Ports.{port_by, IsPortOf, port_symbols, sent_signal}
-use Rattle.cell_tx.specs.Grid.{port_element}
+use Rattle.cell_tx.specs.Ports.{port_by, IsPortOf, port_symbols, port_slot, first_pattern, sent_signal}
+use Rattle.cell_tx.specs.Grid.{port_element, is_primary as holds_primary, is_secondary as holds_secondary, primary_value, secondary_value, port_channel_value}
+use Rattle.cell_tx.specs.Rows.{port_reference_if}
 use Rattle.cell_tx.specs.Sent.{Elements}
 use Rattle.cell_tx.specs.Emission.{mixed}
 use Rattle.cell_tx.proofs.Elements.{no_port_reference, element_elsewhere}
@@ -104,33 +105,30 @@ in_signal port k z = by (nat_eq port.number 0)
     by true = middle k z nothing
     by false = either (nat_le 5 k && nat_lt k 67)
 
+-- a symbol of a slot that holds no reference signal, and of the plan's signals one alone, holds it in its middle
+in_row : (port : Port) (plan : CellPlan) (sfn subframe symbol k : ℕ) (z : Cpx) → nat_eq symbol 0 ≡ false → nat_eq symbol 1 ≡ false → nat_eq symbol (first_pattern port).later ≡ false →
+    symbol % port_symbols port ≡ symbol → (symbol ≡ port_symbols port - 2) ⊎ (symbol ≡ port_symbols port - 1) →
+    (if holds_primary port subframe symbol k then sent_signal port (primary_value plan k)
+    else (if holds_secondary port subframe symbol k then sent_signal port (secondary_value plan subframe k)
+    else port_channel_value port plan sfn subframe symbol k))
+    ≡ (if nat_le 5 k && nat_lt k 67 then sent_signal port z else port_channel_value port plan sfn subframe symbol k) →
+    port_element port plan sfn subframe symbol k ≡ sent_signal port (if nat_lt k 5 then nothing else if nat_lt k 67 then z else nothing)
+in_row port plan sfn subframe symbol k z first second later first_slot row alone =
+    element_elsewhere port plan sfn subframe symbol k
+    (subst (λ l. port_reference_if port plan.identity (port_slot port subframe symbol) l k ≡ None) (sym first_slot) (no_port_reference port plan.identity (port_slot port subframe symbol) symbol k first second later))
+    ∙ alone ∙ rw (no_channel port plan sfn subframe symbol k row) (in_signal port k z)
+
 -- the last symbol of slots 0 and 10 holds the primary signal alone
 primary_by : (carrier : Carrier) (number : ℕ) (plan : CellPlan) (sfn k : ℕ) (half : Half) →
     port_element (port_by carrier number) plan sfn (subframe_of half) (symbols_of_slot (prefix_of carrier) - 1) k ≡ sent_signal (port_by carrier number) (pss_grid (plan.identity % 3) k)
-primary_by OnePort number plan sfn k Zero =
-    let port : Port = port_by OnePort number in
-    element_elsewhere port plan sfn 0 6 k (no_port_reference port plan.identity 0 6 k refl refl refl) ∙ rw (no_channel port plan sfn 0 6 k (inr refl)) (in_signal port k _)
-primary_by OnePort number plan sfn k Five =
-    let port : Port = port_by OnePort number in
-    element_elsewhere port plan sfn 5 6 k (no_port_reference port plan.identity 10 6 k refl refl refl) ∙ rw (no_channel port plan sfn 5 6 k (inr refl)) (in_signal port k _)
-primary_by TwoPorts number plan sfn k Zero =
-    let port : Port = port_by TwoPorts number in
-    element_elsewhere port plan sfn 0 6 k (no_port_reference port plan.identity 0 6 k refl refl refl) ∙ rw (no_channel port plan sfn 0 6 k (inr refl)) (in_signal port k _)
-primary_by TwoPorts number plan sfn k Five =
-    let port : Port = port_by TwoPorts number in
-    element_elsewhere port plan sfn 5 6 k (no_port_reference port plan.identity 10 6 k refl refl refl) ∙ rw (no_channel port plan sfn 5 6 k (inr refl)) (in_signal port k _)
-primary_by LongPrefix number plan sfn k Zero =
-    let port : Port = port_by LongPrefix number in
-    element_elsewhere port plan sfn 0 5 k (no_port_reference port plan.identity 0 5 k refl refl refl) ∙ rw (no_channel port plan sfn 0 5 k (inr refl)) (in_signal port k _)
-primary_by LongPrefix number plan sfn k Five =
-    let port : Port = port_by LongPrefix number in
-    element_elsewhere port plan sfn 5 5 k (no_port_reference port plan.identity 10 5 k refl refl refl) ∙ rw (no_channel port plan sfn 5 5 k (inr refl)) (in_signal port k _)
-primary_by FourPorts number plan sfn k Zero =
-    let port : Port = port_by FourPorts number in
-    element_elsewhere port plan sfn 0 6 k (no_port_reference port plan.identity 0 6 k refl refl refl) ∙ rw (no_channel port plan sfn 0 6 k (inr refl)) (in_signal port k _)
-primary_by FourPorts number plan sfn k Five =
-    let port : Port = port_by FourPorts number in
-    element_elsewhere port plan sfn 5 6 k (no_port_reference port plan.identity 10 6 k refl refl refl) ∙ rw (no_channel port plan sfn 5 6 k (inr refl)) (in_signal port k _)
+primary_by OnePort number plan sfn k Zero = in_row (port_by OnePort number) plan sfn 0 6 k (primary_value plan k) refl refl refl refl (inr refl) refl
+primary_by OnePort number plan sfn k Five = in_row (port_by OnePort number) plan sfn 5 6 k (primary_value plan k) refl refl refl refl (inr refl) refl
+primary_by TwoPorts number plan sfn k Zero = in_row (port_by TwoPorts number) plan sfn 0 6 k (primary_value plan k) refl refl refl refl (inr refl) refl
+primary_by TwoPorts number plan sfn k Five = in_row (port_by TwoPorts number) plan sfn 5 6 k (primary_value plan k) refl refl refl refl (inr refl) refl
+primary_by LongPrefix number plan sfn k Zero = in_row (port_by LongPrefix number) plan sfn 0 5 k (primary_value plan k) refl refl refl refl (inr refl) refl
+primary_by LongPrefix number plan sfn k Five = in_row (port_by LongPrefix number) plan sfn 5 5 k (primary_value plan k) refl refl refl refl (inr refl) refl
+primary_by FourPorts number plan sfn k Zero = in_row (port_by FourPorts number) plan sfn 0 6 k (primary_value plan k) refl refl refl refl (inr refl) refl
+primary_by FourPorts number plan sfn k Five = in_row (port_by FourPorts number) plan sfn 5 6 k (primary_value plan k) refl refl refl refl (inr refl) refl
 
 pub primary_symbol : (port : Port) (plan : CellPlan) (sfn k : ℕ) (half : Half) → port_element port plan sfn (subframe_of half) (port_symbols port - 1) k ≡ sent_signal port (pss_grid (plan.identity % 3) k)
 primary_symbol port plan sfn k half = primary_by port.carrier port.number plan sfn k half
@@ -138,30 +136,14 @@ primary_symbol port plan sfn k half = primary_by port.carrier port.number plan s
 -- and the symbol before it the secondary one
 secondary_by : (carrier : Carrier) (number : ℕ) (plan : CellPlan) (sfn k : ℕ) (half : Half) →
     port_element (port_by carrier number) plan sfn (subframe_of half) (symbols_of_slot (prefix_of carrier) - 2) k ≡ sent_signal (port_by carrier number) (sss_grid (plan.identity / 3) (plan.identity % 3) half k)
-secondary_by OnePort number plan sfn k Zero =
-    let port : Port = port_by OnePort number in
-    element_elsewhere port plan sfn 0 5 k (no_port_reference port plan.identity 0 5 k refl refl refl) ∙ rw (no_channel port plan sfn 0 5 k (inl refl)) (in_signal port k _)
-secondary_by OnePort number plan sfn k Five =
-    let port : Port = port_by OnePort number in
-    element_elsewhere port plan sfn 5 5 k (no_port_reference port plan.identity 10 5 k refl refl refl) ∙ rw (no_channel port plan sfn 5 5 k (inl refl)) (in_signal port k _)
-secondary_by TwoPorts number plan sfn k Zero =
-    let port : Port = port_by TwoPorts number in
-    element_elsewhere port plan sfn 0 5 k (no_port_reference port plan.identity 0 5 k refl refl refl) ∙ rw (no_channel port plan sfn 0 5 k (inl refl)) (in_signal port k _)
-secondary_by TwoPorts number plan sfn k Five =
-    let port : Port = port_by TwoPorts number in
-    element_elsewhere port plan sfn 5 5 k (no_port_reference port plan.identity 10 5 k refl refl refl) ∙ rw (no_channel port plan sfn 5 5 k (inl refl)) (in_signal port k _)
-secondary_by LongPrefix number plan sfn k Zero =
-    let port : Port = port_by LongPrefix number in
-    element_elsewhere port plan sfn 0 4 k (no_port_reference port plan.identity 0 4 k refl refl refl) ∙ rw (no_channel port plan sfn 0 4 k (inl refl)) (in_signal port k _)
-secondary_by LongPrefix number plan sfn k Five =
-    let port : Port = port_by LongPrefix number in
-    element_elsewhere port plan sfn 5 4 k (no_port_reference port plan.identity 10 4 k refl refl refl) ∙ rw (no_channel port plan sfn 5 4 k (inl refl)) (in_signal port k _)
-secondary_by FourPorts number plan sfn k Zero =
-    let port : Port = port_by FourPorts number in
-    element_elsewhere port plan sfn 0 5 k (no_port_reference port plan.identity 0 5 k refl refl refl) ∙ rw (no_channel port plan sfn 0 5 k (inl refl)) (in_signal port k _)
-secondary_by FourPorts number plan sfn k Five =
-    let port : Port = port_by FourPorts number in
-    element_elsewhere port plan sfn 5 5 k (no_port_reference port plan.identity 10 5 k refl refl refl) ∙ rw (no_channel port plan sfn 5 5 k (inl refl)) (in_signal port k _)
+secondary_by OnePort number plan sfn k Zero = in_row (port_by OnePort number) plan sfn 0 5 k (secondary_value plan 0 k) refl refl refl refl (inl refl) refl
+secondary_by OnePort number plan sfn k Five = in_row (port_by OnePort number) plan sfn 5 5 k (secondary_value plan 5 k) refl refl refl refl (inl refl) refl
+secondary_by TwoPorts number plan sfn k Zero = in_row (port_by TwoPorts number) plan sfn 0 5 k (secondary_value plan 0 k) refl refl refl refl (inl refl) refl
+secondary_by TwoPorts number plan sfn k Five = in_row (port_by TwoPorts number) plan sfn 5 5 k (secondary_value plan 5 k) refl refl refl refl (inl refl) refl
+secondary_by LongPrefix number plan sfn k Zero = in_row (port_by LongPrefix number) plan sfn 0 4 k (secondary_value plan 0 k) refl refl refl refl (inl refl) refl
+secondary_by LongPrefix number plan sfn k Five = in_row (port_by LongPrefix number) plan sfn 5 4 k (secondary_value plan 5 k) refl refl refl refl (inl refl) refl
+secondary_by FourPorts number plan sfn k Zero = in_row (port_by FourPorts number) plan sfn 0 5 k (secondary_value plan 0 k) refl refl refl refl (inl refl) refl
+secondary_by FourPorts number plan sfn k Five = in_row (port_by FourPorts number) plan sfn 5 5 k (secondary_value plan 5 k) refl refl refl refl (inl refl) refl
 
 pub secondary_symbol : (port : Port) (plan : CellPlan) (sfn k : ℕ) (half : Half) →
     port_element port plan sfn (subframe_of half) (port_symbols port - 2) k ≡ sent_signal port (sss_grid (plan.identity / 3) (plan.identity % 3) half k)

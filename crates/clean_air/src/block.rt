@@ -2,12 +2,13 @@
 
 ghost use Rattle.clean_air.specs.Block.{HeardBlockIsTold, HeardSubframeTells, CarriedBlockIsTold};
 
-/// Where each value of a transport block speaks for the coded bit that was sent there, and the block can
-/// be resolved by the bits that were sent, the decoder tells it. The sum of each coded bit's values speaks
-/// for it where it was sent, and is 0 where it was not; with as many values as coded bits each was sent, and
-/// the block can be resolved whatever it is. So it is told in a subframe in which the places of the block's
-/// resource blocks are heard, and in one of which both slots are heard, and these places carry it
-/// (TS 36.212 section 5.3.2).
+/// States that the turbo decoder returns the sent transport block (TS 36.212 section 5.3.2) if no soft value has the
+/// sign of the opposite coded bit, and the sent bits resolve the block.
+///
+/// The sum of a coded bit's values then has the bit's sign if the bit was sent, and is 0 if it was not. If there are at
+/// least as many values as coded bits, every bit was sent, and every block can be resolved. It is enough that the
+/// resource elements of the block's resource blocks are received in a subframe (`subframe`), or that both slots of a
+/// subframe are received and these elements carry the block (`carried`).
 pub fn sent_block_is_told()
     ensures heard { HeardBlockIsTold }
     ensures subframe { HeardSubframeTells }

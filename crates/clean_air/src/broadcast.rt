@@ -2,8 +2,9 @@
 
 ghost use Rattle.clean_air.specs.Broadcast.{SpokenWordIsTold, SentWordIsTold, HeardSlotTells};
 
-/// Where soft values speak of one word of 40 bits that has its check and a code of a bandwidth, it is
-/// what they tell. So does a slot that is heard, of the word that its broadcast channel carries.
+/// States that the broadcast channel returns the sent word of 40 bits, a MIB and its CRC, if each soft value has the
+/// sign of its coded bit and the word's bandwidth code is valid. A received slot returns the word that its broadcast
+/// channel carries.
 pub fn sent_master_is_told()
     ensures spoken { SpokenWordIsTold }
     ensures told { SentWordIsTold }

@@ -4,30 +4,30 @@ ghost use Rattle.clean_air.specs.Indicator.{SentIndicatorIsTold, HeardIndicatorI
 ghost use Rattle.clean_air.specs.Grant.{SentGrantIsTold, HeardGrantIsTold, CarriedGrantIsTold};
 ghost use Rattle.clean_air.specs.Attempt.{SpokenGrantIsRead, HeardGrantIsRead, CarriedGrantIsRead};
 
-/// Where 32 values each speak for the bits of a control format indicator, 1 to 3, they tell it and no
-/// other. The values of its channel (PCFICH) in a slot do, where its sixteen places are heard, and so in
-/// a slot that is heard and whose channel carries it.
+/// States that 32 soft values return the sent control format indicator, 1 to 3, and no other, if each has the sign of
+/// its bit. So do the values of its channel (PCFICH) in a slot if its sixteen resource elements are received (`heard`),
+/// and so in a received slot whose channel carries the indicator (`carried`).
 pub fn sent_indicator_is_told()
     ensures told { SentIndicatorIsTold }
     ensures heard { HeardIndicatorIsTold }
     ensures carried { CarriedIndicatorIsTold }
 {}
 
-/// Where values, at least three for each of 37 bits, each speak for the coded bits of the word that is
-/// sent for a grant, this word is the only least one, its check passes, and with at least four control
-/// channel elements the grant is what is told, and nothing else. The 288 values of the first four
-/// elements (PDCCH) in a slot do, with indicator 2 or 3, where their places are heard, and so in a slot
-/// that is heard and whose channel carries the grant.
+/// States that soft values return the sent grant, and nothing else, if each has the sign of its coded bit and there are
+/// at least three for each of the 37 bits, in at least four control channel elements. The word's CRC then passes, and
+/// no other word has its cost of 0.
+///
+/// So do the 288 values of the first four elements (PDCCH) in a slot, with indicator 2 or 3, if their resource elements
+/// are received (`heard`), and so in a received slot that carries the grant (`carried`).
 pub fn sent_grant_is_told()
     ensures told { SentGrantIsTold }
     ensures heard { HeardGrantIsTold }
     ensures carried { CarriedGrantIsTold }
 {}
 
-/// An attempt on a subframe whose values speak for an indicator and a grant, with at least four control
-/// channel elements, has them, and its answer is what the blocks of the grant tell; whatever they tell is
-/// read. So it is where they are heard in the first slot, with indicator 2 or 3, and so where this slot is
-/// heard and carries them.
+/// States that an attempt on a subframe returns the sent indicator and grant, and the answer of the grant's blocks,
+/// whatever that is, if its values have the signs of the sent bits and there are at least four control channel
+/// elements. It is enough that the first slot is received with indicator 2 or 3 and carries both (`heard`, `carried`).
 pub fn sent_grant_is_read()
     ensures spoken { SpokenGrantIsRead }
     ensures heard { HeardGrantIsRead }

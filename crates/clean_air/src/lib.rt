@@ -1,7 +1,9 @@
-//! Clean reception: what is sent of a cell, received with one gain for each antenna port and small errors, is found
-//! by the receiver of its carrier. The list of cells of a recording holds each cell to which it is faithful, and with
-//! one port each that is seen through a channel. Each law on the way is the contract of a function without a body,
-//! whole, with its premises; it speaks of the receiver's definitions alone.
+//! Guaranteed detection: the cell list of each transmission scheme holds every cell with clean reception. Clean means
+//! that each antenna port is received with one gain and noise within a stated bound; with one antenna port, also
+//! through a channel. Each law on the way is the contract of a function without a body, with all its premises, and
+//! speaks of the receiver's definitions alone.
+//!
+//! Tests: `list_tests/src/clean_cells.rt` and `list_tests/src/plans.rt`.
 #![tactic(auto)]
 
 mod block;

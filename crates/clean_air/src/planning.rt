@@ -13,12 +13,13 @@ use explain::{Workspace, grant_of};
 use lte_types::{Bandwidth, Cfi, Entry, Sib1};
 use sample_file::Recording;
 
-/// The cell of an entry, by its plan: identity, PHICH and spare bits are the entry's, indicator, resource blocks,
-/// modulation and coding scheme and column those by which its SystemInformationBlockType1 was read (`grant_of`), which
-/// is the block. `None` exactly where `grant_of` gives none, the entry has another count of antenna ports than one or
-/// another bandwidth than n6, or `Cell::new` refuses the plan. Where the recording is faithful to a cell, or clean of
-/// it, as for `explain_clean`, and the entry is that cell's, it is the plan by which it was sent. The entry is in the
-/// recording's list; its frames are read again. (own)
+/// Returns the plan by which the cell of `entry` was sent. Identity, PHICH and spare bits are the entry's; indicator,
+/// resource blocks, modulation and coding scheme and column are those by which its SystemInformationBlockType1 was read
+/// (`grant_of`). `entry` is in the list of `recording`, whose frames are read again.
+///
+/// Returns `None` exactly if `grant_of` does, if the entry has more than one antenna port or another bandwidth than n6,
+/// or if `Cell::new` refuses the plan. If the recording is faithful to the entry's cell, or clean of it, the plan is
+/// the sent one. (own)
 pub fn plan_of(recording: &Recording, entry: &Entry, work: &mut Workspace) -> Option<Cell>
     requires { IsInList recording.now entry.now }
     ensures plan { IsPlanOf recording.now entry.now result }
@@ -29,8 +30,8 @@ pub fn plan_of(recording: &Recording, entry: &Entry, work: &mut Workspace) -> Op
     plan_granted(recording, entry, grant_of(recording, entry, work))
 }
 
-/// `plan_of` by the indicator and the grant of the entry, which are at hand (`Workspace::readings`). The entry is in
-/// the recording's list, of which nothing is read again. (own)
+/// Returns the plan of `plan_of` by an indicator and grant that are at hand (`Workspace::readings`), without reading a
+/// frame. `entry` is in the list of `recording`. (own)
 pub fn plan_granted(
     recording: &Recording,
     entry: &Entry,
@@ -93,18 +94,19 @@ fn plan_by(entry: &Entry, cfi: Cfi, grant: &Grant, sib1: &Sib1) -> CellPlan
     }
 }
 
-/// An entry has one plan, or none.
+/// States that an entry has exactly one plan, or none.
 pub fn one_plan()
     ensures { IsOnePlan }
 {}
 
-/// In a recording that is faithful to a cell that can be sent, whatever else the cell sends, its entry has the plan by
-/// which it was sent.
+/// States that the entry of a cell to which the recording is faithful has the plan by which the cell was sent, if the
+/// plan can be sent, whatever else the cell sends.
 pub fn faithful_entry_has_plan()
     ensures { FaithfulEntryHasPlan }
 {}
 
-/// In a recording that is clean of a cell that can be sent, its entry has the plan by which it was sent.
+/// States that the entry of a cell of which the recording is clean has the plan by which the cell was sent, if the plan
+/// can be sent.
 pub fn sent_entry_has_plan()
     ensures { SentEntryHasPlan }
 {}

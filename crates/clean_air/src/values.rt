@@ -3,11 +3,13 @@
 ghost use Rattle.clean_air.specs.Values.{SeenPairSupportsBits, ValuesSupportBits};
 ghost use Rattle.clean_air.specs.Values.{ReceivedSlotIsHeard, QuietSlotIsHeard};
 
-/// Where the 24 pilots of a slot and a place that carries two bits are seen with one gain, each amplitude off by less
-/// than 37 units, both soft values of the place speak for their bits: above 0 for 0 and below for 1, by any pattern of
-/// reference signals. So they do in a recording whose slot is received with one gain, where the energy of the errors of
-/// each of its symbols is at most 1800 times the gain's square. Where each amplitude is off by at most 30 units, as
-/// where that energy is at most 1024 times the square, each value has size 8 and more.
+/// States that both soft values of a resource element have the signs of its two bits: above 0 for 0, below 0 for 1.
+///
+/// The 24 pilots of the slot and the element are received with one gain, and each amplitude is off by less than 37
+/// units; this holds for any pattern of reference signals. In a recording it is enough that the slot is received with
+/// one gain and the error energy of each symbol is at most 1800 times the gain's square (`recording`). If each
+/// amplitude is off by at most 30 units, or that energy is at most 1024 times the square, each value has a magnitude of
+/// at least 8 (`quiet_pair`, `quiet`, `quiet_recording`).
 pub fn values_support_the_sent_bits()
     ensures pair { SeenPairSupportsBits 2316 1 }
     ensures seen { ValuesSupportBits 2316 1 }

@@ -3,10 +3,9 @@
 ghost use Rattle.clean_air.specs.Words.{FourSpeakTogether, DescramblingKeeps, SumsSpeakByReading, SumsSpeakFrom};
 ghost use Rattle.clean_air.specs.Words.{SumsSpeak, SpokenWordIsOnly};
 
-/// Where the values of a coded word, in the order in which it is sent and from any of its bits on,
-/// each speak for the bit that stands there, with at least one value for each bit, so do their sums
-/// by place. The word then
-/// costs nothing, every other word of its length costs something, and it is the least word.
+/// States that the sent word is the only one of minimum cost if each soft value has the sign of its coded bit and there
+/// is at least one value per bit, in sending order from any bit on. The sums of the values by coded bit then have the
+/// bits' signs; the word costs 0, and every other word of its length more.
 pub fn spoken_word_is_the_least()
     ensures together { FourSpeakTogether }
     ensures descrambled { DescramblingKeeps }

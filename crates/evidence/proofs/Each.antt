@@ -1,11 +1,31 @@
--- What is told of the first items of a list, and of one more.
-use Rattle.std.proofs.Common.{◌≡◌, ℕ, ◌+◌, ◌<◌, List, [], ◌∷◌, ◌++◌, length, take, get_or, ap, sym, subst, ◌∙◌}
+-- A list of entries and how each was read, one after the other: what is told of the first, and of one more.
+use Rattle.std.proofs.Common.{◌≡◌, ℕ, ◌+◌, ◌<◌, List, [], ◌∷◌, ◌++◌, length, take, get_or, ap, sym, subst, ◌∙◌, arith}
 use Rattle.std.specs.List.{AllZip}
 use Rattle.std.proofs.lemmas.List.{take_more}
-use Rattle.explain.proofs.Listed.{AllZip-more}
+use Rattle.std.proofs.lemmas.Slice.Zip.{AllZip-long}
+use Rattle.finite.proofs.Zips.{zip_read}
+use Rattle.cs_num.specs.declared.Sample.{Sample}
+use Rattle.lte_types.specs.declared.entry.Entry.{Entry}
+use Rattle.explain.specs.declared.readings.Reading.{Reading}
+use Rattle.explain.specs.Receiver.{Receiver, hits_by}
+use Rattle.explain.specs.Entries.{IsEntryFor, IsListFor}
+use Rattle.explain.specs.Laws.{IsEntryOfSome}
+use Rattle.explain.specs.Readings.{IsReadingFor}
+use Rattle.explain.proofs.Listed.{AllZip-more, is_sound}
 
 pub each_more : {A B : Type 0} (R : A → B → Type 0) (list : List A) (i : ℕ) (x : A) (told : List B) (one : B) → i < length list → x ≡ get_or list i x →
     AllZip R (take i list) told → R x one → AllZip R (take (i + 1) list) (told ++ one ∷ [])
 each_more R list i x told one inside is before more =
     let next : take (i + 1) list ≡ take i list ++ x ∷ [] = take_more list i x inside ∙ ap (λ e. take i list ++ e ∷ []) (sym is) in
     subst (λ l. AllZip R l (told ++ one ∷ [])) (sym next) (AllZip-more R (take i list) told x one before more)
+
+module _ (receiver : Receiver) (recording : List Sample) (entries : List Entry) (readings : List Reading) (read : AllZip (IsReadingFor receiver recording) entries readings) (i : ℕ) (inside : i < length entries) where
+  -- each entry has a reading
+  pub has_reading : i < length readings
+  has_reading = let long = AllZip-long (IsReadingFor receiver recording) entries readings read in omega (arith, long, inside)
+
+  -- an entry of the list is one that the receiver reads, and was read as the reading at its index says
+  pub is_read : (entry : Entry) (reading : Reading) → IsListFor receiver recording entries → entry ≡ get_or entries i entry → reading ≡ get_or readings i reading →
+      IsEntryOfSome (IsEntryFor receiver recording) (hits_by receiver.carrier recording) entry × IsReadingFor receiver recording entry reading
+  is_read entry reading listed entry_is reading_is =
+      (is_sound receiver recording entries entry listed (i, inside, sym entry_is), zip_read (IsReadingFor receiver recording) entries readings i entry reading read inside entry_is reading_is)

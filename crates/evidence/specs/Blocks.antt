@@ -1,5 +1,4 @@
--- The bits of an entry's blocks: of its master block, and of the transport block that told its system information.
--- (own)
+-- The bits of an entry's blocks: the MIB, and the transport block that carried its system information. (own)
 use Rattle.std.specs.Prelude.{◌≡◌, ◌⊎◌, ℕ, ◌+◌, ◌*◌, ◌<◌, Bool, List, [], Option, Some, None, Result, Ok, Err}
 use Rattle.cs_num.specs.declared.Sample.{Sample}
 use Rattle.cs_bits.specs.Numbers.{bits_of}
@@ -21,8 +20,8 @@ use Rattle.evidence.specs.Receivers.{receiver_of}
 
 -- ---- the master block
 
--- the 24 bits of a master block as a number: dl-Bandwidth, phich-Duration, phich-Resource, the upper 8 bits of the
--- frame number, and the last 10 bits (TS 36.331 section 6.2.2)
+-- the 24 bits of a MIB as a number: dl-Bandwidth, phich-Duration, phich-Resource, the upper 8 bits of the frame number,
+-- and the 10 spare bits (TS 36.331 section 6.2.2)
 abbrev pub master_number : Mib → ℕ
 master_number mib =
     (((bandwidth_code mib.bandwidth * 2 + duration_code mib.duration) * 4 + resource_code mib.resource) * 256 +
@@ -33,7 +32,7 @@ master_bits mib = bits_of 24 (master_number mib)
 
 -- ---- the transport block of a subframe
 
--- the attempt on a subframe has read fields, and this is the block that told them: that of its grant
+-- the attempt on a subframe returns fields, and this is the transport block of its grant, which carries them
 pub record HasBlock (values : Subframe) (bits : List Bool) : Type 0 where
   pub cfi : ℕ
   pub grant : Grant
@@ -41,13 +40,13 @@ pub record HasBlock (values : Subframe) (bits : List Bool) : Type 0 where
   pub attempt : IsAttempt values (record { cfi = cfi; grant = Some grant; answer = Ok fields })
   pub block : IsBlock (values.shared cfi grant.start grant.blocks) grant (Some bits)
 
--- no attempt on a subframe has read fields
+-- no attempt on a subframe returns fields
 abbrev pub HasNoBlock : Subframe → Type 0
 HasNoBlock values = (fields : Sib1) → Reads values (Ok fields) → ⊥
 
 -- ---- the transport block of a cell. `values` are those of subframe 5 of its frames, from the first one on
 
--- the block of the first of the tried frames that has one
+-- the block of the first tried frame that has one
 pub record IsFirstBlock (values : ℕ → Subframe) (recording : List Sample) (start sfn : ℕ) (bits : List Bool) :
     Type 0 where
   pub i : ℕ
@@ -55,7 +54,7 @@ pub record IsFirstBlock (values : ℕ → Subframe) (recording : List Sample) (s
   pub has : HasBlock (values (even_frame sfn i)) bits
   pub first : (h : ℕ) → h < i → HasNoBlock (values (even_frame sfn h))
 
--- no tried frame has a block, and no bits are told
+-- no tried frame has a block, and there are no bits
 pub record IsNoBlock (values : ℕ → Subframe) (recording : List Sample) (start sfn : ℕ) (bits : List Bool) :
     Type 0 where
   pub none : (i : ℕ) → IsTried recording start sfn i → HasNoBlock (values (even_frame sfn i))
@@ -65,7 +64,7 @@ abbrev pub IsBlockRead : (ℕ → Subframe) → List Sample → ℕ → ℕ → 
 IsBlockRead values recording start sfn bits =
     IsFirstBlock values recording start sfn bits ⊎ IsNoBlock values recording start sfn bits
 
--- the block by the values of subframe 5 by which a list reads system information, or none where it does not
+-- the block by the values of subframe 5, from which a list reads system information; none if it does not
 abbrev pub IsBlockWith : Result Subframes Sib1Reason → List Sample → Place → ℕ → Mib → List Bool → Type 0
 IsBlockWith (Ok values) recording place sfn mib bits =
     IsBlockRead (λ j. values recording place j mib.duration mib.resource) recording place.start sfn bits
@@ -73,13 +72,13 @@ IsBlockWith (Err reason) recording place sfn mib bits = bits ≡ []
 
 -- ---- the transport block of an entry
 
--- a block is told where there are fields, and none otherwise
+-- there is a block if there are fields, and none otherwise
 abbrev pub IsToldWith : Result Sib1 Sib1Reason → (List Bool → Type 0) → List Bool → Type 0
 IsToldWith (Ok fields) Is bits = Is bits
 IsToldWith (Err reason) Is bits = bits ≡ []
 
--- these are the bits of the transport block that told the system information of an entry, without their check; none
--- where it has none
+-- these are the bits of the transport block that carried the system information of an entry, without its CRC; none if
+-- the entry has no system information
 abbrev pub IsSystemBlock : Carrier → List Sample → Entry → List Bool → Type 0
 IsSystemBlock carrier recording entry =
     IsToldWith entry.sib1 (IsBlockWith (receiver_of carrier).subframe recording (place_of entry) entry.sfn entry.mib)

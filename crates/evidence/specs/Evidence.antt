@@ -1,4 +1,4 @@
--- What supports an entry of a list by a receiver. (own)
+-- The measurements that support an entry of a cell list. (own)
 use Rattle.std.specs.Prelude.{◌≡◌, ℕ, ◌+◌, ◌-◌, ◌*◌, ◌/◌, ◌%◌, ◌<◌, ◌≤◌, if◌then◌else◌, List, [], ◌∷◌, ◌++◌, length, ℤ}
 use Rattle.std.specs.List.{Contains}
 use Rattle.finite.specs.Sums.{total_below}
@@ -29,7 +29,7 @@ use Rattle.evidence.specs.Receivers.{receiver_of}
 
 -- ---- the hit
 
--- a hit at place t tells the entry's identity and start, as cells of a carrier tell them
+-- a PSS detection at sample t gives the entry's identity and start, as cells of a carrier give them
 pub record IsToldBy (carrier : Carrier) (recording : List Sample) (entry : Entry) (t : ℕ) : Type 0 where
   pub hit : Hit
   pub listed : Contains (hits_by carrier recording) hit
@@ -37,56 +37,56 @@ pub record IsToldBy (carrier : Carrier) (recording : List Sample) (entry : Entry
   pub identity : (place_by carrier recording hit).id ≡ entry.id
   pub start : (place_by carrier recording hit).start ≡ entry.start
 
--- the least place at which a hit tells the entry's identity and start
+-- the earliest sample of a PSS detection that gives the entry's identity and start
 pub record IsFirstToldBy (carrier : Carrier) (recording : List Sample) (entry : Entry) (t : ℕ) : Type 0 where
   pub told : IsToldBy carrier recording entry t
   pub least : (u : ℕ) → IsToldBy carrier recording entry u → t ≤ u
 
--- the fraction of a place for n2 in thousandths, rounded down: 1000 C / (E P)
+-- the ratio of the PSS correlation to the energy at a sample, for n2, in thousandths, rounded down: 1000 C / (E P)
 abbrev pub thousandths : List Sample → ℕ → ℕ → ℕ
 thousandths recording n2 t = 1000 * peak recording n2 t / (energy recording t * wave_power n2)
 
 -- ---- the pilots of the slot that tells the master block
 
--- the slot that carries the broadcast channel in frame j of the cell at a place, as it is seen
+-- the received slot that carries the broadcast channel in frame j of a cell
 abbrev pub slot_by : Carrier → List Sample → Place → ℕ → SeenSlot
 slot_by carrier recording place j =
     if is_extended (prefix_of carrier) then long_slot recording place.id place.start j
     else broadcast_slot recording place.id place.start j
 
--- the second difference of pilots: how far both neighbours of a pilot in its symbol are from it, together. `stride`
--- pilots on stands the next one of the same symbol, so that a turn from one symbol to the other makes none
+-- the second difference of pilots: the sum of a pilot's two neighbours in its symbol, less twice the pilot between
+-- them. The next pilot of the same symbol is `stride` pilots on, so that a phase step between symbols adds nothing
 abbrev pub second_difference : ℕ → (ℕ → Cpx) → ℕ → Cpx
 second_difference stride pilots i =
     minus (plus (pilots i) (pilots (i + 2 * stride))) (multiple 2 (pilots (i + stride)))
 
--- the square of its size
+-- the squared magnitude of a second difference
 abbrev pub difference_power : ℕ → (ℕ → Cpx) → ℕ → ℕ
 difference_power stride pilots i = square (second_difference stride pilots i)
 
--- the sum of the squares of the second differences of so many pilots of a port
+-- the sum of the squared second differences of `count` pilots of a port
 unfoldable pub differences : ℕ → ℕ → (ℕ → Cpx) → ℕ
 differences count stride pilots = total_below (count - 2 * stride) (difference_power stride pilots)
 
--- the sum of the squares of the second differences of a line of pilots, of which the next one of the same symbol
--- stands six subcarriers on
+-- the sum of the squared second differences of a line of pilots; the next pilot of the same symbol is six subcarriers
+-- on
 abbrev pub line_differences : Line → SeenSlot → ℕ
 line_differences line slot = differences (line.last + 1) (6 / line.step) (line_pilot line slot)
 
--- the sum of the squares of the second differences of the pilots of all antenna ports: of 20, 40 or 60
+-- the sum of the squared second differences of all antenna ports' pilots: 20, 40 or 60 of them
 abbrev pub differences_by : Carrier → SeenSlot → ℕ
 differences_by carrier slot = total_below (ports_of carrier) (λ port. line_differences (line_of carrier port slot) slot)
 
--- the noise: the sum of the second differences' squares, divided by six times the square of a reference value's size,
--- and rounded down. Errors of one variance v in what is seen make a second difference of variance 6 v, times that
--- square
+-- the noise: the sum of the squared second differences, divided by six times the squared magnitude of a reference
+-- value, rounded down. Independent errors of variance v in the received elements give a second difference a variance of
+-- 6 v, times that square
 abbrev pub noise_of : ℕ → ℕ
 noise_of differences = differences / (6 * point_power)
 
 -- ---- what the slot shows
 
--- what a slot shows: the energy of its pilots, and the squares of their second differences, of all antenna ports
--- together; the pilots of each port; and the soft values of the broadcast channel, as they were received
+-- the measurements of a slot: the energy of the pilots and their squared second differences, over all antenna ports;
+-- the pilots of each port; and the soft values of the broadcast channel in received order
 pub record SlotShown : Type 0 where
   pub power : ℕ
   pub differences : ℕ
@@ -101,14 +101,14 @@ shown_by carrier slot received = record {
   values = received;
 }
 
--- what the slot with the broadcast channel in frame j of the cell at a place shows
+-- the measurements of the slot with the broadcast channel in frame j of a cell
 abbrev pub shown_in : Carrier → List Sample → Place → ℕ → SlotShown
 shown_in carrier recording place j =
     shown_by carrier (slot_by carrier recording place j) ((receiver_of carrier).broadcast recording place j)
 
 -- ---- the numbers of an entry
 
--- these are the numbers of the entry, as a receiver reads it
+-- these are the measurements of the entry by a receiver
 pub record IsEvidenceFor (receiver : Receiver) (recording : List Sample) (entry : Entry) (told : Evidence) :
     Type 0 where
   pub id : told.id ≡ entry.id
@@ -124,11 +124,11 @@ pub record IsEvidenceFor (receiver : Receiver) (recording : List Sample) (entry 
   pub power : told.power ≡ (shown_in receiver.carrier recording (place_of entry) entry.frame).power
   pub noise : told.noise ≡ noise_of (shown_in receiver.carrier recording (place_of entry) entry.frame).differences
 
--- these are the numbers of the entry, as the receiver of one antenna port reads it
+-- these are the measurements of the entry by the receiver of one antenna port
 abbrev pub IsEvidence : List Sample → Entry → Evidence → Type 0
 IsEvidence = IsEvidenceFor one_port_receiver
 
--- the numbers of an entry are in their ranges
+-- the measurements of an entry are in their ranges
 pub record IsInRange (told : Evidence) : Type 0 where
   pub from_first : first_place ≤ told.t
   pub to_last : told.t ≤ last_place
@@ -139,19 +139,19 @@ pub record IsInRange (told : Evidence) : Type 0 where
 
 -- ---- the code's way to the hit, and to the numbers
 
--- the first hit that tells the entry, as it was measured
+-- the first PSS detection that gives the entry, as it was measured
 pub record IsHitOfEntry (carrier : Carrier) (recording : List Sample) (entry : Entry) (hit : Hit) : Type 0 where
   pub is_hit : IsHitOf recording hit
   pub first : IsFirstToldBy carrier recording entry hit.t
   pub root : hit.n2 ≡ entry.id % 3
 
--- the thousandths of a hit are a fraction of a whole: there is energy, and the peak is not above it
+-- the ratio of a PSS detection is at most 1: there is energy, and the peak is not above it
 pub record HasFraction (hit : Hit) : Type 0 where
   pub root : hit.n2 ≤ 2
   pub sounds : 0 < hit.energy
   pub within : hit.peak ≤ hit.energy * wave_power hit.n2
 
--- what is shown with the pilots of one port more
+-- the measurements with the pilots of one more port
 abbrev pub with_port : SlotShown → SeenLine → SlotShown
 with_port shown port = record {
   power = shown.power;
@@ -160,7 +160,7 @@ with_port shown port = record {
   values = shown.values;
 }
 
--- the numbers of an entry by how it was read, and by what its slot shows
+-- the measurements of an entry by how it was read and by those of its slot
 abbrev pub numbers_by : Entry → Reading → SlotShown → Evidence
 numbers_by entry reading shown = record {
   id = entry.id;

@@ -6,7 +6,7 @@ use Rattle.two_ports.specs.Entries.{two_ports_receiver}
 use Rattle.long_prefix.specs.Entries.{long_prefix_receiver}
 use Rattle.four_ports.specs.Entries.{four_ports_receiver}
 
--- the receiver by which the cells of a carrier are read
+-- the receiver of a carrier's cells
 abbrev pub receiver_of : Carrier → Receiver
 receiver_of OnePort = one_port_receiver
 receiver_of TwoPorts = two_ports_receiver

@@ -1,4 +1,4 @@
--- What supports an entry, with what its slot shows, and the bits of its blocks. (own)
+-- The measurements of an entry, those of its slot, and the bits of its blocks. (own)
 use Rattle.std.specs.Prelude.{◌≡◌, Bool, List}
 use Rattle.cs_num.specs.declared.Sample.{Sample}
 use Rattle.lte_types.specs.declared.entry.Entry.{Entry}
@@ -8,15 +8,15 @@ use Rattle.explain.specs.Entries.{place_of}
 use Rattle.evidence.specs.Blocks.{master_bits, IsSystemBlock}
 use Rattle.evidence.specs.Evidence.{SlotShown, shown_in, IsEvidenceFor}
 
--- what supports an entry: its numbers, what its slot shows, and the bits of its master block, and of the transport
--- block that told its system information
+-- the measurements of an entry, those of its slot, the bits of its MIB, and the bits of the transport block that
+-- carried its system information
 pub record Shown : Type 0 where
   pub numbers : Evidence
   pub slot : SlotShown
   pub master : List Bool
   pub block : List Bool
 
--- what supports the entry, what its slot shows, and its blocks, as a receiver reads it
+-- these are the measurements and the bits of the entry by a receiver
 pub record IsShownFor (receiver : Receiver) (recording : List Sample) (entry : Entry) (shown : Shown) : Type 0 where
   pub numbers : IsEvidenceFor receiver recording entry shown.numbers
   pub slot : shown.slot ≡ shown_in receiver.carrier recording (place_of entry) entry.frame

@@ -20,11 +20,12 @@ use pss_search::signal_power;
 use sample_file::Recording;
 use std::alloc::{AllocError, Global};
 
-/// What supports each entry of a recording's list by the receiver for a carrier, in its order: the least place of a hit
-/// that tells its identity and start, and how much of the energy there the primary signal explains; the sum of the
-/// sizes of the values that its master block was read from; and the energy of the pilots of its slot, and how much
-/// those of one symbol differ, of all antenna ports together. `readings` are how the entries were read, in the order of
-/// the list. Only memory can be wanting. (own)
+/// Returns the measurements of each entry of a cell list, in its order. `entries` is the list of `recording` by the
+/// receiver for `carrier`, and `readings` says how each entry was read. Fails only if an allocation fails.
+///
+/// For each entry: the earliest PSS detection of its identity and start, and the share of the energy there that the PSS
+/// explains; the sum of the magnitudes of the soft values of its MIB; and, over all antenna ports, the energy of its
+/// slot's pilots and how much the pilots of one symbol differ. (own)
 pub fn evidence_of_list(
     alloc: Global,
     recording: &Recording,

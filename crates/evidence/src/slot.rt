@@ -17,9 +17,8 @@ use sample_file::Recording;
 use soft_bits::{Pilots, PortSlot, Ports};
 use std::marker::Model;
 
-/// What the slot with the broadcast channel of a frame shows. Contracts see it as the energy of its pilots, of all
-/// antenna ports together, the squares of their second differences, the pilots of each port, and the soft values of the
-/// channel. (own)
+/// The measurements of the slot of a frame that carries the broadcast channel: the energy of the pilots and the squares
+/// of their second differences, over all antenna ports; the pilots of each port; and the channel's soft values. (own)
 #[derive(Drop)]
 pub struct SlotShown {
     power: u64,
@@ -82,15 +81,15 @@ impl SlotShown {
         self.differences
     }
 
-    /// The pilots of each antenna port.
+    /// Returns the pilots of each antenna port.
     pub fn channel(&self) -> &[Pilots]
         ensures { result.now ≡ self.now.channel }
     {
         &self.channel
     }
 
-    /// The soft values of the broadcast channel as they were received, in the order of its places, of each the real
-    /// part before the imaginary one.
+    /// Returns the soft values of the broadcast channel in received order: for each resource element the real part,
+    /// then the imaginary part.
     pub fn values(&self) -> &[i16]
         ensures { result.now ≡ self.now.values }
     {

@@ -20,7 +20,7 @@ use sib1_reader::Decoders;
 use std::alloc::{AllocError, Global};
 use std::marker::Model;
 
-/// What supports an entry of a list, what its slot shows, and its blocks. Contracts see it as these. (own)
+/// The measurements of an entry, those of its slot, and the bits of its blocks. (own)
 #[derive(Drop)]
 pub struct Support {
     numbers: Evidence,
@@ -41,21 +41,21 @@ impl Model for Support {
 }
 
 impl Support {
-    /// The numbers of the entry.
+    /// Returns the measurements of the entry.
     pub fn numbers(&self) -> &Evidence
         ensures { result.now ≡ self.now.numbers }
     {
         &self.numbers
     }
 
-    /// What its slot shows.
+    /// Returns the measurements of its slot.
     pub fn slot(&self) -> &SlotShown
         ensures { result.now ≡ self.now.slot }
     {
         &self.slot
     }
 
-    /// The 24 bits of the master block (TS 36.331 section 6.2.2).
+    /// Returns the 24 bits of the MIB (TS 36.331 section 6.2.2).
     pub fn master(&self) -> Bits<24>
         ensures bits { result ≡ self.now.master }
         ensures count { length result ≡ 24 }
@@ -63,8 +63,8 @@ impl Support {
         bits_of(&self.mib)
     }
 
-    /// The bits of the transport block that told system information, without their check; none where the entry has no
-    /// system information.
+    /// Returns the bits of the transport block that carried the system information, without its CRC; empty if the entry
+    /// has no system information.
     pub fn block(&self) -> &[bool]
         ensures { result.now ≡ self.now.block }
     {
@@ -88,10 +88,9 @@ fn number_of(mib: &Mib) -> u64
     ((head * 4 + mib.resource.code() as u64) * 256 + mib.upper as u64) * 1024 + mib.spare as u64
 }
 
-/// What supports each entry of a recording's list by the receiver for a carrier, as `evidence_of_list` tells it, and
-/// what its slot shows: the pilots of each antenna port, and the soft values of the broadcast channel as they were
-/// received; and the bits of its master block, and of the transport block that told its system information, which is
-/// read again. Only memory can be wanting. (own)
+/// Returns the measurements of each entry of a cell list as `evidence_of_list` does, with those of its slot, the bits
+/// of its MIB, and the bits of the transport block that carried its system information, which is read again. Fails only
+/// if an allocation fails. (own)
 pub fn support_of_list(
     alloc: Global,
     recording: &Recording,

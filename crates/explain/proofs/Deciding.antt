@@ -1,5 +1,5 @@
 -- Two recordings that agree in their first 17 frames tell the same hits, identities and slots, and so the same list.
-use Rattle.std.proofs.Common.{◌≡◌, ℕ, suc, Bool, true, ◌+◌, ◌*◌, ◌<◌, ◌≤◌, Result, Ok, Err, List, [], ◌∷◌, ℤ, length, arith, ap, ap₂, sym, subst, ◌∙◌}
+use Rattle.std.proofs.Common.{◌≡◌, ℕ, suc, Bool, true, ◌+◌, ◌*◌, ◌<◌, ◌≤◌, Option, None, Result, Ok, Err, List, [], ◌∷◌, ℤ, length, arith, ap, ap₂, sym, subst, ◌∙◌}
 use Rattle.std.specs.Prelude.{All, if◌then◌else◌}
 use Rattle.std.specs.List.{AllZip, filter, flat_map}
 use Rattle.finite.proofs.Lists.{values_below_same}
@@ -70,8 +70,8 @@ broadcast_agrees values a b place j agree early few =
     ap (λ (slot : SeenSlot). received_values_by values slot) (deciding_slot place.start j 1 place.id a b agree early few (omega arith))
 
 -- a receiver of such slots looks at these alone
-pub slots_look : (carrier : Carrier) (taken : ℕ → Bool) (values : Valuing) → LooksAtFirstFrames (by_slots carrier taken values)
-slots_look carrier taken values = record {
+pub slots_look : (carrier : Carrier) (wanted : Option ℕ) (values : Valuing) → LooksAtFirstFrames (by_slots carrier wanted values)
+slots_look carrier wanted values = record {
   broadcast = broadcast_agrees values;
   subframes = λ a b place j agree early few duration resource.
       ap₂ (λ (first second : SeenSlot). subframe_by carrier values first second duration resource)
@@ -211,4 +211,4 @@ pub first_frames_decide_all : FirstFramesDecideAll
 first_frames_decide_all = decided
 
 pub first_frames_decide : FirstFramesDecide
-first_frames_decide = decided (by_slots OnePort (λ ports. true) placed_values) (slots_look OnePort (λ ports. true) placed_values)
+first_frames_decide = decided (by_slots OnePort None placed_values) (slots_look OnePort None placed_values)

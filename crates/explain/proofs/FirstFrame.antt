@@ -17,7 +17,7 @@ use Rattle.pbch.proofs.Words.{one_master}
 use Rattle.explain.specs.Frame.{IsWhole, seen_slot, values_in}
 use Rattle.explain.specs.Told.{Telling}
 use Rattle.explain.specs.Window.{TellNone}
-use Rattle.explain.specs.Receiver.{Receiver, sums_by}
+use Rattle.explain.specs.Receiver.{Receiver, is_wanted, sums_by}
 use Rattle.explain.specs.Entries.{IsMasterFor}
 use Rattle.explain.specs.Masters.{HasMaster, IsToldAt, AreTold}
 use Rattle.explain.specs.Received.{AreReceived, taken_of}
@@ -141,7 +141,7 @@ module _ (receiver : Receiver) (recording : List Sample) where
       (subst (λ i. AreMasters i size (length frames) (flat_map (λ frame. frame) frames) all) id m))
 
   module _ (place : Place) (count j : ℕ) (all masters : List (Option Master))
-      (each : (phase : ℕ) → phase < 4 → master_at masters phase ≡ taken_of receiver.takes (master_at all phase))
+      (each : (phase : ℕ) → phase < 4 → master_at masters phase ≡ taken_of (is_wanted receiver.ports) (master_at all phase))
       (m : AreMasters place.id receiver.count count (values_in (receiver.broadcast recording place) count j) all) where
     -- of those that so many frames from frame j on tell, these are taken
     pub told_in_frames : 1 ≤ count → count ≤ receiver.most_frames → AreTold (IsMasterFor receiver recording) place count j masters
@@ -153,19 +153,19 @@ module _ (receiver : Receiver) (recording : List Sample) where
         sums = sums_by receiver recording place (frames_from count j phase)
 
         by_option : (o : Option Master) → MatchOption o (TellsNothing sums) (TellsMaster sums) →
-            IsToldAt (IsMasterFor receiver recording) place (frames_from count j phase) (taken_of receiver.takes o)
+            IsToldAt (IsMasterFor receiver recording) place (frames_from count j phase) (taken_of (is_wanted receiver.ports) o)
         by_option None none = λ master told. none told.told.word master.ports told.told.tells
-        by_option (Some master) told = settle (receiver.takes master.ports) refl
+        by_option (Some master) told = settle (is_wanted receiver.ports master.ports) refl
           where
-            settle : (b : Bool) → receiver.takes master.ports ≡ b →
+            settle : (b : Bool) → is_wanted receiver.ports master.ports ≡ b →
                 IsToldAt (IsMasterFor receiver recording) place (frames_from count j phase) (if b then Some master else None)
             settle true e = record { few = adds; taken = e; told = told }
             settle false e = λ other t.
                 let same : other ≡ master = same_master other master (one_master sums other master t.told told) in
-                let taken : receiver.takes master.ports ≡ true = subst (λ (m : Master). receiver.takes m.ports ≡ true) same t.taken in
+                let taken : is_wanted receiver.ports master.ports ≡ true = subst (λ (m : Master). is_wanted receiver.ports m.ports ≡ true) same t.taken in
                 cc (e, taken)
 
     -- and none beyond a period
     pub none_beyond : (phase : ℕ) → phase < 4 → 4 < phase + count → master_at masters phase ≡ None
     none_beyond phase below beyond =
-        each phase below ∙ ap (taken_of receiver.takes) ((told_at place.id receiver.count count _ all phase m below).beyond beyond)
+        each phase below ∙ ap (taken_of (is_wanted receiver.ports)) ((told_at place.id receiver.count count _ all phase m below).beyond beyond)

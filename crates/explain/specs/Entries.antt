@@ -12,7 +12,7 @@ use Rattle.lte_types.specs.Frames.{Frames, first_number}
 use Rattle.lte_types.specs.Numerology.{cycle_length, frame_length}
 use Rattle.pbch.specs.declared.master.Master.{Master}
 use Rattle.pbch.specs.Master.{TellsMaster}
-use Rattle.explain.specs.Receiver.{Receiver, one_port_receiver, hits_by, place_by, sums_by}
+use Rattle.explain.specs.Receiver.{Receiver, one_port_receiver, is_wanted, hits_by, place_by, sums_by}
 use Rattle.explain.specs.System.{IsSystemFor}
 use Rattle.explain.specs.Told.{Telling, Informing}
 use Rattle.explain.specs.Window.{AreFirstFrames}
@@ -59,7 +59,7 @@ pub record IsEntryAt (Tells : Telling) (IsSystem : Informing) (recording : List 
 pub record IsMasterFor (receiver : Receiver) (recording : List Sample) (place : Place) (frames : Frames)
     (master : Master) : Type 0 where
   pub few : frames.count ≤ receiver.most_frames
-  pub taken : receiver.takes master.ports ≡ true
+  pub taken : is_wanted receiver.ports master.ports ≡ true
   pub told : TellsMaster (sums_by receiver recording place frames) master
 
 -- the entry tells a master block of the hit

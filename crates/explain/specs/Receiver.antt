@@ -1,5 +1,5 @@
 -- A receiver: a way to read the cells of a recording that send by one kind of carrier. (own)
-use Rattle.std.specs.Prelude.{ℕ, ◌*◌, ◌≤◌, Bool, true, nat_le, if◌then◌else◌, List, filter, ℤ, Result, Ok}
+use Rattle.std.specs.Prelude.{ℕ, ◌*◌, ◌≤◌, Bool, true, nat_eq, nat_le, if◌then◌else◌, List, filter, ℤ, Option, Some, None, Result, Ok}
 use Rattle.cs_num.specs.declared.Sample.{Sample}
 use Rattle.lte_types.specs.CellPlace.{Place}
 use Rattle.lte_types.specs.Frames.{Frames}
@@ -16,6 +16,7 @@ use Rattle.sss_detect.specs.Place.{prefix_place}
 use Rattle.soft_bits.specs.Places.{Valuing, placed_values}
 use Rattle.pbch.specs.Values.{received_values_by, summed_values}
 use Rattle.sib1_reader.specs.Subframe.{Subframe, subframe_by}
+use Rattle.explain.specs.declared.scheme.Scheme.{Scheme}
 use Rattle.explain.specs.Frame.{seen_slot, frame_at, broadcast_slot, values_in}
 
 -- the values of subframe 5 of frame j of the cell at a place, with PHICH of this duration and resource
@@ -31,10 +32,23 @@ pub record Receiver : Type 0 where
   pub broadcast : List Sample → Place → ℕ → List ℤ
   -- how many frames there are at most of which the values are added for one master block
   pub most_frames : ℕ
-  -- a master block with a number of antenna ports is taken
-  pub takes : ℕ → Bool
+  -- the count of antenna ports that a master block has to tell; where there is none, each is taken
+  pub ports : Option ℕ
   -- the values of subframe 5, by which system information is read, or why it is not
   pub subframe : Result Subframes Sib1Reason
+
+-- the constants of a receiver
+abbrev pub scheme_of : Receiver → Scheme
+scheme_of receiver = record {
+  carrier = receiver.carrier;
+  most_frames = receiver.most_frames;
+  ports = receiver.ports;
+}
+
+-- a master block with this count of antenna ports is taken, where one count or none is asked for
+abbrev pub is_wanted : Option ℕ → ℕ → Bool
+is_wanted None count = true
+is_wanted (Some wanted) count = nat_eq count wanted
 
 -- ---- receivers by slots with the normal prefix, and by a way to make soft values of their places
 
@@ -46,19 +60,19 @@ subframes_by carrier values recording place j =
     subframe_by carrier values (seen_slot recording (frame_at place.start j) 10 place.id)
     (seen_slot recording (frame_at place.start j) 11 place.id)
 
-abbrev pub by_slots : Carrier → (ℕ → Bool) → Valuing → Receiver
-by_slots kind taken values = record {
+abbrev pub by_slots : Carrier → Option ℕ → Valuing → Receiver
+by_slots kind wanted values = record {
   carrier = kind;
   count = 480;
   broadcast = broadcast_by values;
   most_frames = 4;
-  takes = taken;
+  ports = wanted;
   subframe = Ok (subframes_by kind values);
 }
 
 -- the receiver of one antenna port: each master block is taken, whatever ports it tells
 abbrev pub one_port_receiver : Receiver
-one_port_receiver = by_slots OnePort (λ ports. true) placed_values
+one_port_receiver = by_slots OnePort None placed_values
 
 -- ---- what a receiver makes of a recording
 

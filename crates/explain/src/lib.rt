@@ -17,6 +17,7 @@ mod places;
 mod reading;
 mod reading_list;
 mod readings;
+mod scheme;
 mod scrambled_cell;
 mod slots;
 mod system;
@@ -25,7 +26,7 @@ mod workspace;
 pub use cells::{explain, place_in, values_of};
 pub use entry_list::EntryList;
 pub use frame::{broadcast_slot, is_whole};
-pub use frame_reader::FrameReader;
+pub use frame_reader::{FrameReader, NumberedCell};
 pub use grant::{grant_of, one_grant};
 pub use laws::{
     DECIDING_SAMPLES, one_frame_is_enough, one_reading, the_first_frames_decide,
@@ -34,6 +35,7 @@ pub use laws::{
 pub use one_port::OnePort;
 pub use reading::{explain_by, explain_hits};
 pub use readings::Reading;
+pub use scheme::Scheme;
 pub use slots::{received_in, slot_of};
 pub use system::{Informed, even_frame, system_in};
 pub use workspace::Workspace;

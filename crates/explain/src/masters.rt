@@ -6,7 +6,7 @@ ghost use Rattle.arrayvec.specs.ArrayVec.{array_vec_len};
 ghost use Rattle.cs_num.specs.declared.Sample.{Sample};
 ghost use Rattle.pbch.specs.Master.{master_at};
 ghost use Rattle.explain.specs.Frame.{IsWhole};
-ghost use Rattle.explain.specs.Receiver.{sums_by};
+ghost use Rattle.explain.specs.Receiver.{is_wanted, sums_by};
 ghost use Rattle.explain.specs.Entries.{IsMasterFor};
 ghost use Rattle.explain.specs.Masters.{HaveMasters, AreFirstWith};
 ghost use Rattle.explain.specs.Readings.{AreSums};
@@ -52,7 +52,7 @@ pub(crate) fn first_masters<F: FrameReader>(
 {
     let whole = whole_frames(recording, place);
     let cell = ScrambledCell::new(place);
-    let most = reader.most_frames();
+    let most = reader.scheme().most_frames;
     let mut frames = ReceivedFrames::new();
     match first_alone(reader, recording, &cell, whole, &mut frames, work) {
         Some(found) => return Some(found),
@@ -188,7 +188,7 @@ fn masters_of<F: FrameReader>(
 fn taken<F: FrameReader>(reader: &F, all: &[Option<Master>; 4]) -> [Option<Master>; 4]
     ensures length { length result ≡ 4 }
     ensures each { (phase : ℕ) → phase < 4 →
-        master_at result phase ≡ taken_of F.receiver.takes (master_at all.now phase) }
+        master_at result phase ≡ taken_of (is_wanted F.receiver.ports) (master_at all.now phase) }
 {
     [
         taken_one(reader, all[0]),
@@ -200,11 +200,11 @@ fn taken<F: FrameReader>(reader: &F, all: &[Option<Master>; 4]) -> [Option<Maste
 
 // A master block, where it is taken.
 fn taken_one<F: FrameReader>(reader: &F, found: Option<Master>) -> Option<Master>
-    ensures { result ≡ taken_of F.receiver.takes found }
+    ensures { result ≡ taken_of (is_wanted F.receiver.ports) found }
 {
     match found {
         Some(master) => {
-            if reader.takes_ports(master.ports) {
+            if reader.scheme().takes(master.ports) {
                 Some(master)
             } else {
                 None

@@ -4,9 +4,9 @@ ghost use Rattle.explain.specs.Receiver.{one_port_receiver};
 
 use crate::slots::received_in;
 use crate::system::system_in;
-use crate::{FrameReader, Informed};
-use lte_types::{Carrier, CellPlace, Sfn};
-use pbch::{Master, Received};
+use crate::{FrameReader, Informed, NumberedCell, Scheme};
+use lte_types::{Carrier, CellPlace};
+use pbch::Received;
 use sample_file::Recording;
 use sib1_reader::Decoders;
 use soft_bits::Slot;
@@ -17,30 +17,24 @@ pub struct OnePort;
 impl FrameReader for OnePort {
     ghost receiver = { one_port_receiver };
 
-    fn carrier(&self) -> Carrier {
-        Carrier::OnePort
+    fn scheme(&self) -> Scheme {
+        Scheme {
+            carrier: Carrier::OnePort,
+            most_frames: 4,
+            ports: None,
+        }
     }
 
     fn received(&self, recording: &Recording, place: CellPlace, j: u8) -> Received {
         received_in::<Slot>(recording, place, j)
     }
 
-    fn most_frames(&self) -> u8 {
-        4
-    }
-
-    fn takes_ports(&self, ports: u8) -> bool {
-        true
-    }
-
     fn system_of(
         &self,
         recording: &Recording,
-        place: CellPlace,
-        sfn: Sfn,
-        master: Master,
+        cell: &NumberedCell,
         work: &mut Decoders,
     ) -> Informed {
-        system_in::<Slot>(recording, place, sfn, master, work)
+        system_in::<Slot>(recording, cell.place, cell.sfn, cell.master, work)
     }
 }

@@ -19,7 +19,7 @@ use crate::hit_list::{early_hits, place_told};
 use crate::masters::{Masters, first_masters};
 use crate::notes::Notes;
 use crate::reading_list::Readings;
-use crate::{EntryList, FrameReader, Reading, Workspace};
+use crate::{EntryList, FrameReader, NumberedCell, Reading, Workspace};
 use dci::Grant;
 use lte_types::{CellPlace, Cfi, Entry, Frames, Hit};
 use pbch::Master;
@@ -88,7 +88,7 @@ fn read_hits<F: FrameReader>(
     ensures valid { All (λ entry. IfOk entry.sib1 IsValid) list.new }
 {
     hits_are_right();
-    let first = early_hits(hits, reader.carrier());
+    let first = early_hits(hits, reader.scheme().carrier);
     list.clear();
     notes.places.clear();
     notes.readings.clear();
@@ -146,7 +146,7 @@ fn add_hit<F: FrameReader>(
     ensures one_met { length notes.new.places ≤ length notes.old.places + 1 }
     ensures few { length list.new ≤ length list.old + 4 }
 {
-    let place = place_told(recording, hit, reader.carrier());
+    let place = place_told(recording, hit, reader.scheme().carrier);
     if notes.places.has(&place) {
         return;
     }
@@ -270,7 +270,8 @@ fn entry_of<F: FrameReader>(
     ensures granted { IsGrantFor F.receiver recording.now place result.0.sfn master.mib result.0.sib1 result.1 }
 {
     let sfn = frames.first_number(master.mib.upper);
-    let informed = reader.system_of(recording, place, sfn, master, work);
+    let cell = NumberedCell { place, sfn, master };
+    let informed = reader.system_of(recording, &cell, work);
     let entry = Entry {
         id: place.id(),
         start: place.start(),

@@ -7,7 +7,7 @@ use Rattle.soft_bits.specs.Pairs.{over_four}
 use Rattle.budget.proofs.Seen.{four_amplitudes_are_seen_in_recording}
 use Rattle.two_ports.proofs.Energies.{four_squares}
 use Rattle.two_ports.proofs.ReceivedPairs.{received_pair_speaks_by}
-use Rattle.two_ports.proofs.Values.{IsPairing, HavePart, values_speak}
+use Rattle.two_ports.proofs.Values.{IsPairing, Margins, AreMargins, HavePart, values_speak}
 use Rattle.four_ports.specs.Received.{PairValuesSpeak, ReceivedPairSpeaks}
 
 is_over_four : IsPairing over_four
@@ -24,8 +24,26 @@ have_part gains paired = record { each = λ i. by (i % 2) (omega arith) }
 -- 36 * 900^2 * 16200 * 8 / 3 of the channels, where the pair's gains have three eighths, and 900^2 * 8 / 3 of what is seen; the energy's
 -- 6340239360, and six times 34517463575, are less than 540 * 398131200. With 912 in place of 900 they are more, so that no quota of 8
 -- follows
+abbrev four_margins : Margins
+four_margins = record {
+  most = 900;
+  weight = 5;
+  part = 3;
+  whole = 8;
+  estimate = 1259712000000;
+  seen = 2160000;
+  seen_root = 2079;
+  estimate_root = 285708484;
+  both_root = 3299077399;
+  energy = 6340239360;
+  least = 1;
+}
+
+four_margins_hold : AreMargins over_four four_margins
+four_margins_hold = grind arith
+
 pub pair_values_speak : PairValuesSpeak
-pair_values_speak gains paired = values_speak over_four 900 5 3 8 1259712000000 2160000 2079 285708484 3299077399 6340239360 1 is_over_four (grind arith) gains (have_part gains paired)
+pair_values_speak gains paired = values_speak over_four four_margins is_over_four four_margins_hold gains (have_part gains paired)
 
 pub received_pair_speaks : ReceivedPairSpeaks
 received_pair_speaks gains paired = received_pair_speaks_by over_four 7 900 1 four_amplitudes_are_seen_in_recording gains (pair_values_speak gains paired)

@@ -1,6 +1,5 @@
--- The list of the cells with four antenna ports that a recording explains, by the values of pairs, to the master block.
--- (own)
-use Rattle.std.specs.Prelude.{ℕ, Bool, nat_eq, List, Err}
+-- The list of the cells with four antenna ports in a recording, by transmit diversity pairs, up to the MIB. (own)
+use Rattle.std.specs.Prelude.{List, Some, Err}
 use Rattle.cs_num.specs.declared.Sample.{Sample}
 use Rattle.lte_types.specs.declared.carrier.Carrier.TheVariants.{FourPorts}
 use Rattle.lte_types.specs.declared.sib1_reason.Sib1Reason.TheVariants.{NotOnePort}
@@ -11,19 +10,15 @@ use Rattle.explain.specs.Entries.{IsListFor}
 use Rattle.explain.specs.declared.readings.Reading.{Reading}
 use Rattle.explain.specs.Readings.{IsReadingFor}
 
--- four antenna ports are told: the check has the mask 5555 (TS 36.212 section 5.3.1.1)
-abbrev pub are_four : ℕ → Bool
-are_four ports = nat_eq ports 4
-
--- the receiver of four antenna ports: by the values of pairs, master blocks that tell four are taken, and no others;
--- subframe 5 is not read
+-- the receiver of four antenna ports: it reads pairs, and takes only MIBs with four antenna ports, whose CRC has the
+-- mask 5555 (TS 36.212 section 5.3.1.1); subframe 5 is not read
 abbrev pub four_ports_receiver : Receiver
 four_ports_receiver = record {
   carrier = FourPorts;
   count = 480;
   broadcast = broadcast_by (paired_by over_four);
   most_frames = 4;
-  takes = are_four;
+  ports = Some 4;
   subframe = Err (NotOnePort 4);
 }
 

@@ -1,17 +1,17 @@
-//! The way to read frames with four antenna ports.
+//! The receiver of four antenna ports.
 
 ghost use Rattle.soft_bits.specs.Pairs.{over_four};
 ghost use Rattle.four_ports.specs.Entries.{four_ports_receiver};
 
-use explain::{FrameReader, Informed, received_in};
-use lte_types::{Carrier, CellPlace, Sfn, Sib1Reason};
-use pbch::{Master, Received};
+use explain::{FrameReader, Informed, NumberedCell, Scheme, received_in};
+use lte_types::{Carrier, CellPlace, Sib1Reason};
+use pbch::Received;
 use sample_file::Recording;
 use sib1_reader::Decoders;
 use soft_bits::{PortSlot, Ports};
 
-/// The way to read frames with four antenna ports, to the master block: those that tell four are taken, and no
-/// others. (own)
+/// The receiver of four antenna ports. It takes MIBs with exactly four antenna ports, and does not read system
+/// information. (own)
 pub struct FourPorts;
 
 /// A slot of a cell with four antenna ports.
@@ -37,28 +37,22 @@ impl Ports for FourPorts {
 impl FrameReader for FourPorts {
     ghost receiver = { four_ports_receiver };
 
-    fn carrier(&self) -> Carrier {
-        Carrier::FourPorts
+    fn scheme(&self) -> Scheme {
+        Scheme {
+            carrier: Carrier::FourPorts,
+            most_frames: 4,
+            ports: Some(4),
+        }
     }
 
     fn received(&self, recording: &Recording, place: CellPlace, j: u8) -> Received {
         received_in::<FourSlot>(recording, place, j)
     }
 
-    fn most_frames(&self) -> u8 {
-        4
-    }
-
-    fn takes_ports(&self, ports: u8) -> bool {
-        ports == 4
-    }
-
     fn system_of(
         &self,
         recording: &Recording,
-        place: CellPlace,
-        sfn: Sfn,
-        master: Master,
+        cell: &NumberedCell,
         work: &mut Decoders,
     ) -> Informed {
         Informed {

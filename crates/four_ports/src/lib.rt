@@ -1,6 +1,8 @@
-//! Cells with four antenna ports, which send by transmit diversity (TS 36.211 section 6.3.4.3): that the soft values of
-//! pairs of places speak for what was sent, the list of the cells of a recording, to the master block, and that a
-//! faithful recording's list holds its cell.
+//! The list of cells with four antenna ports, up to the MIB. They send by transmit diversity (TS 36.211 section
+//! 6.3.4.3). The list misses no cell with clean reception, since the soft values of a pair have the signs of the sent
+//! bits.
+//!
+//! Tests: `list_tests/src/four_antenna_ports.rt`.
 #![tactic(auto)]
 
 mod clean;

@@ -1,5 +1,5 @@
--- The list of the cells that a recording explains by the extended cyclic prefix, to the master block. (own)
-use Rattle.std.specs.Prelude.{◌≡◌, ℕ, ◌/◌, ◌%◌, true, List, slice_index_or, ℤ, pos, Err}
+-- The list of the cells with the extended cyclic prefix in a recording, up to the MIB. (own)
+use Rattle.std.specs.Prelude.{◌≡◌, ℕ, ◌/◌, ◌%◌, List, slice_index_or, ℤ, pos, None, Err}
 use Rattle.cs_num.specs.declared.Sample.{Sample}
 use Rattle.cs_num.specs.Complex.{times, conjugate}
 use Rattle.finite.specs.Lists.{values_below}
@@ -23,7 +23,7 @@ use Rattle.grid_map.specs.LongBroadcast.{long_places}
 
 -- ---- frames
 
--- slot 1 of frame j of a cell's start, which carries the broadcast channel, as it is seen: its six symbols
+-- slot 1 of frame j of a cell, which carries the broadcast channel: its six received symbols
 unfoldable pub long_slot : List Sample → ℕ → ℕ → ℕ → SeenSlot
 long_slot recording identity start j =
     record {
@@ -36,13 +36,13 @@ long_slot recording identity start j =
 unfoldable pub ArePilots : SeenSlot → SeenLine → Type 0
 ArePilots slot pilots = pilots ≡ seen_line (line_of LongPrefix 0 slot) slot
 
--- the soft values of a place of slot 1, by the reference signals of symbols 0 and 3
+-- the soft values of a resource element of slot 1, by the reference signals of symbols 0 and 3
 unfoldable pub long_pair : SeenSlot → GridPlace → List ℤ
 long_pair slot p =
     soft_pair (times (seen_at slot p.symbol p.k) (conjugate (pattern_channel long_prefix slot p.k)))
     (pattern_energy long_prefix slot)
 
--- value i of the 432 of the broadcast channel: two of each place, real before imaginary
+-- soft value i of the 432 of the broadcast channel: two of each resource element, the real part first
 abbrev pub long_value : SeenSlot → ℕ → ℤ
 long_value slot i =
     slice_index_or (long_pair slot (slice_index_or (long_places slot.identity) (i / 2) (place 0 0))) (i % 2) (pos 0)
@@ -52,15 +52,15 @@ long_values slot = values_below 432 (long_value slot)
 
 -- ---- the receiver
 
--- the receiver of the extended prefix has 432 values of the broadcast channel in a frame, adds no frames, and takes
--- each master block, whatever ports it tells; subframe 5 is not read
+-- the receiver of the extended prefix has 432 soft values of the broadcast channel in a frame, adds no frames, and
+-- takes each MIB, whatever antenna port count it carries; subframe 5 is not read
 abbrev pub long_prefix_receiver : Receiver
 long_prefix_receiver = record {
   carrier = LongPrefix;
   count = 432;
   broadcast = λ recording place j. long_values (long_slot recording place.id place.start j);
   most_frames = 1;
-  takes = λ ports. true;
+  ports = None;
   subframe = Err Extended;
 }
 

@@ -1,5 +1,7 @@
-//! The extended cyclic prefix, to the master block: what is sent of a plan, recordings by number, the list of the cells
-//! that a recording explains by it, and that it holds each clean cell (TS 36.211 sections 6.6, 6.10.1, 6.11 and 6.12).
+//! The extended cyclic prefix, up to the MIB: the samples that a plan sends, numbered synthetic recordings, and the
+//! cell list, which misses no cell with clean reception (TS 36.211 sections 6.6, 6.10.1, 6.11 and 6.12).
+//!
+//! Tests: `list_tests/src/extended_prefix.rt`.
 #![tactic(auto)]
 
 mod listing;

@@ -1,4 +1,4 @@
-//! The list of the cells of a recording.
+//! The list of cells with the extended cyclic prefix.
 
 ghost use Rattle.std.specs.Prelude.{◌≡◌, All, IfOk, Err};
 ghost use Rattle.std.specs.List.{AllZip};
@@ -18,18 +18,9 @@ impl CleanReader for ExtendedPrefix {
     fn holds_cells() {}
 }
 
-/// Afterwards the list is that of the recording by the extended cyclic prefix, whatever it held before. Each hit
-/// with 160 samples before it tells an identity and a start of frames, by the secondary signal 160 samples earlier.
-/// The first of its whole frames 0 to 7 that has a master block at any phase, by its own values, gives an entry for
-/// each of its master blocks, by phase; frames are not added (`single`). The reason of an entry is `LongPrefix`. An
-/// entry is dropped where a kept one before it has the same identity and an epoch at most 9 samples away, modulo
-/// 1,024 frames; the list is in order of start, identity and frame number.
-///
-/// It holds each cell to which the recording is faithful (`clean_air::explain_clean_by`), by a plan whose identity is
-/// at most 503 and whose spare bits are at most 1,023, times a gain in parts of 2^-14 of size 1 and more, where the
-/// energy of the errors in each symbol that it looks at is at most 1,800 times the gain's square. So it holds each of
-/// which the recording is clean, times a whole gain of size 1 to 28, each component off by at most twice the gain's
-/// size; of a plan with the extended prefix alone `holds` says the same. (own)
+/// Lists the cells with the extended cyclic prefix by `clean_air::explain_clean_by`: a MIB is read from one frame
+/// (`single`), whatever antenna port count it carries. SystemInformationBlockType1 is not read: each entry has the
+/// reason `LongPrefix`. For plans that only have the extended prefix, `holds` states the same promise. (own)
 pub fn explain_clean(recording: &Recording, work: &mut Workspace3, list: &mut EntryList)
     ensures list { IsListBy long_prefix_receiver recording.now list.new }
     ensures readings { AllZip (IsReadingOfLong recording.now) list.new work.new }
@@ -38,5 +29,5 @@ pub fn explain_clean(recording: &Recording, work: &mut Workspace3, list: &mut En
     ensures reason { All (λ entry. entry.sib1 ≡ Err IsLong) list.new }
     ensures valid { All (λ entry. IfOk entry.sib1 IsValid) list.new }
 {
-    explain_clean_by(&ExtendedPrefix, recording, work, list);
+    explain_clean_by(&ExtendedPrefix, recording, None, work, list);
 }

@@ -1,4 +1,4 @@
-//! The way to read frames with the extended cyclic prefix.
+//! The receiver of the extended cyclic prefix.
 
 ghost use Rattle.std.specs.Prelude.{◌≡◌, ◌+◌, ◌*◌, ◌^◌, ◌<◌, ◌≤◌, All, length};
 ghost use Rattle.finite.specs.Lists.{values_below};
@@ -15,44 +15,38 @@ ghost use Rattle.explain.specs.Frame.{IsWhole};
 ghost use Rattle.long_prefix.specs.Entries.{long_slot, ArePilots, long_pair, long_values, long_prefix_receiver};
 
 use cs_num::Cpx;
-use explain::{FrameReader, Informed};
+use explain::{FrameReader, Informed, NumberedCell, Scheme};
 use grid_map::{Place, long_places};
-use lte_types::{Carrier, CellPlace, FRAME_LENGTH, Prefix, Sfn, Sib1Reason};
+use lte_types::{Carrier, CellPlace, FRAME_LENGTH, Prefix, Sib1Reason};
 use observe::symbol;
-use pbch::{Master, Received};
+use pbch::Received;
 use sample_file::Recording;
 use sib1_reader::Decoders;
 use soft_bits::{Pilots, Seen, energy_of, pilots_of, soft_pair};
 
-/// The way to read frames with the extended cyclic prefix, to the master block: each is taken, whatever ports it
-/// tells. (own)
+/// The receiver of the extended cyclic prefix. It takes every MIB, whatever antenna port count it carries, and does not
+/// read system information. (own)
 pub struct ExtendedPrefix;
 
 impl FrameReader for ExtendedPrefix {
     ghost receiver = { long_prefix_receiver };
 
-    fn carrier(&self) -> Carrier {
-        Carrier::LongPrefix
+    fn scheme(&self) -> Scheme {
+        Scheme {
+            carrier: Carrier::LongPrefix,
+            most_frames: 1,
+            ports: None,
+        }
     }
 
     fn received(&self, recording: &Recording, place: CellPlace, j: u8) -> Received {
         long_frame(recording, place, j).values
     }
 
-    fn most_frames(&self) -> u8 {
-        1
-    }
-
-    fn takes_ports(&self, ports: u8) -> bool {
-        true
-    }
-
     fn system_of(
         &self,
         recording: &Recording,
-        place: CellPlace,
-        sfn: Sfn,
-        master: Master,
+        cell: &NumberedCell,
         work: &mut Decoders,
     ) -> Informed {
         Informed {
@@ -91,21 +85,20 @@ fn symbols_of(recording: &Recording, frame: usize) -> [[Cpx; 72]; 6]
     ]
 }
 
-/// What is read of slot 1 of a frame with the extended cyclic prefix, which carries the broadcast channel. (own)
+/// The measurements of slot 1 of a frame with the extended cyclic prefix, which carries the broadcast channel. (own)
 #[derive(Drop)]
 pub struct LongFrame {
-    /// The 24 pilots, in the order of subcarriers: what was seen at each reference place of symbols 0 and 3 times the
-    /// conjugate of what was sent.
+    /// The 24 pilots in the order of their subcarriers: each received reference element of symbols 0 and 3, times the
+    /// conjugate of the sent one.
     pub pilots: Pilots,
-    /// The sum of the squares of the sizes of what was seen at these places.
+    /// The sum of the squared magnitudes of the received reference elements.
     pub energy: u64,
-    /// The 432 soft values of the broadcast channel as they were received: two of each place, in the order of the
-    /// places.
+    /// The 432 soft values of the broadcast channel in received order, two of each resource element.
     pub values: Received,
 }
 
-/// What is read of frame `j` of a cell with the extended cyclic prefix. The frame lies within the recording. The energy
-/// of the pilots is at most 24 * 2^51.
+/// Measures slot 1 of frame `j` of a cell with the extended cyclic prefix. The frame lies within `recording`. The pilot
+/// energy is at most 24 * 2^51.
 pub fn long_frame(recording: &Recording, place: CellPlace, j: u8) -> LongFrame
     requires { IsWhole recording.now place.start j }
     ensures pilots { result.pilots

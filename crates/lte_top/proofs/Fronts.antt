@@ -1,5 +1,5 @@
 -- What a report needs of a recording stands in the samples that are kept for it.
-use Rattle.std.proofs.Common.{◌≡◌, ℕ, suc, ◌≤◌, Bool, true, false, nat_le, List, [], ◌∷◌, length, map, take, refl, ap, ap₂, subst, ◌∙◌, arith}
+use Rattle.std.proofs.Common.{◌≡◌, ℕ, suc, ◌≤◌, Bool, true, false, nat_le, List, [], ◌∷◌, None, Some, length, map, take, refl, ap, ap₂, subst, ◌∙◌, arith}
 use Rattle.std.specs.Prelude.{All}
 use Rattle.std.proofs.lemmas.Bool.Decides.{nat_tests}
 use Rattle.std.proofs.lemmas.List.{take_all, take-take, length-take-le}
@@ -22,7 +22,6 @@ use Rattle.soft_bits.specs.Pairs.{over_two, over_four, paired_by}
 use Rattle.soft_bits.specs.Places.{placed_values}
 use Rattle.explain.specs.Deciding.{deciding_length, LooksAtFirstFrames}
 use Rattle.explain.proofs.Deciding.{decided, broadcast_agrees, slots_look}
-use Rattle.two_ports.specs.Entries.{are_two}
 use Rattle.long_prefix.proofs.Deciding.{long_looks}
 use Rattle.report.specs.Hits.{hits_text, ids_text}
 use Rattle.report.specs.HitsJson.{hits_json, ids_json}
@@ -44,8 +43,8 @@ use Rattle.lte_top.proofs.Ending.{recording_unrefused}
 
 -- the receiver of a carrier looks at the first frames alone
 looks : (carrier : Carrier) → LooksAtFirstFrames (receiver_of carrier)
-looks OnePort = slots_look OnePort (λ ports. true) placed_values
-looks TwoPorts = slots_look TwoPorts are_two (paired_by over_two)
+looks OnePort = slots_look OnePort None placed_values
+looks TwoPorts = slots_look TwoPorts (Some 2) (paired_by over_two)
 looks LongPrefix = long_looks
 looks FourPorts = record {
   broadcast = broadcast_agrees (paired_by over_four);

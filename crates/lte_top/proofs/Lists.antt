@@ -10,8 +10,6 @@ use Rattle.cs_num.specs.declared.Sample.{Sample}
 use Rattle.lte_types.specs.declared.entry.Entry.{Entry}
 use Rattle.lte_types.specs.declared.carrier.Carrier.{Carrier}
 use Rattle.lte_types.specs.Carrier.{carriers}
-use Rattle.sample_file.specs.Recording.{IsRecording}
-use Rattle.explain.specs.Entries.{IsListFor}
 use Rattle.explain.proofs.Listed.{is_one_list}
 use Rattle.report.specs.RoundsJson.{IsCancelJson}
 use Rattle.report.proofs.OneText.{one_cancel_text, one_cancel_json}
@@ -22,7 +20,6 @@ use Rattle.lte_args.specs.declared.form.Rule.TheVariants.{Of, Cancel, All}
 use Rattle.lte_top.specs.Line.{as_line, IsLine}
 use Rattle.evidence.specs.Receivers.{receiver_of}
 use Rattle.lte_types.proofs.Carriers.{each_stands}
-use Rattle.lte_top.proofs.Carriers.{list_holds}
 use Rattle.lte_top.specs.Searching.{IsListOf, list_text, lists_text, IsListText, IsTextOfAll, IsCancelled, IsSearch}
 
 -- ---- lists
@@ -57,16 +54,16 @@ made_of R of one (x ∷ xs) [] all = absurd all
 made_of R of one (x ∷ xs) (y ∷ ys) all = ap (λ z. z ∷ ys) (one x y all.0) ∙ ap (λ l. of x ∷ l) (made_of R of one xs ys all.1)
 
 -- they are one for each carrier, and the text of these is theirs
-pub all_text_is : (output : Output) (samples : List Sample) (lists : List (List Entry)) (r : Result (String Global) AllocError) → IsRecording samples →
-    AllZip (λ carrier. IsListFor (receiver_of carrier) samples) carriers lists →
+pub all_text_is : (output : Output) (samples : List Sample) (lists : List (List Entry)) (r : Result (String Global) AllocError) →
+    AllZip (λ carrier. IsListOf carrier samples) carriers lists →
     ((of : Carrier → List Entry) → lists ≡ map of carriers → IfOk r (λ text. string_bytes text ≡ lists_text output of)) → IfOk r (λ text. IsTextOfAll output samples (string_bytes text))
-all_text_is output samples lists r valid listed texts =
-    let Is : Carrier → List Entry → Type 0 = λ carrier. IsListFor (receiver_of carrier) samples in
+all_text_is output samples lists r listed texts =
+    let Is : Carrier → List Entry → Type 0 = λ carrier. IsListOf carrier samples in
     let of : Carrier → List Entry = λ carrier. get_or lists (each_stands carrier).0 [] in
     let each : (carrier : Carrier) → Is carrier (of carrier) = λ carrier. let place = each_stands carrier in beside Is carriers lists [] place.0 carrier listed place.1 place.2 in
-    let same : lists ≡ map of carriers = made_of Is of (λ carrier list is. is_one_list (receiver_of carrier) samples list (of carrier) is (each carrier)) carriers lists listed in
+    let same : lists ≡ map of carriers = made_of Is of (λ carrier list is. one_list carrier samples list (of carrier) is (each carrier)) carriers lists listed in
     IfOk-weaker r (λ text. string_bytes text ≡ lists_text output of) (λ text. IsTextOfAll output samples (string_bytes text))
-    (λ text is. record { lists = of; are_lists = λ carrier. list_holds carrier samples (of carrier) valid (each carrier); text_is = is }) (texts of same)
+    (λ text is. record { lists = of; are_lists = each; text_is = is }) (texts of same)
 
 one_text_of_all : (output : Output) (samples : List Sample) (first second : List ℕ) → IsTextOfAll output samples first → IsTextOfAll output samples second → first ≡ second
 one_text_of_all output samples first second a b =

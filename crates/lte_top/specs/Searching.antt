@@ -47,7 +47,8 @@ abbrev pub lists_text : Output → (Carrier → List Entry) → List ℕ
 lists_text Text lists = all_text lists
 lists_text Json lists = as_line (all_json lists)
 
--- the list of each carrier in the recording, as this text
+-- the list of each carrier in the recording, each with its promise that no cell with clean reception is missing
+-- (`IsListOf`), as this text
 pub record IsTextOfAll (output : Output) (samples : List Sample) (text : List ℕ) : Type 0 where
   pub lists : Carrier → List Entry
   pub are_lists : (carrier : Carrier) → IsListOf carrier samples (lists carrier)

@@ -1,18 +1,18 @@
 //! The lists of a recording by every rule.
 
-ghost use Rattle.std.specs.Prelude.{◌≡◌, IfOk, List, length, map, string_bytes};
+ghost use Rattle.std.specs.Prelude.{◌≡◌, IfOk, IfSome, List, length, map, string_bytes};
 ghost use Rattle.std.specs.List.{AllZip};
 ghost use Rattle.lte_types.specs.Carrier.{carriers};
 ghost use Rattle.sample_file.specs.Recording.{IsRecording};
 ghost use Rattle.pss_search.specs.Hits.{hits_of as all_hits};
-ghost use Rattle.explain.specs.Entries.{IsListFor};
 ghost use Rattle.explain.specs.Readings.{IsReadingFor};
 ghost use Rattle.evidence.specs.Receivers.{receiver_of};
 ghost use Rattle.lte_top.specs.Searching.{IsListOf, IsListText, IsTextOfAll, IsCancelled, IsSearch};
 ghost use Rattle.lte_top.specs.Searching.{list_text as text_of, lists_text as texts_of};
 
 use crate::reporting::{hits_of, line_of};
-use explain::{EntryList, FrameReader, OnePort, Workspace, explain_hits};
+use clean_air::explain_clean_by;
+use explain::{EntryList, OnePort, Workspace};
 use four_ports::FourPorts;
 use long_prefix::ExtendedPrefix;
 use lte_args::{Output, Rule};
@@ -94,11 +94,27 @@ pub(crate) fn read_list(
     ensures list { IsListOf carrier recording.now list.new }
     ensures readings { AllZip (IsReadingFor (receiver_of carrier) recording.now) list.new work.new }
 {
+    read_list_by(recording, carrier, None, work, list);
+}
+
+// The one place where the receiver for a carrier's list is chosen. `hits` are those of the recording, if they are at
+// hand.
+fn read_list_by(
+    recording: &Recording,
+    carrier: Carrier,
+    hits: Option<&[Hit]>,
+    work: &mut Workspace,
+    list: &mut EntryList,
+)
+    requires { IfSome hits (λ hits. hits.now ≡ all_hits recording.now) }
+    ensures list { IsListOf carrier recording.now list.new }
+    ensures readings { AllZip (IsReadingFor (receiver_of carrier) recording.now) list.new work.new }
+{
     match carrier {
-        Carrier::OnePort => clean_air::explain_clean(recording, work, list),
-        Carrier::TwoPorts => two_ports::explain_clean(recording, work, list),
-        Carrier::LongPrefix => long_prefix::explain_clean(recording, work, list),
-        Carrier::FourPorts => four_ports::explain_clean(recording, work, list),
+        Carrier::OnePort => explain_clean_by(&OnePort, recording, hits, work, list),
+        Carrier::TwoPorts => explain_clean_by(&TwoPorts, recording, hits, work, list),
+        Carrier::LongPrefix => explain_clean_by(&ExtendedPrefix, recording, hits, work, list),
+        Carrier::FourPorts => explain_clean_by(&FourPorts, recording, hits, work, list),
     }
 }
 
@@ -116,8 +132,7 @@ fn text_of_each(alloc: Global, output: Output, recording: &Recording) -> Result<
 // The list of each carrier in a recording, in the order of `Carrier::ALL`.
 fn lists_of(alloc: Global, recording: &Recording) -> Result<Vec<EntryList>, AllocError>
     requires { IsRecording recording.now }
-    ensures { IfOk result (λ lists. AllZip (λ carrier. IsListFor (receiver_of carrier) recording.now)
-        carriers lists.items) }
+    ensures { IfOk result (λ lists. AllZip (λ carrier. IsListOf carrier recording.now) carriers lists.items) }
 {
     let found = hits_of(alloc, recording)?;
     let hits = found.slice();
@@ -129,7 +144,7 @@ fn lists_of(alloc: Global, recording: &Recording) -> Result<Vec<EntryList>, Allo
     Ok(lists)
 }
 
-// The list of a carrier in a recording, where its hits are at hand.
+// The list of a carrier in a recording, of whose hits each list is made.
 fn list_among(
     alloc: Global,
     carrier: Carrier,
@@ -138,29 +153,10 @@ fn list_among(
     work: &mut Workspace,
 ) -> Result<EntryList, AllocError>
     requires { hits.now ≡ all_hits recording.now }
-    ensures { IfOk result (IsListFor (receiver_of carrier) recording.now) }
-{
-    match carrier {
-        Carrier::OnePort => list_by(alloc, &OnePort, recording, hits, work),
-        Carrier::TwoPorts => list_by(alloc, &TwoPorts, recording, hits, work),
-        Carrier::LongPrefix => list_by(alloc, &ExtendedPrefix, recording, hits, work),
-        Carrier::FourPorts => list_by(alloc, &FourPorts, recording, hits, work),
-    }
-}
-
-// The list of a recording by a receiver, where its hits are at hand.
-fn list_by<F: FrameReader>(
-    alloc: Global,
-    reader: &F,
-    recording: &Recording,
-    hits: &[Hit],
-    work: &mut Workspace,
-) -> Result<EntryList, AllocError>
-    requires { hits.now ≡ all_hits recording.now }
-    ensures { IfOk result (IsListFor F.receiver recording.now) }
+    ensures { IfOk result (IsListOf carrier recording.now) }
 {
     let mut list = EntryList::new(alloc)?;
-    explain_hits(reader, recording, hits, work, &mut list);
+    read_list_by(recording, carrier, Some(hits), work, &mut list);
     Ok(list)
 }
 

@@ -8,7 +8,7 @@ use Rattle.successive_cancel.specs.declared.round.Round.{Round}
 use Rattle.successive_cancel.specs.declared.round.Rounds.{Rounds}
 use Rattle.successive_cancel.specs.Rounds.{IsTakenOff, NoneIsTakenOff, IsCancelled}
 
--- what a recording is, and its list, after a number of rounds
+-- the residual and its list after a number of rounds
 abbrev pub recording_after : ℕ → List Sample → List Round → List Sample
 recording_after zero recording rounds = recording
 recording_after (suc n) recording [] = recording
@@ -19,7 +19,7 @@ list_after zero list rounds = list
 list_after (suc n) list [] = list
 list_after (suc n) list (round ∷ rest) = list_after n round.list rest
 
--- round n takes off the cell of an entry of the list before it, and its own list is that of what is left
+-- round n cancels the cell of an entry of the list before it, and has the list of the residual
 pub record IsRoundIn (recording : List Sample) (list : List Entry) (rounds : List Round) (n : ℕ) : Type 0 where
   pub entry : Entry
   pub round : Round
@@ -28,8 +28,8 @@ pub record IsRoundIn (recording : List Sample) (list : List Entry) (rounds : Lis
   pub residue : recording_after (suc n) recording rounds ≡ round.taken.residue
   pub listed : IsListOfCells round.taken.residue (list_after (suc n) list rounds)
 
--- rounds in plain words: at most `most` take a cell off, and fewer exactly where one follows that takes off none,
--- since the cell of no entry of the last list can be taken off
+-- the rounds in plain words: at most `most` cancel a cell, and fewer exactly if a round follows that cancels none,
+-- since no entry of the last list can be cancelled
 pub record AreInPlainWords (most : ℕ) (recording : List Sample) (list : List Entry) (rounds : List Round)
     (ended : Bool) : Type 0 where
   pub few : length rounds ≤ most

@@ -6,12 +6,12 @@ use Rattle.cancel.specs.declared.subtracted.Subtracted.{Subtracted}
 use Rattle.successive_cancel.specs.declared.round.Round.{Round}
 use Rattle.successive_cancel.specs.Rounds.{IsTakenOff, NoneIsTakenOff, IsRound}
 
--- an entry's cell is taken off, or cannot be
+-- an entry's cell is cancelled, or cannot be
 abbrev pub IsTakenIf : List Sample → Entry → Option Subtracted → Type 0
 IsTakenIf recording entry (Some taken) = IsTakenOff recording entry taken
 IsTakenIf recording entry None = (taken : Subtracted) → IsTakenOff recording entry taken → ⊥
 
--- a round on a recording with this list, or none where none can be made
+-- a round on a recording with this list, or none if none can be made
 abbrev pub IsNextRound : List Sample → List Entry → Option Round → Type 0
 IsNextRound recording list (Some round) = IsRound recording list round
 IsNextRound recording list None = NoneIsTakenOff recording list

@@ -1,4 +1,7 @@
-//! Found cells are taken off a recording one after the other, and what is left is searched again.
+//! Successive interference cancellation: listed cells are cancelled one after the other, and what is left is searched
+//! again.
+//!
+//! Tests: `list_tests/src/rounds_of_recordings.rt`.
 #![tactic(auto)]
 
 mod laws;

@@ -22,9 +22,9 @@ use std::alloc::{AllocError, Global};
 // No more rounds are made.
 const MOST_ROUNDS: u8 = 4;
 
-/// The list of a recording, and its rounds: each takes the first entry of the last list whose cell can be taken off
-/// what was left before (`plan_granted` gives its cell, and `subtract_from` takes it off), and makes the list of what is
-/// left then. A round without such an entry is the last, and no more than four are made. Only memory can be wanting. (own)
+/// Returns the cell list of `recording` and its rounds. Each round cancels the first entry of the last list whose cell
+/// can be cancelled (`plan_granted`, `subtract_from`), and lists the residual. At most four rounds are made; they end
+/// early if no entry can be cancelled. Fails only if an allocation fails. (own)
 pub fn cancel_rounds(
     alloc: Global,
     recording: &Recording,

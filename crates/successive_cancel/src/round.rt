@@ -4,24 +4,24 @@ use cancel::Subtracted;
 use explain::EntryList;
 use lte_types::CellId;
 
-/// A round that took a cell off. (own)
+/// A round that cancelled a cell. (own)
 #[derive(Drop)]
 pub struct Round {
-    /// The identity of the cell.
+    /// The identity of the cancelled cell.
     pub id: CellId,
-    /// The gain of the cell, and what is left without it.
+    /// The gain of the cell, and the residual.
     pub taken: Subtracted,
-    /// The list of cells of what is left.
+    /// The cell list of the residual.
     pub list: EntryList,
 }
 
-/// A recording's list, and the rounds that followed. (own)
+/// The cell list of a recording, and the rounds that followed. (own)
 #[derive(Drop)]
 pub struct Rounds {
-    /// The list of the recording.
+    /// The cell list of the recording.
     pub first: EntryList,
-    /// The rounds that took a cell off, in order: at most four.
+    /// The rounds that cancelled a cell, in order: at most four.
     pub taken: Vec<Round>,
-    /// Whether a round followed in which no cell could be taken off. Otherwise there were four.
+    /// Whether a further round found no cell to cancel. If not, there were four.
     pub ended: bool,
 }

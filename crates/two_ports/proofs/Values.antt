@@ -32,20 +32,39 @@ whole_times carrier zero scale slot three six = omega (arith, three)
 whole_times carrier (suc zero) scale slot three six = omega (arith, three)
 whole_times carrier (suc (suc n)) scale slot three six = let e = six (omega arith) in omega (arith, e)
 
--- n is the sum of the squares of all gains, and m that of a pair's, which has at least part / whole of it; off by at most s * m
--- are the channels, by t * m what is seen, all in parts, with u, v and w for the roots, and of at most e * m is the energy of the
--- pilots, 2^28 times, which is told by a weight; values are then of size `least` and more
-pub record AreMargins (pairing : Pairing) (most weight part whole s t u v w e least : ℕ) : Type 0 where
-  pub some : 1 ≤ part
-  pub weighs : 1 ≤ weight
-  pub roots : AreRoots s t u v w
-  pub estimates : pairing.scale * most * (pairing.scale * most) * 16200 * whole ≤ s * part
-  pub seen : most * most * whole ≤ t * part
-  pub sounds : ports_of pairing.carrier * (2 * (most * most)) < 66355200
-  pub energy : (24 * ((weight + 1) * 66355200) + ports_of pairing.carrier * (24 * (weight * (weight + 1) * (most * most)))) * whole ≤ e * weight * part
-  pub speak : 1 ≤ least
-  pub fit : least ≤ 127
-  pub speaks : least * e + 6 * (pairing.scale * 1036800 * u + (64 * v + w)) ≤ 540 * (pairing.scale * 1036800 * 64)
+-- The numbers by which the values of a pairing's pairs speak. N is the sum of the squares of all gains, and M that of a pair's. Errors are
+-- squares, in parts of 2^-14.
+pub record Margins : Type 0 where
+  -- what is seen at a place is off by at most `most` squared times N
+  pub most : ℕ
+  -- how the energy of the pilots is split between what is sent and its errors: any number from 1 on
+  pub weight : ℕ
+  -- M is at least part / whole of N
+  pub part : ℕ
+  pub whole : ℕ
+  -- an estimate of a channel is off by at most this times M, and what is seen at a place by this times M
+  pub estimate : ℕ
+  pub seen : ℕ
+  -- the roots of twice `seen`, of 64800 times `estimate`, and of four times their product, rounded up
+  pub seen_root : ℕ
+  pub estimate_root : ℕ
+  pub both_root : ℕ
+  -- the energy of the pilots is at most this times M, 2^28 times
+  pub energy : ℕ
+  -- the least size of each value
+  pub least : ℕ
+
+pub record AreMargins (pairing : Pairing) (m : Margins) : Type 0 where
+  pub some : 1 ≤ m.part
+  pub weighs : 1 ≤ m.weight
+  pub roots : AreRoots m.estimate m.seen m.seen_root m.estimate_root m.both_root
+  pub estimates : pairing.scale * m.most * (pairing.scale * m.most) * 16200 * m.whole ≤ m.estimate * m.part
+  pub sees : m.most * m.most * m.whole ≤ m.seen * m.part
+  pub sounds : ports_of pairing.carrier * (2 * (m.most * m.most)) < 66355200
+  pub energies : (24 * ((m.weight + 1) * 66355200) + ports_of pairing.carrier * (24 * (m.weight * (m.weight + 1) * (m.most * m.most)))) * m.whole ≤ m.energy * m.weight * m.part
+  pub speak : 1 ≤ m.least
+  pub fit : m.least ≤ 127
+  pub speaks : m.least * m.energy + 6 * (pairing.scale * 1036800 * m.seen_root + (64 * m.estimate_root + m.both_root)) ≤ 540 * (pairing.scale * 1036800 * 64)
 
 -- of which a pair's gains have their part
 by_part : (a b part whole s n m q : ℕ) → 1 ≤ part → a * whole ≤ s * part → part * n ≤ whole * m → b ≤ a * n → q ≤ b → q ≤ s * m
@@ -84,46 +103,48 @@ point-small false true = omega arith
 point-small true false = omega arith
 point-small true true = omega arith
 
-module _ (pairing : Pairing) (most weight part whole s t u v w e least : ℕ) (is : IsPairing pairing) (margins : AreMargins pairing most weight part whole s t u v w e least) (gains : ℕ → Cpx)
-    (have : HavePart pairing part whole gains) where
+module _ (pairing : Pairing) (m : Margins) (is : IsPairing pairing) (margins : AreMargins pairing m) (gains : ℕ → Cpx) (have : HavePart pairing m.part m.whole gains) where
   abbrev n : ℕ
   n = energy_below (ports_of pairing.carrier) gains
 
+  -- the squares of the gains of pair i
+  abbrev pair_squares : ℕ → ℕ
+  pair_squares i = square (gains (pairing.lower i)) + square (gains (pairing.upper i))
+
   -- the channel of a port of pair i
-  channel_off : (slot : SeenSlot) (i port k : ℕ) → port < ports_of pairing.carrier → ArePortsSeen pairing.carrier most gains slot →
-      square (minus (in_parts (port_channel pairing.scale pairing.carrier port slot k)) (multiple (pairing.scale * 1036800) (gains port))) ≤ s * (square (gains (pairing.lower i)) + square (gains (pairing.upper i)))
+  channel_off : (slot : SeenSlot) (i port k : ℕ) → port < ports_of pairing.carrier → ArePortsSeen pairing.carrier m.most gains slot →
+      square (minus (in_parts (port_channel pairing.scale pairing.carrier port slot k)) (multiple (pairing.scale * 1036800) (gains port))) ≤ m.estimate * pair_squares i
   channel_off slot i port k few seen =
       let scale : ℕ = pairing.scale in
       let whole_count = whole_times pairing.carrier port scale slot is.by_three (λ high. is.by_six (omega (arith, high, few))) in
-      let near = port_channel-near most n scale pairing.carrier port (gains port) slot k whole_count (pilots_alone pairing.carrier most gains slot seen port few) in
-      let off = near-off (16200 * n) (gains port) (port_channel scale pairing.carrier port slot k) (scale * 1036800) (scale * most) near in
-      by_part (scale * most * (scale * most) * 16200) _ part whole s n _ _ margins.some margins.estimates (have.each i) (regrouped (scale * most * (scale * most)) 16200 n) off
+      let near = port_channel-near m.most n scale pairing.carrier port (gains port) slot k whole_count (pilots_alone pairing.carrier m.most gains slot seen port few) in
+      let off = near-off (16200 * n) (gains port) (port_channel scale pairing.carrier port slot k) (scale * 1036800) (scale * m.most) near in
+      by_part (scale * m.most * (scale * m.most) * 16200) _ m.part m.whole m.estimate n _ _ margins.some margins.estimates (have.each i) (regrouped (scale * m.most * (scale * m.most)) 16200 n) off
 
-  seen_off : (i : ℕ) (x y z : Cpx) → IsSeenBy (ports_of pairing.carrier) most gains (over (pairing.lower i) (pairing.upper i) x y) z →
-      square (minus (in_parts z) (multiple 64 (plus (times (gains (pairing.lower i)) x) (times (gains (pairing.upper i)) y)))) ≤ t * (square (gains (pairing.lower i)) + square (gains (pairing.upper i)))
+  seen_off : (i : ℕ) (x y z : Cpx) → IsSeenBy (ports_of pairing.carrier) m.most gains (over (pairing.lower i) (pairing.upper i) x y) z →
+      square (minus (in_parts z) (multiple 64 (plus (times (gains (pairing.lower i)) x) (times (gains (pairing.upper i)) y)))) ≤ m.seen * pair_squares i
   seen_off i x y z is_seen =
-      by_part (most * most) _ part whole t n _ _ margins.some margins.seen (have.each i) (omega arith)
-      (subst (λ (a : Cpx). square (minus (in_parts z) (multiple 64 a)) ≤ most * most * n)
+      by_part (m.most * m.most) _ m.part m.whole m.seen n _ _ margins.some margins.sees (have.each i) (omega arith)
+      (subst (λ (a : Cpx). square (minus (in_parts z) (multiple 64 a)) ≤ m.most * m.most * n)
       (received_of_two (ports_of pairing.carrier) (pairing.lower i) (pairing.upper i) gains x y (is.lower i) (is.upper i) (is.apart i)) is_seen.off)
 
-  pub values_speak : SpeakWith gains pairing most least
+  pub values_speak : SpeakWith gains pairing m.most m.least
   values_speak slot i k b c d f at_first at_second ports pair =
       let g : Cpx = gains (pairing.lower i) in
       let o : Cpx = gains (pairing.upper i) in
-      let m : ℕ = square g + square o in
       let h : Cpx = port_channel pairing.scale pairing.carrier (pairing.lower i) slot k in
       let r : Cpx = port_channel pairing.scale pairing.carrier (pairing.upper i) slot k in
       let q : ℕ = ports_energy pairing.carrier slot in
-      let energy = energies pairing.carrier weight most gains slot ports in
-      let some : 1 ≤ q = some_energy (ports_of pairing.carrier) weight most n q margins.sounds ports.sounds energy in
-      let few : 2 ^ 28 * q ≤ e * m = most_energy (ports_of pairing.carrier) weight most part whole e n m q margins.some margins.weighs margins.energy (have.each i) energy in
-      let estimates : AreEstimates (pairing.scale * 1036800) s g o (in_parts h) (in_parts r) = record {
+      let energy = energies pairing.carrier m.weight m.most gains slot ports in
+      let some : 1 ≤ q = some_energy (ports_of pairing.carrier) m.weight m.most n q margins.sounds ports.sounds energy in
+      let few : 2 ^ 28 * q ≤ m.energy * pair_squares i = most_energy (ports_of pairing.carrier) m.weight m.most m.part m.whole m.energy n (pair_squares i) q margins.some margins.weighs margins.energies (have.each i) energy in
+      let estimates : AreEstimates (pairing.scale * 1036800) m.estimate g o (in_parts h) (in_parts r) = record {
         off = channel_off slot i (pairing.lower i) k (is.lower i) ports;
         other_off = channel_off slot i (pairing.upper i) k (is.upper i) ports;
       } in
-      let near = pair_is_combined (pairing.scale * 1036800) s t u v w margins.roots g o h r (point b c) (point d f) at_first at_second estimates (point-small b c) (point-small d f)
+      let near = pair_is_combined (pairing.scale * 1036800) m.estimate m.seen m.seen_root m.estimate_root m.both_root margins.roots g o h r (point b c) (point d f) at_first at_second estimates (point-small b c) (point-small d f)
       (record { first = seen_off i (point b c) (negated (conjugate (point d f))) at_first pair.first; second = seen_off i (point d f) (conjugate (point b c)) at_second pair.second }) in
-      let speaks = near_component_speaks least (pairing.scale * 1036800 * 64) (pairing.scale * 1036800 * u + (64 * v + w)) e margins.speak margins.fit margins.speaks (2 ^ 28) m q in
+      let speaks = near_component_speaks m.least (pairing.scale * 1036800 * 64) (pairing.scale * 1036800 * m.seen_root + (64 * m.estimate_root + m.both_root)) m.energy margins.speak margins.fit margins.speaks (2 ^ 28) (pair_squares i) q in
       record {
         first = speaks b (first_point h r at_first at_second).re (omega arith) some few near.0.within.re;
         second = speaks c (first_point h r at_first at_second).im (omega arith) some few near.0.within.im;
@@ -144,10 +165,46 @@ both gains = record { each = λ i. all }
 
 -- 2 * 1464^2 is below the square of 2071; the energy's 2505047040, and six times 17185671867, are less than 540 * 199065600. With
 -- 1492 in place of 1464 they are more, so that no quota of 425 follows
+abbrev two_margins : Margins
+two_margins = record {
+  most = 1464;
+  weight = 4;
+  part = 1;
+  whole = 1;
+  estimate = 312492556800;
+  seen = 2143296;
+  seen_root = 2071;
+  estimate_root = 142300800;
+  both_root = 1636782267;
+  energy = 2505047040;
+  least = 1;
+}
+
+two_margins_hold : AreMargins over_two two_margins
+two_margins_hold = grind arith
+
 pub pair_values_speak : PairValuesSpeak
-pair_values_speak gains = values_speak over_two 1464 4 1 1 312492556800 2143296 2071 142300800 1636782267 2505047040 1 is_over_two (grind arith) gains (both gains)
+pair_values_speak gains = values_speak over_two two_margins is_over_two two_margins_hold gains (both gains)
 
 -- with smaller errors: 2 * 1024^2 is below the square of 1449; 16 times the energy's 2244575232, and six times 11678307840, are less
 -- than 540 * 199065600
+abbrev quiet_margins : Margins
+quiet_margins = record {
+  most = 1024;
+  weight = 8;
+  part = 1;
+  whole = 1;
+  estimate = 152882380800;
+  seen = 1048576;
+  seen_root = 1449;
+  estimate_root = 99532800;
+  both_root = 801239040;
+  energy = 2244575232;
+  least = 16;
+}
+
+quiet_margins_hold : AreMargins over_two quiet_margins
+quiet_margins_hold = grind arith
+
 pub quiet_pair_values_speak : QuietPairValuesSpeak
-quiet_pair_values_speak gains = values_speak over_two 1024 8 1 1 152882380800 1048576 1449 99532800 801239040 2244575232 16 is_over_two (grind arith) gains (both gains)
+quiet_pair_values_speak gains = values_speak over_two quiet_margins is_over_two quiet_margins_hold gains (both gains)

@@ -1,5 +1,5 @@
--- The list of the cells with two antenna ports that a recording explains, by the values of pairs. (own)
-use Rattle.std.specs.Prelude.{ℕ, Bool, nat_eq, List}
+-- The list of the cells with two antenna ports in a recording, by transmit diversity pairs. (own)
+use Rattle.std.specs.Prelude.{List, Some}
 use Rattle.cs_num.specs.declared.Sample.{Sample}
 use Rattle.lte_types.specs.declared.carrier.Carrier.TheVariants.{TwoPorts}
 use Rattle.lte_types.specs.declared.entry.Entry.{Entry}
@@ -9,13 +9,10 @@ use Rattle.explain.specs.Entries.{IsListFor}
 use Rattle.explain.specs.declared.readings.Reading.{Reading}
 use Rattle.explain.specs.Readings.{IsReadingFor}
 
--- two antenna ports are told: the check has the mask FFFF (TS 36.212 section 5.3.1.1)
-abbrev pub are_two : ℕ → Bool
-are_two ports = nat_eq ports 2
-
--- the receiver of two antenna ports: by the values of pairs, master blocks that tell two are taken, and no others
+-- the receiver of two antenna ports: it reads pairs, and takes only MIBs with two antenna ports, whose CRC has the mask
+-- FFFF (TS 36.212 section 5.3.1.1)
 abbrev pub two_ports_receiver : Receiver
-two_ports_receiver = by_slots TwoPorts are_two (paired_by over_two)
+two_ports_receiver = by_slots TwoPorts (Some 2) (paired_by over_two)
 
 -- the list of the cells with two antenna ports of a recording
 abbrev pub IsExplainedOfTwo : List Sample → List Entry → Type 0

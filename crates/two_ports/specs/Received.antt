@@ -1,5 +1,5 @@
--- What is seen and received of several antenna ports, and that the values of pairs then speak for the bits that were
--- sent. (own)
+-- The resource elements received from several antenna ports, and that the soft values of pairs then have the signs of
+-- the sent bits. (own)
 use Rattle.std.specs.Prelude.{◌≡◌, ℕ, ◌%◌, ◌^◌, ◌<◌, ◌≤◌, Bool, nat_eq, if◌then◌else◌, List, [], slice_index_or, ℤ, pos}
 use Rattle.cs_num.specs.declared.Cpx.{Cpx}
 use Rattle.cs_num.specs.declared.Sample.{Sample}
@@ -26,8 +26,8 @@ only port z other = if nat_eq other port then z else nothing
 abbrev pub over : ℕ → ℕ → Cpx → Cpx → ℕ → Cpx
 over lower upper a b other = if nat_eq other lower then a else only upper b other
 
--- what the ports send of pair number i, of the points x and y: the lower of its ports x and y at the two places, the
--- upper the negative conjugate of y and the conjugate of x (TS 36.211 section 6.3.4.3)
+-- the elements that the ports send for pair number i, of the points x and y: the lower of its ports x and y, the upper
+-- the negative conjugate of y and the conjugate of x (TS 36.211 section 6.3.4.3)
 abbrev pub first_sent : Pairing → ℕ → Cpx → Cpx → ℕ → Cpx
 first_sent pairing i x y = over (pairing.lower i) (pairing.upper i) x (negated (conjugate y))
 
@@ -36,7 +36,7 @@ second_sent pairing i x y = over (pairing.lower i) (pairing.upper i) y (conjugat
 
 -- ---- seen
 
--- the pilots of all ports of a carrier are seen in a slot, each port's with its gain, in parts, and nothing of the
+-- the pilots of all ports of a carrier are received in a slot, each port's with its gain, in parts, and nothing of the
 -- others; the sum of the gains' squares is at least that of 1
 pub record ArePortsSeen (carrier : Carrier) (most : ℕ) (gains : ℕ → Cpx) (slot : SeenSlot) : Type 0 where
   pub sounds : 2 ^ 28 ≤ energy_below (ports_of carrier) gains
@@ -44,20 +44,20 @@ pub record ArePortsSeen (carrier : Carrier) (most : ℕ) (gains : ℕ → Cpx) (
       IsSeenBy (ports_of carrier) most gains (only port ((line_of carrier port slot).sent i))
       (line_seen (line_of carrier port slot) slot i)
 
--- pair number i, of the points x and y, is seen at two places
+-- pair number i, of the points x and y, is received in two elements
 pub record IsPairSeen (pairing : Pairing) (most : ℕ) (gains : ℕ → Cpx) (i : ℕ) (x y a b : Cpx) : Type 0 where
   pub first : IsSeenBy (ports_of pairing.carrier) most gains (first_sent pairing i x y) a
   pub second : IsSeenBy (ports_of pairing.carrier) most gains (second_sent pairing i x y) b
 
--- four values speak for four bits
+-- four soft values have the signs of four bits
 pub record SupportFour (least : ℕ) (b c d e : Bool) (values : List ℤ) : Type 0 where
   pub first : Supports least b (slice_index_or values 0 (pos 0))
   pub second : Supports least c (slice_index_or values 1 (pos 0))
   pub third : Supports least d (slice_index_or values 2 (pos 0))
   pub fourth : Supports least e (slice_index_or values 3 (pos 0))
 
--- the four values of a pair of points that is seen with these gains speak for its bits with size `least` and more,
--- whatever subcarrier the channels are taken at
+-- the four soft values of a pair of points that is received with these gains have the signs of its bits and a magnitude
+-- of at least `least`, whatever subcarrier the channels are taken at
 abbrev pub SpeakWith : (ℕ → Cpx) → Pairing → ℕ → ℕ → Type 0
 SpeakWith gains pairing most least =
     (slot : SeenSlot) (i k : ℕ) (b c d e : Bool) (at_first at_second : Cpx) →
@@ -67,8 +67,8 @@ SpeakWith gains pairing most least =
 
 -- ---- slots of a recording
 
--- the seven symbols of a slot are received from all ports of a carrier with these gains, each from its place on, and
--- hold the reference signals of all ports; each port sends nothing at those of the others
+-- the seven symbols of a slot are received from all ports of a carrier with these gains, each from its sample on, and
+-- hold the reference signals of all ports; each port sends nothing in those of the others
 pub record IsSlotReceived (carrier : Carrier) (quota : ℕ) (gains : ℕ → Cpx) (recording : List Sample)
     (starts : ℕ → ℕ) (grids : ℕ → ℕ → ℕ → Cpx) (slot : SeenSlot) : Type 0 where
   pub seen : (l : ℕ) → l < 7 → slice_index_or slot.symbols l [] ≡ seen_symbol recording (starts l)
@@ -80,15 +80,15 @@ pub record IsSlotReceived (carrier : Carrier) (quota : ℕ) (gains : ℕ → Cpx
       grids other ((line_of carrier port slot).symbol i) (line_place (line_of carrier port slot) i)
       ≡ only port ((line_of carrier port slot).sent i) other
 
--- two places carry pair number i, of the points x and y
+-- two elements carry pair number i, of the points x and y
 pub record CarryPair (pairing : Pairing) (grids : ℕ → ℕ → ℕ → Cpx) (i : ℕ) (p q : Place) (x y : Cpx) : Type 0 where
   pub first : (port : ℕ) → port < ports_of pairing.carrier →
       grids port (p.symbol % 7) p.k ≡ first_sent pairing i x y port
   pub second : (port : ℕ) → port < ports_of pairing.carrier →
       grids port (q.symbol % 7) q.k ≡ second_sent pairing i x y port
 
--- where a slot is received with these gains, the four values of two places that carry a pair of points speak for their
--- bits
+-- if a slot is received with these gains, the four soft values of two elements that carry a pair of points have the
+-- signs of their bits
 abbrev pub SpeakReceivedWith : (ℕ → Cpx) → Pairing → ℕ → ℕ → Type 0
 SpeakReceivedWith gains pairing quota least =
     (recording : List Sample) (starts : ℕ → ℕ) (grids : ℕ → ℕ → ℕ → Cpx) (slot : SeenSlot) (i : ℕ) (p q : Place)
@@ -99,14 +99,14 @@ SpeakReceivedWith gains pairing quota least =
 
 -- ---- two ports
 
--- the values of pairs speak whatever the gains are, where what is seen is off by less than 23 units
+-- the values of pairs have the signs of the bits, whatever the gains are, if each element is off by less than 23 units
 abbrev pub PairValuesSpeak : Type 0
 PairValuesSpeak = (gains : ℕ → Cpx) → SpeakWith gains over_two 1464 1
 
 abbrev pub ReceivedPairSpeaks : Type 0
 ReceivedPairSpeaks = (gains : ℕ → Cpx) → SpeakReceivedWith gains over_two 400 1
 
--- the values of pairs speak with size 16 and more, where what is seen is off by at most 16 units
+-- the values of pairs have a magnitude of at least 16 if each element is off by at most 16 units
 abbrev pub QuietPairValuesSpeak : Type 0
 QuietPairValuesSpeak = (gains : ℕ → Cpx) → SpeakWith gains over_two 1024 16
 

@@ -1,14 +1,16 @@
-//! Laws of the values of pairs.
+//! Laws of the soft values of transmit diversity pairs.
 
 ghost use Rattle.two_ports.specs.Received.{PairValuesSpeak, ReceivedPairSpeaks};
 ghost use Rattle.two_ports.specs.Received.{QuietPairValuesSpeak, QuietReceivedPairSpeaks};
 
-/// Where the pilots of both ports of a slot and a pair of points are seen, each port's with its gain, in parts, and
-/// each off by less than 23 units of amplitude times the root of the sum of the gains' squares, which is at least that
-/// of 1, the four soft values of the pair speak for its bits, whichever port is stronger; and so in a recording of
-/// which the slot is received from both ports, where the energy of the errors of each symbol is at most 400 times that
-/// sum. Where each is off by at most 16 such units, as where that energy is at most 64 times the sum, each value has
-/// size 16 and more (TS 36.211 section 6.3.4.3).
+/// States that the four soft values of a transmit diversity pair have the signs of its bits (TS 36.211 section
+/// 6.3.4.3).
+///
+/// The pilots of both ports and the two resource elements of the pair are each received with an error of less than 23
+/// amplitude units, times the root of the sum of both gains' squares, which is at least that of a gain of 1; either
+/// port may be the stronger one. In a recording it is enough that the error energy of each symbol is at most 400 times
+/// that sum (`recording`). With at most 16 such units, or an error energy of at most 64 times the sum, each value has a
+/// magnitude of at least 16 (`quiet`, `quiet_recording`).
 pub fn pair_values_speak_for_the_sent_bits()
     ensures seen { PairValuesSpeak }
     ensures recording { ReceivedPairSpeaks }

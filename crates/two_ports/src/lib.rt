@@ -1,6 +1,7 @@
-//! Cells with two antenna ports, which send by transmit diversity (TS 36.211 section 6.3.4.3): that the soft values of
-//! pairs of places speak for what was sent, the list of the cells of a recording, and that a faithful recording's list
-//! holds its cell.
+//! The list of cells with two antenna ports, which send by transmit diversity (TS 36.211 section 6.3.4.3), and that it
+//! misses no cell with clean reception, since the soft values of a pair have the signs of the sent bits.
+//!
+//! Tests: `list_tests/src/two_antenna_ports.rt`.
 #![tactic(auto)]
 
 mod clean;

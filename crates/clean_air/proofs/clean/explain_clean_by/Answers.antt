@@ -4,4 +4,4 @@ use Rattle.clean_air.proofs.clean.explain_clean_by.Goals as goal
 
 pub returns-clause-list : goal.returns-clause-list
 returns-clause-list g c =
-    is_list_by g.F.FrameReader.receiver c.holds_cells.ensures c.args.recording.now c.explain_by.new.list (omega (arith, c.if-prove.false, c.len-count.ensures.value)) c.explain_by.ensures.list
+    is_list_by g.F.FrameReader.receiver c.holds_cells.ensures c.args.recording.now c.list_by.new.list (omega (arith, c.if-prove.false, c.len-count.ensures.value)) c.list_by.ensures.list

@@ -1,26 +1,16 @@
-use Rattle.std.proofs.Common.{◌+◌, take, sym, subst, arith}
+use Rattle.std.proofs.Common.{◌+◌, take, sym, subst}
 use Rattle.std.specs.List.{AllZip}
-use Rattle.std.proofs.lemmas.Slice.Zip.{AllZip-long}
-use Rattle.explain.proofs.Listed.{is_sound}
-use Rattle.explain.specs.Readings.{IsReadingFor}
-use Rattle.finite.proofs.Zips.{zip_read}
 use Rattle.evidence.specs.Shown.{IsShownFor}
-use Rattle.evidence.proofs.Each.{each_more}
+use Rattle.evidence.proofs.Each.{each_more, has_reading, is_read}
 use Rattle.evidence.proofs.support.support_of_list.Goals as goal
 
 pub bounds-readings-i : goal.bounds-readings-i
-bounds-readings-i g c =
-    let long = AllZip-long (IsReadingFor g.receiver c.args.recording.now) c.args.entries.now c.args.readings.now c.requires.1.1 in
-    let inside = c.loop-i-test.true in
-    omega (arith, long, inside)
+bounds-readings-i g c = has_reading g.receiver c.args.recording.now c.args.entries.now c.args.readings.now c.requires.1.1 c.loop-i.i c.loop-i-test.true
 
 pub support_of-requires : goal.support_of-requires
 support_of-requires g c = (
   c.requires.0,
-  (
-    is_sound g.receiver c.args.recording.now c.args.entries.now _ c.requires.1.0 (c.loop-i.i, c.loop-i-test.true, sym c.index-entries-i.is),
-    zip_read (IsReadingFor g.receiver c.args.recording.now) c.args.entries.now c.args.readings.now c.loop-i.i _ _ c.requires.1.1 c.loop-i-test.true c.index-entries-i.is c.index-readings-i.is,
-  ),
+  is_read g.receiver c.args.recording.now c.args.entries.now c.args.readings.now c.requires.1.1 c.loop-i.i c.loop-i-test.true _ _ c.requires.1.0 c.index-entries-i.is c.index-readings-i.is,
 )
 
 pub loop-i-preserved : goal.loop-i-preserved

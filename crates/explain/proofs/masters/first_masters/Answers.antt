@@ -1,5 +1,6 @@
 use Rattle.std.proofs.Common.{◌≡◌, ◌∙◌, ◌≤◌, inl, inr, length, ap, arith, sym, subst, below_more}
 use Rattle.std.proofs.lemmas.Bool.{cases_lt}
+use Rattle.explain.specs.declared.scheme.Scheme.{Scheme}
 use Rattle.explain.specs.Entries.{IsMasterFor}
 use Rattle.explain.specs.Masters.{AreFirstWith}
 use Rattle.explain.specs.Readings.{AreSums}
@@ -41,7 +42,7 @@ returns-in-Some-first_together-clause-masters g c =
     let whole = whole_at recording _ _ here c.whole_frames-whole.result c.whole_frames-whole.ensures.whole c.whole_frames-whole.ensures.all in
     let found = c.in-Some-first_together.found in
     let test = c.loop-count-test.true in
-    let most = c.most_frames-most.ensures.few in
+    let most = c.scheme-most.ensures.few in
     let from = c.loop-count.auto in
     let (all, received) = c.in-None.ensures.received in
     let size : length c.as_slice.result.now ≡ c.whole_frames-whole.result = ap length c.as_slice.ensures.value ∙ all in
@@ -80,7 +81,7 @@ returns-clause-masters g c =
     let here = c.new-cell.ensures in
     let whole = whole_at recording _ _ here c.whole_frames-whole.result c.whole_frames-whole.ensures.whole c.whole_frames-whole.ensures.all in
     let test = c.loop-count-test.false in
-    let most = c.most_frames-most.ensures.value in
+    let most = ap (λ (s : Scheme). s.most_frames) c.scheme-most.ensures.value in
     subst (HasNoMasters tells recording) here
     (no_masters tells recording c.new-cell.result c.whole_frames-whole.result c.whole_frames-whole.ensures.few whole.0 whole.1
     (λ count some small. elim (cases_lt g.F.FrameReader.receiver.most_frames count) [

@@ -1,10 +1,11 @@
-use Rattle.std.proofs.Common.{◌≡◌, List, drop, subst, sym}
+use Rattle.std.proofs.Common.{◌≡◌, List, ap, drop, subst, sym}
 use Rattle.std.specs.Prelude.{All}
 use Rattle.std.specs.List.{AllZip, filter}
 use Rattle.lte_types.specs.declared.carrier.Carrier.{Carrier}
 use Rattle.lte_types.specs.declared.hit.Hit.{Hit}
 use Rattle.pss_search.specs.Hits.{IsInSpan}
 use Rattle.pss_search.proofs.Listed.{listed_in_span}
+use Rattle.explain.specs.declared.scheme.Scheme.{Scheme}
 use Rattle.explain.specs.Receiver.{HasRoom, has_step_before}
 use Rattle.explain.specs.Entries.{AreEntriesFor, IsListOfHits}
 use Rattle.explain.specs.Readings.{IsReadingOf}
@@ -22,7 +23,7 @@ add_hits-requires-clause-placed g c =
     let hits = c.args.hits.now in
     let first = c.early_hits-first.result in
     let late = late_slice carrier r hits first c.requires c.early_hits-first.ensures.within
-    (subst (λ (k : Carrier). filter (has_step_before k) hits ≡ drop first hits) c.carrier.ensures c.early_hits-first.ensures.later) in
+    (subst (λ (k : Carrier). filter (has_step_before k) hits ≡ drop first hits) (ap (λ (s : Scheme). s.carrier) c.scheme.ensures.value) c.early_hits-first.ensures.later) in
     subst (All (HasRoom carrier)) (sym late) (all_have_room carrier r)
 
 pub returns-clause-list : goal.returns-clause-list
@@ -32,7 +33,7 @@ returns-clause-list g c =
     let hits = c.args.hits.now in
     let first = c.early_hits-first.result in
     let late = late_slice receiver.carrier r hits first c.requires c.early_hits-first.ensures.within
-    (subst (λ (k : Carrier). filter (has_step_before k) hits ≡ drop first hits) c.carrier.ensures c.early_hits-first.ensures.later) in
+    (subst (λ (k : Carrier). filter (has_step_before k) hits ≡ drop first hits) (ap (λ (s : Scheme). s.carrier) c.scheme.ensures.value) c.early_hits-first.ensures.later) in
     subst (λ (hs : List Hit). IsListOfHits (AreEntriesFor receiver r) hs c.add_hits.new.list) late c.add_hits.ensures.list
 
 pub returns-clause-readings : goal.returns-clause-readings
@@ -42,7 +43,7 @@ returns-clause-readings g c =
     let hits = c.args.hits.now in
     let first = c.early_hits-first.result in
     let late = late_slice receiver.carrier r hits first c.requires c.early_hits-first.ensures.within
-    (subst (λ (k : Carrier). filter (has_step_before k) hits ≡ drop first hits) c.carrier.ensures c.early_hits-first.ensures.later) in
+    (subst (λ (k : Carrier). filter (has_step_before k) hits ≡ drop first hits) (ap (λ (s : Scheme). s.carrier) c.scheme.ensures.value) c.early_hits-first.ensures.later) in
     subst (λ (hs : List Hit). AllZip (IsReadingOf receiver r hs) c.add_hits.new.list c.add_hits.new.notes.readings) late c.add_hits.ensures.readings
 
 pub returns-clause-valid : goal.returns-clause-valid

@@ -3,19 +3,18 @@ use Rattle.std.specs.List.{AllZip}
 use Rattle.std.proofs.lemmas.Slice.Zip.{AllZip-long}
 use Rattle.lte_types.specs.declared.entry.Entry.{Entry}
 use Rattle.lte_types.specs.Carrier.{carriers}
-use Rattle.explain.specs.Entries.{IsListFor}
-use Rattle.evidence.specs.Receivers.{receiver_of}
+use Rattle.lte_top.specs.Searching.{IsListOf}
 use Rattle.lte_top.proofs.Lists.{all_text_is}
 use Rattle.lte_top.proofs.searching.text_of_each.Goals as goal
 
 pub lists_text-requires : goal.lists_text-requires
 lists_text-requires c =
     let samples = c.args.recording.now in
-    let listed = subst (λ (lists : List (List Entry)). AllZip (λ carrier. IsListFor (receiver_of carrier) samples) carriers lists) (sym c.deref.ensures.value) c.in_ok-lists.ensures in
-    AllZip-long (λ carrier. IsListFor (receiver_of carrier) samples) carriers _ listed
+    let listed = subst (λ (lists : List (List Entry)). AllZip (λ carrier. IsListOf carrier samples) carriers lists) (sym c.deref.ensures.value) c.in_ok-lists.ensures in
+    AllZip-long (λ carrier. IsListOf carrier samples) carriers _ listed
 
 pub returns : goal.returns
 returns c =
     let samples = c.args.recording.now in
-    let listed = subst (λ (lists : List (List Entry)). AllZip (λ carrier. IsListFor (receiver_of carrier) samples) carriers lists) (sym c.deref.ensures.value) c.in_ok-lists.ensures in
-    all_text_is c.args.output samples _ c.lists_text.result c.requires listed c.lists_text.ensures
+    let listed = subst (λ (lists : List (List Entry)). AllZip (λ carrier. IsListOf carrier samples) carriers lists) (sym c.deref.ensures.value) c.in_ok-lists.ensures in
+    all_text_is c.args.output samples _ c.lists_text.result listed c.lists_text.ensures

@@ -22,10 +22,10 @@ use Rattle.clean_air.specs.Clean.{IsSentEntryOf}
 use Rattle.clean_air.proofs.HeldCells.{holds_cells}
 use Rattle.clean_air.proofs.LoadedErrors.{loaded_is_faithful}
 use Rattle.clean_air.proofs.SentSlots.{loaded_pilots_seen}
-use Rattle.clean_evidence.specs.Clear.{IsCertain, FaithfulEntriesAreSupported, CleanEntriesAreClear}
-use Rattle.clean_evidence.proofs.PeakOfEntry.{peak_is_high}
-use Rattle.clean_evidence.proofs.PilotDifferences.{AreSteady, are_steady, AreQuiet, are_quiet}
-use Rattle.clean_evidence.proofs.SeenPilots.{pilots_seen}
+use Rattle.evidence.specs.Clear.{IsCertain, FaithfulEntriesAreSupported, CleanEntriesAreClear}
+use Rattle.evidence.proofs.PeakOfEntry.{peak_is_high}
+use Rattle.evidence.proofs.PilotDifferences.{AreSteady, are_steady, AreQuiet, are_quiet}
+use Rattle.evidence.proofs.SeenPilots.{pilots_seen}
 
 -- a multiple of the noise is at most one of the power, as they are told
 told_share : (whole part m noise e power : ℕ) → noise ≡ m → power ≡ e → whole * m ≤ part * e → whole * noise ≤ part * power

@@ -1,0 +1,29 @@
+//! The constants of a receiver.
+
+ghost use Rattle.std.specs.Prelude.{◌≡◌};
+ghost use Rattle.explain.specs.Receiver.{is_wanted};
+
+use lte_types::Carrier;
+
+/// The constants of a receiver: which transmission scheme it reads, and which frames and MIBs it takes. (own)
+#[derive(Clone, Copy)]
+pub struct Scheme {
+    /// The transmission scheme.
+    pub carrier: Carrier,
+    /// The maximum number of frames in a period whose values are added for one MIB: 1 to 4.
+    pub most_frames: u8,
+    /// The antenna port count that a MIB has to carry; `None` takes every count.
+    pub ports: Option<u8>,
+}
+
+impl Scheme {
+    // Whether a master block with this count of antenna ports is taken.
+    pub(crate) fn takes(&self, count: u8) -> bool
+        ensures { result ≡ is_wanted self.now.ports count }
+    {
+        match self.ports {
+            Some(wanted) => count == wanted,
+            None => true,
+        }
+    }
+}
