@@ -17,8 +17,8 @@ use serde_json::{Map, ToValue, Value, json, put};
 use std::alloc::{AllocError, Global};
 use std::fmt::Write;
 
-/// The list of cells as JSON in one line, without a line feed: an array with an object for each cell, whose keys
-/// stand in the order of their bytes. Only memory can be wanting. (own)
+/// Returns the cell list as JSON in one line, without a line feed: an array with one object for each cell, whose keys
+/// are in the order of their bytes. Fails only if an allocation fails. (own)
 pub fn json(alloc: Global, entries: &[Entry]) -> Result<String, AllocError>
     ensures { IfOk result (λ text. string_bytes text ≡ json_text entries.now) }
 {
@@ -35,7 +35,7 @@ impl ToJson for Entry {
     }
 }
 
-/// What a cell's object has.
+/// The members of a cell's object.
 pub(crate) fn members_of(alloc: Global, entry: &Entry) -> Result<Map<String, Value>, AllocError>
     ensures { IfOk result (λ members. members_view members.entries ≡ entry_members entry.now) }
 {

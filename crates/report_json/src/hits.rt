@@ -12,16 +12,16 @@ use serde_json::{Map, Value, put};
 use sss_detect::{Choice, Ranking};
 use std::alloc::{AllocError, Global};
 
-/// Hits as JSON in one line, without a line feed: an array with an object for each, whose keys stand in the order of
-/// their bytes. Only memory can be wanting. (own)
+/// Returns `hits` as JSON in one line, without a line feed: an array with one object for each hit, whose keys are in
+/// the order of their bytes. Fails only if an allocation fails. (own)
 pub fn json_of_hits(alloc: Global, hits: &[MeasuredHit]) -> Result<String, AllocError>
     ensures { IfOk result (λ text. string_bytes text ≡ hits_json hits.now) }
 {
     list_text(alloc, hits)
 }
 
-/// Hits with the identities of their cells as JSON, in the same form; the two best pairs of each stand under
-/// `secondary`. Only memory can be wanting. (own)
+/// Returns `hits` with the identities of their cells as JSON, in the form of `json_of_hits`; the two best pairs of a
+/// hit are under `secondary`. Fails only if an allocation fails. (own)
 pub fn json_of_ids(alloc: Global, hits: &[MeasuredId]) -> Result<String, AllocError>
     ensures { IfOk result (λ text. string_bytes text ≡ ids_json hits.now) }
 {

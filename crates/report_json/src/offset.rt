@@ -12,11 +12,10 @@ use sample_file::Recording;
 use serde_json::{Value, json};
 use std::alloc::{AllocError, Global};
 
-/// What is told of a recording's offset, and why, as JSON in one line, without a line feed: an object with `told`, null
-/// where nothing is told, else an object with `cells`, `hits` and `turn` as `tell_text` writes them; and `candidates`,
-/// an array with an object for each candidate that was taken, in their order: `coarse`, the coarse turn in steps of
-/// 3.75 kHz, `turn`, and `peak`, `energy` and `power` of the greatest fraction `peak / (energy * power)` of its hits.
-/// Only memory can be wanting. (own)
+/// Returns the frequency offset estimate for `recording` as JSON in one line, without a line feed. Under `told` is
+/// null, or an object with `cells`, `hits` and `turn` as in `tell_text`. Under `candidates` is an array with one object
+/// for each candidate, in their order: `coarse`, the coarse offset in steps of 3.75 kHz, `turn`, and `peak`, `energy`
+/// and `power` of the maximum fraction `peak / (energy * power)` of its hits. Fails only if an allocation fails. (own)
 pub fn tell_json(alloc: Global, recording: &Recording) -> Result<String, AllocError>
     ensures { IfOk result (λ text. IsTellJson recording.now (string_bytes text)) }
 {

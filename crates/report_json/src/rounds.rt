@@ -12,11 +12,11 @@ use serde_json::{Value, json};
 use std::alloc::{AllocError, Global};
 use successive_cancel::{Round, Rounds, cancel_rounds};
 
-/// What `cancel_text` tells of a recording as JSON in one line, without a line feed: an object with `cells`, the list
-/// as `json` writes it, `ended`, whether a round followed in which no cell could be taken off, and `rounds`, an
-/// array with an object for each cell that was taken off: `identity`, `gain`, an array of its components, `residue`,
-/// the greatest size of a component that was left, `power`, an array of the power before and after, and `cells`, the
-/// list of what is left. Only memory can be wanting. (own)
+/// Returns interference cancellation in `recording` as JSON in one line, without a line feed: an object with `cells`,
+/// the list as `json` writes it, `ended`, whether a last round cancels no cell, and `rounds`, an array with one object
+/// for each cancelled cell: `identity`, `gain`, an array of its two components, `residue`, the maximum magnitude of a
+/// component afterwards, `power`, an array of the power before and after, and `cells`, the list of the remaining
+/// samples. Fails only if an allocation fails. (own)
 pub fn cancel_json(alloc: Global, recording: &Recording) -> Result<String, AllocError>
     ensures { IfOk result (λ text. IsCancelJson recording.now (string_bytes text)) }
 {
@@ -25,7 +25,7 @@ pub fn cancel_json(alloc: Global, recording: &Recording) -> Result<String, Alloc
     json_of_rounds(alloc, &rounds)
 }
 
-/// The JSON of rounds. Only memory can be wanting. (own)
+/// Returns the JSON of `rounds`, as in `cancel_json`. Fails only if an allocation fails. (own)
 pub fn json_of_rounds(alloc: Global, rounds: &Rounds) -> Result<String, AllocError>
     ensures { IfOk result (λ text. string_bytes text ≡ rounds_json rounds.now) }
 {

@@ -16,10 +16,10 @@ use serde_json::{Map, Value, put};
 use soft_bits::Pilots;
 use std::alloc::{AllocError, Global};
 
-/// What supports the entries of a list as JSON in one line, without a line feed: an array with an object for each,
-/// whose keys are the names that `text_of_evidence` writes, `identity`, `at` and `sfn`, `channel` and `values`, of what
-/// the slot shows, and `mib` and `sib1_block`, the bits of its blocks, in the order of their bytes. Only memory can be
-/// wanting. (own)
+/// Returns the evidence for the entries of a list as JSON in one line, without a line feed: an array with one object
+/// for each entry. Its keys, in the order of their bytes, are the names of `place_in` and `numbers_in`; `channel` and
+/// `values`, the pilots and the soft values of the entry's slot; and `mib` and `sib1_block`, the bits of its blocks.
+/// Fails only if an allocation fails. (own)
 pub fn json_of_evidence(alloc: Global, list: &[Support]) -> Result<String, AllocError>
     ensures { IfOk result (λ text. string_bytes text ≡ evidence_json list.now) }
 {

@@ -6,8 +6,8 @@ ghost use Rattle.report_text.specs.Answers.{answer_line, check_text};
 use std::alloc::{AllocError, Global};
 use std::fmt::Write;
 
-/// The text of the answers to certificates: a line with their number, and for each a line with its
-/// number, from 0, and `yes` or `no`. Only memory can be wanting. (own)
+/// Returns the text of the `answers` to certificates: a line with their count, and for each certificate a line with its
+/// index, from 0, and `yes` or `no`. Fails only if an allocation fails. (own)
 pub fn text_of_answers(alloc: Global, answers: &[bool]) -> Result<String, AllocError>
     ensures { IfOk result (λ text. string_bytes text ≡ check_text answers.now) }
 {

@@ -8,8 +8,8 @@ use cs_num::Gain;
 use std::alloc::{AllocError, Global};
 use std::fmt::Write;
 
-/// The two lines of a cell that was taken off: its identity, the gain, and the greatest size of a component that was
-/// left; and the power before and after. Only memory can be wanting. (own)
+/// Returns the two lines of a cancelled cell: its identity, its gain and the residual, `greatest`, which is the maximum
+/// magnitude of a component afterwards; and the power before and after. Fails only if an allocation fails. (own)
 pub fn text_of_cancelled(
     alloc: Global,
     id: u16,
@@ -51,7 +51,7 @@ fn power_line(alloc: Global, before: u64, after: u64) -> Result<String, AllocErr
     format!(in alloc; "power {before} {after}\n")
 }
 
-/// The line where no cell can be taken off. Only memory can be wanting. (own)
+/// Returns the line that reports that no cell can be cancelled. Fails only if an allocation fails. (own)
 pub fn text_of_cancelled_none(alloc: Global) -> Result<String, AllocError>
     ensures { IfOk result (λ text. string_bytes text ≡ cancelled_none) }
 {

@@ -6,9 +6,9 @@ ghost use Rattle.report_text.specs.Lines.{made_line};
 use std::alloc::{AllocError, Global};
 use std::fmt::Write;
 
-/// The line of a recording by number: the identity of the cell that was sent, the sample at which its first
-/// frame begins, that frame's number, and how many entries of the list are as it was sent. Only memory can be
-/// wanting. (own)
+/// Returns the line of a synthetic recording: the identity of the sent cell, the sample at which its first frame
+/// begins, the number of that frame, and the count of list entries that equal the sent cell. Fails only if an
+/// allocation fails. (own)
 pub fn line_of_made(
     alloc: Global,
     id: u16,

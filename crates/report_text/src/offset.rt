@@ -10,9 +10,9 @@ use sample_file::Recording;
 use std::alloc::{AllocError, Global};
 use std::fmt::Write;
 
-/// The text of what is told of a recording's offset: `hits`, the count of hits at the coarse turn, and below it
-/// `turn`, the turn, and `cells`, the count of entries of the list of the recording turned by it. `hits 0` alone where
-/// nothing is told. Only memory can be wanting. (own)
+/// Returns the text of the frequency offset estimate for `recording`: the count of hits at the coarse offset, the
+/// offset, and the count of cells in the list of the corrected recording. If there is no estimate, it is `hits 0`
+/// alone. Fails only if an allocation fails. (own)
 pub fn tell_text(alloc: Global, recording: &Recording) -> Result<String, AllocError>
     ensures { IfOk result (λ text. IsTellText recording.now (string_bytes text)) }
 {

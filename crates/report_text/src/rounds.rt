@@ -12,9 +12,9 @@ use sample_file::Recording;
 use std::alloc::{AllocError, Global};
 use successive_cancel::{Round, Rounds, cancel_rounds};
 
-/// The text of a recording: that of its list as `text` gives it, then for each round that takes a cell off its
-/// two lines and the text of the list of what is left, and the line `cancelled none` where a round follows that takes
-/// off none. Only memory can be wanting. (own)
+/// Returns the text of interference cancellation in `recording`: the list as `text` writes it; for each round the two
+/// lines of the cancelled cell and the list of the remaining samples; and `cancelled none` if a last round cancels no
+/// cell. Fails only if an allocation fails. (own)
 pub fn cancel_text(alloc: Global, recording: &Recording) -> Result<String, AllocError>
     ensures { IfOk result (λ text. IsCancelText recording.now (string_bytes text)) }
 {
@@ -23,7 +23,7 @@ pub fn cancel_text(alloc: Global, recording: &Recording) -> Result<String, Alloc
     text_of_rounds(alloc, &rounds)
 }
 
-/// The text of rounds. Only memory can be wanting. (own)
+/// Returns the text of `rounds`, as in `cancel_text`. Fails only if an allocation fails. (own)
 pub fn text_of_rounds(alloc: Global, rounds: &Rounds) -> Result<String, AllocError>
     ensures { IfOk result (λ text. string_bytes text ≡ rounds_text rounds.now) }
 {
