@@ -4,7 +4,7 @@ use cell_json::read;
 use cell_tx::send_all;
 use cs_num::{Sample, clamp_div};
 use explain::Workspace;
-use report::{cancel_text, one_cancel_text};
+use report_text::{cancel_text, one_cancel_text};
 use sample_file::Recording;
 use std::alloc::Global;
 use std::test::Fail;

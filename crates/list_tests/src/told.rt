@@ -4,7 +4,7 @@
 use capture_make::make;
 use cs_num::Sample;
 use frequency_offset::{Told, applied, tell, turned};
-use report::tell_text;
+use report_text::tell_text;
 use sample_file::Recording;
 use std::alloc::{AllocError, Global};
 use std::test::Fail;

@@ -12,7 +12,7 @@ use Rattle.certificates.proofs.Certified.{certified_length}
 use Rattle.certificates.proofs.Judged.{all_whole, one_answers}
 use Rattle.certificates.proofs.Rest.{none_broken}
 use Rattle.lte_types.specs.declared.carrier.Carrier.{Carrier}
-use Rattle.report.specs.Answers.{check_text}
+use Rattle.report_text.specs.Answers.{check_text}
 use Rattle.lte_args.specs.declared.form.Form.TheVariants.{Check}
 use Rattle.lte_top.specs.declared.status.Status.{Status}
 use Rattle.lte_top.specs.declared.status.Status.TheVariants.{Done, Usage, Ragged, TooShort, TooLong, ReadFault, WriteFault, OutOfMemory, BadCell, BadCertificate}

@@ -22,9 +22,9 @@ use Rattle.cell_tx.specs.Laws.{EmittedIsClean}
 use Rattle.cell_tx.proofs.Received.{received_by-small}
 use Rattle.clean_air.specs.Clean.{HoldsCellBy}
 use Rattle.cell_json.proofs.Ranges.{described_ranges_by}
-use Rattle.report.specs.Lines.{entry_lines, report_text}
-use Rattle.report.specs.Pieces.{IsPiece}
-use Rattle.report.proofs.Pieces.{lines_stand}
+use Rattle.report_text.specs.Lines.{entry_lines, report_text}
+use Rattle.report_text.specs.Pieces.{IsPiece}
+use Rattle.report_text.proofs.Pieces.{lines_stand}
 use Rattle.lte_top.specs.Transmitting.{sent_samples}
 use Rattle.lte_top.proofs.Carriers.{held}
 use Rattle.lte_top.specs.Found.{sent_lines, WhatIsSentIsFound}

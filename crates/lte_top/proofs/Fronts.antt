@@ -23,8 +23,8 @@ use Rattle.soft_bits.specs.Places.{placed_values}
 use Rattle.explain.specs.Deciding.{deciding_length, LooksAtFirstFrames}
 use Rattle.explain.proofs.Deciding.{decided, broadcast_agrees, slots_look}
 use Rattle.long_prefix.proofs.Deciding.{long_looks}
-use Rattle.report.specs.Hits.{hits_text, ids_text}
-use Rattle.report.specs.HitsJson.{hits_json, ids_json}
+use Rattle.report_text.specs.Hits.{hits_text, ids_text}
+use Rattle.report_json.specs.Hits.{hits_json, ids_json}
 use Rattle.lte_args.specs.declared.form.Form.TheVariants.{Report as Reports}
 use Rattle.lte_args.specs.declared.form.Report.{Report}
 use Rattle.lte_args.specs.declared.form.Report.TheVariants.{Hits, Ids, Search, Evidence, Tell}
@@ -32,7 +32,8 @@ use Rattle.lte_args.specs.declared.form.Rule.TheVariants.{Of, Cancel, All as All
 use Rattle.lte_args.specs.declared.form.Output.{Output}
 use Rattle.lte_args.specs.declared.form.Output.TheVariants.{Text, Json}
 use Rattle.lte_top.specs.Line.{as_line}
-use Rattle.lte_top.specs.Reports.{identified, identified_by, measured, measured_id, kept_for, IsReport}
+use Rattle.hit_details.specs.Details.{identified, identified_by, measured, measured_id}
+use Rattle.lte_top.specs.Reports.{kept_for, IsReport}
 use Rattle.lte_top.specs.Run.{HasOutput}
 use Rattle.evidence.specs.Receivers.{receiver_of}
 use Rattle.lte_top.specs.Searching.{FirstFramesDecideEach, IsListOf}

@@ -11,8 +11,9 @@ use Rattle.lte_types.specs.declared.entry.Entry.{Entry}
 use Rattle.lte_types.specs.declared.carrier.Carrier.{Carrier}
 use Rattle.lte_types.specs.Carrier.{carriers}
 use Rattle.explain.proofs.Listed.{is_one_list}
-use Rattle.report.specs.RoundsJson.{IsCancelJson}
-use Rattle.report.proofs.OneText.{one_cancel_text, one_cancel_json}
+use Rattle.report_json.specs.Rounds.{IsCancelJson}
+use Rattle.report_text.proofs.OneText.{one_cancel_text}
+use Rattle.report_json.proofs.OneText.{one_cancel_json}
 use Rattle.lte_args.specs.declared.form.Output.{Output}
 use Rattle.lte_args.specs.declared.form.Output.TheVariants.{Text, Json}
 use Rattle.lte_args.specs.declared.form.Rule.{Rule}

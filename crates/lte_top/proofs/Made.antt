@@ -10,7 +10,7 @@ use Rattle.capture_make.specs.Recipe.{plan, number, offset, gains}
 use Rattle.capture_make.specs.Made.{IsCleanNumber}
 use Rattle.capture_make.proofs.Plans.{is_sendable_by}
 use Rattle.capture_make.proofs.Samples.{NumbersAreClean, one_of_number}
-use Rattle.report.specs.Lines.{made_line, report_text}
+use Rattle.report_text.specs.Lines.{made_line, report_text}
 use Rattle.lte_top.specs.declared.making.SentCell.{SentCell}
 use Rattle.lte_types.specs.declared.carrier.Carrier.{Carrier}
 use Rattle.lte_top.specs.Making.{Counts, IsSentCell, cell_of, AreSamplesOf, IsMadeList, IsMadeText, IsHeldOnce, WhatIsMadeIsHeld}

@@ -7,11 +7,11 @@ use Rattle.sample_file.specs.Recording.{bytes_of}
 use Rattle.evidence.specs.Evidence.{IsEvidenceFor}
 use Rattle.evidence.specs.Shown.{IsShownFor}
 use Rattle.evidence.proofs.Only.{one_for_each, one_shown_for_each}
-use Rattle.report.specs.Evidence.{evidence_text}
-use Rattle.report.specs.EvidenceJson.{evidence_json}
-use Rattle.report.specs.ToldJson.{telling_json, IsTellJson}
+use Rattle.report_text.specs.Evidence.{evidence_text}
+use Rattle.report_json.specs.Evidence.{evidence_json}
+use Rattle.report_json.specs.Offset.{telling_json, IsTellJson}
 use Rattle.frequency_offset.specs.Candidates.{taken_of}
-use Rattle.report.specs.Told.{told_text}
+use Rattle.report_text.specs.Offset.{told_text}
 use Rattle.frequency_offset.proofs.OneTold.{is_one_told, is_one_applied}
 use Rattle.lte_args.specs.declared.form.Report.{Report}
 use Rattle.lte_args.specs.declared.form.Report.TheVariants.{Hits, Ids, Search, Evidence, Tell}

@@ -5,7 +5,7 @@ use Rattle.sample_file.specs.declared.form.SampleForm.{SampleForm}
 use Rattle.sample_file.specs.Recording.{samples_of, samples_in, IsRecording}
 use Rattle.frequency_offset.specs.declared.telling.Told.{Told}
 use Rattle.frequency_offset.specs.Telling.{HasCells}
-use Rattle.report.specs.Told.{told_text}
+use Rattle.report_text.specs.Offset.{told_text}
 use Rattle.lte_args.specs.declared.form.Form.TheVariants.{Report as Reports, Apply}
 use Rattle.lte_args.specs.declared.form.Report.TheVariants.{Tell}
 use Rattle.lte_args.specs.declared.form.Output.TheVariants.{Text}

@@ -7,7 +7,7 @@ use Rattle.lte_types.specs.declared.carrier.Carrier.{Carrier}
 use Rattle.tail_cert.specs.Certificate.{Held}
 use Rattle.certificates.specs.Stream.{all_bytes, AreAnswers}
 use Rattle.certificates.specs.Certifying.{Certifies}
-use Rattle.report.specs.Answers.{check_text}
+use Rattle.report_text.specs.Answers.{check_text}
 use Rattle.evidence.specs.Receivers.{receiver_of}
 use Rattle.lte_top.specs.Searching.{IsListOf}
 

@@ -13,8 +13,8 @@ use Rattle.cell_plan.specs.declared.emission.Emission.{Emission}
 use Rattle.cell_plan.specs.Gains.{ArePairedBy}
 use Rattle.cell_tx.specs.Emission.{IsCleanBy}
 use Rattle.cell_json.specs.Reading.{DescribesBy}
-use Rattle.report.specs.Lines.{place_part, block_part, system_lines}
-use Rattle.report.specs.Pieces.{IsPiece}
+use Rattle.report_text.specs.Lines.{place_part, block_part, system_lines}
+use Rattle.report_text.specs.Pieces.{IsPiece}
 use Rattle.lte_args.specs.declared.form.Form.TheVariants.{Report as Reports, Transmit}
 use Rattle.lte_args.specs.declared.form.Report.TheVariants.{Search}
 use Rattle.lte_args.specs.declared.form.Rule.TheVariants.{Of}

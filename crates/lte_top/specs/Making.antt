@@ -9,7 +9,7 @@ use Rattle.clean_air.specs.Clean.{system_of_carrier}
 use Rattle.capture_make.specs.declared.made.MadeBy.{MadeBy}
 use Rattle.capture_make.specs.Made.{IsMadeBy}
 use Rattle.capture_make.specs.Recipe.{plan, number, offset}
-use Rattle.report.specs.Lines.{made_line, report_text}
+use Rattle.report_text.specs.Lines.{made_line, report_text}
 use Rattle.lte_top.specs.declared.making.SentCell.{SentCell}
 use Rattle.lte_types.specs.declared.carrier.Carrier.{Carrier}
 use Rattle.lte_types.specs.Carrier.{ports_of}

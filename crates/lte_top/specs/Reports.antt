@@ -3,65 +3,29 @@ use Rattle.std.specs.Prelude.{◌≡◌, ℕ, List, map}
 use Rattle.std.specs.List.{AllZip}
 use Rattle.cs_num.specs.declared.Sample.{Sample}
 use Rattle.lte_types.specs.declared.entry.Entry.{Entry}
-use Rattle.lte_types.specs.declared.frame.Half.{Half}
-use Rattle.lte_types.specs.declared.hit.Hit.{Hit}
 use Rattle.lte_types.specs.declared.carrier.Carrier.{Carrier}
-use Rattle.lte_types.specs.Identity.{cell_of}
-use Rattle.lte_types.specs.Numerology.{normal, least_samples, most_samples}
+use Rattle.lte_types.specs.Numerology.{least_samples, most_samples}
 use Rattle.pss_search.specs.Hits.{hits_of}
-use Rattle.sss_detect.specs.Identity.{identity_of}
-use Rattle.sss_detect.specs.Place.{start_by_hit}
-use Rattle.sss_detect.specs.Second.{prefix_ranking}
+use Rattle.hit_details.specs.Details.{identified, measured, measured_id}
 use Rattle.lte_types.specs.declared.evidence.Evidence.{Evidence as Numbers}
 use Rattle.evidence.specs.Evidence.{IsEvidenceFor}
 use Rattle.evidence.specs.Shown.{Shown, IsShownFor}
-use Rattle.report.specs.declared.hits.IdentifiedHit.{IdentifiedHit}
-use Rattle.report.specs.Evidence.{evidence_text}
-use Rattle.report.specs.Hits.{hits_text, ids_text}
-use Rattle.report.specs.EvidenceJson.{evidence_json}
-use Rattle.report.specs.HitsJson.{hits_json, ids_json}
+use Rattle.report_text.specs.Evidence.{evidence_text}
+use Rattle.report_text.specs.Hits.{hits_text, ids_text}
+use Rattle.report_json.specs.Evidence.{evidence_json}
+use Rattle.report_json.specs.Hits.{hits_json, ids_json}
 use Rattle.lte_args.specs.declared.form.Report.{Report}
 use Rattle.lte_args.specs.declared.form.Report.TheVariants.{Hits, Ids, Search, Evidence, Tell}
 use Rattle.lte_args.specs.declared.form.Rule.{Rule}
 use Rattle.lte_args.specs.declared.form.Rule.TheVariants.{Of, Cancel, All}
 use Rattle.lte_args.specs.declared.form.Output.{Output}
 use Rattle.lte_args.specs.declared.form.Output.TheVariants.{Text, Json}
-use Rattle.pss_search.specs.Correlation.{wave_power}
-use Rattle.report.specs.ToldJson.{IsTellJson}
-use Rattle.report.specs.Told.{IsTellText}
-use Rattle.report.specs.declared.measured.MeasuredHit.{MeasuredHit}
-use Rattle.report.specs.declared.measured.MeasuredId.{MeasuredId}
+use Rattle.report_json.specs.Offset.{IsTellJson}
+use Rattle.report_text.specs.Offset.{IsTellText}
 use Rattle.explain.specs.Deciding.{deciding_length}
 use Rattle.lte_top.specs.Line.{as_line, IsLine}
 use Rattle.evidence.specs.Receivers.{receiver_of}
 use Rattle.lte_top.specs.Searching.{IsListOf, IsSearch}
-
--- a hit with the identity of its cell, the half that it stands in, and where a frame begins, by its group and this half
-abbrev pub identified_by : Hit → ℕ × Half → IdentifiedHit
-identified_by hit pair = record {
-  hit = hit;
-  id = cell_of pair.0 hit.n2;
-  half = pair.1;
-  start = start_by_hit hit.t pair.1;
-}
-
--- a hit of a recording with what it tells: the identity of its cell, the half, and where a frame begins
-abbrev pub identified : List Sample → Hit → IdentifiedHit
-identified samples hit = identified_by hit (identity_of samples hit)
-
--- a hit with the numbers of its metric, and a hit with these, its identity, and the best and the second pair of a
--- group and a half with their scores
-abbrev pub measured : Hit → MeasuredHit
-measured hit = record { hit = hit; peak = hit.peak; energy = hit.energy; power = wave_power hit.n2 }
-
-abbrev pub measured_id : List Sample → Hit → MeasuredId
-measured_id samples hit = record {
-  found = identified samples hit;
-  ranking = prefix_ranking normal samples hit;
-  peak = hit.peak;
-  energy = hit.energy;
-  power = wave_power hit.n2;
-}
 
 -- ---- each report
 

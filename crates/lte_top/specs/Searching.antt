@@ -6,11 +6,12 @@ use Rattle.lte_types.specs.declared.carrier.Carrier.{Carrier}
 use Rattle.clean_air.specs.Clean.{IsListBy}
 use Rattle.explain.specs.Deciding.{AreDecidedFor}
 use Rattle.evidence.specs.Receivers.{receiver_of}
-use Rattle.report.specs.RoundsJson.{IsCancelJson}
-use Rattle.report.specs.Rounds.{IsCancelText}
-use Rattle.report.specs.All.{all_text, all_json}
-use Rattle.report.specs.Json.{json_text}
-use Rattle.report.specs.Lines.{report_text}
+use Rattle.report_json.specs.Rounds.{IsCancelJson}
+use Rattle.report_text.specs.Rounds.{IsCancelText}
+use Rattle.report_text.specs.All.{all_text}
+use Rattle.report_json.specs.All.{all_json}
+use Rattle.report_json.specs.Cells.{json_text}
+use Rattle.report_text.specs.Lines.{report_text}
 use Rattle.lte_args.specs.declared.form.Rule.{Rule}
 use Rattle.lte_args.specs.declared.form.Rule.TheVariants.{Of, Cancel, All}
 use Rattle.lte_args.specs.declared.form.Output.{Output}

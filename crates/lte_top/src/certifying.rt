@@ -18,7 +18,7 @@ use certificates::{CertificateWork, certify, read_answers};
 use cs_outside::{Failed, Sink, Source};
 use explain::{EntryList, Workspace};
 use lte_types::Carrier;
-use report::text_of_answers;
+use report_text::text_of_answers;
 use sample_file::{Recording, SampleForm};
 use std::alloc::{AllocError, Global};
 

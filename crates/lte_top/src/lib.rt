@@ -4,7 +4,6 @@
 mod certifying;
 mod laws;
 mod making;
-mod measuring;
 mod pages;
 mod reporting;
 mod searching;

@@ -10,7 +10,7 @@ use explain::EntryList;
 use lte_types::{
     Bandwidth, Carrier, Duration, Entry, Resource, Sfn, Sib1, Sib1Reason, same_answers,
 };
-use report::{line_of_made, text};
+use report_text::{line_of_made, text};
 use std::alloc::{AllocError, Global};
 
 // What is sent of a cell: where its first frame begins, that frame's number, and what its entry tells.

@@ -1,6 +1,6 @@
 //! Reports about a recording.
 
-ghost use Rattle.std.specs.Prelude.{◌≡◌, ◌≤◌, All, IfOk, IfErr, map, string_bytes};
+ghost use Rattle.std.specs.Prelude.{◌≡◌, ◌≤◌, All, IfOk, IfErr, string_bytes};
 ghost use Rattle.cs_outside.specs.Outside.{SourceTold};
 ghost use Rattle.lte_types.specs.Numerology.{least_samples, most_samples};
 ghost use Rattle.sample_file.specs.Reading.{HasReadRecording, HasReadFront};
@@ -8,27 +8,24 @@ ghost use Rattle.sample_file.specs.Recording.{IsRecording};
 ghost use Rattle.pss_search.specs.Hits.{IsInSpan, IsSmallHit, hits_of as all_hits};
 ghost use Rattle.lte_top.specs.Forms.{recording};
 ghost use Rattle.lte_top.specs.Line.{as_line};
-ghost use Rattle.lte_top.specs.Reports.{identified as identified_in, identified_by, IsEvidence, IsEvidenceJson};
+ghost use Rattle.lte_top.specs.Reports.{IsEvidence, IsEvidenceJson};
 ghost use Rattle.lte_top.specs.Reports.{IsEvidenceText, IsHits, IsIds, IsReport, IsTelling, kept_for as kept_in};
 ghost use Rattle.lte_top.specs.Reports.{kept_for_list as kept_in_list};
 ghost use Rattle.lte_top.specs.Run.{Cause, HasOutput};
 ghost use Rattle.lte_args.specs.declared.form.Form.TheVariants.{Report as Reports};
 
-use crate::measuring::{measured_hits, measured_ids};
 use crate::searching::{read_list, room_for_list, search_text};
 use crate::status::Status;
 use cs_outside::Source;
 use evidence::{evidence_of_list, support_of_list};
 use explain::DECIDING_SAMPLES;
+use hit_details::{identified_hits, measured_hits, measured_ids};
 use lte_args::{Output, Report, Rule};
-use lte_types::{Carrier, Half, Hit, LEAST_SAMPLES, MOST_SAMPLES};
+use lte_types::{Carrier, LEAST_SAMPLES, MOST_SAMPLES};
 use pss_search::{HitList, hits};
-use report::{
-    IdentifiedHit, json_of_evidence, json_of_hits, json_of_ids, tell_json, tell_text,
-    text_of_evidence, text_of_hits, text_of_ids,
-};
+use report_json::{json_of_evidence, json_of_hits, json_of_ids, tell_json};
+use report_text::{tell_text, text_of_evidence, text_of_hits, text_of_ids};
 use sample_file::{Recording, SampleForm, read_as, read_front};
-use sss_detect::{cell_id, frame_start, identity};
 use std::alloc::{AllocError, Global};
 
 // The text of a report about the recording of a source, which is read to its end.
@@ -155,7 +152,7 @@ fn ids_text(alloc: Global, output: Output, recording: &Recording) -> Result<Stri
     let list = hits_of(alloc, recording)?;
     match output {
         Output::Text => {
-            let found = ids_of(alloc, recording, list.slice())?;
+            let found = identified_hits(alloc, recording, list.slice())?;
             text_of_ids(alloc, &found)
         }
         Output::Json => {
@@ -175,47 +172,6 @@ pub(crate) fn hits_of(alloc: Global, recording: &Recording) -> Result<HitList, A
     let mut list = HitList::new(alloc)?;
     hits(recording, &mut list);
     Ok(list)
-}
-
-// Hits of a recording with their identities.
-fn ids_of(
-    alloc: Global,
-    recording: &Recording,
-    hits: &[Hit],
-) -> Result<Vec<IdentifiedHit>, AllocError>
-    requires recording { IsRecording recording.now }
-    requires span { All IsInSpan hits.now }
-    ensures { IfOk result (λ found. found.items ≡ map (identified_in recording.now) hits.now) }
-{
-    let mut found = Vec::with_capacity(alloc, hits.len())?;
-    for hit in hits {
-        found.push(identity_of(recording, hit))?;
-    }
-    Ok(found)
-}
-
-// A hit of a recording with what it tells of its cell.
-fn identity_of(recording: &Recording, hit: &Hit) -> IdentifiedHit
-    requires recording { IsRecording recording.now }
-    requires span { IsInSpan hit.now }
-    ensures { result ≡ identified_in recording.now hit.now }
-{
-    let (n1, half) = identity(recording, hit);
-    identified(hit, n1, half)
-}
-
-// A hit with what its group and its half tell of its cell.
-pub(crate) fn identified(hit: &Hit, n1: u16, half: Half) -> IdentifiedHit
-    requires group { n1 ≤ 167 }
-    requires member { hit.now.n2 ≤ 2 }
-    ensures { result ≡ identified_by hit.now (n1, half) }
-{
-    IdentifiedHit {
-        hit: *hit,
-        id: cell_id(n1, hit.n2),
-        half,
-        start: frame_start(hit, half),
-    }
 }
 
 // ---- evidence

@@ -1,7 +1,9 @@
+use hit_details::IdentifiedHit;
 use lte_types::{
     Bandwidth, CellId, Duration, Entry, Half, Hit, Mib, Mnc, Plmn, Resource, Sfn, Sib1, Sib1Reason,
 };
-use report::{IdentifiedHit, json, text, text_of_answers, text_of_hits, text_of_ids};
+use report_json::json;
+use report_text::{text, text_of_answers, text_of_hits, text_of_ids};
 use std::alloc::{AllocError, Global};
 use std::test::Fail;
 use test_support::{PLAIN_REPORT, message, plain_block};

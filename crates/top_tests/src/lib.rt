@@ -27,6 +27,8 @@ mod lengths;
 #[cfg(test)]
 mod make;
 #[cfg(test)]
+mod named_numbers;
+#[cfg(test)]
 mod pages;
 #[cfg(test)]
 mod samples_of_8_bits;

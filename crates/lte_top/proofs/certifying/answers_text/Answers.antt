@@ -1,6 +1,6 @@
 use Rattle.std.proofs.Common.{◌∙◌, ap}
 use Rattle.std.proofs.lemmas.Result.{err_from_is_err_and}
-use Rattle.report.specs.Answers.{check_text}
+use Rattle.report_text.specs.Answers.{check_text}
 use Rattle.lte_top.proofs.Checked.{output_of_answers, stream_cause}
 use Rattle.lte_top.proofs.certifying.answers_text.Goals as goal
 

@@ -1,0 +1,41 @@
+-- Hits with their details: identity, frame start, ranking and metric. (own)
+use Rattle.std.specs.Prelude.{ℕ, List}
+use Rattle.cs_num.specs.declared.Sample.{Sample}
+use Rattle.lte_types.specs.declared.frame.Half.{Half}
+use Rattle.lte_types.specs.declared.hit.Hit.{Hit}
+use Rattle.lte_types.specs.Identity.{cell_of}
+use Rattle.lte_types.specs.Numerology.{normal}
+use Rattle.pss_search.specs.Correlation.{wave_power}
+use Rattle.sss_detect.specs.Identity.{identity_of}
+use Rattle.sss_detect.specs.Place.{start_by_hit}
+use Rattle.sss_detect.specs.Second.{prefix_ranking}
+use Rattle.hit_details.specs.declared.hits.IdentifiedHit.{IdentifiedHit}
+use Rattle.hit_details.specs.declared.hits.MeasuredHit.{MeasuredHit}
+use Rattle.hit_details.specs.declared.hits.MeasuredId.{MeasuredId}
+
+-- a hit with the identity of its cell, the half that it is in, and the frame start, by its group and this half
+abbrev pub identified_by : Hit → ℕ × Half → IdentifiedHit
+identified_by hit pair = record {
+  hit = hit;
+  id = cell_of pair.0 hit.n2;
+  half = pair.1;
+  start = start_by_hit hit.t pair.1;
+}
+
+-- a hit of a recording with the identity of its cell, the half that it is in, and the frame start
+abbrev pub identified : List Sample → Hit → IdentifiedHit
+identified samples hit = identified_by hit (identity_of samples hit)
+
+-- a hit with the numbers of its metric, and a hit with these, its identity, and the best and the second pair of a
+-- group and a half with their scores
+abbrev pub measured : Hit → MeasuredHit
+measured hit = record { hit = hit; peak = hit.peak; energy = hit.energy; power = wave_power hit.n2 }
+
+abbrev pub measured_id : List Sample → Hit → MeasuredId
+measured_id samples hit = record {
+  found = identified samples hit;
+  ranking = prefix_ranking normal samples hit;
+  peak = hit.peak;
+  energy = hit.energy;
+  power = wave_power hit.n2;
+}

@@ -1,0 +1,54 @@
+//! The identities of hits.
+
+ghost use Rattle.std.specs.Prelude.{◌≡◌, ◌≤◌, All, IfOk, map};
+ghost use Rattle.sample_file.specs.Recording.{IsRecording};
+ghost use Rattle.pss_search.specs.Hits.{IsInSpan};
+ghost use Rattle.hit_details.specs.Details.{identified as identified_in, identified_by};
+
+use crate::hits::IdentifiedHit;
+use lte_types::{Half, Hit};
+use sample_file::Recording;
+use sss_detect::{cell_id, frame_start, identity};
+use std::alloc::{AllocError, Global};
+
+/// Returns the `hits` of a recording with the identity and the frame start of each, in their order. Fails only if an
+/// allocation fails. (own)
+pub fn identified_hits(
+    alloc: Global,
+    recording: &Recording,
+    hits: &[Hit],
+) -> Result<Vec<IdentifiedHit>, AllocError>
+    requires recording { IsRecording recording.now }
+    requires span { All IsInSpan hits.now }
+    ensures { IfOk result (λ found. found.items ≡ map (identified_in recording.now) hits.now) }
+{
+    let mut found = Vec::with_capacity(alloc, hits.len())?;
+    for hit in hits {
+        found.push(identity_of(recording, hit))?;
+    }
+    Ok(found)
+}
+
+// A hit of a recording with its identity.
+fn identity_of(recording: &Recording, hit: &Hit) -> IdentifiedHit
+    requires recording { IsRecording recording.now }
+    requires span { IsInSpan hit.now }
+    ensures { result ≡ identified_in recording.now hit.now }
+{
+    let (n1, half) = identity(recording, hit);
+    identified(hit, n1, half)
+}
+
+/// A hit with the identity and the frame start that its group and its half give.
+pub(crate) fn identified(hit: &Hit, n1: u16, half: Half) -> IdentifiedHit
+    requires group { n1 ≤ 167 }
+    requires member { hit.now.n2 ≤ 2 }
+    ensures { result ≡ identified_by hit.now (n1, half) }
+{
+    IdentifiedHit {
+        hit: *hit,
+        id: cell_id(n1, hit.n2),
+        half,
+        start: frame_start(hit, half),
+    }
+}

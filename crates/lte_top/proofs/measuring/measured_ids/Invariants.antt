@@ -1,6 +1,0 @@
-use Rattle.std.proofs.Common.{◌≡◌, map, take}
-use Rattle.lte_top.specs.Reports.{measured_id}
-use Rattle.lte_top.proofs.measuring.measured_ids.Given as goal
-
-abbrev pub invariant-loop-hit : goal.invariant-loop-hit
-invariant-loop-hit l = l.list.items ≡ map (measured_id l.recording) (take l.hit-index l.hits)

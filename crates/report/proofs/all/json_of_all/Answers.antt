@@ -1,8 +1,0 @@
-use Rattle.serde_json.specs.View.{view}
-use Rattle.report.specs.All.{all_value, all_json}
-use Rattle.report.proofs.Floats.{written, in_all}
-use Rattle.report.proofs.all.json_of_all.Goals as goal
-
-pub returns : goal.returns
-unfolding all_json
-returns c of are = written (view c.in_ok-all.all) (all_value of) c.to_string.result (c.in_ok-all.ensures of are) (in_all of) c.to_string.ensures.text

@@ -1,0 +1,5 @@
+pub mod Floats
+pub mod RoundsFloats
+pub mod OffsetFloats
+pub mod OneText
+mod ItemTexts

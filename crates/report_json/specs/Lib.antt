@@ -1,0 +1,7 @@
+pub mod Values
+pub mod Cells
+pub mod Hits
+pub mod Evidence
+pub mod All
+pub mod Rounds
+pub mod Offset

@@ -1,0 +1,49 @@
+-- A search that takes found cells off, as JSON. The keys of an object stand in the order of their bytes. (own)
+use Rattle.std.specs.Prelude.{◌≡◌, ℕ, List, [], ◌∷◌, codes}
+use Rattle.serde_json.specs.Data.{Data, boolean, object, member, no_members}
+use Rattle.serde_json.specs.Written.{compact_text}
+use Rattle.cs_num.specs.declared.Sample.{Sample}
+use Rattle.cell_plan.specs.Pair.{gain_of}
+use Rattle.successive_cancel.specs.declared.round.Round.{Round}
+use Rattle.successive_cancel.specs.declared.round.Rounds.{Rounds}
+use Rattle.successive_cancel.specs.Rounds.{IsCancelled}
+use Rattle.report_json.specs.Values.{natural, list_of}
+use Rattle.report_json.specs.Cells.{report_value}
+use Rattle.report_json.specs.Evidence.{complex_value}
+use Rattle.report_parts.specs.Words.{power_word}
+
+-- two powers
+abbrev pub powers_value : ℕ → ℕ → Data
+powers_value before after = list_of natural (before ∷ after ∷ [])
+
+-- a round: the cell that was taken off, its gain, the greatest size of a component that was left, the power of the
+-- recording with the cell and without it, and the list of what is left
+abbrev pub round_value : Round → Data
+round_value round = object (
+    member (codes "cells") (report_value round.list) (
+    member (codes "gain") (complex_value (gain_of round.taken.gain)) (
+    member (codes "identity") (natural round.id) (
+    member (codes "power") (powers_value (power_word round.taken.before) (power_word round.taken.after)) (
+    member (codes "residue") (natural round.taken.greatest) no_members)))))
+
+-- the list of the recording, its rounds, and whether a round took off none
+abbrev pub rounds_value : Rounds → Data
+rounds_value rounds = object (
+    member (codes "cells") (report_value rounds.first) (
+    member (codes "ended") (boolean rounds.ended) (
+    member (codes "rounds") (list_of round_value rounds.taken.items) no_members)))
+
+-- the JSON of a list and its rounds, without spaces
+unfoldable pub rounds_json : Rounds → List ℕ
+rounds_json rounds = compact_text (rounds_value rounds)
+
+-- the JSON of a recording
+pub record IsCancelJson (recording : List Sample) (text : List ℕ) : Type 0 where
+  pub rounds : Rounds
+  pub are : IsCancelled recording rounds
+  pub text_is : text ≡ rounds_json rounds
+
+-- a law: a recording has one JSON
+abbrev pub IsOneCancelJson : Type 0
+IsOneCancelJson =
+    (recording : List Sample) (a b : List ℕ) → IsCancelJson recording a → IsCancelJson recording b → a ≡ b

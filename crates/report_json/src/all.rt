@@ -1,0 +1,62 @@
+//! The lists of a recording by every rule, as JSON.
+
+ghost use Rattle.std.specs.Prelude.{◌≡◌, ◌++◌, IfOk, OnOk, List, length, map, string_bytes};
+ghost use Rattle.serde_json.specs.View.{view};
+ghost use Rattle.lte_types.specs.Carrier.{carriers};
+ghost use Rattle.report_json.specs.All.{ruled_value as value_of, ruled_values, all_value, all_json};
+
+use crate::cells::members_of;
+use explain::EntryList;
+use lte_types::{Carrier, Entry};
+use report_parts::rule_word;
+use serde_json::{ToValue, Value, put};
+use std::alloc::{AllocError, Global};
+
+/// Returns the lists of all carriers, one for each in the order of `Carrier::ALL`, as JSON in one line, without a line
+/// feed: one array with an object for each cell as `json` writes it, with its rule as a further key. Fails only if an
+/// allocation fails. (own)
+pub fn json_of_all(alloc: Global, lists: &[EntryList]) -> Result<String, AllocError>
+    requires { length lists.now ≡ length carriers }
+    ensures { (of : Carrier → List Entry) → lists.now ≡ map of carriers →
+        IfOk result (λ text. string_bytes text ≡ all_json of) }
+{
+    let all = value_of_all(alloc, lists)?;
+    all.to_string(alloc)
+}
+
+// The cells of the lists of all carriers in one array.
+fn value_of_all(alloc: Global, lists: &[EntryList]) -> Result<Value, AllocError>
+    ensures { (of : Carrier → List Entry) → lists.now ≡ map of carriers →
+        IfOk result (λ value. view value ≡ all_value of) }
+{
+    let mut values = Vec::new(alloc);
+    for (carrier, list) in Carrier::ALL.iter().zip(lists) {
+        add_ruled(alloc, *carrier, list.slice(), &mut values)?;
+    }
+    Ok(Value::from(values))
+}
+
+// Adds the values of a list's cells with their rule.
+fn add_ruled(
+    alloc: Global,
+    rule: Carrier,
+    entries: &[Entry],
+    list: &mut Vec<Value>,
+) -> Result<(), AllocError>
+    ensures { OnOk result (map view list.new.items ≡ map view list.old.items ++ ruled_values rule entries.now) }
+{
+    for entry in entries {
+        list.push(ruled_value(alloc, rule, entry)?)?;
+    }
+    Ok(())
+}
+
+// The value of a cell with its rule.
+fn ruled_value(alloc: Global, rule: Carrier, entry: &Entry) -> Result<Value, AllocError>
+    ensures { IfOk result (λ value. view value ≡ value_of rule entry.now) }
+{
+    let mut members = members_of(alloc, entry)?;
+    let word = rule_word(rule).to_value(alloc)?;
+    put(&mut members, alloc, "rule", word)?;
+    Ok(Value::from(members))
+}

@@ -1,0 +1,10 @@
+pub mod Words
+pub mod Lines
+pub mod All
+pub mod Pieces
+pub mod Hits
+pub mod Answers
+pub mod Evidence
+pub mod Cancelled
+pub mod Rounds
+pub mod Offset

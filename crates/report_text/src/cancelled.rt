@@ -1,0 +1,59 @@
+//! The lines of a cell that was taken off a recording.
+
+ghost use Rattle.std.specs.Prelude.{◌≡◌, IfOk, string_bytes};
+ghost use Rattle.report_text.specs.Cancelled.{cancelled_line as cancelled_of, gain_part as gain_of, power_line as power_of};
+ghost use Rattle.report_text.specs.Cancelled.{cancelled_lines, cancelled_none};
+
+use cs_num::Gain;
+use std::alloc::{AllocError, Global};
+use std::fmt::Write;
+
+/// Returns the two lines of a cancelled cell: its identity, its gain and the residual, `greatest`, which is the maximum
+/// magnitude of a component afterwards; and the power before and after. Fails only if an allocation fails. (own)
+pub fn text_of_cancelled(
+    alloc: Global,
+    id: u16,
+    gain: Gain,
+    greatest: u32,
+    powers: (u64, u64),
+) -> Result<String, AllocError>
+    ensures { IfOk result (λ text. string_bytes text ≡ cancelled_lines id gain greatest powers.0 powers.1) }
+{
+    let mut text = cancelled_line(alloc, id, gain, greatest)?;
+    let line = power_line(alloc, powers.0, powers.1)?;
+    text.push_str(&line)?;
+    Ok(text)
+}
+
+// Which cell was taken off, with which gain, and the greatest size of a component that was left.
+fn cancelled_line(alloc: Global, id: u16, gain: Gain, greatest: u32) -> Result<String, AllocError>
+    ensures { IfOk result (λ line. string_bytes line ≡ cancelled_of id gain greatest) }
+{
+    let mut line = format!(in alloc; "cancelled {id}")?;
+    let gain = gain_part(alloc, gain)?;
+    let rest = format!(in alloc; " residue {greatest}\n")?;
+    line.push_str(&gain)?;
+    line.push_str(&rest)?;
+    Ok(line)
+}
+
+fn gain_part(alloc: Global, gain: Gain) -> Result<String, AllocError>
+    ensures { IfOk result (λ part. string_bytes part ≡ gain_of gain) }
+{
+    let (re, im) = (gain.re(), gain.im());
+    format!(in alloc; " gain {re} {im}")
+}
+
+// The sums of the squares of the samples' sizes.
+fn power_line(alloc: Global, before: u64, after: u64) -> Result<String, AllocError>
+    ensures { IfOk result (λ line. string_bytes line ≡ power_of before after) }
+{
+    format!(in alloc; "power {before} {after}\n")
+}
+
+/// Returns the line that reports that no cell can be cancelled. Fails only if an allocation fails. (own)
+pub fn text_of_cancelled_none(alloc: Global) -> Result<String, AllocError>
+    ensures { IfOk result (λ text. string_bytes text ≡ cancelled_none) }
+{
+    format!(in alloc; "cancelled none\n")
+}

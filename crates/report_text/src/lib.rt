@@ -1,0 +1,32 @@
+//! The text reports: the cell list, PSS detections (hits), evidence, answers to certificates, rounds of interference
+//! cancellation, and the estimate of a frequency offset.
+//!
+//! Tests: `sent_tests/src/texts.rt`, `list_tests/src/told.rt`, `list_tests/src/rounds_of_recordings.rt`, and the commands
+//! in `top_tests`.
+#![tactic(auto)]
+
+mod all;
+mod answers;
+mod cancelled;
+mod each;
+mod hits;
+mod laws;
+mod lines;
+mod listing;
+mod made;
+mod offset;
+mod parts;
+mod rounds;
+mod supports;
+mod words;
+
+pub use all::text_of_all;
+pub use answers::text_of_answers;
+pub use cancelled::{text_of_cancelled, text_of_cancelled_none};
+pub use hits::{text_of_hits, text_of_ids};
+pub use laws::{listed_lines_stand, one_cancel_text};
+pub use listing::text;
+pub use made::line_of_made;
+pub use offset::tell_text;
+pub use rounds::{cancel_text, text_of_rounds};
+pub use supports::text_of_evidence;

@@ -1,0 +1,61 @@
+//! The text of what is told of a frequency offset.
+
+ghost use Rattle.std.specs.Prelude.{◌≡◌, IfOk, string_bytes};
+ghost use Rattle.report_text.specs.Hits.{hits_head};
+ghost use Rattle.report_text.specs.Lines.{head_line};
+ghost use Rattle.report_text.specs.Offset.{IsTellText, told_text, turn_line};
+
+use frequency_offset::{Told, tell};
+use sample_file::Recording;
+use std::alloc::{AllocError, Global};
+use std::fmt::Write;
+
+/// Returns the text of the frequency offset estimate for `recording`: the count of hits at the coarse offset, the
+/// offset, and the count of cells in the list of the corrected recording. If there is no estimate, it is `hits 0`
+/// alone. Fails only if an allocation fails. (own)
+pub fn tell_text(alloc: Global, recording: &Recording) -> Result<String, AllocError>
+    ensures { IfOk result (λ text. IsTellText recording.now (string_bytes text)) }
+{
+    let told = tell(alloc, recording)?;
+    text_of(alloc, &told)
+}
+
+// The text of what is told.
+fn text_of(alloc: Global, told: &Option<Told>) -> Result<String, AllocError>
+    ensures { IfOk result (λ text. string_bytes text ≡ told_text told.now) }
+{
+    match told {
+        Some(told) => text_of_turn(alloc, told),
+        None => line_of_hits(alloc, 0),
+    }
+}
+
+// The lines of what is told: hits, turn, cells.
+fn text_of_turn(alloc: Global, told: &Told) -> Result<String, AllocError>
+    ensures { IfOk result (λ text. string_bytes text ≡ told_text (Some told.now)) }
+{
+    let mut text = line_of_hits(alloc, told.hits)?;
+    let turn = line_of_turn(alloc, told)?;
+    let cells = line_of_cells(alloc, told.cells)?;
+    text.push_str(&turn)?;
+    text.push_str(&cells)?;
+    Ok(text)
+}
+
+fn line_of_hits(alloc: Global, hits: usize) -> Result<String, AllocError>
+    ensures { IfOk result (λ line. string_bytes line ≡ hits_head hits) }
+{
+    format!(in alloc; "hits {hits}\n")
+}
+
+fn line_of_turn(alloc: Global, told: &Told) -> Result<String, AllocError>
+    ensures { IfOk result (λ line. string_bytes line ≡ turn_line told.now.turn) }
+{
+    format!(in alloc; "turn {}\n", told.turn)
+}
+
+fn line_of_cells(alloc: Global, cells: usize) -> Result<String, AllocError>
+    ensures { IfOk result (λ line. string_bytes line ≡ head_line cells) }
+{
+    format!(in alloc; "cells {cells}\n")
+}

@@ -1,0 +1,55 @@
+//! The text of the evidence for the entries of a list.
+
+ghost use Rattle.std.specs.Prelude.{◌≡◌, ℕ, List, IfOk, string_bytes};
+ghost use Rattle.report_text.specs.Evidence.{evidence_text, evidence_line, entry_part as entry_of, number_part};
+
+use crate::each::{ToLines, add_lines};
+use lte_types::Evidence;
+use report_parts::{Named, numbers_in};
+use std::alloc::{AllocError, Global};
+use std::fmt::Write;
+
+/// Returns the text of the evidence for the entries of a list: a line with the count of entries, and for each entry a
+/// line with its identity, start and frame number, and the numbers of `numbers_in`, each after its name. Fails only if
+/// an allocation fails. (own)
+pub fn text_of_evidence(alloc: Global, list: &[Evidence]) -> Result<String, AllocError>
+    ensures { IfOk result (λ text. string_bytes text ≡ evidence_text list.now) }
+{
+    let mut text = format!(in alloc; "evidence {}\n", list.len())?;
+    add_lines(alloc, list, &mut text)?;
+    Ok(text)
+}
+
+// The line of an entry.
+impl ToLines for Evidence {
+    ghost lines_of = { evidence_line };
+
+    fn to_lines(&self, alloc: Global) -> Result<String, AllocError> {
+        let mut line = entry_part(alloc, self.id.value(), self.start, self.sfn.value())?;
+        add_lines(alloc, &numbers_in(self), &mut line)?;
+        line.push_str("\n")?;
+        Ok(line)
+    }
+}
+
+// A number after its name.
+impl ToLines for Named {
+    ghost lines_of = { number_part };
+
+    fn to_lines(&self, alloc: Global) -> Result<String, AllocError> {
+        after_name(alloc, self.name(), self.value())
+    }
+}
+
+fn after_name(alloc: Global, name: &str, value: u64) -> Result<String, AllocError>
+    ensures { IfOk result (λ part. string_bytes part ≡ number_part (name.now, value)) }
+{
+    format!(in alloc; " {name} {value}")
+}
+
+// Which entry it is.
+fn entry_part(alloc: Global, id: u16, start: u32, sfn: u16) -> Result<String, AllocError>
+    ensures { IfOk result (λ part. string_bytes part ≡ entry_of id start sfn) }
+{
+    format!(in alloc; "{id} {start} {sfn}")
+}

@@ -1,0 +1,41 @@
+//! Numbers of a report, looked up by their names, so that a further number changes none of these rows.
+
+use std::alloc::{AllocError, Global};
+
+// Whether a text has each of these numbers, with marks before the name, between name and value, and after the value.
+fn has_each(
+    alloc: Global,
+    text: &str,
+    numbers: &str,
+    marks: (&str, &str, &str),
+) -> Result<bool, AllocError> {
+    let (before, between, after) = marks;
+    let mut name = "";
+    let mut all = true;
+    for (i, word) in numbers.split(' ').enumerate() {
+        if i % 2 == 0 {
+            name = word;
+        } else {
+            let piece = format!(in alloc; "{before}{name}{between}{word}{after}")?;
+            all = all && text.contains(piece.as_str());
+        }
+    }
+    Ok(all)
+}
+
+/// Whether the line of an entry, counted from 0, has each of these numbers, given as names and values by turns.
+pub(crate) fn line_has(
+    alloc: Global,
+    text: &str,
+    entry: usize,
+    numbers: &str,
+) -> Result<bool, AllocError> {
+    let line = text.split('\n').nth(entry + 1).unwrap_or("");
+    let padded = format!(in alloc; "{line} ")?;
+    has_each(alloc, padded.as_str(), numbers, (" ", " ", " "))
+}
+
+/// Whether the object of the only entry has each of these numbers, given as names and values by turns.
+pub(crate) fn object_has(alloc: Global, json: &str, numbers: &str) -> Result<bool, AllocError> {
+    has_each(alloc, json, numbers, ("\"", "\":", ","))
+}
