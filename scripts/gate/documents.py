@@ -35,7 +35,7 @@ BUDGETS = {
     "docs/CLAIMS.md": 3000,
     "docs/DECISIONS.md": 3600,
     "docs/DEFINITION.md": 5400,
-    "docs/FORMATS.md": 7600,
+    "docs/FORMATS.md": 9900,
     "docs/PERFORMANCE.md": 900,
     "docs/PROOF_NOTES.md": 4400,
     "docs/RECORDINGS.md": 3300,
