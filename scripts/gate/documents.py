@@ -34,7 +34,7 @@ BUDGETS = {
     "docs/ARCHITECTURE.md": 2400,
     "docs/CLAIMS.md": 4300,
     "docs/DECISIONS.md": 3600,
-    "docs/DEFINITION.md": 5400,
+    "docs/DEFINITION.md": 6700,
     "docs/FORMATS.md": 9900,
     "docs/PERFORMANCE.md": 900,
     "docs/PROOF_NOTES.md": 4400,
