@@ -38,7 +38,7 @@ BUDGETS = {
     "docs/FORMATS.md": 9900,
     "docs/PERFORMANCE.md": 900,
     "docs/PROOF_NOTES.md": 4400,
-    "docs/RECORDINGS.md": 3300,
+    "docs/RECORDINGS.md": 4100,
     "scripts/README.md": 200,
     "scripts/peers/README.md": 450,
 }
