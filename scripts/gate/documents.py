@@ -29,7 +29,7 @@ PAGES = [*sorted(TOP.glob("*.md")), *sorted((TOP / "docs").glob("*.md")), *sorte
 HISTORY = ("CHANGELOG.md",)
 BUDGETS = {
     "README.md": 1700,
-    "CONTRIBUTING.md": 1600,
+    "CONTRIBUTING.md": 2000,
     "CHANGELOG.md": 1100,
     "docs/ARCHITECTURE.md": 2900,
     "docs/CLAIMS.md": 4300,
