@@ -36,7 +36,7 @@ BUDGETS = {
     "docs/DECISIONS.md": 3600,
     "docs/DEFINITION.md": 6700,
     "docs/FORMATS.md": 9900,
-    "docs/PERFORMANCE.md": 900,
+    "docs/PERFORMANCE.md": 1250,
     "docs/PROOF_NOTES.md": 4400,
     "docs/RECORDINGS.md": 4100,
     "scripts/README.md": 200,
