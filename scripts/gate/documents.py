@@ -37,7 +37,7 @@ BUDGETS = {
     "docs/DEFINITION.md": 6700,
     "docs/FORMATS.md": 9900,
     "docs/PERFORMANCE.md": 1250,
-    "docs/PROOF_NOTES.md": 4400,
+    "docs/PROOF_NOTES.md": 5400,
     "docs/RECORDINGS.md": 4100,
     "scripts/README.md": 200,
     "scripts/peers/README.md": 450,
