@@ -30,7 +30,7 @@ HISTORY = ("CHANGELOG.md",)
 BUDGETS = {
     "README.md": 1700,
     "CONTRIBUTING.md": 2000,
-    "CHANGELOG.md": 1100,
+    "CHANGELOG.md": 1400,
     "docs/ARCHITECTURE.md": 2900,
     "docs/CLAIMS.md": 4300,
     "docs/DECISIONS.md": 4200,
