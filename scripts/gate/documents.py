@@ -28,17 +28,17 @@ CRATES = TOP / "crates"
 PAGES = [*sorted(TOP.glob("*.md")), *sorted((TOP / "docs").glob("*.md")), *sorted((TOP / "scripts").glob("**/*.md"))]
 HISTORY = ("CHANGELOG.md",)
 BUDGETS = {
-    "README.md": 900,
-    "CONTRIBUTING.md": 1600,
-    "CHANGELOG.md": 1100,
-    "docs/ARCHITECTURE.md": 2400,
-    "docs/CLAIMS.md": 3000,
-    "docs/DECISIONS.md": 3600,
-    "docs/DEFINITION.md": 5400,
-    "docs/FORMATS.md": 7600,
-    "docs/PERFORMANCE.md": 900,
-    "docs/PROOF_NOTES.md": 4400,
-    "docs/RECORDINGS.md": 3300,
+    "README.md": 1700,
+    "CONTRIBUTING.md": 2000,
+    "CHANGELOG.md": 1400,
+    "docs/ARCHITECTURE.md": 2900,
+    "docs/CLAIMS.md": 4300,
+    "docs/DECISIONS.md": 4200,
+    "docs/DEFINITION.md": 6700,
+    "docs/FORMATS.md": 9900,
+    "docs/PERFORMANCE.md": 1250,
+    "docs/PROOF_NOTES.md": 5400,
+    "docs/RECORDINGS.md": 4100,
     "scripts/README.md": 200,
     "scripts/peers/README.md": 450,
 }

@@ -258,6 +258,7 @@ LONG_PREFIX_FORMS = (
 OUTPUTS = "scripts/examples/outputs/"
 SHOWN_FORMS = (
     ("hits --json", "docs/FORMATS.md"),
+    ("search --json", "docs/FORMATS.md"),
     ("search --all", "docs/FORMATS.md"),
     ("ids --json", OUTPUTS + "ids.json"),
     ("evidence --json", OUTPUTS + "evidence.json"),

@@ -70,11 +70,12 @@ def blocks(text):
 
 
 def table(lines):
-    """The rows of a table, each under its first cell, with the heads of the others before them."""
+    """The rows of a table, each under its first cell; of more than two columns the other cells have their heads."""
     heads, *rows = [[cell.strip() for cell in line.strip("|").split("|")] for line in lines if "|---" not in line]
     page = []
     for first, *others in rows:
-        page += labelled(spans(first), "; ".join(f"{head}: {cell}" for head, cell in zip(heads[1:], others)))
+        text = "; ".join(f"{head}: {cell}" for head, cell in zip(heads[1:], others)) if others[1:] else others[0]
+        page += labelled(spans(first), text)
     return page
 
 
