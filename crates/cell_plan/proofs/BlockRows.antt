@@ -1,5 +1,5 @@
 -- The row of a size, and the size in a table's entry.
-use Rattle.std.proofs.Common.{◌≡◌, ℕ, ◌+◌, ◌≤◌, Bool, true, false, length, Option, Some, None, refl, ap, sym, subst, ◌∙◌, arith}
+use Rattle.std.proofs.Common.{◌≡◌, ℕ, ◌+◌, ◌≤◌, Bool, true, false, length, Option, Some, None, inl, refl, ap, sym, subst, ◌∙◌, arith}
 use Rattle.std.specs.Prelude.{if◌then◌else◌, ◌&&◌, nat_eq, slice_get, IfSome}
 use Rattle.std.specs.List.{list_all}
 use Rattle.std.proofs.lemmas.Bool.{eqb-true, and_parts}
@@ -19,7 +19,7 @@ entries_fit mcs column (Some size) is = size_fits mcs column size (sym is)
 
 pub entries_small : (entry : Option ℕ) → IfSome entry (λ size. IsSize (size + 24)) → IfSome entry (λ size. size ≤ 1000)
 entries_small None fits = cc
-entries_small (Some size) fits = omega (arith, (is_small_size (size + 24) fits).high)
+entries_small (Some size) fits = omega (arith, (is_small_size (size + 24) (inl fits)).high)
 
 -- ---- a row is that of its K
 

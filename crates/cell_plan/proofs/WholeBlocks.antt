@@ -1,5 +1,5 @@
 -- Plans whose block can be resolved: always where each coded bit is sent.
-use Rattle.std.proofs.Common.{◌≡◌, ℕ, ◌+◌, ◌*◌, ◌≤◌, ◌<◌, Bool, true, false, List, ◌&&◌, ◌||◌, Option, Some, None, refl, ap, subst, sym, ◌∙◌, arith}
+use Rattle.std.proofs.Common.{◌≡◌, ℕ, ◌+◌, ◌*◌, ◌≤◌, ◌<◌, Bool, true, false, List, ◌&&◌, ◌||◌, Option, Some, None, inl, refl, ap, subst, sym, ◌∙◌, arith}
 use Rattle.std.specs.Prelude.{IsSome}
 use Rattle.std.specs.Option.{unwrap_or}
 use Rattle.std.proofs.lemmas.Bool.{leb-true as leb-le, and_parts, false≢true}
@@ -26,7 +26,7 @@ whole_word_is_resolvable k count word size many =
     let same = of.size in
     every_below_all 4 (λ rv. resolvable (row_with k) (sent_of k rv count) word) (λ rv version.
     subst (λ n. resolvable (row_with k) (sent_of n rv count) word ≡ true) same
-    (whole_block_is_resolvable (row_with k) rv count word of.is version (omega (arith, same, many))))
+    (whole_block_is_resolvable (row_with k) rv count word (inl of.is) version (omega (arith, same, many))))
 
 pub whole_is_resolvable : (plan : CellPlan) → IsSome (size_of plan.mcs plan.column) → 3 * (checked_size plan + 4) ≤ assigned_bits plan → is_resolvable plan ≡ true
 whole_is_resolvable plan sized many =

@@ -134,7 +134,7 @@ heard_grant_is_told slot indicator duration resource grant low high is heard = r
 
     all : AreHeard 1 (2 * 144) (coded_bit (grant_word grant)) (candidate_values slot indicator duration resource)
     all = subst (λ n. AreHeard 1 (2 * n) (coded_bit (grant_word grant)) (candidate_values slot indicator duration resource))
-        (length-candidate_places slot.identity (pdcch_groups slot.identity indicator duration resource) carry.enough carry.few carry.are)
+        (length-candidate_places slot.identity (pdcch_groups slot.identity indicator duration resource) carry.enough carry.are)
         (scrambled_places_are_heard (pdcch_c_init slot.identity slot.number) (λ p. slot) (grant_places slot indicator duration resource) (coded_bit (grant_word grant)) heard)
 
     speak : SpeakInOrder (grant_word grant) (candidate_values slot indicator duration resource)

@@ -1,5 +1,5 @@
 -- The system information of a plan as it is sent: values that speak for the bits of its block say the plan's fields.
-use Rattle.std.proofs.Common.{◌≡◌, ℕ, true, List, Ok, ℤ, refl, sym, subst, ◌∙◌}
+use Rattle.std.proofs.Common.{◌≡◌, ℕ, true, inl, List, Ok, ℤ, refl, sym, subst, ◌∙◌}
 use Rattle.cs_bits.specs.Checks.{message_of}
 use Rattle.turbo_code.specs.declared.rows.Row.{Row}
 use Rattle.turbo_code.specs.Encoder.{coded}
@@ -33,7 +33,7 @@ module _ {Enough : Type 0} (plan : CellPlan) (sendable : IsSendableWith Enough p
       let of = row_is plan sendable in
       let row : Row = row_with (checked_size plan) in
       let told = heard_block_is_told row (version_of number) count (shared_word plan) values
-      (record { is_row = of.is; version = version-fits number; size = word_size plan sendable ∙ sym of.size; passes = word_checked plan sendable; resolvable = enough row refl of })
+      (record { is_row = inl of.is; version = version-fits number; size = word_size plan sendable ∙ sym of.size; passes = word_checked plan sendable; resolvable = enough row refl of })
       (matched_heard row refl of.size) in
       record {
         bits = message_of 24 (shared_word plan);

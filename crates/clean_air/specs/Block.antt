@@ -4,7 +4,7 @@ use Rattle.std.specs.Prelude.{◌≡◌, ℕ, ◌+◌, ◌*◌, ◌<◌, ◌≤�
 use Rattle.cs_num.specs.declared.Cpx.{Cpx}
 use Rattle.cs_bits.specs.Checks.{message_of, has_check_24}
 use Rattle.turbo_code.specs.declared.rows.Row.{Row}
-use Rattle.turbo_code.specs.Table.{IsRow}
+use Rattle.turbo_code.specs.Table.{IsAnyRow}
 use Rattle.turbo_code.specs.Encoder.{coded}
 use Rattle.turbo_code.specs.Reading.{bit_of, item_of, summed}
 use Rattle.turbo_dec.specs.Block.{block}
@@ -24,7 +24,7 @@ matched_bit row rv word i = bit_of (coded row word) (item_of row.k rv i)
 -- a word of the size of a row, whose check passes, and which can be resolved by the first bits of the reading, as
 -- many as the count says: always where each coded bit is among them
 pub record IsSentBlock (row : Row) (rv count : ℕ) (word : List Bool) : Type 0 where
-  pub is_row : IsRow row
+  pub is_row : IsAnyRow row
   pub version : rv < 4
   pub size : length word ≡ row.k
   pub passes : has_check_24 word ≡ true

@@ -128,3 +128,14 @@ fn the_first_indices_of_a_stream_of_40(rt: HostRuntime) {
         assert!(rt; stream_index(40, p) == indices[p], "index {p}");
     }
 }
+
+// Expected: the columns of TS 36.212 table 5.1.4-2, read one after the other without the nulls.
+#[test]
+fn indices_of_long_streams(rt: HostRuntime) {
+    for (p, index) in [(0, 20), (1, 52), (5, 180), (393, 786), (786, 785)] {
+        assert!(rt; stream_index(787, p) == index, "index {p}");
+    }
+    for (p, index) in [(0, 1), (1, 33), (400, 0), (799, 798)] {
+        assert!(rt; stream_index(800, p) == index, "index {p}");
+    }
+}

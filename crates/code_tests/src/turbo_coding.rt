@@ -1,12 +1,12 @@
 ghost use Rattle.std.specs.Prelude.{◌≡◌, ◌+◌, ◌<◌, ◌≤◌};
-ghost use Rattle.turbo_code.specs.Table.{IsRow, IsSize};
+ghost use Rattle.turbo_code.specs.Table.{IsAnyRow, IsAnySize, IsRow, IsSize};
 ghost use Rattle.turbo_code.specs.Reading.{start};
 
 use crate::shared::{digest, number_of, squares};
 use std::alloc::{AllocError, Global};
 use std::test::Fail;
 use test_support::bits_of;
-use turbo_code::{Coded, Row, combine, encode, interleaver, match_out, row_of};
+use turbo_code::{Coded, Row, combine, encode, further_row_of, interleaver, match_out, row_of};
 
 // Whether the row of the size is this one.
 fn has_row(size: u16, k: u16, f1: u16, f2: u16) -> bool {
@@ -22,9 +22,35 @@ fn rows_of_sizes(rt: HostRuntime) {
     }
 }
 
+// K, f1 and f2 of the sizes of format 1C that the first table has not (TS 36.212 table 5.1.3-3).
+const FURTHER_ROWS: [(u16, u16, u16); 4] = [
+    (64, 7, 16),
+    (160, 21, 120),
+    (304, 37, 76),
+    (360, 133, 90),
+];
+
+// Whether the further row of the size is this one, permutes, and is none of the first table.
+fn is_further(size: u16, k: u16, f1: u16, f2: u16) -> bool {
+    match further_row_of(size) {
+        Some(row) => row == Row { k, f1, f2 } && permutes(&row) && row_of(size) == None,
+        None => false,
+    }
+}
+
+#[test]
+fn further_rows_of_sizes(rt: HostRuntime) {
+    for (k, f1, f2) in FURTHER_ROWS {
+        assert!(rt; is_further(k - 24, k, f1, f2), "K {k}");
+    }
+    for size in [32, 0, 41, 1000, 65_535] {
+        assert!(rt; further_row_of(size) == None, "size {size}");
+    }
+}
+
 // Whether the interleaver reads each bit once.
 fn permutes(row: &Row) -> bool
-    requires { IsRow row.now }
+    requires { IsAnyRow row.now }
 {
     let mut seen = [false; 1024];
     for i in 0..row.k {
@@ -88,9 +114,9 @@ fn each_row_permutes(rt: HostRuntime) {
 
 // The 64 bits of the reading from `from` on as a number.
 fn sent_from(coded: &Coded, rv: u8, from: u16) -> u64
-    requires size { IsSize coded.now.k }
+    requires size { IsAnySize coded.now.k }
     requires version { rv < 4 }
-    requires from { from ≤ 4000 }
+    requires from { from ≤ 5000 }
 {
     let mut number = 0;
     for i in 0..64_usize {
@@ -131,6 +157,32 @@ fn coded_word_of_56_bits(rt: HostRuntime) {
         (2, 180, 0x97e0_ed18_2ad9_4810),
         (3, 180, 0x5204_1b71_1d6a_aa8f),
         (2, 1160, 0x75aa_aa3c_3999_980f),
+    ] {
+        assert!(rt;
+            sent_from(&coded, rv, from) == number,
+            "version {rv} from {from}"
+        );
+    }
+}
+
+// The streams of the word 0123456789abcdef of 64 bits and what is sent of it, by the encoder of
+// scripts/peers/turbo_reference.py and the matrix of TS 36.212 section 5.1.4.1.1.
+#[test]
+fn coded_word_of_64_bits(rt: HostRuntime) {
+    let Some(row) = further_row_of(40) else {
+        return assert!(rt; false);
+    };
+    let word: [bool; 64] = bits_of(0x0123_4567_89ab_cdef);
+    let coded = encode(&word, row);
+    assert!(rt; coded.k == 64);
+    assert!(rt; front_of(&coded.d[0]) == 0x12_3456_789a_bcde);
+    assert!(rt; front_of(&coded.d[1]) == 0x1d_b23f_9fce_d827);
+    assert!(rt; front_of(&coded.d[2]) == 0x469_4858_b2c8_c78b);
+    for (rv, from, number) in [
+        (0, 0, 0x5558_7f84_ccf3_fe01),
+        (1, 0, 0xf00b_a7cd_41b6_1d0e),
+        (2, 204, 0xe876_b921_809a_ac4f),
+        (3, 5000, 0xe017_4f9a_836c_3a1d),
     ] {
         assert!(rt;
             sent_from(&coded, rv, from) == number,
@@ -231,6 +283,40 @@ fn digest_of(alloc: Global, rv: u8) -> Result<i64, AllocError>
         return Ok(0);
     }
     Ok(digest(&combine(&values, row, rv).d))
+}
+
+// The digest of the sums of 5,760 values, which are 32 rounds of the reading at K = 56.
+fn digest_of_many(alloc: Global, row: Row, rv: u8) -> Result<i64, AllocError>
+    requires row { IsAnyRow row }
+    requires version { rv < 4 }
+{
+    let values = squares(alloc, 5760)?;
+    if values.len() > 5760 {
+        return Ok(0);
+    }
+    Ok(digest(&combine(&values, row, rv).d))
+}
+
+// The digest for a size of either table, and 0 for any other.
+fn digest_of_size(alloc: Global, size: u16, rv: u8) -> Result<i64, AllocError>
+    requires version { rv < 4 }
+{
+    if let Some(row) = row_of(size) {
+        return digest_of_many(alloc, row, rv);
+    }
+    match further_row_of(size) {
+        Some(row) => digest_of_many(alloc, row, rv),
+        None => Ok(0),
+    }
+}
+
+#[test]
+fn sums_of_5760_values(rt: HostRuntime) -> Result<(), Fail> {
+    assert!(rt; digest_of_size(rt.alloc(), 32, 0)? == 593_265);
+    assert!(rt; digest_of_size(rt.alloc(), 32, 2)? == 265_892);
+    assert!(rt; digest_of_size(rt.alloc(), 336, 0)? == 571_865);
+    assert!(rt; digest_of_size(rt.alloc(), 336, 2)? == 539_614);
+    Ok(())
 }
 
 #[test]

@@ -29,17 +29,17 @@ none_indexed n placed row three = record {
 -- places are told by their indices
 same_place : (n j k : ℕ) → n ≤ 64 → j < n → k < n → get_or (stream_order n) j 0 ≡ get_or (stream_order n) k 0 → j ≡ k
 same_place n j k short hj hk e =
-    let o = is_order n (omega (arith, short)) in
+    let o = is_order n in
     sym (o.once j hj) ∙ ap (λ i. index_of i (stream_order n)) e ∙ o.once k hk
 
 pub index_below : (n p : ℕ) (order : List ℕ) → n ≤ 64 → p < n → order ≡ stream_order n → get_or order p 0 < n
-index_below n p order short below e = rw e ((is_order n (omega (arith, short))).inside p below)
+index_below n p order short below e = rw e ((is_order n).inside p below)
 
 pub indexed_more : (n : ℕ) (placed sums : List (List ℤ)) (p q : ℕ) (row : List ℤ) → n ≤ 64 → p < n → q ≡ get_or (stream_order n) p 0 → length row ≡ 3 →
     ((t : ℕ) → t < 3 → get_or row t (pos 0) ≡ sum_at placed t p) → AreIndexed n placed p sums → AreIndexed n placed (p + 1) (set sums q row)
 indexed_more n placed sums p q row short below is three here known =
     let size = known.size in
-    let inside : q < length sums = let h = (is_order n (omega (arith, short))).inside p below in omega (arith, size, is, h) in
+    let inside : q < length sums = let h = (is_order n).inside p below in omega (arith, size, is, h) in
     record {
       size = length-set sums q row ∙ size;
       rows = λ i h. elim (eqb_tells i q) [
@@ -86,7 +86,7 @@ indexed_are_summed n first values placed sums long short has known =
   where
     here : (q t : ℕ) → q < n → t < 3 → sum_at sums q t ≡ summed_at (λ i. item_of n (first + i)) values (length values) t q
     here q t below h =
-        let o = is_order n (omega (arith, short)) in
+        let o = is_order n in
         let p = index_of q (stream_order n) in
         let p_below = o.index_inside q below in
         let e : get_or (stream_order n) p 0 ≡ q = o.each q below in

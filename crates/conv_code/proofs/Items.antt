@@ -64,7 +64,7 @@ three n q some h = (div-lt_iff_lt-mul some).1 h
 item_of-stream : (n i : ℕ) → 0 < n → n ≤ 64 → item_of n i ≡ item_in n (i % (3 * n) % n) (i % (3 * n) / n)
 unfolding item_of
 item_of-stream n i some short =
-    let o = is_order n (omega (arith, short)) in
+    let o = is_order n in
     let q : ℕ = i % (3 * n) in
     let below : q % n < n = omega arith in
     let e : q / n * n + q % n ≡ q = omega arith in
@@ -78,7 +78,7 @@ spread n t p some below = (div-mul-add t n p below, mod-mul-add t n p below)
 
 each_once : (n : ℕ) → 6 ≤ n → n ≤ 64 → ReadsEachOnce n (item_of n)
 each_once n long short =
-    let o = is_order n (omega (arith, short)) in
+    let o = is_order n in
     let some : 0 < n = omega arith in
     record {
       inside = λ i.
@@ -116,7 +116,7 @@ each_once n long short =
     item_top n (suc (suc (suc t))) q h k = absurd (omega arith)
 
 pub permuting : IsPermuting
-permuting n long short = record { count = length-reading n (is_order n (omega (arith, short))); reads = each_once n long short }
+permuting n long short = record { count = length-reading n (is_order n); reads = each_once n long short }
 
 -- the item that is found in the order
 pub item_is : (n i : ℕ) → 6 ≤ n → n ≤ 64 → item_of n i ≡ item (i % (3 * n) / n) (get_or (stream_order n) (i % (3 * n) % n) 0)

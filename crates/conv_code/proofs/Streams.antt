@@ -1,18 +1,18 @@
 -- The bits of each stream in the order of the reading, and the search for one of them.
-use Rattle.std.proofs.Common.{◌≡◌, ℕ, ◌-◌, ◌*◌, ◌<◌, ◌≤◌, inl, inr, List, [], ◌∷◌, ◌++◌, length, get_or, map, refl, ap, sym, ◌∙◌, arith}
+use Rattle.std.proofs.Common.{◌≡◌, ℕ, ◌-◌, ◌*◌, ◌<◌, inl, inr, List, [], ◌∷◌, ◌++◌, length, get_or, map, refl, ap, sym, ◌∙◌, arith}
 use Rattle.std.specs.Prelude.{nat_le, filter}
 use Rattle.std.specs.List.{range_with_len}
 use Rattle.std.proofs.lemmas.Bool.{cases_lt}
-use Rattle.std.proofs.lemmas.List.{length-map, get_or-map, map-append}
+use Rattle.std.proofs.lemmas.List.{get_or-map, map-append}
 use Rattle.std.proofs.lemmas.List.Elements.{filter-append}
 use Rattle.sub_block.specs.declared.Code.TheVariants.{Convolutional}
 use Rattle.sub_block.specs.declared.Item.{Item}
 use Rattle.sub_block.specs.Matrix.{matrix_rows, nulls, cell}
 use Rattle.sub_block.specs.Items.{item, cells_read, bits_in}
 use Rattle.sub_block.proofs.Cells.{cells_read-at}
+use Rattle.sub_block.proofs.Once.{count_of_bits}
 use Rattle.sub_block.proofs.Search.{bits_in-kept, bits_in-skipped}
 use Rattle.conv_code.specs.Reading.{reading, stream_order}
-use Rattle.conv_code.proofs.Orders.{is_order}
 
 -- ---- every stream is read in the order of stream 0
 
@@ -54,16 +54,14 @@ streams_in_order n =
 pub cell_is : (r m c : ℕ) → m < 32 * r → c ≡ cell Convolutional r m → get_or (cells_read Convolutional r 0) m (item 0 0) ≡ item 0 c
 cell_is r m c h e = cells_read-at Convolutional r 0 m h ∙ ap (item 0) (sym e)
 
-pub count_of_stream : (n r : ℕ) → r ≡ matrix_rows n → n ≤ 66 → length (bits_in (32 * r - n) (cells_read Convolutional r 0)) ≡ n
-unfolding stream_order
-count_of_stream n r e h =
-    rw e (sym (length-map (bits_in (nulls n) (cells_read Convolutional (matrix_rows n) 0)) (λ (bit : Item). bit.index)) ∙ (is_order n h).count)
+pub count_of_stream : (n r : ℕ) → r ≡ matrix_rows n → length (bits_in (32 * r - n) (cells_read Convolutional r 0)) ≡ n
+count_of_stream n r e = rw e (count_of_bits Convolutional n 0)
 
-pub order_at : (n r p index : ℕ) → r ≡ matrix_rows n → n ≤ 66 → p < n →
+pub order_at : (n r p index : ℕ) → r ≡ matrix_rows n → p < n →
     get_or (bits_in (32 * r - n) (cells_read Convolutional r 0)) p (item 0 0) ≡ item 0 index → index ≡ get_or (stream_order n) p 0
 unfolding stream_order
-order_at n r p index e h below found =
-    let count = count_of_stream n r e h in
+order_at n r p index e below found =
+    let count = count_of_stream n r e in
     let inside : p < length (bits_in (32 * r - n) (cells_read Convolutional r 0)) = omega (arith, count, below) in
     sym (ap (λ r. get_or (map (λ (bit : Item). bit.index) (bits_in (32 * r - n) (cells_read Convolutional r 0))) p 0) (sym e)
     ∙ get_or-map (λ (bit : Item). bit.index) (bits_in (32 * r - n) (cells_read Convolutional r 0)) p (item 0 0) 0 inside

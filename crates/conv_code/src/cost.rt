@@ -6,8 +6,8 @@ ghost use Rattle.conv_code.specs.Cost.{triple_cost};
 
 use cs_bits::disagreement_of;
 
-/// The sum of the sizes of those of the three values at an index that speak against their coded bits (own).
-/// The values are at most 2^20 in size.
+/// Returns the sum of the magnitudes of those values at an index that disagree with their coded bits (own).
+/// The values are at most 2^20 in magnitude.
 pub fn against(values: &[i32; 3], bits: &[bool; 3]) -> u32
     requires { AllWithin (2 ^ 20) values.now }
     ensures cost { result ≡ triple_cost values.now (slice_index_or bits.now 0 false)

@@ -49,7 +49,7 @@ fn coded_at(word: &[bool], k: usize) -> [bool; 3]
     ]
 }
 
-/// The coded word: at each index the bits of the three streams (TS 36.212 section 5.1.3.1).
+/// Encodes a word into the bits of the three streams at each index (TS 36.212 section 5.1.3.1).
 pub fn encode<const N: usize>(word: &Bits<N>) -> [[bool; 3]; N]
     requires low { 6 ≤ N }
     requires high { N ≤ 64 }

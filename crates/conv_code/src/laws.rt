@@ -2,12 +2,12 @@
 
 ghost use Rattle.conv_code.specs.Laws.{IsOneToOne, IsPermuting};
 
-/// A law of the code: words of one length, 6 or more, with the same coded word are the same.
+/// States that words of one length, 6 or more, with the same coded word are the same.
 pub fn coded_words_tell_words()
     ensures { IsOneToOne }
 {}
 
-/// A law of the reading: its first 3N bits are all 3N items, each once, for 6 to 64 bits.
+/// States that the first 3N bits of the reading are all 3N items, each once, for N from 6 to 64.
 pub fn reading_permutes()
     ensures { IsPermuting }
 {}

@@ -8,10 +8,10 @@ ghost use Rattle.conv_code.specs.Steps.{place_of, HasPlacedSums};
 
 use sub_block::{Code, Item, cell_at};
 
-/// The index of the bit that is read after p others of a stream of n bits, n at most 66 (TS 36.212 section
-/// 5.1.4.2.1). `p` is below n, and so is the answer.
+/// Returns the index of the bit that is read after `p` others of a stream of `n` bits, at most 6,176, which 193 rows
+/// hold (TS 36.212 section 5.1.4.2.1). `p` is below `n`, and so is the answer.
 pub fn stream_index(n: usize, p: usize) -> usize
-    requires high { n ≤ 66 }
+    requires high { n ≤ 6176 }
     requires bits { p < n }
     ensures index { result ≡ slice_index_or (stream_order n) p 0 }
     ensures inside { result < n }
@@ -46,7 +46,7 @@ fn item_in(n: usize, i: usize) -> Item
     }
 }
 
-/// Bit i of the endless cyclic reading of a coded word (TS 36.212 section 5.1.4.2).
+/// Returns bit `i` of the endless cyclic reading of a coded word (TS 36.212 section 5.1.4.2).
 pub fn match_out<const N: usize>(coded: &[[bool; 3]; N], i: usize) -> bool
     requires low { 6 ≤ N }
     requires high { N ≤ 64 }
@@ -56,8 +56,8 @@ pub fn match_out<const N: usize>(coded: &[[bool; 3]; N], i: usize) -> bool
     coded[at.index][at.stream]
 }
 
-/// At each index of a coded word the sum of the values that the endless reading maps to it, from its bit
-/// `first` on. At most 1,920 values; `first` is below 2^32.
+/// Returns, for each index of a coded word, the sum of the values that the endless reading maps to it from its bit
+/// `first`. There are at most 1,920 values, and `first` is below 2^32.
 pub fn combine_from<const N: usize>(first: usize, values: &[i16]) -> [[i32; 3]; N]
     requires low { 6 ≤ N }
     requires high { N ≤ 64 }
@@ -69,8 +69,8 @@ pub fn combine_from<const N: usize>(first: usize, values: &[i16]) -> [[i32; 3]; 
     by_index(&by_place(first, values))
 }
 
-/// At each index of a coded word the sum of the values that the endless reading maps to it, from its bit 0 on: in
-/// each round of the reading one value for an item.
+/// Returns, for each index of a coded word, the sum of the values that the endless reading maps to it from its bit 0:
+/// one value an item in each round.
 pub fn combine<const N: usize>(values: &[i16]) -> [[i32; 3]; N]
     requires low { 6 ≤ N }
     requires high { N ≤ 64 }

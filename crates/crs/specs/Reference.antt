@@ -44,10 +44,14 @@ abbrev pub pattern_c_init : Pattern → ℕ → ℕ → ℕ → ℕ
 pattern_c_init pattern identity slot symbol =
     2 ^ 10 * (7 * (slot + 1) + symbol + 1) * (2 * identity + 1) + 2 * identity + pattern.prefix
 
--- value m of a symbol, by its sequence: with six resource blocks it takes the bits 2(m + 104) and
--- 2(m + 104) + 1
+-- value m of a symbol of a carrier of so many resource blocks, by the symbol's sequence, which is that of the widest
+-- carrier of 110 blocks: the value takes the bits 2(m + 110 - N) and 2(m + 110 - N) + 1
+abbrev pub value_of_width : ℕ → (ℕ → Bool) → ℕ → Cpx
+value_of_width blocks bit m = point (bit (2 * (m + (110 - blocks)))) (bit (2 * (m + (110 - blocks)) + 1))
+
+-- value m of a symbol of a carrier of six resource blocks
 abbrev pub value_by : (ℕ → Bool) → ℕ → Cpx
-value_by bit m = point (bit (2 * (m + 104))) (bit (2 * (m + 104) + 1))
+value_by = value_of_width 6
 
 -- the first reference subcarrier of a symbol (section 6.10.1.2)
 abbrev pub pattern_first : Pattern → ℕ → ℕ → ℕ

@@ -1,13 +1,13 @@
-//! The cell-specific reference signals of an antenna port (TS 36.211 section 6.10.1): which subcarriers of a
-//! symbol carry them, and their values, by antenna port and cyclic prefix; and points of two bits by QPSK.
-//! Where no pattern is named, port 0 with the normal prefix is meant.
+//! The cell-specific reference signals of an antenna port (TS 36.211 section 6.10.1): the subcarriers of a symbol
+//! that carry them, and their values, by antenna port and cyclic prefix; and QPSK points.
+//! Calls without a pattern are for port 0 with the normal prefix.
 #![tactic(auto)]
 
-ghost use Rattle.std.specs.Prelude.{◌≡◌, ◌⊎◌, ◌%◌, ◌^◌, ◌<◌, ◌↔◌, ◌/◌, ◌&&◌, ◌||◌, nat_eq, ℕ, length, false, get_or};
+ghost use Rattle.std.specs.Prelude.{◌≡◌, ◌⊎◌, ◌+◌, ◌-◌, ◌*◌, ◌%◌, ◌^◌, ◌<◌, ◌≤◌, ◌↔◌, ◌/◌, ◌&&◌, ◌||◌, nat_eq, ℕ, length, false, get_or};
 ghost use Rattle.std.specs.Prelude.{All, IsTrue};
 ghost use Rattle.crs.specs.Qpsk.{IsPoint};
 ghost use Rattle.crs.specs.Reference.{IsPattern, pattern_c_init, pattern_first, pattern_list};
-ghost use Rattle.crs.specs.Reference.{value_by, reference, reference_list};
+ghost use Rattle.crs.specs.Reference.{value_by, value_of_width, reference, reference_list};
 ghost use Rattle.crs.specs.Reference.{port_0, has_pilots, subcarrier, is_reference};
 ghost use Rattle.crs.specs.Reference.{is_second_reference, reference_at};
 
@@ -21,8 +21,9 @@ pub use pattern::Pattern;
 pub use qpsk::{POINT_POWER, point};
 pub use upper::{first_of_upper, reference_places_of_upper};
 
-// c_init of the sequence for a slot and a symbol of it.
-fn c_init(pattern: Pattern, id: CellId, slot: u8, symbol: u8) -> u32
+/// Returns `c_init` of the sequence of reference signals of a slot and a symbol of it, for a carrier of any width
+/// (TS 36.211 section 6.10.1.1). `slot` is 0 to 19 and `symbol` 0 to 6.
+pub fn c_init(pattern: Pattern, id: CellId, slot: u8, symbol: u8) -> u32
     requires pattern { IsPattern pattern }
     requires slot { slot < 20 }
     requires symbol { symbol < 7 }
@@ -35,18 +36,30 @@ fn c_init(pattern: Pattern, id: CellId, slot: u8, symbol: u8) -> u32
         + u32::from(pattern.prefix)
 }
 
-// The value of subcarrier number m, by the bits of the symbol's sequence.
+/// Returns value `m` of a symbol by the first bits of its sequence, for a carrier of `blocks` resource blocks, at most
+/// 110 (TS 36.211 section 6.10.1.1). Each component is 90 or -90. A symbol has two values a block; `bits` are at least
+/// the first 2(m + 110 - `blocks`) + 2, and 440 serve every value of every width.
+pub fn value_of_width(blocks: u8, bits: &[bool], m: u8) -> Cpx
+    requires blocks { blocks ≤ 110 }
+    requires bits { 2 * (m + (110 - blocks)) + 1 < length bits.now }
+    ensures value { result ≡ value_of_width blocks (λ n. get_or bits.now n false) m }
+    ensures full { IsPoint result }
+{
+    let first = 2 * (m as usize + (110 - blocks as usize));
+    point(bits[first], bits[first + 1])
+}
+
+// The value of subcarrier number m of six resource blocks, by the bits of the symbol's sequence.
 fn value_of(bits: &[bool], m: u8) -> Cpx
     requires bits { length bits.now ≡ 232 }
     requires m { m < 12 }
     ensures { result ≡ value_by (λ n. get_or bits.now n false) m }
 {
-    let first = 2 * (m as usize + 104);
-    point(bits[first], bits[first + 1])
+    value_of_width(6, bits, m)
 }
 
-/// The first of the subcarriers of a symbol that have reference places by a pattern: each sixth from it on has
-/// one (TS 36.211 section 6.10.1.2). `symbol` is 0 or the pattern's later symbol; any other is taken as the later one.
+/// Returns the first subcarrier of a symbol that carries a reference signal of `pattern`; every sixth subcarrier from
+/// it carries one (TS 36.211 section 6.10.1.2). `symbol` is 0 or the pattern's later symbol; any other counts as that.
 #[tactic(auto, using(std::proofs::lemmas::Bool::Decides::nat_tests))]
 pub fn first_of_pattern(pattern: Pattern, id: CellId, symbol: u8) -> u8
     requires { IsPattern pattern }
@@ -61,7 +74,7 @@ pub fn first_of_pattern(pattern: Pattern, id: CellId, symbol: u8) -> u8
     ((shift as u16 + id.value()) % 6) as u8
 }
 
-/// Subcarriers and values of the reference signals of a symbol by a pattern, in the order of subcarriers.
+/// Returns the subcarriers and values of the reference signals of `pattern` in a symbol, in the order of subcarriers.
 /// `slot` is 0 to 19, and `symbol` 0 or the pattern's later symbol; any other has its own values on the subcarriers of
 /// the later one. Each component of a value is 90 or -90.
 pub fn pattern_pilots(pattern: Pattern, id: CellId, slot: u8, symbol: u8) -> [(u8, Cpx); 12]
@@ -81,7 +94,7 @@ pub fn pattern_pilots(pattern: Pattern, id: CellId, slot: u8, symbol: u8) -> [(u
     pilots
 }
 
-/// Subcarriers and values of the reference signals of a symbol, in the order of subcarriers.
+/// Returns the subcarriers and values of the reference signals of a symbol, in the order of subcarriers.
 /// `slot` is 0 to 19 and `symbol` 0 or 4. Each component of a value is 90 or -90.
 pub fn pilots(id: CellId, slot: u8, symbol: u8) -> [(u8, Cpx); 12]
     requires slot { slot < 20 }
@@ -92,8 +105,8 @@ pub fn pilots(id: CellId, slot: u8, symbol: u8) -> [(u8, Cpx); 12]
     pattern_pilots(Pattern::FIRST_PORT, id, slot, symbol)
 }
 
-/// The twelve subcarriers of a symbol are its reference places, each with its value. Symbols 0 and
-/// 4 of a slot share every third subcarrier, from the identity modulo 3 on.
+/// States that the twelve subcarriers of a symbol are its reference places, each with its value. Symbols 0 and
+/// 4 of a slot share every third subcarrier, from the identity modulo 3.
 pub fn reference_places()
     ensures inside { (identity symbol m : ℕ) → m < 12 → subcarrier identity symbol m < 72 }
     ensures each { (identity symbol m : ℕ) → (symbol ≡ 0) ⊎ (symbol ≡ 4) →
@@ -115,8 +128,8 @@ pub fn reference_places()
         IsTrue (is_reference identity 0 k) → ¬ IsTrue (is_reference identity 4 k) }
 {}
 
-/// The reference places of both of two antenna ports are every third subcarrier of symbols 0 and 4 of a slot, from
-/// the identity modulo 3 on, and no place is one of both.
+/// States that the reference places of two antenna ports together are every third subcarrier of symbols 0 and 4 of a
+/// slot, from the identity modulo 3, and that the ports share none.
 pub fn reference_places_of_two()
     ensures both { (identity symbol k : ℕ) →
         (is_reference identity symbol k || is_second_reference identity symbol k)

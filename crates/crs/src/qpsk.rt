@@ -1,4 +1,4 @@
-//! Points of two bits (TS 36.211 section 7.1.2).
+//! QPSK points (TS 36.211 section 7.1.2).
 
 ghost use Rattle.std.specs.Prelude.{◌≡◌};
 ghost use Rattle.cs_num.specs.Complex.{square};
@@ -7,7 +7,7 @@ ghost use Rattle.crs.specs.declared.qpsk.TheConstants.{POINT_POWER};
 
 use cs_num::Cpx;
 
-/// The square of the size of each point: 90^2 + 90^2.
+/// The squared magnitude of each point: 90^2 + 90^2.
 pub const POINT_POWER: u32 = 16_200;
 
 // The component that a bit gives.
@@ -17,8 +17,8 @@ fn component_of(bit: bool) -> i64
     if bit { -90 } else { 90 }
 }
 
-/// The point of two bits by QPSK: the first in the real part, the second in the imaginary part.
-/// Each component is 90 for the bit 0 and -90 for the bit 1, and the square of the point's size is `POINT_POWER`.
+/// Returns the QPSK point of two bits: the first in the real part, the second in the imaginary part. Each component
+/// is 90 for the bit 0 and -90 for the bit 1; the squared magnitude is `POINT_POWER`.
 pub fn point(first: bool, second: bool) -> Cpx
     ensures point { result ≡ point first second }
     ensures full { IsPoint result }

@@ -29,7 +29,7 @@ is_sized size has =
     let inside : row_number size < 31 = ltb-true (row_number size) 31 has in
     let all = length-rows in (
       get_or rows (row_number size) (row 0 0 0),
-      row_at (row_number size) (row 0 0 0) inside,
+      row_at rows (row_number size) (row 0 0 0) (omega (arith, all, inside)),
       eqb-true _ _ (passes_at_first (λ r. nat_eq r.k (size + 24)) rows (row 0 0 0) (omega (arith, all, inside))),
     )
 

@@ -9,7 +9,7 @@ use Rattle.finite.proofs.Tests.{any_below_at, any_below_all, any_below_same, eve
 use Rattle.finite.proofs.Lists.{front_is, values_below_same}
 use Rattle.trellis.specs.AllWords.{every_word}
 use Rattle.turbo_code.specs.declared.rows.Row.{Row}
-use Rattle.turbo_code.specs.Table.{IsRow, interleaver, step_of}
+use Rattle.turbo_code.specs.Table.{IsAnyRow, interleaver, step_of}
 use Rattle.turbo_code.specs.Encoder.{bit_at, parity, tail_x, tail_z}
 use Rattle.turbo_code.proofs.Permutes.{all_permute}
 use Rattle.turbo_code.proofs.TableFacts.{is_small}
@@ -76,7 +76,7 @@ second_by_marks row sent known own par own_marks par_marks tail k size own_is pa
     by_marks row.k (second_sent row sent) (λ i. known (interleaver row i)) own par own_marks par_marks tail (tail_sent sent (row.k + 2)) (step_of row k) size own_is par_is each each' tails refl
 
 -- marks that are placed in the order of the word
-pub placed_all : (row : Row) (values found : List Bool) (i k : ℕ) → IsRow row → row.k ≤ i → ((j : ℕ) → j < i → get_or found (interleaver row j) false ≡ get_or values j false) →
+pub placed_all : (row : Row) (values found : List Bool) (i k : ℕ) → IsAnyRow row → row.k ≤ i → ((j : ℕ) → j < i → get_or found (interleaver row j) false ≡ get_or values j false) →
     k < row.k → get_or found k false ≡ get_or values (step_of row k) false
 placed_all row values found i k is_row past each inside =
     let read = read_at_step row k is_row inside in
@@ -85,7 +85,7 @@ placed_all row values found i k is_row past each inside =
 
 -- ---- the iterations
 
-module _ (row : Row) (is_row : IsRow row) (sent : ℕ → ℕ → Bool) where
+module _ (row : Row) (is_row : IsAnyRow row) (sent : ℕ → ℕ → Bool) where
   first_same : (sent' : ℕ → ℕ → Bool) (known known' : ℕ → Bool) (k : ℕ) → ((t p : ℕ) → t < 3 → p < row.k + 4 → sent t p ≡ sent' t p) → ((j : ℕ) → j < row.k → known j ≡ known' j) →
       first_found row sent known k ≡ first_found row sent' known' k
   first_same sent' known known' k same h =
@@ -151,7 +151,7 @@ pub record IsAfter (row : Row) (sent : ℕ → ℕ → Bool) (word known : List 
   pub unfilled : (m : ℕ) → m < n → settles_all row sent m ≡ false
   pub unchecked : (m : ℕ) → m < n → has_check_24 (word_after row sent word m) ≡ false
 
-pub after_none : (row : Row) (sent : ℕ → ℕ → Bool) (word : List Bool) → IsRow row → IsAfter row sent word (replicate 1024 false) 0
+pub after_none : (row : Row) (sent : ℕ → ℕ → Bool) (word : List Bool) → IsAnyRow row → IsAfter row sent word (replicate 1024 false) 0
 unfolding known_after
 after_none row sent word is_row = record {
   marks = λ k inside. let high = (is_small row is_row).high in get_or-replicate 1024 k false false (omega (arith, inside, high));
@@ -164,7 +164,7 @@ pub record IsIteration (row : Row) (sent : ℕ → ℕ → Bool) (n : ℕ) (seco
   pub seconds : (k : ℕ) → k < row.k → get_or second k false ≡ known_after row sent (suc n) k
   pub settles : (k : ℕ) → k < row.k → get_or all k false ≡ settled row sent n k
 
-pub iterated : (row : Row) (sent : ℕ → ℕ → Bool) (word known first second all : List Bool) (n : ℕ) → IsRow row → IsAfter row sent word known n →
+pub iterated : (row : Row) (sent : ℕ → ℕ → Bool) (word known first second all : List Bool) (n : ℕ) → IsAnyRow row → IsAfter row sent word known n →
     ((k : ℕ) → k < row.k → get_or first k false ≡ first_found row sent (bit_at known) k) →
     ((k : ℕ) → k < row.k → get_or second k false ≡ second_found row sent (bit_at first) k) →
     ((k : ℕ) → k < row.k → get_or all k false ≡ ((sent 0 k || get_or first k false) || get_or second k false)) →
@@ -188,7 +188,7 @@ filled_is row sent n second all front now size is =
     ap (λ m. every_below m (bit_at front)) size
     ∙ every_below_same row.k (bit_at front) (settled row sent n) (λ k inside. ap (λ xs. get_or xs k false) is ∙ get_or-take row.k all k false inside ∙ now.settles k inside)
 
-pub told_is : (row : Row) (sent : ℕ → ℕ → Bool) (word : List Bool) (n : ℕ) (second all told front : List Bool) → IsRow row → length word ≡ row.k → IsIteration row sent n second all → length told ≡ 1024 →
+pub told_is : (row : Row) (sent : ℕ → ℕ → Bool) (word : List Bool) (n : ℕ) (second all told front : List Bool) → IsAnyRow row → length word ≡ row.k → IsIteration row sent n second all → length told ≡ 1024 →
     ((k : ℕ) → k < length word → get_or told k false ≡ (bit_at word k && get_or all k false)) → front ≡ take row.k told → front ≡ word_after row sent word n
 told_is row sent word n second all told front is_row size now long each is =
     let high = (is_small row is_row).high in

@@ -7,7 +7,7 @@ use Rattle.finite.specs.Tables.{sum_at}
 use Rattle.finite.proofs.Sums.{positive, sum_below_same, sum_below_pos, total_below-positive}
 use Rattle.sub_block.specs.Items.{is_at, summed_at}
 use Rattle.turbo_code.specs.declared.rows.Row.{Row}
-use Rattle.turbo_code.specs.Table.{IsRow}
+use Rattle.turbo_code.specs.Table.{IsAnyRow}
 use Rattle.turbo_code.specs.Reading.{item_of, summed}
 use Rattle.turbo_code.proofs.Sums.{summed-at}
 use Rattle.turbo_code.proofs.TableFacts.{is_small}
@@ -19,7 +19,7 @@ above_positive zero = refl
 above_positive (suc n) = lt-ltb 0 (suc n) (omega arith)
 
 -- the sum of ones of an item is above 0 exactly where one of them comes from there
-pub counts_are : (row : Row) (rv m : ℕ) (counts : List (List ℤ)) (values : List ℤ) → IsRow row → length values ≡ m → ((i : ℕ) → i < m → get_or values i (pos 0) ≡ pos 1) →
+pub counts_are : (row : Row) (rv m : ℕ) (counts : List (List ℤ)) (values : List ℤ) → IsAnyRow row → length values ≡ m → ((i : ℕ) → i < m → get_or values i (pos 0) ≡ pos 1) →
     counts ≡ summed row.k rv values → (t p : ℕ) → t < 3 → p < row.k + 4 → above_zero counts t p ≡ sent_of row.k rv m t p
 unfolding summed_at sent_of
 counts_are row rv m counts values is_row size each is t p stream inside =

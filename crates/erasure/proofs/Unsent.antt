@@ -11,7 +11,7 @@ use Rattle.trellis.specs.AllWords.{every_word}
 use Rattle.trellis.proofs.AllWords.{every_word_at}
 use Rattle.trellis.proofs.Words.{bit_between}
 use Rattle.turbo_code.specs.declared.rows.Row.{Row}
-use Rattle.turbo_code.specs.Table.{IsRow, interleaver, step_of}
+use Rattle.turbo_code.specs.Table.{IsAnyRow, interleaver, step_of}
 use Rattle.turbo_code.specs.Encoder.{bit_at, parity, tail_x, tail_z}
 use Rattle.turbo_code.proofs.Permutes.{all_permute}
 use Rattle.turbo_code.proofs.TableFacts.{is_small}
@@ -51,7 +51,7 @@ nothing_found n sent known k inside information checks tails =
       | inr e ↦ e
     ]
 
-module _ (row : Row) (is_row : IsRow row) (sent : ℕ → ℕ → Bool) (nothing : (t p : ℕ) → sent t p ≡ false) where
+module _ (row : Row) (is_row : IsAnyRow row) (sent : ℕ → ℕ → Bool) (nothing : (t p : ℕ) → sent t p ≡ false) where
   tail_nothing : (p j : ℕ) → j < 6 → bit_at (tail_sent sent p) j ≡ false
   tail_nothing p zero l = nothing 0 p
   tail_nothing p (suc zero) l = nothing 1 p

@@ -6,7 +6,7 @@ use Rattle.finite.proofs.Tests.{any_below_at, every_below_all}
 use Rattle.sub_block.specs.Items.{item, is_at}
 use Rattle.sub_block.proofs.Sums.{at_itself}
 use Rattle.turbo_code.specs.declared.rows.Row.{Row}
-use Rattle.turbo_code.specs.Table.{IsSize}
+use Rattle.turbo_code.specs.Table.{IsAnySize}
 use Rattle.turbo_code.specs.Reading.{item_of}
 use Rattle.turbo_code.proofs.TableFacts.{row_size}
 use Rattle.turbo_code.proofs.Whole.{whole}
@@ -23,7 +23,7 @@ resolved_at_once row sent word each = any_below_at 8 0 (resolves row sent word) 
     full = every_below_all row.k (settled row sent 0) (λ k inside. or_left _ _ (or_left _ _ (each k inside)))
 
 -- once round the reading each item is sent
-pub all_sent : (k rv m : ℕ) → IsSize k → rv < 4 → 3 * (k + 4) ≤ m → (t p : ℕ) → t < 3 → p < k + 4 → sent_of k rv m t p ≡ true
+pub all_sent : (k rv m : ℕ) → IsAnySize k → rv < 4 → 3 * (k + 4) ≤ m → (t p : ℕ) → t < 3 → p < k + 4 → sent_of k rv m t p ≡ true
 unfolding sent_of
 all_sent k rv m is_size version many t p stream inside =
     let (i, below, is) = (whole k rv is_size version).reads.each t p stream inside in

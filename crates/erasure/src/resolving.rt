@@ -3,7 +3,7 @@
 ghost use Rattle.std.specs.Prelude.{◌≡◌, ℕ, ◌+◌, ◌<◌, ◌≤◌, ◌||◌, ◌&&◌, All, pos, false, length, take, slice_index_or};
 ghost use Rattle.finite.specs.Tests.{every_below};
 ghost use Rattle.turbo_code.specs.Encoder.{bit_at};
-ghost use Rattle.turbo_code.specs.Table.{IsRow, interleaver, step_of};
+ghost use Rattle.turbo_code.specs.Table.{IsAnyRow, interleaver, step_of};
 ghost use Rattle.erasure.specs.Known.{tail_sent, first_found, second_found, resolvable, sent_of};
 ghost use Rattle.erasure.specs.Sets.{above_zero};
 
@@ -43,7 +43,7 @@ fn tail_of(counts: &Counts, p: usize) -> [bool; 6]
 
 /// Which bits of a stream are sent.
 fn stream_of(counts: &Counts, row: &Row, t: usize) -> Marks
-    requires row { IsRow row.now }
+    requires row { IsAnyRow row.now }
     requires stream { t < 3 }
     ensures marks { (k : ℕ) → k < row.now.k → slice_index_or result k false ≡ above_zero counts.now t k }
     ensures size { length result ≡ 1024 }
@@ -57,7 +57,7 @@ fn stream_of(counts: &Counts, row: &Row, t: usize) -> Marks
 
 /// Which bits of the word are sent or known.
 fn own_of(counts: &Counts, row: &Row, known: &Marks) -> Marks
-    requires row { IsRow row.now }
+    requires row { IsAnyRow row.now }
     ensures marks { (k : ℕ) → k < row.now.k → slice_index_or result k false ≡
         (above_zero counts.now 0 k || slice_index_or known.now k false) }
     ensures size { length result ≡ 1024 }
@@ -71,7 +71,7 @@ fn own_of(counts: &Counts, row: &Row, known: &Marks) -> Marks
 
 /// Which bits of the word are sent or known, in the order of the second decoder.
 fn own_in_order_of(counts: &Counts, row: &Row, known: &Marks) -> Marks
-    requires row { IsRow row.now }
+    requires row { IsAnyRow row.now }
     ensures marks { (i : ℕ) → i < row.now.k → slice_index_or result i false ≡
         (above_zero counts.now 0 (interleaver row.now i) || slice_index_or known.now (interleaver row.now i) false) }
     ensures size { length result ≡ 1024 }
@@ -86,7 +86,7 @@ fn own_in_order_of(counts: &Counts, row: &Row, known: &Marks) -> Marks
 
 /// The marks of the bits of a word.
 fn front_of<'a>(marks: &'a Marks, row: &Row) -> &'a [bool]
-    requires row { IsRow row.now }
+    requires row { IsAnyRow row.now }
     ensures marks { result.now ≡ take row.now.k marks.now }
     ensures count { length result.now ≡ row.now.k }
     ensures low { 56 ≤ length result.now }
@@ -97,7 +97,7 @@ fn front_of<'a>(marks: &'a Marks, row: &Row) -> &'a [bool]
 
 /// The bits that the first decoder finds.
 fn first_marks(counts: &Counts, row: &Row, known: &Marks) -> Marks
-    requires row { IsRow row.now }
+    requires row { IsAnyRow row.now }
     ensures found { (k : ℕ) → k < row.now.k → slice_index_or result k false ≡
         first_found row.now (above_zero counts.now) (bit_at known.now) k }
     ensures size { length result ≡ 1024 }
@@ -111,7 +111,7 @@ fn first_marks(counts: &Counts, row: &Row, known: &Marks) -> Marks
 
 /// The bits that the second decoder finds, in its own order.
 fn second_in_order_of(counts: &Counts, row: &Row, known: &Marks) -> Marks
-    requires row { IsRow row.now }
+    requires row { IsAnyRow row.now }
     ensures found { (k : ℕ) → k < row.now.k → slice_index_or result (step_of row.now k) false ≡
         second_found row.now (above_zero counts.now) (bit_at known.now) k }
     ensures size { length result ≡ 1024 }
@@ -125,7 +125,7 @@ fn second_in_order_of(counts: &Counts, row: &Row, known: &Marks) -> Marks
 
 /// The bits that the second decoder finds.
 fn second_marks(counts: &Counts, row: &Row, known: &Marks) -> Marks
-    requires row { IsRow row.now }
+    requires row { IsAnyRow row.now }
     ensures found { (k : ℕ) → k < row.now.k → slice_index_or result k false ≡
         second_found row.now (above_zero counts.now) (bit_at known.now) k }
     ensures size { length result ≡ 1024 }
@@ -140,7 +140,7 @@ fn second_marks(counts: &Counts, row: &Row, known: &Marks) -> Marks
 
 /// The bits that are settled: sent, or found by either decoder.
 fn settled_of(counts: &Counts, row: &Row, first: &Marks, second: &Marks) -> Marks
-    requires row { IsRow row.now }
+    requires row { IsAnyRow row.now }
     ensures marks { (k : ℕ) → k < row.now.k → slice_index_or result k false ≡
         ((above_zero counts.now 0 k || slice_index_or first.now k false) || slice_index_or second.now k false) }
     ensures size { length result ≡ 1024 }
@@ -179,7 +179,7 @@ fn word_of(bits: &[bool], settled: &Marks) -> Marks
 
 /// Whether the block can be resolved, by the items that are sent.
 fn resolves(bits: &[bool], row: &Row, counts: &Counts) -> bool
-    requires row { IsRow row.now }
+    requires row { IsAnyRow row.now }
     requires count { length bits.now ≡ row.now.k }
     ensures { result ≡ resolvable row.now (above_zero counts.now) bits.now }
 {
@@ -202,23 +202,23 @@ fn resolves(bits: &[bool], row: &Row, counts: &Counts) -> bool
 
 /// For each index how many of the first bits of the reading come from it.
 fn counts_of(row: Row, rv: u8, sent: u16) -> Counts
-    requires row { IsRow row }
+    requires row { IsAnyRow row }
     requires version { rv < 4 }
-    requires sent { sent ≤ 1224 }
+    requires sent { sent ≤ 5760 }
     ensures { (t p : ℕ) → t < 3 → p < row.k + 4 → above_zero result t p ≡ sent_of row.k rv sent t p }
 {
-    let ones = [1; 1224];
+    let ones = [1; 5760];
     combine(&ones[..sent as usize], row, rv).d
 }
 
-/// Whether a block can be resolved by the first `sent` bits of the reading (TS 36.212 section 5.1.4.1), from each
-/// of the four redundancy versions on: of eight iterations of the decoder (own) one is the first that settles every
-/// bit, and no earlier one tells a word whose check passes (CRC24A). `bits` are the K bits of the block with its
-/// check, `row` is the row of the table for K, and `sent` is at most 1,224.
+/// Returns whether a block can be resolved by the first `sent` bits of the reading (TS 36.212 section 5.1.4.1), from
+/// each of the four redundancy versions: one of eight iterations of the decoder (own) settles every bit, and no
+/// earlier one decodes a word whose CRC passes (CRC24A). `bits` are the K bits of the block with its CRC, `row` is the
+/// row of either table for K, and `sent` is at most 5,760.
 pub fn fills(bits: &[bool], row: Row, sent: u16) -> bool
-    requires row { IsRow row }
+    requires row { IsAnyRow row }
     requires count { length bits.now ≡ row.k }
-    requires sent { sent ≤ 1224 }
+    requires sent { sent ≤ 5760 }
     ensures { result ≡ every_below 4 (λ rv. resolvable row (sent_of row.k rv sent) bits.now) }
 {
     let mut all = true;

@@ -55,8 +55,7 @@ fn put_low_bits(number: u32, out: &mut [bool])
     }
 }
 
-/// Writes the first bits of the sequence c over the whole of `out`. `c_init` is below 2^31; its
-/// bit i is x2(i).
+/// Fills `out` with the first bits of the sequence c. `c_init` is below 2^31; its bit i is x2(i).
 pub fn fill(c_init: u32, out: &mut [bool])
     requires { c_init < 2 ^ 31 }
     ensures { out.new ≡ gold_bits c_init (length out.old) }
@@ -77,8 +76,8 @@ pub fn fill(c_init: u32, out: &mut [bool])
     }
 }
 
-/// The definitions are those of the standard: x1 and x2 have the stated first 31 bits and follow
-/// their recurrences, and c is their sum, 1600 places on.
+/// States that the definitions are those of the standard: x1 and x2 have the stated first 31 bits and follow
+/// their recurrences, and c is their sum from bit 1600.
 pub fn recurrences()
     ensures x1_first { x1 0 ≡ true }
     ensures x1_start { (n : ℕ) → 0 < n → n < 31 → x1 n ≡ false }

@@ -130,14 +130,14 @@ module _ (identity cfi : ℕ) (duration : Duration) (resource : Resource) (low :
   of_control i l =
       let carry = pdcch_carry identity cfi duration resource low high in
       let n : ℕ = group_of_quadruplet identity (length groups) (i / 4) in
-      let inside : n < length groups = group_inside identity (length groups) (i / 4) carry.few (let enough = carry.enough in omega (arith, enough, l)) in
+      let inside : n < length groups = group_inside identity (length groups) (i / 4) (let enough = carry.enough in omega (arith, enough, l)) in
       let g : Reg = quadruplet_group identity groups (i / 4) in
       let there = pdcch_inside identity cfi duration resource n (group 0 0) inside in
       record {
         g = g;
         among = among_groups groups n inside;
         inside = there;
-        has = subst (Contains (group_places identity g)) (sym (candidate_place_at identity groups i carry.enough carry.few carry.are l)) (has_four identity g (i % 4) (of_region g there).is (omega arith));
+        has = subst (Contains (group_places identity g)) (sym (candidate_place_at identity groups i carry.enough carry.are l)) (has_four identity g (i % 4) (of_region g there).is (omega arith));
       }
 
   -- the places of the candidate are in the control region

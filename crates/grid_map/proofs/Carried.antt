@@ -25,26 +25,26 @@ group_is_first identity count q r l before here =
     (λ inside. ap (carries identity count q) (number_at count r l) ∙ eq-eqb _ _ here)
 
 -- some group does
-pub some_group : (identity count q r : ℕ) → count ≤ 66 → q < count → count ≤ r → ((k : ℕ) → k < r → carries identity count q k ≡ false) → ⊥
-some_group identity count q r few l past none =
-    let (k, below, here) = quadruplet_each identity count q few l in
+pub some_group : (identity count q r : ℕ) → q < count → count ≤ r → ((k : ℕ) → k < r → carries identity count q k ≡ false) → ⊥
+some_group identity count q r l past none =
+    let (k, below, here) = quadruplet_each identity count q l in
     false≢true (sym (none k (omega (arith, below, past))) ∙ eq-eqb _ _ here)
 
-pub group_inside : (identity count q : ℕ) → count ≤ 66 → q < count → group_of_quadruplet identity count q < count
+pub group_inside : (identity count q : ℕ) → q < count → group_of_quadruplet identity count q < count
 unfolding group_of_quadruplet
-group_inside identity count q few l = cases (cases_lt (group_of_quadruplet identity count q) count)
+group_inside identity count q l = cases (cases_lt (group_of_quadruplet identity count q) count)
   where
     cases : (group_of_quadruplet identity count q < count) ⊎ (count ≤ group_of_quadruplet identity count q) → group_of_quadruplet identity count q < count
     cases (inl inside) = inside
     cases (inr past) =
-        absurd (some_group identity count q count few l (omega arith)
+        absurd (some_group identity count q count l (omega arith)
         (λ k m. sym (ap (carries identity count q) (number_at count k m))
         ∙ fails_before_first (carries identity count q) (range_with_len 0 count) k 0 (omega (arith, past, m))))
 
-pub group_carries : (identity count q : ℕ) → count ≤ 66 → q < count → quadruplet_at identity count (group_of_quadruplet identity count q) ≡ q
+pub group_carries : (identity count q : ℕ) → q < count → quadruplet_at identity count (group_of_quadruplet identity count q) ≡ q
 unfolding group_of_quadruplet
-group_carries identity count q few l =
-    let inside = group_inside identity count q few l in
+group_carries identity count q l =
+    let inside = group_inside identity count q l in
     let long = length-range_with_len 0 count in
     let passes = passes_at_first (carries identity count q) (range_with_len 0 count) 0 (omega (arith, inside, long)) in
     eqb-true _ _ (sym (ap (carries identity count q) (number_at count (group_of_quadruplet identity count q) inside)) ∙ passes)

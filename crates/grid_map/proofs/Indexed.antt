@@ -114,25 +114,25 @@ pcfich_indexed identity = indexed 16 (pcfich_places identity) (length-pcfich_pla
 -- ---- the candidate
 
 pub candidate_indexed : (identity : ℕ) (groups : List Reg) → CarryCandidate groups → IsIndexed 144 (candidate_places identity groups)
-candidate_indexed identity groups carry = indexed 144 (candidate_places identity groups) (length-candidate_places identity groups carry.enough carry.few carry.are) once
+candidate_indexed identity groups carry = indexed 144 (candidate_places identity groups) (length-candidate_places identity groups carry.enough carry.are) once
   where
     number : ℕ → ℕ
     number q = group_of_quadruplet identity (length groups) q
 
     inside : (q : ℕ) → q < 36 → number q < length groups
-    inside q l = group_inside identity (length groups) q carry.few (let enough = carry.enough in omega (arith, enough, l))
+    inside q l = group_inside identity (length groups) q (let enough = carry.enough in omega (arith, enough, l))
 
     is_one : (q : ℕ) → q < 36 → is_group (quadruplet_group identity groups q) ≡ true
     is_one q l = All-get_or (λ g. is_group g ≡ true) groups (number q) (group 0 0) (inside q l) carry.are
 
     carries : (q r : ℕ) → q < 36 → r < 36 → number q ≡ number r → q ≡ r
     carries q r l m same =
-        sym (group_carries identity (length groups) q carry.few (let enough = carry.enough in omega (arith, enough, l)))
+        sym (group_carries identity (length groups) q (let enough = carry.enough in omega (arith, enough, l)))
         ∙ ap (quadruplet_at identity (length groups)) same
-        ∙ group_carries identity (length groups) r carry.few (let enough = carry.enough in omega (arith, enough, m))
+        ∙ group_carries identity (length groups) r (let enough = carry.enough in omega (arith, enough, m))
 
     at : (i : ℕ) → i < 144 → get_or (candidate_places identity groups) i (place 0 0) ≡ get_or (group_places identity (quadruplet_group identity groups (i / 4))) (i % 4) (place 0 0)
-    at i l = candidate_place_at identity groups i carry.enough carry.few carry.are l
+    at i l = candidate_place_at identity groups i carry.enough carry.are l
 
     once : (i j : ℕ) → i < 144 → j < 144 → get_or (candidate_places identity groups) i (place 0 0) ≡ get_or (candidate_places identity groups) j (place 0 0) → i ≡ j
     once i j l m same =

@@ -40,27 +40,27 @@ length-candidate_groups : (identity : ℕ) (groups : List Reg) → length (candi
 unfolding candidate_groups
 length-candidate_groups identity groups = values_below-length 36 (quadruplet_group identity groups)
 
-candidate_fours : (identity : ℕ) (groups : List Reg) → 36 ≤ length groups → length groups ≤ 66 → All (λ g. is_group g ≡ true) groups →
+candidate_fours : (identity : ℕ) (groups : List Reg) → 36 ≤ length groups → All (λ g. is_group g ≡ true) groups →
     HaveSize 4 (group_places identity) (candidate_groups identity groups)
 unfolding candidate_groups
-candidate_fours identity groups enough few each =
+candidate_fours identity groups enough each =
     values_below-All (λ g. length (group_places identity g) ≡ 4) 36 (quadruplet_group identity groups) (group 0 0)
     (λ q below. four_places identity _
     (All-get_or (λ g. is_group g ≡ true) groups (group_of_quadruplet identity (length groups) q) (group 0 0)
-    (group_inside identity (length groups) q few (omega (arith, enough, below))) each))
+    (group_inside identity (length groups) q (omega (arith, enough, below))) each))
 
-pub length-candidate_places : (identity : ℕ) (groups : List Reg) → 36 ≤ length groups → length groups ≤ 66 → All (λ g. is_group g ≡ true) groups →
+pub length-candidate_places : (identity : ℕ) (groups : List Reg) → 36 ≤ length groups → All (λ g. is_group g ≡ true) groups →
     length (candidate_places identity groups) ≡ 144
 unfolding candidate_places
-length-candidate_places identity groups enough few each =
-    length-pieces 4 (group_places identity) (candidate_groups identity groups) (candidate_fours identity groups enough few each)
+length-candidate_places identity groups enough each =
+    length-pieces 4 (group_places identity) (candidate_groups identity groups) (candidate_fours identity groups enough each)
     ∙ ap (λ n. n * 4) (length-candidate_groups identity groups)
 
-pub candidate_place_at : (identity : ℕ) (groups : List Reg) (i : ℕ) → 36 ≤ length groups → length groups ≤ 66 → All (λ g. is_group g ≡ true) groups → i < 144 →
+pub candidate_place_at : (identity : ℕ) (groups : List Reg) (i : ℕ) → 36 ≤ length groups → All (λ g. is_group g ≡ true) groups → i < 144 →
     get_or (candidate_places identity groups) i (place 0 0)
     ≡ get_or (group_places identity (quadruplet_group identity groups (i / 4))) (i % 4) (place 0 0)
 unfolding candidate_places candidate_groups
-candidate_place_at identity groups i enough few each inside =
+candidate_place_at identity groups i enough each inside =
     get_or-pieces 4 (group_places identity) (candidate_groups identity groups) i (group 0 0) (place 0 0) (omega arith)
-    (candidate_fours identity groups enough few each) (let size = length-candidate_groups identity groups in omega (arith, size, inside))
+    (candidate_fours identity groups enough each) (let size = length-candidate_groups identity groups in omega (arith, size, inside))
     ∙ ap (λ g. get_or (group_places identity g) (i % 4) (place 0 0)) (values_below_at (quadruplet_group identity groups) 36 (i / 4) (group 0 0) (omega (arith, inside)))

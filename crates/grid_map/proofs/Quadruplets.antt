@@ -50,22 +50,22 @@ shift_of identity count p l = cases (cases_lt p (identity % count))
         let is : r + identity ≡ identity / count * count + p = omega (arith, whole, above) in
         (r, omega (arith, above), ap (λ n. n % count) is ∙ mod-mul-add (identity / count) count p l)
 
-pub quadruplet_inside : (identity count r : ℕ) → count ≤ 66 → r < count → quadruplet_at identity count r < count
+pub quadruplet_inside : (identity count r : ℕ) → r < count → quadruplet_at identity count r < count
 unfolding quadruplet_at
-quadruplet_inside identity count r few l = (is_order count few).inside ((r + identity) % count) (omega arith)
+quadruplet_inside identity count r l = (is_order count).inside ((r + identity) % count) (omega arith)
 
-pub quadruplet_once : (identity count r s : ℕ) → count ≤ 66 → r < count → s < count →
+pub quadruplet_once : (identity count r s : ℕ) → r < count → s < count →
     quadruplet_at identity count r ≡ quadruplet_at identity count s → r ≡ s
 unfolding quadruplet_at
-quadruplet_once identity count r s few a b same =
-    let o = is_order count few in
+quadruplet_once identity count r s a b same =
+    let o = is_order count in
     let first : (r + identity) % count < count = omega arith in
     let second : (s + identity) % count < count = omega arith in
     shifts_apart identity count r s a b (sym (o.once _ first) ∙ ap (λ k. index_of k (stream_order count)) same ∙ o.once _ second)
 
-pub quadruplet_each : (identity count q : ℕ) → count ≤ 66 → q < count → (r : ℕ) × (r < count) × (quadruplet_at identity count r ≡ q)
+pub quadruplet_each : (identity count q : ℕ) → q < count → (r : ℕ) × (r < count) × (quadruplet_at identity count r ≡ q)
 unfolding quadruplet_at
-quadruplet_each identity count q few l =
-    let o = is_order count few in
+quadruplet_each identity count q l =
+    let o = is_order count in
     let (r, below, there) = shift_of identity count (index_of q (stream_order count)) (o.index_inside q l) in
     (r, below, ap (λ p. get_or (stream_order count) p 0) there ∙ o.each q l)

@@ -10,8 +10,8 @@ ghost use Rattle.grid_map.specs.Laws.{IsIndexed};
 use crate::{Place, skipping};
 use lte_types::CellId;
 
-/// The place that point `i` of the broadcast channel takes: symbols 7 to 10 of the subframe, which
-/// are the first four of slot 1, subcarriers first and then symbols, without the places kept for
+/// Returns the resource element of point `i` of the broadcast channel: symbols 7 to 10 of the subframe, which
+/// are the first four of slot 1, subcarriers first and then symbols, without the elements reserved for
 /// reference signals (TS 36.211 section 6.6.4). `i` is below 240.
 pub fn pbch(id: CellId, i: usize) -> Place
     requires { i < 240 }
@@ -37,7 +37,7 @@ pub fn pbch(id: CellId, i: usize) -> Place
     }
 }
 
-/// The places of all its 240 points, in their order.
+/// Returns the resource elements of all 240 points of the broadcast channel, in their order.
 pub fn pbch_places(id: CellId) -> [Place; 240]
     ensures places { result ≡ pbch_places id }
     ensures inside { All (λ p. (p.symbol < 14) × (p.k < 72)) result }
@@ -49,8 +49,8 @@ pub fn pbch_places(id: CellId) -> [Place; 240]
     places
 }
 
-/// The broadcast channel has 240 places, subcarriers first and then symbols, each once. Its places
-/// and their numbers determine each other.
+/// States that the broadcast channel has 240 resource elements, subcarriers first and then symbols, each once, and
+/// that elements and their numbers determine each other.
 pub fn pbch_order()
     ensures order { (identity : ℕ) →
         AreInOrder place_number (pbch_places identity) 240 (pbch_place identity) (is_pbch identity) }

@@ -12,7 +12,6 @@ use lte_types::CellId;
 
 // Which of `count` groups carries quadruplet q.
 fn group_of(id: CellId, count: u8, q: u8) -> u8
-    requires few { count ≤ 66 }
     requires q { q < count }
     ensures value { result ≡ group_of_quadruplet id count q }
     ensures bound { result < count }
@@ -27,7 +26,6 @@ fn group_of(id: CellId, count: u8, q: u8) -> u8
 
 // Which of `count` groups carry quadruplets 0 to 35.
 fn groups_of(id: CellId, count: u8) -> [u8; 36]
-    requires few { count ≤ 66 }
     requires enough { 36 ≤ count }
     ensures values { result ≡ values_below 36 (group_of_quadruplet id count) }
     ensures inside { All (λ r. r < count) result }
@@ -52,11 +50,11 @@ fn place_of(id: CellId, groups: &[Reg], number: u8, j: usize) -> Place
     reg_places(id, groups[number as usize])[j]
 }
 
-/// The places of control channel elements 0 to 3, where these are the groups of the PDCCH: those of
-/// the groups that carry quadruplets 0 to 35, in the order of the quadruplets
-/// (TS 36.211 section 6.8.5). `groups` are 36 to 66.
+/// Returns the resource elements of control channel elements 0 to 3, given the groups of the PDCCH: those of the
+/// groups that carry quadruplets 0 to 35, in the order of the quadruplets (TS 36.211 section 6.8.5). There are 36 to
+/// 255 groups.
 pub fn candidate_places(id: CellId, groups: &[Reg]) -> [Place; 144]
-    requires few { length groups.now ≤ 66 }
+    requires few { length groups.now ≤ 255 }
     requires enough { 36 ≤ length groups.now }
     requires inside { All (λ g. IsTrue (is_group g)) groups.now }
     ensures places { result ≡ candidate_places id groups.now }
@@ -70,10 +68,10 @@ pub fn candidate_places(id: CellId, groups: &[Reg]) -> [Place; 144]
     places
 }
 
-/// The group that carries a quadruplet is one of so many, at most 66, and carries no other.
+/// States that the group that carries a quadruplet is one of the groups, and carries no other.
 pub fn quadruplets_carried()
-    ensures inside { (identity count q : ℕ) → count ≤ 66 → q < count →
+    ensures inside { (identity count q : ℕ) → q < count →
         group_of_quadruplet identity count q < count }
-    ensures carries { (identity count q : ℕ) → count ≤ 66 → q < count →
+    ensures carries { (identity count q : ℕ) → q < count →
         quadruplet_at identity count (group_of_quadruplet identity count q) ≡ q }
 {}

@@ -16,7 +16,7 @@ use crate::{Place, Reg, reg_places, skipping};
 use arrayvec::ArrayVec;
 use lte_types::{CellId, Cfi, Duration, Mib, Resource};
 
-/// The four groups of the PCFICH, in the order in which it takes them (TS 36.211 section 6.7.4).
+/// Returns the four groups of the PCFICH, in the order in which it uses them (TS 36.211 section 6.7.4).
 pub fn pcfich(id: CellId) -> [Reg; 4]
     ensures groups { result ≡ pcfich_groups id }
     ensures inside { All (λ g. IsTrue (is_group g) × (g.symbol ≡ 0)) result }
@@ -52,8 +52,8 @@ fn pcfich_point(id: CellId, groups: &[Reg; 4], i: usize) -> Place
     reg_places(id, groups[i / 4])[i % 4]
 }
 
-/// The sixteen places of the PCFICH, in the order in which its points take them: those of its groups,
-/// one after the other (TS 36.211 section 6.7.4).
+/// Returns the sixteen resource elements of the PCFICH, in the order of its points: those of its groups, one after the
+/// other (TS 36.211 section 6.7.4).
 pub fn pcfich_places(id: CellId) -> [Place; 16]
     ensures places { result ≡ pcfich_places id }
     ensures inside { All (λ p. (p.symbol < 14) × (p.k < 72)) result }
@@ -183,9 +183,9 @@ fn is_left(reg: Reg, last: u8, pcfich: &[Reg], phich: &[Reg]) -> bool
     is_inside(reg, last) && !pcfich.contains(&reg) && !phich.contains(&reg)
 }
 
-/// The groups of the PDCCH: those of the control region, which has `cfi` + 1 symbols, that the PCFICH
-/// and the PHICH leave, by first subcarrier and then by symbol (TS 36.211 section 6.8.5). Their count
-/// follows from the indicator and the PHICH alone.
+/// Returns the groups of the PDCCH: those of the control region of `cfi` + 1 symbols that PCFICH and PHICH do not use,
+/// by first subcarrier and then by symbol (TS 36.211 section 6.8.5). Their count follows from the indicator and the
+/// PHICH alone.
 pub fn pdcch(id: CellId, cfi: Cfi, mib: Mib) -> ArrayVec<Reg, 66>
     ensures groups { result.items ≡ pdcch_groups id cfi mib.duration mib.resource }
     ensures inside { All (λ g. IsTrue (is_in_region cfi g)) result.items }
@@ -204,10 +204,9 @@ pub fn pdcch(id: CellId, cfi: Cfi, mib: Mib) -> ArrayVec<Reg, 66>
     groups
 }
 
-/// The groups of the PCFICH are four. Those of the PDCCH are the groups of the region that neither the
-/// PCFICH nor the PHICH takes, each once, by first subcarrier and then by symbol. Their count is a
-/// fact of indicator, duration and resource alone: two control channel elements with indicator 1, and at
-/// least four with 2 and 3.
+/// States that the PCFICH has four groups, and that the PDCCH has the groups of the region that neither PCFICH nor
+/// PHICH uses, each once, by first subcarrier and then by symbol. Their count depends on indicator, duration and
+/// resource alone: two control channel elements with indicator 1, and at least four with 2 and 3.
 pub fn control_groups()
     ensures pcfich_inside { (identity i : ℕ) → i < 4 → IsTrue (is_group (pcfich_group identity i)) }
     ensures pcfich_apart { (identity i j : ℕ) → i < 4 → j < 4 →

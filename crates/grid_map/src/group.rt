@@ -11,9 +11,9 @@ ghost use Rattle.grid_map.specs.Order.{AreInOrder};
 use crate::{Place, Reg, skipping};
 use lte_types::CellId;
 
-/// The four places of a group of the control region, in the order of subcarriers
+/// Returns the four resource elements of a group of the control region, in the order of subcarriers
 /// (TS 36.211 section 6.2.4). In symbol 0 a group begins at a multiple of 6 and leaves out every third
-/// subcarrier, from the identity modulo 3 on; in symbols 1 to 3 it begins at a multiple of 4.
+/// subcarrier, from the identity modulo 3; in symbols 1 to 3 it begins at a multiple of 4.
 pub fn reg_places(id: CellId, reg: Reg) -> [Place; 4]
     requires { IsTrue (is_group reg) }
     ensures places { result ≡ group_places id reg }
@@ -45,8 +45,8 @@ fn place_in(id: CellId, reg: Reg, i: usize) -> Place
     }
 }
 
-/// A group has four places in the order of subcarriers, those that it spans and that are not kept for reference
-/// signals, and no place is in two groups.
+/// States that a group has four resource elements in the order of subcarriers, those in its span that are not reserved
+/// for reference signals, and that no two groups share one.
 pub fn places_of_groups()
     ensures order { (identity : ℕ) (g : Reg) → IsTrue (is_group g) →
         AreInOrder (λ p. p.k) (group_places identity g) 4

@@ -8,8 +8,8 @@ ghost use Rattle.grid_map.specs.Control.{pcfich_places, pdcch_groups};
 ghost use Rattle.grid_map.specs.Candidate.{candidate_places};
 ghost use Rattle.grid_map.specs.Laws.{IsIndexed, CarryCandidate};
 
-/// The PCFICH has sixteen places and the candidate 144, each once; its groups are those of the PDCCH
-/// with indicator 2 or 3.
+/// States that the PCFICH has sixteen resource elements and the candidate 144, each once, and that the candidate's
+/// groups are those of the PDCCH with indicator 2 or 3.
 pub fn control_places()
     ensures pcfich { (identity : ℕ) → IsIndexed 16 (pcfich_places identity) }
     ensures candidate { (identity : ℕ) (groups : List Reg) → CarryCandidate groups →

@@ -25,7 +25,7 @@ pub use long_broadcast::long_places;
 pub use scrambling::{indicator_bit, pbch_c_init, pcfich_c_init, pdcch_c_init, pdsch_c_init};
 pub use shared::{block_places, block_places_are, pdsch, shared_count, shared_order, shared_place};
 
-/// A place of a subframe's grid: a resource element (TS 36.211 section 6.2.2).
+/// A resource element of a subframe (TS 36.211 section 6.2.2).
 #[derive(Clone, Copy, Debug, PartialEq, Eq)]
 pub struct Place {
     /// The symbol, 0 to 13.
@@ -34,7 +34,7 @@ pub struct Place {
     pub k: u8,
 }
 
-/// A resource-element group: four places of a symbol of the control region (TS 36.211 section 6.2.4).
+/// A resource-element group: four elements of a symbol of the control region (TS 36.211 section 6.2.4).
 #[derive(Clone, Copy, Debug, Default, PartialEq, Eq)]
 pub struct Reg {
     /// The symbol, 0 to 3.

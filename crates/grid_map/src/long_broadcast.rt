@@ -7,8 +7,8 @@ ghost use Rattle.grid_map.specs.LongBroadcast.{long_places as places_of};
 use crate::Place;
 use lte_types::CellId;
 
-/// The 216 places of the broadcast channel of a cell with the extended cyclic prefix, by the symbols 0 to 3 of slot 1:
-/// subcarriers first and then symbols, without the places kept for reference signals (TS 36.211 section 6.6.4).
+/// Returns the 216 resource elements of the broadcast channel with the extended cyclic prefix, in symbols 0 to 3 of
+/// slot 1: subcarriers first and then symbols, without those reserved for reference signals (TS 36.211 section 6.6.4).
 pub fn long_places(id: CellId) -> [Place; 216]
     ensures places { result ≡ places_of id }
     ensures inside { All (λ p. (p.symbol < 4) × (p.k < 72)) result }

@@ -5,7 +5,7 @@ ghost use Rattle.grid_map.specs.Scrambling.{pbch_c_init, pcfich_c_init, pdcch_c_
 
 use lte_types::CellId;
 
-/// `c_init` of the sequence that scrambles the PBCH of four frames (TS 36.211 section 6.6.1).
+/// Returns `c_init` of the sequence that scrambles the PBCH of four frames (TS 36.211 section 6.6.1).
 pub fn pbch_c_init(id: CellId) -> u32
     ensures value { result ≡ pbch_c_init id }
     ensures fits { result < 2 ^ 31 }
@@ -13,7 +13,7 @@ pub fn pbch_c_init(id: CellId) -> u32
     id.value() as u32
 }
 
-/// `c_init` of the sequence that scrambles the PCFICH of the subframe of a slot
+/// Returns `c_init` of the sequence that scrambles the PCFICH of the subframe of a slot, for any carrier width
 /// (TS 36.211 section 6.7.1). `slot` is 0 to 19.
 pub fn pcfich_c_init(id: CellId, slot: u8) -> u32
     requires { slot < 20 }
@@ -24,7 +24,7 @@ pub fn pcfich_c_init(id: CellId, slot: u8) -> u32
     (slot as u32 / 2 + 1) * (2 * identity + 1) * 512 + identity
 }
 
-/// `c_init` of the sequence that scrambles the PDCCH of the subframe of a slot
+/// Returns `c_init` of the sequence that scrambles the PDCCH of the subframe of a slot, for any carrier width
 /// (TS 36.211 section 6.8.2). `slot` is 0 to 19.
 pub fn pdcch_c_init(id: CellId, slot: u8) -> u32
     requires { slot < 20 }
@@ -34,8 +34,8 @@ pub fn pdcch_c_init(id: CellId, slot: u8) -> u32
     slot as u32 / 2 * 512 + id.value() as u32
 }
 
-/// `c_init` of the sequence that scrambles the first codeword of the PDSCH for an RNTI in the subframe
-/// of a slot (TS 36.211 section 6.3.1). `slot` is 0 to 19.
+/// Returns `c_init` of the sequence that scrambles the first codeword of the PDSCH for an RNTI in the subframe of a
+/// slot, for any carrier width (TS 36.211 section 6.3.1). `slot` is 0 to 19.
 pub fn pdsch_c_init(id: CellId, slot: u8, rnti: u16) -> u32
     requires { slot < 20 }
     ensures value { result ≡ pdsch_c_init id slot rnti }
@@ -44,7 +44,7 @@ pub fn pdsch_c_init(id: CellId, slot: u8, rnti: u16) -> u32
     rnti as u32 * 16_384 + slot as u32 / 2 * 512 + id.value() as u32
 }
 
-/// Bit `i` of the 32 that the PCFICH sends for an indicator, 1 to 3 (TS 36.212 section 5.3.4).
+/// Returns bit `i` of the 32 that the PCFICH sends for an indicator, 1 to 3 (TS 36.212 section 5.3.4).
 pub fn indicator_bit(indicator: u8, i: usize) -> bool
     requires { 1 ≤ indicator }
     ensures { result ≡ indicator_bit indicator i }

@@ -68,9 +68,8 @@ fn offset_in(carrier: Carrier, id: CellId, symbol: u8, n: usize) -> usize
     }
 }
 
-/// How many places a resource block has for the shared channel in subframe 5 where `cfi` is 2, and where it is 3: 102
-/// and 90 with one antenna port, 96 and 84 with two, 92 and 80 with four, and 78 and 68 with the extended cyclic
-/// prefix.
+/// Returns the number of resource elements a block has for the shared channel in subframe 5, for `cfi` 2 and 3: 102 and
+/// 90 with one antenna port, 96 and 84 with two, 92 and 80 with four, and 78 and 68 with the extended cyclic prefix.
 pub fn block_places(carrier: Carrier, cfi: u8) -> usize
     ensures value { result ≡ block_places_of carrier cfi }
     ensures bound { result ≤ 102 }
@@ -83,8 +82,8 @@ pub fn block_places(carrier: Carrier, cfi: u8) -> usize
     places
 }
 
-/// Law: how many places a resource block has for the shared channel, with indicator 2 and otherwise. No carrier has
-/// fewer than 68, and none more than one antenna port with the normal prefix.
+/// States the number of resource elements a block has for the shared channel, with indicator 2 and otherwise: no
+/// carrier has fewer than 68, and none more than one antenna port with the normal prefix.
 pub fn block_places_are()
     ensures one_port { (cfi : ℕ) → block_places_of OnePort cfi ≡ (if nat_eq cfi 2 then 102 else 90) }
     ensures two_ports { (cfi : ℕ) → block_places_of TwoPorts cfi ≡ (if nat_eq cfi 2 then 96 else 84) }
@@ -94,8 +93,8 @@ pub fn block_places_are()
     ensures most { (carrier : Carrier) (cfi : ℕ) → block_places_of carrier cfi ≤ block_places_of OnePort cfi }
 {}
 
-/// How many places the assigned resource blocks have for it: `block_places` each, an even number. Six have at most
-/// 612, and with several antenna ports 576.
+/// Returns the number of resource elements that the assigned blocks have for the shared channel: `block_places` each,
+/// an even number. Six blocks have at most 612, and with several antenna ports 576.
 pub fn shared_count(carrier: Carrier, assignment: &Assignment) -> usize
     ensures value { result ≡ block_places_of carrier assignment.now.cfi * assignment.now.blocks }
     ensures whole { (identity : ℕ) →
@@ -108,10 +107,10 @@ pub fn shared_count(carrier: Carrier, assignment: &Assignment) -> usize
     block_places(carrier, assignment.cfi().value()) * assignment.blocks() as usize
 }
 
-/// The place that point `i` of the shared channel takes in subframe 5, subcarriers first and then
-/// symbols: after the control region, which has a symbol more than its indicator says, over the assigned
-/// resource blocks, without the symbols of the synchronisation signals and without the reference places of the
-/// carrier's antenna ports (TS 36.211 sections 6.4 and 6.10.1.2). `i` is below `shared_count`.
+/// Returns the resource element of point `i` of the shared channel in subframe 5, subcarriers first and then
+/// symbols: after the control region, which has one symbol more than its indicator, over the assigned resource
+/// blocks, without the symbols of the synchronisation signals and the reference signals of the carrier's antenna
+/// ports (TS 36.211 sections 6.4 and 6.10.1.2). `i` is below `shared_count`.
 pub fn shared_place(carrier: Carrier, id: CellId, assignment: &Assignment, i: usize) -> Place
     requires { i < block_places_of carrier assignment.now.cfi * assignment.now.blocks }
     ensures item { slice_get
@@ -137,8 +136,8 @@ pub fn shared_place(carrier: Carrier, id: CellId, assignment: &Assignment, i: us
     unreachable!()
 }
 
-/// The place that point i of the shared channel takes with one antenna port, over `blocks` resource blocks from
-/// `start` on. `cfi` is 2 or 3, `blocks` at least 1 and `start` + `blocks` at most 6.
+/// Returns the resource element of point `i` of the shared channel with one antenna port, over `blocks` resource blocks
+/// from `start`. `cfi` is 2 or 3, `blocks` at least 1 and `start` + `blocks` at most 6.
 pub fn pdsch(id: CellId, cfi: Cfi, start: u8, blocks: u8, i: usize) -> Place
     requires cfi { 2 ≤ cfi }
     requires some { 1 ≤ blocks }
@@ -156,8 +155,8 @@ pub fn pdsch(id: CellId, cfi: Cfi, start: u8, blocks: u8, i: usize) -> Place
     }
 }
 
-/// The shared channel has as many places a block as `block_places` says, subcarriers first and then symbols, each once:
-/// those of the subframe that are its.
+/// States that the shared channel has `block_places` resource elements a block, subcarriers first and then symbols,
+/// each once: exactly those of the subframe that belong to it.
 pub fn shared_order()
     ensures { (carrier : Carrier) (identity cfi start blocks : ℕ) → 2 ≤ cfi → cfi ≤ 3 → start + blocks ≤ 6 →
         AreInOrder place_number (shared_places_of carrier identity cfi start blocks)

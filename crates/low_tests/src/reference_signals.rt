@@ -1,6 +1,6 @@
-ghost use Rattle.std.specs.Prelude.{◌<◌};
+ghost use Rattle.std.specs.Prelude.{◌+◌, ◌*◌, ◌<◌, ◌≤◌};
 
-use crs::{Pattern, first_of_upper, pattern_pilots, pilots};
+use crs::{Pattern, c_init, first_of_upper, pattern_pilots, pilots, value_of_width};
 use cs_num::Cpx;
 use lte_types::{Carrier, CellId};
 use std::process::Abort;
@@ -49,6 +49,38 @@ fn pilots_of_ports_2_and_3_change_places(rt: HostRuntime) {
     assert!(rt; are_upper(two, first, 1, 3, b"311103223120"));
     assert!(rt; are_upper(three, first, 0, 3, b"012313232031"));
     assert!(rt; are_upper(three, last, 19, 5, b"132230211310"));
+}
+
+// Whether the first twelve values from value `from` on of symbol 4 of slot 11 of cell 77 have the points of these
+// digits, with so many resource blocks.
+fn are_wide(rt: &impl Abort, blocks: u8, from: u8, digits: &[u8; 12]) -> bool
+    requires blocks { blocks ≤ 110 }
+    requires from { from + 12 ≤ 2 * blocks }
+{
+    let mut bits = [false; 440];
+    gold::fill(c_init(Pattern::FIRST_PORT, id_of(rt, 77), 11, 4), &mut bits);
+    let mut all = true;
+    for m in 0..12_u8 {
+        all &= value_of_width(blocks, &bits, from + m) == point_of(digits[m as usize]);
+    }
+    all
+}
+
+// Expected: TS 36.211 sections 6.10.1.1 and 7.2, computed apart from the crate.
+#[test]
+fn values_of_wide_carriers(rt: HostRuntime) {
+    assert!(rt; are_wide(&rt, 15, 0, b"030031233332"));
+    assert!(rt; are_wide(&rt, 50, 88, b"030131111010"));
+    assert!(rt; are_wide(&rt, 100, 0, b"310311022313"));
+    assert!(rt; are_wide(&rt, 100, 188, b"133322302230"));
+    assert!(rt; are_wide(&rt, 110, 208, b"301132002213"));
+}
+
+#[test]
+fn c_init_of_reference_signals(rt: HostRuntime) {
+    assert!(rt; c_init(Pattern::FIRST_PORT, id_of(&rt, 503), 19, 6) == 151_582_703);
+    assert!(rt; c_init(Pattern::LONG_PREFIX, id_of(&rt, 77), 11, 4) == 14_126_234);
+    assert!(rt; c_init(Pattern::LONG_PREFIX, id_of(&rt, 0), 0, 0) == 8192);
 }
 
 #[test]

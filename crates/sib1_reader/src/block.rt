@@ -41,11 +41,11 @@ pub(crate) fn fields_in<S: ReadSlot>(
     fields_of(&values[..count], grant, turbo)
 }
 
-/// The fields that the values of the shared channel tell, at most 1,224 and each of size at most 127, or
+/// The fields that the values of the shared channel tell, at most 5,760 and each of size at most 127, or
 /// why they tell none: `NotDecoded` where no block passes its check; otherwise the answer is that of
 /// `sib1::read`. The grant is one that `dci::read` can answer.
 pub fn fields_of(values: &[i16], grant: &Grant, turbo: &mut Work) -> Result<Sib1, Sib1Reason>
-    requires count { length values.now ≤ 1224 }
+    requires count { length values.now ≤ 5760 }
     requires sizes { AllWithin 127 values.now }
     requires grant { IsGrant grant.now }
     ensures answer { Tells values.now grant.now result }
@@ -57,10 +57,10 @@ pub fn fields_of(values: &[i16], grant: &Grant, turbo: &mut Work) -> Result<Sib1
     }
 }
 
-/// The transport block that the values of the shared channel tell, at most 1,224 and each of size at most
+/// The transport block that the values of the shared channel tell, at most 5,760 and each of size at most
 /// 127; `None` exactly where no iterate passes its check. The grant is one that `dci::read` can answer.
 pub fn block_of(values: &[i16], grant: &Grant, turbo: &mut Work) -> Option<Block>
-    requires count { length values.now ≤ 1224 }
+    requires count { length values.now ≤ 5760 }
     requires sizes { AllWithin 127 values.now }
     requires grant { IsGrant grant.now }
     ensures { IsBlock values.now grant.now (option_map (λ found. found.items) result) }
@@ -83,7 +83,7 @@ fn row_for(grant: &Grant) -> Row
 
 // The sums of the values by coded bit.
 fn sums_of(values: &[i16], row: Row, rv: u8) -> Combined
-    requires count { length values.now ≤ 1224 }
+    requires count { length values.now ≤ 5760 }
     requires sizes { AllWithin 127 values.now }
     requires row { IsRow row }
     requires version { rv < 4 }

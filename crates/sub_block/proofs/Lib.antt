@@ -2,3 +2,5 @@ pub mod Cells
 pub mod Search
 pub mod Sums
 pub mod Rounds
+pub mod Counted
+pub mod Once

@@ -24,9 +24,9 @@ fn column_at(code: Code, c: usize) -> usize
     }
 }
 
-/// The cell that is read after m others in a code's matrix, whose cells are counted row by row.
-/// There are at most 193 rows, which hold a stream of the largest code block, and `m` is below 32 `rows`, as is
-/// the answer.
+/// Returns the cell that is read after `m` others in a code's matrix, whose cells are numbered row by row.
+/// There are at most 193 rows, which hold a stream of the largest code block; `m` and the answer are below
+/// 32 `rows`.
 pub fn cell_at(code: Code, rows: usize, m: usize) -> usize
     requires rows { rows ≤ 193 }
     requires inside { m < 32 * rows }

@@ -1,9 +1,11 @@
 -- One cell taken off.
-use Rattle.std.proofs.Common.{◌≡◌, ◌∙◌, ℕ, zero, suc, ◌+◌, ◌<◌, inl, inr, arith, refl, sym, ap, subst, List, [], ◌∷◌, ◌++◌, length, take, drop, get_or, Option, Some, None, Result, Ok, Err}
+use Rattle.std.proofs.Common.{◌≡◌, ◌∙◌, ℕ, zero, suc, ◌+◌, ◌<◌, inl, inr, arith, sym, ap, subst, List, [], ◌∷◌, ◌++◌, length, take, drop, get_or, Option, Some, None, Result, Ok, Err}
 use Rattle.std.specs.Prelude.{IfOk}
 use Rattle.std.specs.declared.alloc.AllocError.{AllocError}
 use Rattle.std.specs.List.{Contains}
+use Rattle.std.proofs.lemmas.List.{take_more}
 use Rattle.std.proofs.lemmas.List.Elements.{Contains-append_cases}
+use Rattle.std.proofs.Math.Seq.{split_at}
 use Rattle.cs_num.specs.declared.Sample.{Sample}
 use Rattle.lte_types.specs.declared.entry.Entry.{Entry}
 use Rattle.cell_plan.specs.declared.cell.CellPlan.{CellPlan}
@@ -65,17 +67,6 @@ answer_if recording entry plan (Err wanting) planned is = tt
 
 -- ---- an entry's place in a list
 
--- the entries to a place, the one there and those behind it
-split_at : (list : List Entry) (i : ℕ) (d : Entry) → i < length list → list ≡ take i list ++ get_or list i d ∷ drop (suc i) list
-split_at [] i d inside = absurd (omega (arith, inside))
-split_at (x ∷ list) zero d inside = refl
-split_at (x ∷ list) (suc i) d inside = ap (λ (xs : List Entry). x ∷ xs) (split_at list i d (omega (arith, inside)))
-
-take_more : (list : List Entry) (i : ℕ) (d : Entry) → i < length list → take (suc i) list ≡ take i list ++ get_or list i d ∷ []
-take_more [] i d inside = absurd (omega (arith, inside))
-take_more (x ∷ list) zero d inside = refl
-take_more (x ∷ list) (suc i) d inside = ap (λ (xs : List Entry). x ∷ xs) (take_more list i d (omega (arith, inside)))
-
 -- where none to a place can be taken off, and the one there is, it is the round's entry
 pub round_at : (recording : List Sample) (list : List Entry) (i : ℕ) (entry d : Entry) (round : Round) (found : Option Subtracted) → entry ≡ get_or list i d → i < length list →
     NoneIsTakenOff recording (take i list) → IsTakenIf recording entry found → found ≡ Some round.taken → round.id ≡ entry.id → IsListOfCells round.taken.residue round.list → IsRound recording list round
@@ -95,8 +86,5 @@ pub none_more : (recording : List Sample) (list : List Entry) (i : ℕ) (entry d
     NoneIsTakenOff recording (take i list) → IsTakenIf recording entry found → found ≡ None → NoneIsTakenOff recording (take (i + 1) list)
 none_more recording list i entry d found is inside none taken same =
     let more : take (i + 1) list ≡ take i list ++ entry ∷ [] =
-    ap (λ n. take n list) add_one ∙ take_more list i d inside ∙ ap (λ (e : Entry). take i list ++ e ∷ []) (sym is) in
+    take_more list i d inside ∙ ap (λ (e : Entry). take i list ++ e ∷ []) (sym is) in
     subst (NoneIsTakenOff recording) (sym more) (none_with recording (take i list) entry none (subst (IsTakenIf recording entry) same taken))
-  where
-    add_one : i + 1 ≡ suc i
-    add_one = omega arith

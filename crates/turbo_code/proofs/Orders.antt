@@ -7,13 +7,13 @@ use Rattle.std.proofs.lemmas.List.Sums.{position_or_len_is}
 use Rattle.std.proofs.lemmas.List.FromFn.{get_or-range_with_len, length-range_with_len}
 use Rattle.finite.proofs.Lists.{values_below_at, values_below_is, front_is}
 use Rattle.turbo_code.specs.declared.rows.Row.{Row}
-use Rattle.turbo_code.specs.Table.{IsRow, interleaver, step_of}
+use Rattle.turbo_code.specs.Table.{IsAnyRow, interleaver, step_of}
 use Rattle.turbo_code.specs.Streams.{in_order, in_word_order}
 use Rattle.turbo_code.specs.Laws.{Permutes}
 use Rattle.turbo_code.proofs.TableFacts.{is_small}
 use Rattle.turbo_code.proofs.Permutes.{all_permute}
 
-pub in_order_is : {A : Type 0} (d : A) (row : Row) (values found : List A) (i : ℕ) → IsRow row → row.k ≤ i → length found ≡ 1024 →
+pub in_order_is : {A : Type 0} (d : A) (row : Row) (values found : List A) (i : ℕ) → IsAnyRow row → row.k ≤ i → length found ≡ 1024 →
     ((j : ℕ) → j < i → get_or found j d ≡ get_or values (interleaver row j) d) → take row.k found ≡ in_order d row values
 unfolding in_order
 in_order_is d row values found i is_row past size each =
@@ -21,7 +21,7 @@ in_order_is d row values found i is_row past size each =
     front_is d row.k (λ j. get_or values (interleaver row j) d) found (omega (arith, high, size)) (λ j below. each j (omega (arith, past, below)))
 
 -- one more value, at its index in the word
-pub placed_more : {A : Type 0} (d : A) (row : Row) (values found : List A) (i : ℕ) (v : A) → IsRow row → i < row.k → length found ≡ 1024 →
+pub placed_more : {A : Type 0} (d : A) (row : Row) (values found : List A) (i : ℕ) (v : A) → IsAnyRow row → i < row.k → length found ≡ 1024 →
     v ≡ get_or values i d → ((j : ℕ) → j < i → get_or found (interleaver row j) d ≡ get_or values j d) →
     (j : ℕ) → j < i + 1 → get_or (set found (interleaver row i) v) (interleaver row j) d ≡ get_or values j d
 placed_more d row values found i v is_row inside size is each j below = elim (cases_lt j i) [
@@ -38,7 +38,7 @@ placed_more d row values found i v is_row inside size is each j below = elim (ca
     permutes = all_permute row is_row
 
 -- the step that reads a bit
-pub step_is : (row : Row) (i : ℕ) → IsRow row → i < row.k → step_of row (interleaver row i) ≡ i
+pub step_is : (row : Row) (i : ℕ) → IsAnyRow row → i < row.k → step_of row (interleaver row i) ≡ i
 step_is row i is_row inside =
     let permutes = all_permute row is_row in
     let size = length-range_with_len 0 row.k in
@@ -53,7 +53,7 @@ pub record IsReadAtStep (row : Row) (k : ℕ) : Type 0 where
   pub below : step_of row k < row.k
   pub there : interleaver row (step_of row k) ≡ k
 
-pub read_at_step : (row : Row) (k : ℕ) → IsRow row → k < row.k → IsReadAtStep row k
+pub read_at_step : (row : Row) (k : ℕ) → IsAnyRow row → k < row.k → IsReadAtStep row k
 read_at_step row k is_row inside =
     let (i, below, is) = (all_permute row is_row).onto k inside in
     subst (IsReadAtStep row) is (record {
@@ -61,7 +61,7 @@ read_at_step row k is_row inside =
       there = ap (interleaver row) (step_is row i is_row below);
     })
 
-pub in_word_order_is : {A : Type 0} (d : A) (row : Row) (values found : List A) (i : ℕ) → IsRow row → row.k ≤ i → length found ≡ 1024 →
+pub in_word_order_is : {A : Type 0} (d : A) (row : Row) (values found : List A) (i : ℕ) → IsAnyRow row → row.k ≤ i → length found ≡ 1024 →
     ((j : ℕ) → j < i → get_or found (interleaver row j) d ≡ get_or values j d) → take row.k found ≡ in_word_order d row values
 unfolding in_word_order
 in_word_order_is d row values found i is_row past size each =
@@ -71,7 +71,7 @@ in_word_order_is d row values found i is_row past size each =
     subst (λ m. get_or found m d ≡ get_or values (step_of row m) d) is
     (each j (omega (arith, past, inside)) ∙ ap (λ m. get_or values m d) (sym (step_is row j is_row inside))))
 
-pub orders_undo : {A : Type 0} (d : A) (row : Row) (values : List A) → IsRow row → length values ≡ row.k → in_word_order d row (in_order d row values) ≡ values
+pub orders_undo : {A : Type 0} (d : A) (row : Row) (values : List A) → IsAnyRow row → length values ≡ row.k → in_word_order d row (in_order d row values) ≡ values
 unfolding in_order in_word_order
 orders_undo d row values is_row size =
     sym (values_below_is d row.k (λ k. get_or (in_order d row values) (step_of row k) d) values size (λ k below.

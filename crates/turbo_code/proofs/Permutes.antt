@@ -1,11 +1,11 @@
 -- The interleaver of each row, by computation: three rounds of i := back (y - f2 i^2) lead from an index back.
-use Rattle.std.proofs.Common.{◌≡◌, ℕ, ◌+◌, ◌-◌, ◌*◌, ◌%◌, ◌<◌, Bool, true, List, [], ◌∷◌, length, get_or, refl, ap, subst, sym, ◌∙◌, arith, suc, zero, mod-lt}
+use Rattle.std.proofs.Common.{◌≡◌, ℕ, ◌+◌, ◌-◌, ◌*◌, ◌%◌, ◌<◌, Bool, true, false, inl, inr, List, [], ◌∷◌, length, get_or, refl, ap, subst, sym, ◌∙◌, arith, suc, zero, mod-lt}
 use Rattle.std.specs.Prelude.{◌&&◌, nat_eq, nat_lt}
-use Rattle.std.proofs.lemmas.Bool.{eqb-true, ltb-true, and_parts}
+use Rattle.std.proofs.lemmas.Bool.{eqb-true, ltb-true, and_parts, false≢true}
 use Rattle.finite.specs.Tests.{every_below}
 use Rattle.finite.proofs.Tests.{every_below_at}
 use Rattle.turbo_code.specs.declared.rows.Row.{Row}
-use Rattle.turbo_code.specs.Table.{rows, interleaver}
+use Rattle.turbo_code.specs.Table.{rows, further_rows, interleaver}
 use Rattle.turbo_code.specs.Laws.{Permutes, RowsPermute}
 
 -- the inverse of each row's f1 modulo K
@@ -13,6 +13,10 @@ backs : List ℕ
 backs =
     3 ∷ 51 ∷ 35 ∷ 41 ∷ 111 ∷ 17 ∷ 5 ∷ 77 ∷ 101 ∷ 233 ∷ 87 ∷ 61 ∷ 285 ∷ 151 ∷ 233 ∷ 263 ∷
     329 ∷ 479 ∷ 497 ∷ 257 ∷ 493 ∷ 137 ∷ 617 ∷ 595 ∷ 319 ∷ 361 ∷ 753 ∷ 305 ∷ 495 ∷ 641 ∷ 991 ∷ []
+
+-- those of the further rows
+further_backs : List ℕ
+further_backs = 55 ∷ 61 ∷ 189 ∷ 157 ∷ []
 
 -- the index that the interleaver leads to y
 index_back : Row → ℕ → ℕ → ℕ
@@ -27,23 +31,28 @@ both_ways r back i = nat_eq (index_back r back (interleaver r i)) i && nat_eq (i
 row_test : Row → ℕ → Bool
 row_test r back = nat_lt 0 r.k && every_below r.k (both_ways r back)
 
--- each row passes with its inverse, from row k on
-rows_test : List Row → ℕ → Bool
-rows_test [] k = true
-rows_test (r ∷ rs) k = row_test r (get_or backs k 0) && rows_test rs (suc k)
+-- each row passes with its inverse
+rows_test : List Row → List ℕ → Bool
+rows_test [] backs = true
+rows_test (r ∷ rs) [] = false
+rows_test (r ∷ rs) (b ∷ backs) = row_test r b && rows_test rs backs
 
-tested : rows_test rows 0 ≡ true
+tested : rows_test rows backs ≡ true
 unfolding rows_test row_test both_ways interleaver index_back rows backs every_below
 tested = refl
 
-row_passes : (rs : List Row) (first : ℕ) → rows_test rs first ≡ true → (k : ℕ) (r : Row) → k < length rs → get_or rs k r ≡ r →
+further_tested : rows_test further_rows further_backs ≡ true
+unfolding rows_test row_test both_ways interleaver index_back further_rows further_backs every_below
+further_tested = refl
+
+row_passes : (rs : List Row) (backs : List ℕ) → rows_test rs backs ≡ true → (k : ℕ) (r : Row) → k < length rs → get_or rs k r ≡ r →
     (b : ℕ) × (row_test r b ≡ true)
 unfolding rows_test
-row_passes [] first h k r l e = absurd (omega (arith, l))
-row_passes (x ∷ xs) first h zero r l e =
-    let b = get_or backs first 0 in (b, subst (λ y. row_test y b ≡ true) e (and_parts (row_test x b) (rows_test xs (suc first)) h).0)
-row_passes (x ∷ xs) first h (suc k) r l e =
-    row_passes xs (suc first) (and_parts (row_test x (get_or backs first 0)) (rows_test xs (suc first)) h).1 k r (omega (arith, l)) e
+row_passes [] backs h k r l e = absurd (omega (arith, l))
+row_passes (x ∷ xs) [] h k r l e = absurd (false≢true h)
+row_passes (x ∷ xs) (b ∷ backs) h zero r l e = (b, subst (λ y. row_test y b ≡ true) e (and_parts (row_test x b) (rows_test xs backs) h).0)
+row_passes (x ∷ xs) (b ∷ backs) h (suc k) r l e =
+    row_passes xs backs (and_parts (row_test x b) (rows_test xs backs) h).1 k r (omega (arith, l)) e
 
 permutes_by : (r : Row) (b : ℕ) → row_test r b ≡ true → Permutes r.k (interleaver r)
 unfolding row_test both_ways
@@ -59,4 +68,5 @@ permutes_by r b h =
     }
 
 pub all_permute : RowsPermute
-all_permute r (k, l, e) = let (b, h) = row_passes rows 0 tested k r l e in permutes_by r b h
+all_permute r (inl (k, l, e)) = let (b, h) = row_passes rows backs tested k r l e in permutes_by r b h
+all_permute r (inr (k, l, e)) = let (b, h) = row_passes further_rows further_backs further_tested k r l e in permutes_by r b h

@@ -4,7 +4,7 @@ use Rattle.std.proofs.Math.Nat.{mul-le-mul_left}
 use Rattle.sub_block.specs.declared.Item.{Item}
 use Rattle.sub_block.specs.Matrix.{matrix_rows, nulls}
 use Rattle.sub_block.specs.Items.{item, bits_in}
-use Rattle.turbo_code.specs.Table.{IsSize}
+use Rattle.turbo_code.specs.Table.{IsAnySize}
 use Rattle.turbo_code.specs.Reading.{start, buffer, turned, reading, item_of}
 use Rattle.turbo_code.proofs.TableFacts.{is_small_size, bits_count}
 use Rattle.turbo_code.proofs.Cells.{length-buffer}
@@ -28,11 +28,11 @@ start_inside r rv h =
     let both : r * (24 * rv + 2) ≤ r * 96 = mul-le-mul_left r low in
     omega (arith, both, e)
 
-pub reading_count : (k rv : ℕ) → IsSize k → length (reading k rv) ≡ 3 * (k + 4)
+pub reading_count : (k rv : ℕ) → IsAnySize k → length (reading k rv) ≡ 3 * (k + 4)
 unfolding reading
 reading_count k rv size = length-bits_in-turned (nulls (k + 4)) (start k rv) (buffer (matrix_rows (k + 4))) ∙ bits_count k size
 
-round_of : (k rv : ℕ) → IsSize k → rv < 4 → IsRound k rv (matrix_rows (k + 4))
+round_of : (k rv : ℕ) → IsAnySize k → rv < 4 → IsRound k rv (matrix_rows (k + 4))
 unfolding reading item_of
 round_of k rv size h =
     let small = is_small_size k size in
@@ -50,5 +50,5 @@ round_of k rv size h =
       reads = λ i. let n = reading_count k rv size in ap (λ n. get_or (reading k rv) (i % n) (item 0 0)) n;
     }
 
-pub round : (k rv r : ℕ) → IsSize k → rv < 4 → r ≡ matrix_rows (k + 4) → IsRound k rv r
+pub round : (k rv r : ℕ) → IsAnySize k → rv < 4 → r ≡ matrix_rows (k + 4) → IsRound k rv r
 round k rv r size h e = subst (IsRound k rv) (sym e) (round_of k rv size h)

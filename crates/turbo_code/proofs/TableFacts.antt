@@ -1,14 +1,14 @@
 -- What holds of each row of the table, by computation.
 use Rattle.std.proofs.Common.{◌≡◌, ℕ, zero, suc, ◌+◌, ◌*◌, ◌<◌, ◌≤◌, ◌⊎◌, inl, inr, Bool, true, List, [], ◌∷◌, length, get_or, refl, ap, subst, ◌∙◌, arith}
 use Rattle.std.specs.Prelude.{◌&&◌, nat_eq, nat_le, nat_lt}
-use Rattle.std.specs.List.{list_all}
+use Rattle.std.specs.List.{Contains, list_all}
 use Rattle.std.proofs.lemmas.Bool.{eqb-true, leb-true, ltb-true, and_parts}
 use Rattle.std.proofs.lemmas.List.{get_or_default}
 use Rattle.std.proofs.lemmas.List.Elements.{Contains-get_or}
 use Rattle.sub_block.specs.Matrix.{columns, matrix_rows, nulls, turbo_columns}
 use Rattle.sub_block.specs.Items.{bits_in}
 use Rattle.turbo_code.specs.declared.rows.Row.{Row}
-use Rattle.turbo_code.specs.Table.{rows, row, IsRow, IsSize}
+use Rattle.turbo_code.specs.Table.{rows, further_rows, row, IsRow, IsAnyRow, IsAnySize}
 use Rattle.turbo_code.specs.Reading.{buffer}
 
 -- what a list's items pass, its item k passes
@@ -19,6 +19,10 @@ passes test (x ∷ xs) h (suc k) r l e = passes test xs (and_parts (test x) (lis
 
 pub row_passes : (test : Row → Bool) → list_all test rows ≡ true → (r : Row) → IsRow r → test r ≡ true
 row_passes test h r (k, l, e) = passes test rows h k r l e
+
+pub any_row_passes : (test : Row → Bool) → list_all test rows ≡ true → list_all test further_rows ≡ true → (r : Row) → IsAnyRow r → test r ≡ true
+any_row_passes test h further r (inl (k, l, e)) = passes test rows h k r l e
+any_row_passes test h further r (inr (k, l, e)) = passes test further_rows further k r l e
 
 -- ---- sizes of a row's numbers
 
@@ -35,10 +39,14 @@ all_small : list_all small_test rows ≡ true
 unfolding rows small_test
 all_small = refl
 
-pub is_small : (r : Row) → IsRow r → IsSmall r
+all_further_small : list_all small_test further_rows ≡ true
+unfolding further_rows small_test
+all_further_small = refl
+
+pub is_small : (r : Row) → IsAnyRow r → IsSmall r
 unfolding small_test
 is_small r h =
-    let parts = and_parts (nat_le 56 r.k && nat_le r.k 1024) (nat_lt r.f1 256 && nat_lt r.f2 256) (row_passes small_test all_small r h) in
+    let parts = and_parts (nat_le 56 r.k && nat_le r.k 1024) (nat_lt r.f1 256 && nat_lt r.f2 256) (any_row_passes small_test all_small all_further_small r h) in
     let ks = and_parts (nat_le 56 r.k) (nat_le r.k 1024) parts.0 in
     let fs = and_parts (nat_lt r.f1 256) (nat_lt r.f2 256) parts.1 in
     record {
@@ -52,11 +60,20 @@ pub record IsSmallSize (k : ℕ) : Type 0 where
   pub low : 56 ≤ k
   pub high : k ≤ 1024
 
-pub is_small_size : (k : ℕ) → IsSize k → IsSmallSize k
-is_small_size k (r, h, e) = let small = is_small r h in record { low = omega (arith, small.low, e); high = omega (arith, small.high, e) }
+-- the row of a size
+pub any_row_of : (k : ℕ) → IsAnySize k → (r : Row) × IsAnyRow r × (r.k ≡ k)
+any_row_of k (inl (r, h, e)) = (r, inl h, e)
+any_row_of k (inr (r, h, e)) = (r, inr h, e)
 
-pub row_size : (r : Row) → IsRow r → IsSize r.k
-row_size r h = (r, h, refl)
+pub is_small_size : (k : ℕ) → IsAnySize k → IsSmallSize k
+is_small_size k size =
+    let (r, h, e) = any_row_of k size in
+    let small = is_small r h in
+    record { low = omega (arith, small.low, e); high = omega (arith, small.high, e) }
+
+pub row_size : (r : Row) → IsAnyRow r → IsAnySize r.k
+row_size r (inl h) = inl (r, h, refl)
+row_size r (inr h) = inr (r, h, refl)
 
 -- ---- the buffer without its nulls has 3(K + 4) bits
 
@@ -67,22 +84,25 @@ all_counted : list_all count_test rows ≡ true
 unfolding rows count_test bits_in buffer columns turbo_columns
 all_counted = refl
 
-pub bits_count : (k : ℕ) → IsSize k → length (bits_in (nulls (k + 4)) (buffer (matrix_rows (k + 4)))) ≡ 3 * (k + 4)
+all_further_counted : list_all count_test further_rows ≡ true
+unfolding further_rows count_test bits_in buffer columns turbo_columns
+all_further_counted = refl
+
+pub bits_count : (k : ℕ) → IsAnySize k → length (bits_in (nulls (k + 4)) (buffer (matrix_rows (k + 4)))) ≡ 3 * (k + 4)
 unfolding count_test
-bits_count k (r, h, e) = subst (λ n. length (bits_in (nulls (n + 4)) (buffer (matrix_rows (n + 4)))) ≡ 3 * (n + 4)) e (eqb-true _ _ (row_passes count_test all_counted r h))
+bits_count k size =
+    let (r, h, e) = any_row_of k size in
+    subst (λ n. length (bits_in (nulls (n + 4)) (buffer (matrix_rows (n + 4)))) ≡ 3 * (n + 4)) e
+    (eqb-true _ _ (any_row_passes count_test all_counted all_further_counted r h))
 
--- ---- the search for a row
+-- ---- the search for a row of a list
 
-length-rows : length rows ≡ 31
-unfolding rows
-length-rows = refl
+pub row_at : (rows : List Row) (k : ℕ) (d : Row) → k < length rows → Contains rows (get_or rows k d)
+row_at rows k d h = Contains-get_or rows k d h
 
-pub row_at : (k : ℕ) (d : Row) → k < 31 → IsRow (get_or rows k d)
-row_at k d h = Contains-get_or rows k d (let e = length-rows in omega (arith, e, h))
-
-pub none_so_far : (size i : ℕ) → ((get_or rows i (row 0 0 0)).k ≡ size + 24 → ⊥) → ((j : ℕ) → j < i → (get_or rows j (row 0 0 0)).k ≡ size + 24 → ⊥) →
-    (j : ℕ) → j < i + 1 → (get_or rows j (row 0 0 0)).k ≡ size + 24 → ⊥
-none_so_far size i here before j below = settle (last_or_before j i below)
+pub none_so_far : (rows : List Row) (size i : ℕ) → ((get_or rows i (row 0 0 0)).k ≡ size + 24 → ⊥) →
+    ((j : ℕ) → j < i → (get_or rows j (row 0 0 0)).k ≡ size + 24 → ⊥) → (j : ℕ) → j < i + 1 → (get_or rows j (row 0 0 0)).k ≡ size + 24 → ⊥
+none_so_far rows size i here before j below = settle (last_or_before j i below)
   where
     last_or_before : (j i : ℕ) → j < i + 1 → (j ≡ i) ⊎ (j < i)
     last_or_before j i h = grind arith
@@ -91,7 +111,8 @@ none_so_far size i here before j below = settle (last_or_before j i below)
     settle (inl e) = rw e here
     settle (inr l) = before j l
 
-pub none_at_all : (size i : ℕ) → 31 ≤ i → ((j : ℕ) → j < i → (get_or rows j (row 0 0 0)).k ≡ size + 24 → ⊥) → IsSize (size + 24) → ⊥
-none_at_all size i past none (r, (k, l, e), is) =
-    let inside : k < i = let n = length-rows in omega (arith, n, l, past) in
+pub none_at_all : (rows : List Row) (size i : ℕ) → length rows ≤ i → ((j : ℕ) → j < i → (get_or rows j (row 0 0 0)).k ≡ size + 24 → ⊥) →
+    ((r : Row) × Contains rows r × (r.k ≡ size + 24)) → ⊥
+none_at_all rows size i past none (r, (k, l, e), is) =
+    let inside : k < i = omega (arith, l, past) in
     none k inside (ap (λ (r : Row). r.k) (get_or_default rows k (row 0 0 0) r l ∙ e) ∙ is)

@@ -1,14 +1,15 @@
 -- The list from an index on and round.
 use Rattle.std.proofs.Common.{◌≡◌, ℕ, ◌+◌, ◌-◌, ◌%◌, ◌<◌, ◌≤◌, ◌⊎◌, inl, inr, Bool, List, length, get_or, take, drop, ap, sym, ◌∙◌, arith, mod-eq_of_lt, add_comm, length-append, length-drop}
-use Rattle.std.specs.Prelude.{nat_le, filter, cond}
+use Rattle.std.specs.Prelude.{nat_le, cond}
 use Rattle.std.specs.List.{count_by}
 use Rattle.std.proofs.lemmas.Bool.{cases_lt}
-use Rattle.std.proofs.lemmas.List.{get_or-take, get_or-drop, get_or-append_right, length-take-le, length-map, take-append-drop}
-use Rattle.std.proofs.lemmas.List.Sums.{sum_by-append, length-filter}
+use Rattle.std.proofs.lemmas.List.{get_or-take, get_or-drop, get_or-append_right, length-take-le, take-append-drop}
+use Rattle.std.proofs.lemmas.List.Sums.{sum_by-append}
 use Rattle.std.proofs.Math.ListN.{get_or-append}
 use Rattle.std.proofs.Math.Nat.{mod-eq-sub-mod}
 use Rattle.sub_block.specs.declared.Item.{Item}
 use Rattle.sub_block.specs.Items.{item, bits_in}
+use Rattle.sub_block.proofs.Once.{length-bits_in}
 use Rattle.turbo_code.specs.Reading.{turned}
 
 pub length-turned : (s : ℕ) (cells : List Item) → s ≤ length cells → length (turned s cells) ≡ length cells
@@ -43,10 +44,6 @@ count-turned test s cells =
     ∙ add_comm (count_by test (drop s cells)) (count_by test (take s cells))
     ∙ sym (sum_by-append (λ c. cond (test c) 1 0) (take s cells) (drop s cells))
     ∙ ap (count_by test) (take-append-drop s cells)
-
-pub length-bits_in : (n : ℕ) (cells : List Item) → length (bits_in n cells) ≡ count_by (λ c. nat_le n c.index) cells
-unfolding bits_in
-length-bits_in n cells = length-map (filter (λ c. nat_le n c.index) cells) _ ∙ length-filter (λ c. nat_le n c.index) cells
 
 pub length-bits_in-turned : (n s : ℕ) (cells : List Item) → length (bits_in n (turned s cells)) ≡ length (bits_in n cells)
 length-bits_in-turned n s cells = length-bits_in n (turned s cells) ∙ count-turned (λ c. nat_le n c.index) s cells ∙ sym (length-bits_in n cells)

@@ -8,12 +8,12 @@ use Rattle.sub_block.specs.declared.Item.{Item}
 use Rattle.sub_block.specs.Matrix.{matrix_rows}
 use Rattle.sub_block.specs.Items.{item, bits_in}
 use Rattle.sub_block.proofs.Search.{bits_in-kept, bits_in-skipped}
-use Rattle.turbo_code.specs.Table.{IsSize}
+use Rattle.turbo_code.specs.Table.{IsAnySize}
 use Rattle.turbo_code.specs.Reading.{buffer, reading, item_of}
 use Rattle.turbo_code.specs.Walk.{Standing, standing, IsAt}
 use Rattle.turbo_code.proofs.Round.{IsRound, round, round_cells, reading_count}
 
-pub at_start : (k rv : ℕ) → IsSize k → rv < 4 → IsAt k rv 0 0
+pub at_start : (k rv : ℕ) → IsAnySize k → rv < 4 → IsAt k rv 0 0
 unfolding reading
 at_start k rv size version = record {
   size = size;
@@ -119,7 +119,7 @@ never_past k rv bit r m at rows past =
 -- ---- a walk that has made so many steps
 
 -- what it meets next is the item of that bit of the reading, which goes round
-pub item_here : (k rv i : ℕ) (s : Standing) → IsSize k → s ≡ standing k rv (i % (3 * (k + 4))) → item_of s.k s.rv s.bit ≡ item_of k rv i
+pub item_here : (k rv i : ℕ) (s : Standing) → IsAnySize k → s ≡ standing k rv (i % (3 * (k + 4))) → item_of s.k s.rv s.bit ≡ item_of k rv i
 unfolding item_of
 item_here k rv i s size at =
     let count = reading_count k rv size in

@@ -1,5 +1,5 @@
 -- The table of block sizes and of the internal interleaver (TS 36.212 section 5.1.3.2.3).
-use Rattle.std.specs.Prelude.{ℕ, ◌+◌, ◌*◌, ◌%◌, ◌≡◌, List, [], ◌∷◌, nat_eq}
+use Rattle.std.specs.Prelude.{ℕ, ◌+◌, ◌*◌, ◌%◌, ◌≡◌, ◌⊎◌, List, [], ◌∷◌, nat_eq}
 use Rattle.std.specs.List.{Contains, position_or_len, range_with_len}
 use Rattle.turbo_code.specs.declared.rows.Row.{Row}
 
@@ -25,6 +25,24 @@ IsRow r = Contains rows r
 -- a K of the table
 abbrev pub IsSize : ℕ → Type 0
 IsSize k = (r : Row) × Contains rows r × (r.k ≡ k)
+
+-- further rows, of the sizes 40, 136, 280 and 336 of DCI format 1C (TS 36.213 table 7.1.7.2.3-1): K, f1, f2
+unfoldable pub further_rows : List Row
+further_rows = row 64 7 16 ∷ row 160 21 120 ∷ row 304 37 76 ∷ row 360 133 90 ∷ []
+
+-- a further row, and its K
+abbrev pub IsFurtherRow : Row → Type 0
+IsFurtherRow r = Contains further_rows r
+
+abbrev pub IsFurtherSize : ℕ → Type 0
+IsFurtherSize k = (r : Row) × Contains further_rows r × (r.k ≡ k)
+
+-- a row of either table, and its K
+abbrev pub IsAnyRow : Row → Type 0
+IsAnyRow r = IsRow r ⊎ IsFurtherRow r
+
+abbrev pub IsAnySize : ℕ → Type 0
+IsAnySize k = IsSize k ⊎ IsFurtherSize k
 
 -- which information bit the second encoder reads after i others
 unfoldable pub interleaver : Row → ℕ → ℕ

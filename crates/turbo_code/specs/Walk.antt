@@ -2,7 +2,7 @@
 use Rattle.std.specs.Prelude.{◌≡◌, ℕ, ◌+◌, ◌*◌, ◌<◌, drop}
 use Rattle.sub_block.specs.Matrix.{matrix_rows, nulls}
 use Rattle.sub_block.specs.Items.{bits_in}
-use Rattle.turbo_code.specs.Table.{IsSize}
+use Rattle.turbo_code.specs.Table.{IsAnySize}
 use Rattle.turbo_code.specs.Reading.{buffer, start, turned, reading}
 
 -- where a walk stands: the size, the redundancy version, and the bit of the round that comes next
@@ -16,7 +16,7 @@ standing k rv bit = record { k = k; rv = rv; bit = bit }
 
 -- the cells of the round from this one on hold the bits of the reading from this one on, of which there are some
 pub record IsAt (k rv bit cell : ℕ) : Type 0 where
-  pub size : IsSize k
+  pub size : IsAnySize k
   pub version : rv < 4
   pub inside : bit < 3 * (k + 4)
   pub rest :

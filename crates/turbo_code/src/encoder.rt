@@ -1,13 +1,13 @@
 //! The two encoders and the coded word.
 
 ghost use Rattle.std.specs.Prelude.{◌≡◌, ◌+◌, ◌<◌, ◌≤◌, ◌∷◌, ◌++◌, [], false, length, take, drop};
-ghost use Rattle.turbo_code.specs.Table.{IsRow, IsSize, interleaver};
+ghost use Rattle.turbo_code.specs.Table.{IsAnyRow, IsAnySize, IsRow, IsSize, interleaver};
 ghost use Rattle.finite.specs.Bits.{xor};
 ghost use Rattle.turbo_code.specs.Encoder.{coded, interleaved, parities, stream, tail_x, tail_z};
 
 use crate::Row;
 
-/// A coded word: K, and three streams of K bits with four tail bits each, which are followed by zeros.
+/// A coded word: K, and three streams of K bits and four tail bits each, padded with zeros.
 #[derive(Clone, Copy, Drop)]
 pub struct Coded {
     pub k: u16,
@@ -91,10 +91,10 @@ fn encoder_of(word: &[bool]) -> Constituent
     }
 }
 
-/// Which bit of the word the second encoder reads after i others (TS 36.212 section 5.1.3.2.3). `row` is a row of the
-/// table, and `i` is below K; so is the answer.
+/// Returns the index of the bit that the second encoder reads after `i` others (TS 36.212 section 5.1.3.2.3).
+/// `row` is a row of either table; `i` and the answer are below its K.
 pub fn interleaver(row: &Row, i: usize) -> usize
-    requires row { IsRow row.now }
+    requires row { IsAnyRow row.now }
     requires inside { i < row.now.k }
     ensures bit { result ≡ interleaver row.now i }
     ensures inside { result < row.now.k }
@@ -106,7 +106,7 @@ pub fn interleaver(row: &Row, i: usize) -> usize
 
 /// The word in the order of the second encoder, followed by zeros.
 fn in_order(word: &[bool], row: &Row) -> [bool; 1024]
-    requires row { IsRow row.now }
+    requires row { IsAnyRow row.now }
     requires count { length word.now ≡ row.now.k }
     ensures word { take (length word.now) result ≡ interleaved row.now word.now }
     ensures whole { length result ≡ 1024 }
@@ -137,14 +137,14 @@ fn stream_of(bits: &[bool], tail: &[bool; 4]) -> [bool; 1028]
     stream
 }
 
-/// The coded word of K bits (TS 36.212 section 5.1.3.2): the word, the parity bits of the first
-/// encoder and those of the second, which reads the word in the order of the interleaver. `row` is a
-/// row of the table, and `bits` has its K bits.
+/// Encodes K bits (TS 36.212 section 5.1.3.2) into the word itself, the parity bits of the first encoder and those of
+/// the second, which reads the word in the interleaver's order. `row` is a row of either table, and `bits` has K bits.
 pub fn encode(bits: &[bool], row: Row) -> Coded
-    requires row { IsRow row }
+    requires row { IsAnyRow row }
     requires count { length bits.now ≡ row.k }
     ensures k { result.k ≡ row.k }
-    ensures size { IsSize result.k }
+    ensures size { IsAnySize result.k }
+    ensures size_in_use { IsRow row → IsSize result.k }
     ensures d { result.d ≡ coded row bits.now }
 {
     let k = bits.len();

@@ -13,4 +13,4 @@ pub use encoder::{Coded, encode, interleaver};
 pub use laws::{reading_is_whole, rows_permute};
 pub use machine::{before, bit_to, next, parity_bit, register, tail_bit, tail_parity};
 pub use matching::{Combined, combine, match_all, match_out};
-pub use rows::{Row, row_of};
+pub use rows::{Row, further_row_of, row_of};

@@ -27,21 +27,21 @@ fn oldest(x: usize) -> bool
     x % 2 == 1
 }
 
-/// The register bit of a step from state x by the bit u (TS 36.212 section 5.1.3.2.1).
+/// Returns the register bit of a step from state `x` by the bit `u` (TS 36.212 section 5.1.3.2.1).
 pub fn register(x: usize, u: bool) -> bool
     ensures { result ≡ register x u }
 {
     u ^ middle(x) ^ oldest(x)
 }
 
-/// The parity bit of a step from state x by the bit u.
+/// Returns the parity bit of a step from state `x` by the bit `u`.
 pub fn parity_bit(x: usize, u: bool) -> bool
     ensures { result ≡ parity_bit x u }
 {
     register(x, u) ^ latest(x) ^ oldest(x)
 }
 
-/// The state after a step from state x, which is below 8, by the bit u; so is the answer.
+/// Returns the state after a step from state `x` by the bit `u`. States are below 8.
 pub fn next(x: usize, u: bool) -> usize
     requires { x < 8 }
     ensures next { result ≡ next x u }
@@ -50,7 +50,7 @@ pub fn next(x: usize, u: bool) -> usize
     x / 2 + if register(x, u) { 4 } else { 0 }
 }
 
-/// The two states from which a step leads to state x, which is below 8.
+/// Returns the two states from which a step leads to state `x`, which is below 8.
 pub fn before(x: usize) -> (usize, usize)
     requires { x < 8 }
     ensures first { result.0 ≡ first_from x }
@@ -61,21 +61,21 @@ pub fn before(x: usize) -> (usize, usize)
     (first, first + 1)
 }
 
-/// The bit of the step from state p to state x, where one leads there.
+/// Returns the bit of the step from state `p` to state `x`, if a step leads there.
 pub fn bit_to(p: usize, x: usize) -> bool
     ensures { result ≡ bit_to p x }
 {
     register(p, latest(x))
 }
 
-/// The bit x of a tail step, which leads from state x to x / 2 (TS 36.212 section 5.1.3.2.2).
+/// Returns the bit x of a tail step, which leads from state `x` to `x / 2` (TS 36.212 section 5.1.3.2.2).
 pub fn tail_bit(x: usize) -> bool
     ensures { result ≡ tail_bit x }
 {
     middle(x) ^ oldest(x)
 }
 
-/// The parity bit of a tail step.
+/// Returns the parity bit of a tail step from state `x`.
 pub fn tail_parity(x: usize) -> bool
     ensures { result ≡ tail_parity x }
 {

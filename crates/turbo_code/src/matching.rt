@@ -5,7 +5,7 @@ ghost use Rattle.finite.specs.Lists.{values_below};
 ghost use Rattle.finite.specs.Sizes.{AllWithin, RowsWithin};
 ghost use Rattle.finite.specs.Tables.{sum_at, sums_with};
 ghost use Rattle.sub_block.specs.Items.{item};
-ghost use Rattle.turbo_code.specs.Table.{IsRow, IsSize};
+ghost use Rattle.turbo_code.specs.Table.{IsAnyRow, IsAnySize};
 ghost use Rattle.turbo_code.specs.Reading.{bit_of, buffer, item_of, summed};
 ghost use Rattle.turbo_code.specs.Walk.{standing};
 
@@ -13,7 +13,7 @@ use crate::{Coded, Row};
 use std::marker::Model;
 use sub_block::{Code, Item, cell_at};
 
-/// For each of the three streams and each index the sum of the values that were received for it.
+/// The sum of the received values for each index of each of the three streams.
 #[derive(Clone, Copy, Drop)]
 pub struct Combined {
     pub k: u16,
@@ -73,7 +73,7 @@ impl Model for Walk {
 impl Walk {
     /// The walk before the first bit.
     fn new(k: u16, rv: u8) -> Walk
-        requires size { IsSize k }
+        requires size { IsAnySize k }
         requires version { rv < 4 }
         ensures { result ≡ standing k rv 0 }
     {
@@ -113,7 +113,7 @@ impl Walk {
 
 /// The item of bit i of the cyclic reading of three streams of k bits with their tails.
 fn item_in(k: u16, rv: u8, i: usize) -> Item
-    requires size { IsSize k }
+    requires size { IsAnySize k }
     requires version { rv < 4 }
     ensures item { result ≡ item_of k rv i }
     ensures below_three { result.stream < 3 }
@@ -126,23 +126,23 @@ fn item_in(k: u16, rv: u8, i: usize) -> Item
     walk.step()
 }
 
-/// Bit i of the cyclic reading of a coded word from the start of a redundancy version, 0 to 3
-/// (TS 36.212 section 5.1.4.1). `i` is at most 4,096.
+/// Returns bit `i` of the cyclic reading of a coded word from the start of redundancy version `rv`, 0 to 3
+/// (TS 36.212 section 5.1.4.1). `i` is at most 5,760.
 pub fn match_out(coded: &Coded, rv: u8, i: usize) -> bool
-    requires size { IsSize coded.now.k }
+    requires size { IsAnySize coded.now.k }
     requires version { rv < 4 }
-    requires count { i ≤ 4096 }
+    requires count { i ≤ 5760 }
     ensures { result ≡ bit_of coded.now.d (item_of coded.now.k rv i) }
 {
     bit_at(coded, &item_in(coded.k, rv, i))
 }
 
-/// Writes the first bits of the cyclic reading of a coded word over the whole of `bits`: bit `i` is that of
-/// `match_out`. There are at most 1,224.
+/// Fills `bits`, at most 5,760, with the first bits of the cyclic reading of a coded word: bit `i` is that of
+/// `match_out`.
 pub fn match_all(coded: &Coded, rv: u8, bits: &mut [bool])
-    requires size { IsSize coded.now.k }
+    requires size { IsAnySize coded.now.k }
     requires version { rv < 4 }
-    requires count { length bits.old ≤ 1224 }
+    requires count { length bits.old ≤ 5760 }
     ensures { bits.new ≡ values_below (length bits.old) (λ i. bit_of coded.now.d (item_of coded.now.k rv i)) }
 {
     let mut walk = Walk::new(coded.k, rv);
@@ -153,7 +153,7 @@ pub fn match_all(coded: &Coded, rv: u8, bits: &mut [bool])
 
 /// The bit of a coded word that is an item.
 fn bit_at(coded: &Coded, at: &Item) -> bool
-    requires size { IsSize coded.now.k }
+    requires size { IsAnySize coded.now.k }
     requires stream { at.now.stream < 3 }
     requires index { at.now.index < coded.now.k + 4 }
     ensures { result ≡ bit_of coded.now.d at.now }
@@ -172,16 +172,17 @@ fn add_at(sums: &mut [[i32; 1028]; 3], at: &Item, value: &i16)
     sums[at.stream][at.index] += *value as i32;
 }
 
-/// For each coded bit the sum of the values that the reading from a redundancy version maps to it,
-/// which are seven at most. `row` is a row of the table, `rv` is 0 to 3, and there are at most 1,224 values.
+/// Returns the sum of the values that the reading from redundancy version `rv`, 0 to 3, maps to each coded bit, at most
+/// one in every 180 values. `row` is a row of either table, and there are at most 5,760 values.
 pub fn combine(values: &[i16], row: Row, rv: u8) -> Combined
-    requires row { IsRow row }
+    requires row { IsAnyRow row }
     requires version { rv < 4 }
-    requires count { length values.now ≤ 1224 }
+    requires count { length values.now ≤ 5760 }
     ensures k { result.k ≡ row.k }
     ensures d { result.d ≡ summed row.k rv values.now }
-    ensures sizes { (bound : ℕ) → AllWithin bound values.now →
-        RowsWithin (7 * bound) result.d }
+    ensures sizes { (bound rounds : ℕ) → AllWithin bound values.now →
+        length values.now ≤ rounds * 180 →
+        RowsWithin (rounds * bound) result.d }
 {
     let mut d = [[0; 1028]; 3];
     let mut walk = Walk::new(row.k, rv);

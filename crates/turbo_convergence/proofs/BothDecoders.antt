@@ -4,7 +4,7 @@ use Rattle.finite.specs.Tables.{sum_at}
 use Rattle.finite.proofs.Lists.{values_below-length, values_below_at}
 use Rattle.sub_block.specs.Items.{item}
 use Rattle.turbo_code.specs.declared.rows.Row.{Row}
-use Rattle.turbo_code.specs.Table.{IsRow, interleaver}
+use Rattle.turbo_code.specs.Table.{IsAnyRow, interleaver}
 use Rattle.turbo_code.specs.Encoder.{bit_at, parity, tail_x, tail_z, interleaved, coded}
 use Rattle.turbo_code.specs.Streams.{bits_of_stream, tail_items, in_order}
 use Rattle.turbo_code.specs.Reading.{bit_of}
@@ -94,7 +94,7 @@ module _ (row : Row) (word : List Bool) (sent : ℕ → ℕ → Bool) (sums : Li
     prior = λ k l. priors k (omega (arith, l, size));
   }
 
-  pub second_tells : (known : ℕ → Bool) (prior : List ℤ) → IsRow row → ((k : ℕ) → k < row.k → Tells (known k) (bit_at word k) (at prior k)) →
+  pub second_tells : (known : ℕ → Bool) (prior : List ℤ) → IsAnyRow row → ((k : ℕ) → k < row.k → Tells (known k) (bit_at word k) (at prior k)) →
       AllTell (interleaved row word) (second_sent row sent) (λ i. known (interleaver row i))
       (values_of (in_order (pos 0) row (bits_of_stream (pos 0) row sums 0)) (bits_of_stream (pos 0) row sums 2) (tail_items (pos 0) sums (row.k + 2)) (in_order (pos 0) row prior))
   unfolding in_order

@@ -12,7 +12,7 @@ use Rattle.finite.proofs.Tests.{any_below_some, every_below_at}
 use Rattle.finite.proofs.Lists.{values_below-length, values_below_at, values_below_is, values_below_same, find_below_first}
 use Rattle.cs_bits.specs.Checks.{message_of, has_check_24}
 use Rattle.turbo_code.specs.declared.rows.Row.{Row}
-use Rattle.turbo_code.specs.Table.{IsRow, interleaver, step_of}
+use Rattle.turbo_code.specs.Table.{IsAnyRow, interleaver, step_of}
 use Rattle.turbo_code.specs.Encoder.{bit_at, interleaved}
 use Rattle.turbo_code.specs.Streams.{bits_of_stream, tail_items, in_order, in_word_order}
 use Rattle.turbo_code.proofs.CodedBits.{length-interleaved, interleaved_at, information_at}
@@ -54,7 +54,7 @@ extrinsics_speak word v allow k inside =
 
 -- ---- the iterations
 
-module _ (row : Row) (word : List Bool) (sent : ℕ → ℕ → Bool) (sums : List (List ℤ)) (is_row : IsRow row) (size : length word ≡ row.k) (told : SumsTell row word sent sums) where
+module _ (row : Row) (word : List Bool) (sent : ℕ → ℕ → Bool) (sums : List (List ℤ)) (is_row : IsAnyRow row) (size : length word ≡ row.k) (told : SumsTell row word sent sums) where
   handed : (known : ℕ → Bool) (values : List ℤ) → length values ≡ row.k → ((k : ℕ) → k < row.k → Tells (known k) (bit_at word k) (at values k)) →
       (k : ℕ) → k < row.k → Tells (known k) (bit_at word k) (at (map handed_on values) k)
   handed known values long each k inside =

@@ -11,7 +11,7 @@ use Rattle.sub_block.specs.declared.Item.{Item}
 use Rattle.sub_block.specs.Items.{item, is_at, summed_at}
 use Rattle.sub_block.proofs.Sums.{same_item}
 use Rattle.turbo_code.specs.declared.rows.Row.{Row}
-use Rattle.turbo_code.specs.Table.{IsRow}
+use Rattle.turbo_code.specs.Table.{IsAnyRow}
 use Rattle.turbo_code.specs.Encoder.{coded}
 use Rattle.turbo_code.specs.Reading.{bit_of, item_of, summed}
 use Rattle.turbo_code.proofs.Sums.{summed-at}
@@ -46,7 +46,7 @@ item_tells reading values bit given t p (suc m) each =
 
 -- ---- the sums of a block
 
-module _ (row : Row) (word : List Bool) (rv : ℕ) (values : List ℤ) (is_row : IsRow row) where
+module _ (row : Row) (word : List Bool) (rv : ℕ) (values : List ℤ) (is_row : IsAnyRow row) where
   -- by which values are not 0
   sums_tell : (given : ℕ → Bool) → ((i : ℕ) → i < length values → Tells (given i) (bit_of (coded row word) (item_of row.k rv i)) (at values i)) →
       SumsTell row word (λ t p. any_below (length values) (λ i. is_at t p (item_of row.k rv i) && given i)) (summed row.k rv values)

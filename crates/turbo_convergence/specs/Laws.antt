@@ -4,7 +4,7 @@ use Rattle.finite.specs.Tables.{sum_at}
 use Rattle.cs_bits.specs.Checks.{message_of, has_check_24}
 use Rattle.cs_bits.specs.Signs.{Supports}
 use Rattle.turbo_code.specs.declared.rows.Row.{Row}
-use Rattle.turbo_code.specs.Table.{IsRow}
+use Rattle.turbo_code.specs.Table.{IsAnyRow}
 use Rattle.turbo_code.specs.Encoder.{bit_at}
 use Rattle.turbo_code.specs.Reading.{summed}
 use Rattle.turbo_dec.specs.Decoder.{Values, at, extrinsic}
@@ -42,7 +42,7 @@ pub record IterationTells (row : Row) (word : List Bool) (sent : ℕ → ℕ →
 
 abbrev pub IterationsTell : Type 0
 IterationsTell =
-    (row : Row) (word : List Bool) (sent : ℕ → ℕ → Bool) (sums : List (List ℤ)) → IsRow row → length word ≡ row.k →
+    (row : Row) (word : List Bool) (sent : ℕ → ℕ → Bool) (sums : List (List ℤ)) → IsAnyRow row → length word ≡ row.k →
     SumsTell row word sent sums → (n : ℕ) → IterationTells row word sent sums n
 
 -- ---- the block of sums
@@ -50,14 +50,14 @@ IterationsTell =
 -- a block with its check is told where no sum speaks against its coded word, and none of its own bits has the sum 0
 abbrev pub SpokenBlockIsTold : Type 0
 SpokenBlockIsTold =
-    (row : Row) (word : List Bool) (sums : List (List ℤ)) → IsRow row → length word ≡ row.k →
+    (row : Row) (word : List Bool) (sums : List (List ℤ)) → IsAnyRow row → length word ≡ row.k →
     has_check_24 word ≡ true → SumsSupport 0 row word sums → ((k : ℕ) → k < row.k → sum_at sums 0 k ≢ pos 0) →
     block row sums ≡ Some (message_of 24 word)
 
 -- a block with its check is told where the sums tell the coded bits that are sent, by which it can be resolved
 abbrev pub ResolvableBlockIsTold : Type 0
 ResolvableBlockIsTold =
-    (row : Row) (word : List Bool) (sent : ℕ → ℕ → Bool) (sums : List (List ℤ)) → IsRow row → length word ≡ row.k →
+    (row : Row) (word : List Bool) (sent : ℕ → ℕ → Bool) (sums : List (List ℤ)) → IsAnyRow row → length word ≡ row.k →
     has_check_24 word ≡ true → SumsTell row word sent sums → resolvable row sent word ≡ true →
     block row sums ≡ Some (message_of 24 word)
 
@@ -66,20 +66,20 @@ ResolvableBlockIsTold =
 -- where no value speaks against the bit that was sent there, no sum does
 abbrev pub ReceivedSumsAllow : Type 0
 ReceivedSumsAllow =
-    (row : Row) (word : List Bool) (rv : ℕ) (values : List ℤ) → IsRow row → ValuesSupport 0 row word rv values →
+    (row : Row) (word : List Bool) (rv : ℕ) (values : List ℤ) → IsAnyRow row → ValuesSupport 0 row word rv values →
     SumsSupport 0 row word (summed row.k rv values)
 
 -- where each value speaks for the bit that was sent there, the sums tell the coded bits that were sent
 abbrev pub ReceivedSumsTell : Type 0
 ReceivedSumsTell =
-    (row : Row) (word : List Bool) (rv : ℕ) (values : List ℤ) → IsRow row → ValuesSupport 1 row word rv values →
+    (row : Row) (word : List Bool) (rv : ℕ) (values : List ℤ) → IsAnyRow row → ValuesSupport 1 row word rv values →
     SumsTell row word (sent_of row.k rv (length values)) (summed row.k rv values)
 
 -- where there are as many values as coded bits, and each speaks for the bit that was sent there, each sum speaks for
 -- its bit
 abbrev pub WholeSumsSpeak : Type 0
 WholeSumsSpeak =
-    (row : Row) (word : List Bool) (rv : ℕ) (values : List ℤ) → IsRow row → rv < 4 → ValuesSupport 1 row word rv values →
+    (row : Row) (word : List Bool) (rv : ℕ) (values : List ℤ) → IsAnyRow row → rv < 4 → ValuesSupport 1 row word rv values →
     3 * (row.k + 4) ≤ length values → SumsSupport 1 row word (summed row.k rv values)
 
 -- ---- the block of the values received
@@ -87,7 +87,7 @@ WholeSumsSpeak =
 -- as many values as coded bits, each of which speaks for the bit that was sent, tell a block with its check
 abbrev pub SentBlockIsTold : Type 0
 SentBlockIsTold =
-    (row : Row) (word : List Bool) (rv : ℕ) (values : List ℤ) → IsRow row → rv < 4 → length word ≡ row.k →
+    (row : Row) (word : List Bool) (rv : ℕ) (values : List ℤ) → IsAnyRow row → rv < 4 → length word ≡ row.k →
     has_check_24 word ≡ true → ValuesSupport 1 row word rv values → 3 * (row.k + 4) ≤ length values →
     block row (summed row.k rv values) ≡ Some (message_of 24 word)
 
@@ -95,7 +95,7 @@ SentBlockIsTold =
 -- can be resolved by these bits
 abbrev pub PuncturedBlockIsTold : Type 0
 PuncturedBlockIsTold =
-    (row : Row) (word : List Bool) (rv : ℕ) (values : List ℤ) → IsRow row → length word ≡ row.k →
+    (row : Row) (word : List Bool) (rv : ℕ) (values : List ℤ) → IsAnyRow row → length word ≡ row.k →
     has_check_24 word ≡ true → ValuesSupport 1 row word rv values →
     resolvable row (sent_of row.k rv (length values)) word ≡ true →
     block row (summed row.k rv values) ≡ Some (message_of 24 word)

@@ -8,7 +8,7 @@ use Rattle.std.proofs.lemmas.List.Elements.{All-replicate}
 use Rattle.finite.specs.Lists.{values_below}
 use Rattle.finite.proofs.Lists.{find_below_first, find_below_none}
 use Rattle.turbo_code.specs.declared.rows.Row.{Row}
-use Rattle.turbo_code.specs.Table.{IsRow}
+use Rattle.turbo_code.specs.Table.{IsAnyRow}
 use Rattle.turbo_code.proofs.TableFacts.{is_small}
 use Rattle.turbo_dec.specs.Decoder.{IsSmall, values_of, at, extrinsics}
 use Rattle.cs_bits.specs.Checks.{message_of, has_check_24}
@@ -59,7 +59,7 @@ pub record IsAfter (row : Row) (sums : List (List ℤ)) (prior : List ℤ) (n : 
   pub prior_is : take row.k prior ≡ prior_after row sums n
   pub none : (j : ℕ) → j < n → has_check_24 (word_by row sums (prior_after row sums j)) ≡ false
 
-pub after_none : (row : Row) (sums : List (List ℤ)) → IsRow row → IsAfter row sums (replicate 1024 (pos 0)) 0
+pub after_none : (row : Row) (sums : List (List ℤ)) → IsAnyRow row → IsAfter row sums (replicate 1024 (pos 0)) 0
 unfolding prior_after
 after_none row sums is_row =
     let high = (is_small row is_row).high in

@@ -2,7 +2,7 @@
 use Rattle.std.specs.Prelude.{◌≡◌, ℕ, ◌<◌, Bool, List, length, ℤ, pos, ◌≤ℤ◌}
 use Rattle.turbo_code.specs.Encoder.{bit_at}
 use Rattle.turbo_code.specs.declared.rows.Row.{Row}
-use Rattle.turbo_code.specs.Table.{IsRow}
+use Rattle.turbo_code.specs.Table.{IsAnyRow}
 use Rattle.turbo_dec.specs.Decoder.{Values, score, greatest_score}
 use Rattle.turbo_code.specs.Streams.{in_order, in_word_order}
 
@@ -18,4 +18,4 @@ GreatestScoresAreGreatest = (v : Values) (k : ℕ) (b : Bool) → k < length v.s
 -- values in the order of the second decoder, put back in the order of the word, are the values
 abbrev pub OrdersUndoEachOther : Type 0
 OrdersUndoEachOther =
-    (row : Row) (values : List ℤ) → IsRow row → length values ≡ row.k → in_word_order (pos 0) row (in_order (pos 0) row values) ≡ values
+    (row : Row) (values : List ℤ) → IsAnyRow row → length values ≡ row.k → in_word_order (pos 0) row (in_order (pos 0) row values) ≡ values

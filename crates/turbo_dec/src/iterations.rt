@@ -4,7 +4,7 @@ ghost use Rattle.std.specs.Prelude.{◌≡◌, ℕ, ◌+◌, ◌-◌, ◌<◌, �
 ghost use Rattle.arrayvec.specs.ArrayVec.{array_vec_len};
 ghost use Rattle.std.specs.Option.{option_map};
 ghost use Rattle.finite.specs.Lists.{values_below};
-ghost use Rattle.turbo_code.specs.Table.{IsRow};
+ghost use Rattle.turbo_code.specs.Table.{IsAnyRow};
 ghost use Rattle.turbo_dec.specs.Decoder.{IsSmall, at, values_of, extrinsics};
 ghost use Rattle.cs_bits.specs.Checks.{message_of, has_check_24};
 ghost use Rattle.turbo_code.specs.Streams.{tail_items, in_order, in_word_order};
@@ -16,7 +16,7 @@ use arrayvec::ArrayVec;
 use cs_bits::has_check_24;
 use turbo_code::{Combined, Row, interleaver};
 
-/// The bits of a block, at most 1,000, without their check.
+/// The bits of a block, at most 1,000, without their CRC.
 pub type Block = ArrayVec<bool, 1000>;
 
 /// How many iterations are tried.
@@ -45,7 +45,7 @@ fn tail_of(sums: &[[i32; 1028]; 3], index: usize) -> [i32; 6]
 
 /// The values of the bits of a stream.
 fn stream_of<'a>(stream: &'a [i32; 1028], row: &Row) -> &'a [i32]
-    requires row { IsRow row.now }
+    requires row { IsAnyRow row.now }
     ensures values { result.now ≡ values_below row.now.k (at stream.now) }
     ensures count { length result.now ≡ row.now.k }
     ensures small { All IsSmall stream.now → All IsSmall result.now }
@@ -55,7 +55,7 @@ fn stream_of<'a>(stream: &'a [i32; 1028], row: &Row) -> &'a [i32]
 
 /// The values of the bits of a word.
 fn front_of<'a>(values: &'a BitValues, row: &Row) -> &'a [i32]
-    requires row { IsRow row.now }
+    requires row { IsAnyRow row.now }
     ensures values { result.now ≡ take row.now.k values.now }
     ensures count { length result.now ≡ row.now.k }
     ensures small { All IsSmall values.now → All IsSmall result.now }
@@ -65,7 +65,7 @@ fn front_of<'a>(values: &'a BitValues, row: &Row) -> &'a [i32]
 
 /// The bits of a word.
 fn bits_of<'a>(word: &'a [bool; 1024], row: &Row) -> &'a [bool]
-    requires row { IsRow row.now }
+    requires row { IsAnyRow row.now }
     ensures bits { result.now ≡ take row.now.k word.now }
     ensures count { length result.now ≡ row.now.k }
     ensures low { 56 ≤ length result.now }
@@ -76,7 +76,7 @@ fn bits_of<'a>(word: &'a [bool; 1024], row: &Row) -> &'a [bool]
 
 /// The values in the order of the second decoder.
 fn in_order_of(row: &Row, values: &[i32]) -> BitValues
-    requires row { IsRow row.now }
+    requires row { IsAnyRow row.now }
     requires count { length values.now ≡ row.now.k }
     requires small { All IsSmall values.now }
     ensures values { take row.now.k result ≡ in_order (pos 0) row.now values.now }
@@ -92,7 +92,7 @@ fn in_order_of(row: &Row, values: &[i32]) -> BitValues
 
 /// Values in the order of the second decoder, in the order of the word.
 fn in_word_order_of(row: &Row, values: &[i32]) -> BitValues
-    requires row { IsRow row.now }
+    requires row { IsAnyRow row.now }
     requires count { length values.now ≡ row.now.k }
     requires small { All IsSmall values.now }
     ensures values { take row.now.k result ≡ in_word_order (pos 0) row.now values.now }
@@ -145,7 +145,7 @@ fn first_extrinsics_of(
     prior: &BitValues,
     work: &mut Work,
 ) -> BitValues
-    requires row { IsRow row.now }
+    requires row { IsAnyRow row.now }
     requires small { All (All IsSmall) sums.now }
     requires small_prior { All IsSmall prior.now }
     ensures values { take row.now.k result ≡ first_extrinsics row.now sums.now (take row.now.k prior.now) }
@@ -168,7 +168,7 @@ fn second_extrinsics_of(
     handed: &BitValues,
     work: &mut Work,
 ) -> BitValues
-    requires row { IsRow row.now }
+    requires row { IsAnyRow row.now }
     requires small { All (All IsSmall) sums.now }
     requires small_handed { All IsSmall handed.now }
     ensures values { take row.now.k result ≡ second_extrinsics row.now sums.now (take row.now.k handed.now) }
@@ -245,7 +245,7 @@ fn iterate(
     prior: &mut BitValues,
     work: &mut Work,
 ) -> [bool; 1024]
-    requires row { IsRow row.now }
+    requires row { IsAnyRow row.now }
     requires small { All (All IsSmall) sums.now }
     requires small_prior { All IsSmall prior.old }
     ensures word { take row.now.k result ≡ word_by row.now sums.now (take row.now.k prior.old) }
@@ -277,15 +277,14 @@ fn payload_of(word: &[bool]) -> Block
     }
 }
 
-/// The block of the sums of received values: the first of eight iterates whose check passes (CRC24A, TS
-/// 36.212 section 5.1.1), without the check; `None` exactly where none passes. The iteration is own: one pass
-/// of the first decoder, then one of the second, which reads the word in the order of the interleaver. The
-/// prior of each is what the other handed on last: its extrinsic values, each less its quarter rounded toward
-/// 0; the first prior is 0. A bit is told as 1 where its value and both extrinsic values, with no quarter
-/// taken off, sum to less than 0. `row` is a row of the table, the sums are those of its K, and each is at
-/// most 4,096 in size.
+/// Decodes the sums of received values into the first of eight iterates whose CRC passes (CRC24A, TS 36.212 section
+/// 5.1.1), without the CRC; `None` exactly if none passes. The iteration is own: one pass of the first decoder, then
+/// one of the second, which reads the word in the interleaver's order. The prior of each is the other's last extrinsic
+/// values, each less its quarter rounded toward 0; the first prior is 0. A bit is decided as 1 if its value and both
+/// extrinsic values, without the reduction, sum to less than 0. `row` is a row of either table, and the sums are those
+/// of its K, at most 4,096 in magnitude.
 pub fn decode(values: &Combined, row: Row, work: &mut Work) -> Option<Block>
-    requires row { IsRow row }
+    requires row { IsAnyRow row }
     requires sizes { All (All IsSmall) values.now.d }
     ensures { option_map (λ found. found.items) result ≡ block row values.now.d }
 {

@@ -219,7 +219,7 @@ module _ (recording : List Sample) (plan : CellPlan) (grids : Port → Elements)
   says_fields : BlockSays values (grant_of plan number) (Ok plan.sib1)
   says_fields =
       fields_said plan sendable number (2 * length places) values shared_heard
-      (λ row same of. whole_block_is_resolvable row (version_of number) (2 * length places) (shared_word plan) of.is (version-fits number)
+      (λ row same of. whole_block_is_resolvable row (version_of number) (2 * length places) (shared_word plan) (inl of.is) (version-fits number)
       (let count = assigned_bits_are first_port plan sendable in let enough = leb-true (coded_count plan) (assigned_bits_of TwoPorts plan) sendable.enough in let size = of.size in omega (arith, count, enough, size)))
 
   -- so the frame answers with the plan's fields

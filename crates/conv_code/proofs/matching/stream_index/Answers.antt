@@ -11,7 +11,7 @@ use Rattle.conv_code.proofs.matching.stream_index.Goals.{then-cell-nulls+else-le
 pub loop-m-init : goal.loop-m-init
 loop-m-init c =
     let r = c.div_ceil-rows.result in
-    let count = count_of_stream c.args.n r (omega arith) c.requires.high in
+    let count = count_of_stream c.args.n r (omega arith) in
     left_first (32 * r - c.args.n) (cells_read Convolutional r 0) c.args.p (let below = c.requires.bits in omega (arith, count, below))
 
 pub returns-then-left-eq0-clause-index : goal.returns-then-left-eq0-clause-index
@@ -24,7 +24,7 @@ returns-then-left-eq0-clause-index c =
     let bit : 32 * r - c.args.n ≤ (get_or cells c.loop-m.m (item 0 0)).index = omega (arith, index, c.if-cell-nulls.true) in
     let inside : c.loop-m.m < length cells = omega (arith, count, c.loop-m-test.true) in
     let found = left_found (32 * r - c.args.n) cells c.args.p c.loop-m.m inside bit (rw c.if-left-eq0.true at c.loop-m.invariant) in
-    order_at c.args.n r c.args.p (c.cell_at-cell.result - (32 * r - c.args.n)) (omega arith) c.requires.high c.requires.bits
+    order_at c.args.n r c.args.p (c.cell_at-cell.result - (32 * r - c.args.n)) (omega arith) c.requires.bits
     (found ∙ ap (λ (p : Item). item p.stream (p.index - (32 * r - c.args.n))) is)
 
 pub loop-m-preserved : goal.loop-m-preserved

@@ -17,7 +17,7 @@ use Rattle.conv_code.proofs.matching.stream_indices.Goals.{then-place-nulls, els
 pub loop-m-init : goal.loop-m-init
 loop-m-init g c = record {
   whole = length-replicate g.row.N 0;
-  walked = let r = c.div_ceil-rows.result in walk_first (32 * r - g.row.N) g.row.N (cells_read Convolutional r 0) (count_of_stream g.row.N r (omega arith) (omega arith));
+  walked = let r = c.div_ceil-rows.result in walk_first (32 * r - g.row.N) g.row.N (cells_read Convolutional r 0) (count_of_stream g.row.N r (omega arith));
   each = λ k below. absurd (omega (arith, below));
 }
 
@@ -54,7 +54,7 @@ loop-m-preserved g c =
           let room : p < n = walk_room nulls n cells p m inside bit known.walked in
           let first : IsLeft nulls cells p m 0 = let e : p - p ≡ 0 = omega arith in rw e at (known.walked.ahead p (omega arith) room) in
           let found = left_found nulls cells p m inside bit first in
-          let value = order_at n r p (c.cell_at-place.result - nulls) (omega arith) (omega arith) room
+          let value = order_at n r p (c.cell_at-place.result - nulls) (omega arith) room
           (found ∙ ap (λ (p : Item). item p.stream (p.index - nulls)) is) in
           rw (w.order-is, w.p-is) (record {
             whole = length-set c.loop-m.order p _ ∙ known.whole;
@@ -74,7 +74,7 @@ pub returns : goal.returns
 returns g c =
     let n : ℕ = g.row.N in
     let r = c.div_ceil-rows.result in
-    let order = is_order n (omega arith) in
+    let order = is_order n in
     let count = order.count in
     let whole = c.loop-m.invariant.whole in
     let cells = length-cells_read Convolutional r 0 in

@@ -6,8 +6,8 @@ use Rattle.erasure.proofs.resolving.counts_of.Goals as goal
 pub returns : goal.returns
 returns c =
     let sent = c.args.sent in
-    let long = length-replicate 1224 (pos 1) in
-    counts_are c.args.row c.args.rv sent c.combine.result.d (take sent (replicate 1224 (pos 1))) c.requires.row
-    (length-take-le sent (replicate 1224 (pos 1)) (omega (arith, long, c.requires.sent)))
-    (λ i below. get_or-take sent (replicate 1224 (pos 1)) i (pos 0) below ∙ get_or-replicate 1224 i (pos 1) (pos 0) (omega (arith, below, c.requires.sent)))
+    let long = length-replicate 5760 (pos 1) in
+    counts_are c.args.row c.args.rv sent c.combine.result.d (take sent (replicate 5760 (pos 1))) c.requires.row
+    (length-take-le sent (replicate 5760 (pos 1)) (omega (arith, long, c.requires.sent)))
+    (λ i below. get_or-take sent (replicate 5760 (pos 1)) i (pos 0) below ∙ get_or-replicate 5760 i (pos 1) (pos 0) (omega (arith, below, c.requires.sent)))
     c.combine.ensures.d

@@ -25,7 +25,7 @@ loop-i-preserved c =
     ap (λ order. get_or order (i / 4) 0) c.groups_of-order.ensures.values ∙ values_below_at (group_of_quadruplet c.args.id (length groups)) 36 (i / 4) 0 (omega arith) in
     let here : c.place_of.result ≡ get_or (candidate_places c.args.id groups) i (place 0 0) =
     c.place_of.ensures.place ∙ ap (λ n. get_or (group_places c.args.id (get_or groups n (group 0 0))) (i % 4) (place 0 0)) number
-    ∙ sym (candidate_place_at c.args.id groups i c.requires.enough c.requires.few c.requires.inside (omega arith)) in
+    ∙ sym (candidate_place_at c.args.id groups i c.requires.enough c.requires.inside (omega arith)) in
     record {
       whole = length-set c.loop-i.places i _ ∙ c.loop-i.invariant.whole;
       each = rw here (fill_by_more (λ k. get_or (candidate_places c.args.id c.args.groups.now) k (place 0 0)) c.loop-i.places i (place 0 0) (omega (arith, c.loop-i.invariant.whole)) c.loop-i.invariant.each);
@@ -34,6 +34,6 @@ loop-i-preserved c =
 
 pub returns-clause-places : goal.returns-clause-places
 returns-clause-places c =
-    let size = length-candidate_places c.args.id c.args.groups.now c.requires.enough c.requires.few c.requires.inside in
+    let size = length-candidate_places c.args.id c.args.groups.now c.requires.enough c.requires.inside in
     ext_get_or (place 0 0) c.loop-i.places (candidate_places c.args.id c.args.groups.now) (c.loop-i.invariant.whole ∙ sym size)
     (λ k below. c.loop-i.invariant.each k (let whole = c.loop-i.invariant.whole in omega (arith, below, whole)))

@@ -7,4 +7,4 @@ returns-then-quadruplet-q-clause-value c =
     sym (group_is_first c.args.id c.args.count c.args.q c.loop-r.r c.loop-r-test.true c.loop-r.invariant (sym c.quadruplet.ensures.value ∙ c.if-quadruplet-q.true))
 
 pub unreachable-requires : goal.unreachable-requires
-unreachable-requires c = some_group c.args.id c.args.count c.args.q c.loop-r.r c.requires.few c.requires.q c.loop-r-test.false c.loop-r.invariant
+unreachable-requires c = some_group c.args.id c.args.count c.args.q c.loop-r.r c.requires.q c.loop-r-test.false c.loop-r.invariant

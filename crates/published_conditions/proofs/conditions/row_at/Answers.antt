@@ -4,4 +4,4 @@ use Rattle.published_conditions.proofs.conditions.row_at.Goals as goal
 
 pub returns : goal.returns
 unfolding rows
-returns c = row_at c.args.n (row 0 0 0) c.requires
+returns c = row_at rows c.args.n (row 0 0 0) c.requires

@@ -1,4 +1,4 @@
-use Rattle.std.proofs.Common.{◌≡◌, arith, sym, ap, ◌∙◌, length, take}
+use Rattle.std.proofs.Common.{◌≡◌, arith, refl, sym, ap, ◌∙◌, length, take}
 use Rattle.std.proofs.lemmas.List.{length-take-le}
 use Rattle.turbo_code.proofs.TableFacts.{is_small, row_size}
 use Rattle.turbo_code.proofs.Encoding.{coded_is}
@@ -43,3 +43,6 @@ returns-clause-d c =
 
 pub returns-clause-size : goal.returns-clause-size
 returns-clause-size c = row_size c.args.row c.requires.row
+
+pub returns-clause-size_in_use : goal.returns-clause-size_in_use
+returns-clause-size_in_use c is = (c.args.row, is, refl)

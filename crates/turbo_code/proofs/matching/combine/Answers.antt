@@ -55,7 +55,7 @@ pub returns-clause-d : goal.returns-clause-d
 returns-clause-d c = sums_all c.args.row.k c.args.rv c.args.values.now c.loop-value.value-index c.loop-value.d (omega arith) c.loop-value.invariant.sums
 
 pub returns-clause-sizes : goal.returns-clause-sizes
-returns-clause-sizes c bound small =
+returns-clause-sizes c bound rounds small few =
     let is = sums_all c.args.row.k c.args.rv c.args.values.now c.loop-value.value-index c.loop-value.d (omega arith) c.loop-value.invariant.sums in
-    subst (RowsWithin (7 * bound)) (sym is)
-    (sizes c.args.row.k c.args.rv (row_size c.args.row c.requires.row) c.requires.version c.args.values.now c.requires.count bound small)
+    subst (RowsWithin (rounds * bound)) (sym is)
+    (sizes c.args.row.k c.args.rv (row_size c.args.row c.requires.row) c.requires.version c.args.values.now bound rounds small few)
