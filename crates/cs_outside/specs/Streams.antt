@@ -39,6 +39,12 @@ pub record HasReadPast (limit : ℕ) (before now : SourceTold) : Type 0 where
   pub read : HasRead front before now
   pub past : length front ≡ limit + 1
 
+-- no more than one byte past the limit was read, and no call failed
+pub record HasReadPart (limit : ℕ) (before now : SourceTold) : Type 0 where
+  pub front : List ℕ
+  pub read : HasRead front before now
+  pub few : length front ≤ limit + 1
+
 -- these bytes were read, no more than the limit, and then a call failed
 pub record HasFailedAfter (limit : ℕ) (bytes : List ℕ) (before now : SourceTold) : Type 0 where
   pub in_order : AreNext bytes before now

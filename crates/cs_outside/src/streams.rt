@@ -1,7 +1,7 @@
 //! A source read to its end, and a piece written whole.
 ghost use Rattle.std.specs.Prelude.{◌≡◌, ◌+◌, ◌<◌, ◌≤◌, length, take, IfOk, IsErrOf, OnOk, OnErr};
 ghost use Rattle.cs_outside.specs.Counts.{Rose};
-ghost use Rattle.cs_outside.specs.Streams.{HasReadAll, HasReadOn, HasReadPast, HasReadFault, HasWritten, HasWrittenFront, IsShortOf};
+ghost use Rattle.cs_outside.specs.Streams.{HasReadAll, HasReadPart, HasReadOn, HasReadPast, HasReadFault, HasWritten, HasWrittenFront, IsShortOf};
 
 use crate::{Failed, Sink, Source};
 use std::alloc::Global;
@@ -24,8 +24,8 @@ pub enum ReadError {
 // The most bytes that one call of a source is asked for.
 const PIECE: usize = 4_096;
 
-/// Reads a source to its end, which has to come within `limit` bytes. Of a longer input `limit + 1` bytes are read,
-/// and nothing after them. After an error what was read is dropped.
+/// Reads a source to its end, which has to come within `limit` bytes. Reads `limit + 1` bytes of a longer input and
+/// nothing after them. After an error the bytes that were read are dropped.
 pub fn read_to_end<S: Source>(
     alloc: Global,
     source: &mut S,
@@ -38,6 +38,8 @@ pub fn read_to_end<S: Source>(
         HasReadPast limit (S.told source.old) (S.told source.new) }
     ensures fault { IsErrOf result ReadError.ReadFault →
         HasReadFault limit (S.told source.old) (S.told source.new) }
+    ensures memory { IsErrOf result ReadError.OutOfMemory →
+        HasReadPart limit (S.told source.old) (S.told source.new) }
     ensures never_falls { (S.told source.old).faults ≤ (S.told source.new).faults }
 {
     let mut bytes = Vec::new(alloc);

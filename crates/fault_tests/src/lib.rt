@@ -4,7 +4,11 @@
 #![tactic(auto)]
 
 #[cfg(test)]
+mod adapters;
+#[cfg(test)]
 mod cuts;
+#[cfg(test)]
+mod edge;
 #[cfg(test)]
 mod extremes;
 #[cfg(test)]

@@ -1,4 +1,4 @@
-//! No call of a source follows one that tells the end or that fails.
+//! No call of a source follows one that tells the end or that fails, and each is asked for many bytes.
 
 use crate::forms::{APPLYING, Form, OTHERS, REPORTS, SENDING};
 use crate::inputs::{Input, bytes_of};
@@ -14,8 +14,11 @@ use top_tests::{ROOM, command_line};
 // More calls than a run makes.
 const CALLS: usize = 1_000_000;
 
+// The fewest bytes that a call of a source is asked for.
+const LEAST: usize = 4_096;
+
 // A reader of bytes, at most `most` a call, of which call number `fails` fails. It counts its calls, and those that
-// come after the end was told or after a call failed.
+// come after the end was told or after a call failed, and keeps the fewest bytes that a call was asked for.
 #[derive(Drop)]
 struct Watched<'a> {
     bytes: &'a [u8],
@@ -24,12 +27,14 @@ struct Watched<'a> {
     calls: usize,
     is_over: bool,
     late: usize,
+    fewest: usize,
 }
 
 impl<'a> Read for Watched<'a> {
     fn read(&mut self, into: &mut [u8]) -> io::Result<usize> {
         let call = self.calls;
         self.calls = call.saturating_add(1);
+        self.fewest = self.fewest.min(into.len());
         if self.is_over {
             self.late = self.late.saturating_add(1);
         }
@@ -65,6 +70,7 @@ struct Reads {
     calls: usize,
     is_over: bool,
     late: usize,
+    fewest: usize,
 }
 
 impl Reads {
@@ -84,6 +90,7 @@ impl Reads {
             calls: 0,
             is_over: false,
             late: 0,
+            fewest: usize::MAX,
         };
         let status = status_over(alloc, program, line, &mut reader)?;
         Ok(Reads {
@@ -91,6 +98,7 @@ impl Reads {
             calls: reader.calls,
             is_over: reader.is_over,
             late: reader.late,
+            fewest: reader.fewest,
         })
     }
 
@@ -106,7 +114,9 @@ fn end_each(rt: &impl Abort, alloc: Global, program: Program, forms: &[Form]) ->
         if input != Input::Nothing {
             let bytes = bytes_of(alloc, input)?;
             let whole = Reads::new(alloc, program, line, &bytes, 20_000, CALLS)?;
+            let fewest = whole.fewest;
             assert!(rt; whole.end_so(Status::Done), "{line} {input:?}");
+            assert!(rt; fewest >= LEAST, "{line} {input:?} {fewest}");
             for call in 0..whole.calls {
                 let reads = Reads::new(alloc, program, line, &bytes, 20_000, call)?;
                 assert!(rt;

@@ -1,16 +1,51 @@
--- How a process ends. (own)
-use Rattle.std.specs.Prelude.{◌≡◌, ◌⊎◌}
+-- How a process ends: the answer to its arguments, its exit code, and its line on standard error. (own)
+use Rattle.std.specs.Prelude.{◌≡◌, ◌⊎◌, ℕ, List, ◌++◌, codes, drop, map, string_bytes, Option, Some, None, Result, Ok, Err}
+use Rattle.std.specs.Vec.Iter.{into_iter_items}
+use Rattle.std.specs.IoError.{error_kind}
 use Rattle.std.specs.Process.{exit_status}
 use Rattle.std.specs.declared.process.ExitCode.{ExitCode}
+use Rattle.std.specs.declared.io.ErrorKind.{ErrorKind}
+use Rattle.std.specs.declared.io.ErrorKind.TheVariants.{OutOfMemory as NoMemory}
+use Rattle.cs_outside.specs.Outside.{Outside}
+use Rattle.lte_args.specs.declared.form.Program.{Program}
+use Rattle.lte_args.specs.Words.{name_of}
 use Rattle.lte_top.specs.declared.status.Status.{Status}
-use Rattle.lte_top.specs.declared.status.Status.TheVariants.{OutOfMemory, Usage}
-use Rattle.lte_top.specs.Answers.{code_of}
+use Rattle.lte_top.specs.declared.status.Status.TheVariants.{Done, OutOfMemory, Usage}
+use Rattle.lte_top.specs.Answers.{code_of, text_of}
+use Rattle.lte_top.specs.Run.{Runs}
+use Rattle.lte_process.specs.declared.Line.{Line}
 
--- the exit code is that of an answer
-pub record IsCodeOfAnswer (exit : ExitCode) : Type 0 where
+-- the answer where there are no arguments: memory was refused for them, or one is no text and so a word of no form
+abbrev pub refusal_of : ErrorKind → Status
+refusal_of NoMemory = OutOfMemory
+refusal_of kind = Usage
+
+-- the outside of a process at its start: nothing is told of its input and its output, and no call failed
+abbrev pub at_start : Outside
+at_start = (record { left = None; faults = 0 }, record { taken = None; room = None; faults = 0 })
+
+-- the answer to arguments, of which the first is the program's name: the program ran the others as its words, or
+-- memory for them was refused
+abbrev pub IsRun : Program → List (List ℕ) → Status → Type 0
+IsRun program arguments status = ((now : Outside) × Runs program (drop 1 arguments) at_start now status) ⊎ (status ≡ OutOfMemory)
+
+-- the answer to what a process asked for its arguments gets: the arguments, or the kind of an error
+abbrev pub IsAnswerTo : Program → Result (List (List ℕ)) ErrorKind → Status → Type 0
+IsAnswerTo program (Ok arguments) status = IsRun program arguments status
+IsAnswerTo program (Err kind) status = status ≡ refusal_of kind
+
+-- the exit code is that of the answer to a process's arguments
+pub record IsExit (program : Program) (exit : ExitCode) : Type 0 where
+  pub arguments : Result (List (List ℕ)) ErrorKind
   pub answer : Status
+  pub answered : IsAnswerTo program arguments answer
   pub code : exit_status exit ≡ code_of answer
 
--- the answer where a process's arguments cannot be had: want of memory, or words of no form
-abbrev pub IsRefusalOfArguments : Status → Type 0
-IsRefusalOfArguments status = (status ≡ OutOfMemory) ⊎ (status ≡ Usage)
+-- the line of an answer: none for Done
+abbrev pub line_of : Program → Status → Option Line
+line_of program Done = None
+line_of program status = Some (record { program = program; status = status })
+
+-- the text of a line
+abbrev pub line_text : Line → List ℕ
+line_text line = name_of line.program ++ codes ": " ++ text_of line.status

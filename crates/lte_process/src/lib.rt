@@ -1,88 +1,112 @@
 //! The edge between a process and the top call: its arguments become words, its standard input a source, its standard
-//! output a sink, and the answer its exit code. What the outside gives and keeps is told by no contract.
+//! output a sink, and the answer its exit code and a line on standard error.
+//!
+//! Tests: `fault_tests/src/edge.rt`.
 #![tactic(auto)]
 
-ghost use Rattle.std.specs.Prelude.{◌≡◌, IfErr};
+ghost use Rattle.std.specs.Prelude.{◌≡◌, ◌⊎◌, Ok, Err, Some, IfOk, IfErr, OnErr, drop, map, string_bytes};
+ghost use Rattle.std.specs.Vec.Iter.{into_iter_items};
+ghost use Rattle.std.specs.IoError.{error_kind};
 ghost use Rattle.std.specs.Process.{exit_status};
 ghost use Rattle.lte_top.specs.Answers.{code_of};
-ghost use Rattle.lte_process.specs.Exit.{IsCodeOfAnswer, IsRefusalOfArguments};
+ghost use Rattle.lte_top.specs.declared.status.Status.TheVariants.{OutOfMemory};
+ghost use Rattle.lte_process.specs.Exit.{IsAnswerTo, IsExit, IsRun, line_of, line_text, refusal_of};
 
 use cs_outside::{StdSink, StdSource};
 use lte_top::{Program, Status, Words, run_program};
-use std::alloc::{Alloc, Global};
-use std::env::{self, Env};
+use std::alloc::{Alloc, AllocError, Global};
+use std::env::{self, Args, Env};
+use std::fmt;
 use std::io::{self, Eprint, Read, Write};
 use std::process::ExitCode;
 
-/// Runs the process's arguments after the program's name, as words of the program, over the input and the output, and
-/// gives the exit code of the answer. Of every answer but `Done` a line on standard error has the program's name and
-/// the answer's text; where it cannot be written nothing else changes.
+/// Runs a program over the process's arguments, `input` and `output`, and returns the exit code of its answer. The
+/// arguments after the first are the words. For every answer except `Done` a line on standard error has the program's
+/// name and the answer's text. If that line cannot be written, nothing else changes.
 ///
-/// An argument that is not UTF-8 text is a word of no form, so the answer is then `Usage`; where
-/// memory for the arguments is refused it is `OutOfMemory`. In both cases nothing is read or
-/// written.
+/// If an argument is not UTF-8 text, the answer is `Usage`; if memory for the arguments is refused, it is
+/// `OutOfMemory`. In both cases nothing is read or written.
 pub fn run_process<R, I, O>(rt: &R, program: Program, input: I, output: O) -> ExitCode
 where
     R: Env + Alloc<A = Global> + Eprint,
     I: Read + Drop,
     O: Write + Drop,
-    ensures { IsCodeOfAnswer result }
+    ensures { IsExit program result }
 {
-    let status = answer(rt, program, input, output);
-    end(rt, program, status)
+    let status = match env::args(rt) {
+        Ok(arguments) => answer(rt.alloc(), program, arguments, input, output),
+        Err(error) => refusal(error.kind()),
+    };
+    if let Some(line) = answer_line(program, status) {
+        let _ = eprintln!(rt; "{line}");
+    }
+    ExitCode::from(status.code())
 }
 
-// The answer to the process's arguments.
-fn answer<R, I, O>(rt: &R, program: Program, input: I, output: O) -> Status
+// The answer to these arguments.
+fn answer<I, O>(alloc: Global, program: Program, arguments: Args, input: I, output: O) -> Status
 where
-    R: Env + Alloc<A = Global>,
     I: Read + Drop,
     O: Write + Drop,
+    ensures { IsRun program (map string_bytes (into_iter_items arguments)) result }
 {
-    match words_of(rt) {
+    match words_of(alloc, arguments) {
         Ok(words) => run_program(
-            rt.alloc(),
+            alloc,
             program,
             &words,
             &mut StdSource::new(input),
             &mut StdSink::new(output),
         ),
-        Err(status) => status,
+        Err(AllocError) => Status::OutOfMemory,
     }
 }
 
-// Tells an answer: its line, where it is not `Done`, and its code.
-fn end<R: Eprint>(rt: &R, program: Program, status: Status) -> ExitCode
-    ensures { exit_status result ≡ code_of status }
+// The arguments after the first, as words.
+fn words_of(alloc: Global, arguments: Args) -> Result<Words, AllocError>
+    ensures { IfOk result (λ words. words ≡ drop 1 (map string_bytes (into_iter_items arguments))) }
 {
-    if status != Status::Done {
-        let name = program.name();
-        let _ = eprintln!(rt; "{name}: {status}");
-    }
-    ExitCode::from(status.code())
-}
-
-// The arguments after the program's name, or the answer where they could not be had.
-fn words_of<R: Env + Alloc<A = Global>>(rt: &R) -> Result<Words, Status>
-    ensures { IfErr result IsRefusalOfArguments }
-{
-    let arguments = match env::args(rt) {
-        Ok(arguments) => arguments,
-        Err(error) => return Err(refusal_of(error.kind())),
-    };
-    let mut words = Words::new(rt.alloc());
-    for argument in arguments.skip(1) {
+    let mut rest = arguments;
+    let _name = rest.next();
+    let mut words = Words::new(alloc);
+    for argument in rest {
         words.push(argument.as_str())?;
     }
     Ok(words)
 }
 
-// The answer where the arguments could not be had.
-fn refusal_of(kind: io::ErrorKind) -> Status
-    ensures { IsRefusalOfArguments result }
+// The answer where there are no arguments.
+fn refusal(kind: io::ErrorKind) -> Status
+    ensures { result ≡ refusal_of kind }
 {
     match kind {
         io::ErrorKind::OutOfMemory => Status::OutOfMemory,
         _ => Status::Usage,
+    }
+}
+
+// The line of an answer on standard error.
+#[derive(Clone, Copy)]
+struct Line {
+    program: Program,
+    status: Status,
+}
+
+impl fmt::Display for Line {
+    ghost output = { λ line. Some (line_text line) };
+
+    fn fmt<W: fmt::Write>(&self, f: &mut fmt::Formatter<W>) -> fmt::Result {
+        f.write_str(self.program.name())?;
+        write!(f, ": {}", self.status)
+    }
+}
+
+// The line of this answer, if it has one.
+fn answer_line(program: Program, status: Status) -> Option<Line>
+    ensures { result ≡ line_of program status }
+{
+    match status {
+        Status::Done => None,
+        _ => Some(Line { program, status }),
     }
 }

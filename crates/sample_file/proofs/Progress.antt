@@ -7,7 +7,7 @@ use Rattle.cs_num.specs.declared.Sample.{Sample}
 use Rattle.lte_types.specs.Numerology.{least_samples, most_samples}
 use Rattle.cs_outside.specs.Counts.{Rose}
 use Rattle.cs_outside.specs.Outside.{SourceTold}
-use Rattle.cs_outside.specs.Streams.{HasRead, HasReadAll, HasReadOn, HasReadPast, HasReadFault}
+use Rattle.cs_outside.specs.Streams.{HasRead, HasReadAll, HasReadOn, HasReadPart, HasReadPast, HasReadFault}
 use Rattle.cs_outside.proofs.Reading.{read_then}
 use Rattle.sample_file.specs.declared.form.SampleForm.{SampleForm}
 use Rattle.sample_file.specs.declared.form.SampleForm.TheVariants.{Ci16, Cu8}
@@ -205,3 +205,20 @@ past_on form samples begun before now s past = record {
   read = s.read;
   past = one_past form (length (s.whole ++ begun)) (length-append s.whole begun ∙ ap (λ m. m + length begun) (bytes_count form samples begun before now s) ∙ past);
 }
+
+-- a piece more was read, and no more than one byte past the limit
+pub part_on : (form : SampleForm) (n : ℕ) (samples : List Sample) (begun next : List ℕ) (before between now : SourceTold) →
+    HasReadSamples form samples begun before between → HasReadOn n begun next between now →
+    width form * length samples + length begun + n ≤ width form * most_samples + 1 → HasReadPart (most_bytes form) before now
+part_on form n samples begun next before between now s h within = record {
+  front = (s.whole ++ begun) ++ h.piece;
+  read = read_then _ _ before between now s.read h.read;
+  few = by_form form (length ((s.whole ++ begun) ++ h.piece)) (subst (λ m. m ≤ width form * most_samples + 1) size within);
+}
+  where
+    size : width form * length samples + length begun + n ≡ length ((s.whole ++ begun) ++ h.piece)
+    size = omega (arith, length-append (s.whole ++ begun) h.piece, length-append s.whole begun, bytes_count form samples begun before between s, h.count)
+
+    by_form : (form : SampleForm) (m : ℕ) → m ≤ width form * most_samples + 1 → m ≤ most_bytes form + 1
+    by_form Ci16 m few = omega (arith, few)
+    by_form Cu8 m few = omega (arith, few)

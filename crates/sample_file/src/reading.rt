@@ -4,7 +4,7 @@ ghost use Rattle.std.specs.Prelude.{◌≡◌, ◌+◌, ◌*◌, ◌^◌, ◌<�
 ghost use Rattle.cs_num.specs.declared.Sample.{Sample as SampleValue};
 ghost use Rattle.lte_types.specs.Numerology.{least_samples, most_samples};
 ghost use Rattle.cs_outside.specs.Outside.{SourceTold};
-ghost use Rattle.cs_outside.specs.Streams.{HasReadPast, HasReadFault};
+ghost use Rattle.cs_outside.specs.Streams.{HasReadPart, HasReadPast, HasReadFault};
 ghost use Rattle.sample_file.specs.Reading.{HasReadRecording, HasReadFront, HasReadRagged, HasReadTooShort};
 ghost use Rattle.sample_file.specs.Reading.{most_bytes};
 ghost use Rattle.sample_file.specs.Recording.{IsRecording, width as width_of};
@@ -91,6 +91,8 @@ pub fn read_as<S: Source>(
         HasReadPast (most_bytes form) (S.told source.old) (S.told source.new) }
     ensures fault { IsErrOf result FileError.ReadFault →
         HasReadFault (most_bytes form) (S.told source.old) (S.told source.new) }
+    ensures memory { IsErrOf result FileError.OutOfMemory →
+        HasReadPart (most_bytes form) (S.told source.old) (S.told source.new) }
     ensures never_falls { (S.told source.old).faults ≤ (S.told source.new).faults }
 {
     read_front(alloc, source, form, MOST_SAMPLES)
@@ -116,6 +118,8 @@ pub fn read_front<S: Source>(
         HasReadPast (most_bytes form) (S.told source.old) (S.told source.new) }
     ensures fault { IsErrOf result FileError.ReadFault →
         HasReadFault (most_bytes form) (S.told source.old) (S.told source.new) }
+    ensures memory { IsErrOf result FileError.OutOfMemory →
+        HasReadPart (most_bytes form) (S.told source.old) (S.told source.new) }
     ensures never_falls { (S.told source.old).faults ≤ (S.told source.new).faults }
 {
     let limit = bytes_read(form, MOST_SAMPLES, 0);
@@ -154,6 +158,8 @@ pub fn read_recording<S: Source>(alloc: Global, source: &mut S) -> Result<Record
         HasReadPast (most_bytes Ci16) (S.told source.old) (S.told source.new) }
     ensures fault { IsErrOf result FileError.ReadFault →
         HasReadFault (most_bytes Ci16) (S.told source.old) (S.told source.new) }
+    ensures memory { IsErrOf result FileError.OutOfMemory →
+        HasReadPart (most_bytes Ci16) (S.told source.old) (S.told source.new) }
     ensures never_falls { (S.told source.old).faults ≤ (S.told source.new).faults }
 {
     read_as(alloc, source, SampleForm::Ci16)
@@ -173,6 +179,8 @@ pub fn read_cu8<S: Source>(alloc: Global, source: &mut S) -> Result<Recording, F
         HasReadPast (most_bytes Cu8) (S.told source.old) (S.told source.new) }
     ensures fault { IsErrOf result FileError.ReadFault →
         HasReadFault (most_bytes Cu8) (S.told source.old) (S.told source.new) }
+    ensures memory { IsErrOf result FileError.OutOfMemory →
+        HasReadPart (most_bytes Cu8) (S.told source.old) (S.told source.new) }
     ensures never_falls { (S.told source.old).faults ≤ (S.told source.new).faults }
 {
     read_as(alloc, source, SampleForm::Cu8)

@@ -10,7 +10,7 @@ use Rattle.sample_file.specs.declared.reading.FileError.{FileError}
 use Rattle.sample_file.specs.Recording.{width, IsRecording}
 use Rattle.sample_file.specs.Reading.{HasReadFront}
 use Rattle.sample_file.specs.Steps.{AreKept}
-use Rattle.sample_file.proofs.Progress.{taken_on, recorded_on, short_on, ragged_on, fault_on, past_on, not_many}
+use Rattle.sample_file.proofs.Progress.{taken_on, recorded_on, short_on, ragged_on, fault_on, past_on, part_on, not_many}
 use Rattle.sample_file.proofs.reading.read_front.Goals as goal
 
 -- the begun bytes at the front of the buffer
@@ -81,6 +81,14 @@ returns-then-bytes_read-limit-clause-too_long g c = λ e.
     let count = counted c.args.form c.args.most t.samples c.take_front.new.front.samples.items c.take_front.new.front.count t.are_kept in
     past_on _ _ _ _ _ (taken_on _ _ _ _ _ _ _ _ _ _ so.read c.in-Ok.ensures.read t.takes)
     (omega (arith, size, count, c.bytes_read.ensures, c.bytes_read-read.ensures, c.in_ok-begun-in-Ok.ensures.count, c.if-bytes_read-limit.true, c.bytes_read-limit.ensures, c.in-Ok.ensures.fits, c.min-end.ensures))
+
+pub returns-in_err-begun-in-Ok-clause-memory : goal.returns-in_err-begun-in-Ok-clause-memory
+returns-in_err-begun-in-Ok-clause-memory g c = λ e.
+    let so = c.loop-front.invariant.so_far in
+    let size = begun_size _ _ _ c.loop-front.invariant.begun c.loop-front.invariant.whole in
+    let count = counted c.args.form c.args.most so.samples c.loop-front.front.samples.items c.loop-front.front.count so.are_kept in
+    part_on _ _ _ _ _ _ _ _ so.read c.in-Ok.ensures.read
+    (omega (arith, size, count, c.bytes_read-read.ensures, c.loop-front.invariant.few, c.bytes_read-limit.ensures, c.in-Ok.ensures.fits, c.min-end.ensures))
 
 pub loop-front-preserved : goal.loop-front-preserved
 loop-front-preserved g c =

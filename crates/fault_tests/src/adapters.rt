@@ -1,0 +1,120 @@
+//! The reader and the writer of std as a source and a sink: each call makes one call of theirs, with the same bytes.
+
+use cs_outside::{Failed, Sink, Source, StdSink, StdSource};
+use std::alloc::{AllocError, Global};
+use std::io;
+use std::io::{ErrorKind, Read, Write};
+use std::test::Fail;
+
+// How many bytes are asked for or given in a call.
+const SIZES: [usize; 8] = [1, 2, 15, 16, 17, 4_095, 4_096, 20_000];
+
+// A reader and a writer that keeps how many bytes each call is about, and answers each as it says.
+#[derive(Drop)]
+struct Recorder {
+    sizes: Vec<usize>,
+    taken: Option<usize>,
+}
+
+impl Recorder {
+    // A recorder that fails, or takes so many bytes of a call at most.
+    fn new(alloc: Global, taken: Option<usize>) -> Recorder {
+        Recorder {
+            sizes: Vec::new(alloc),
+            taken,
+        }
+    }
+
+    // The answer to a call about so many bytes.
+    fn answer(&mut self, size: usize) -> io::Result<usize> {
+        self.sizes.push(size)?;
+        match self.taken {
+            Some(most) => Ok(size.min(most)),
+            None => Err(io::Error::from(ErrorKind::BrokenPipe)),
+        }
+    }
+
+    // Whether one call was made, about so many bytes.
+    fn was_called_once(&self, size: usize) -> bool {
+        self.sizes.as_slice() == [size].as_slice()
+    }
+}
+
+impl Read for Recorder {
+    fn read(&mut self, into: &mut [u8]) -> io::Result<usize> {
+        self.answer(into.len())
+    }
+}
+
+impl Write for Recorder {
+    fn write(&mut self, piece: &[u8]) -> io::Result<usize> {
+        self.answer(piece.len())
+    }
+
+    fn flush(&mut self) -> io::Result<()> {
+        Ok(())
+    }
+}
+
+// What a call of a source over the recorder returns for a buffer of so many bytes.
+fn read_into(
+    alloc: Global,
+    recorder: &mut Recorder,
+    size: usize,
+) -> Result<Result<usize, Failed>, AllocError> {
+    let mut buffer = vec![in alloc; 0_u8; size]?;
+    let mut source = StdSource::new(recorder);
+    if buffer.is_empty() {
+        return Ok(Ok(0));
+    }
+    Ok(source.read(&mut buffer))
+}
+
+// What a call of a sink over the recorder returns for a piece of so many bytes.
+fn write_of(
+    alloc: Global,
+    recorder: &mut Recorder,
+    size: usize,
+) -> Result<Result<usize, Failed>, AllocError> {
+    let piece = vec![in alloc; 0_u8; size]?;
+    let mut sink = StdSink::new(recorder);
+    if piece.is_empty() {
+        return Ok(Ok(0));
+    }
+    Ok(sink.write(&piece))
+}
+
+#[test]
+fn a_reader_is_asked_once_for_all_that_fits(rt: HostRuntime) -> Result<(), Fail> {
+    let alloc = rt.alloc();
+    for size in SIZES {
+        for taken in [Some(usize::MAX), Some(1), Some(0), None] {
+            let mut recorder = Recorder::new(alloc, taken);
+            let answer = read_into(alloc, &mut recorder, size)?;
+            let expected = taken.map(|most| size.min(most)).ok_or(Failed);
+            assert!(rt;
+                answer == expected && recorder.was_called_once(size),
+                "{size} {taken:?}"
+            );
+        }
+    }
+    Ok(())
+}
+
+#[test]
+fn a_writer_is_given_the_whole_piece_once(rt: HostRuntime) -> Result<(), Fail> {
+    let alloc = rt.alloc();
+    for size in SIZES {
+        for taken in [Some(usize::MAX), Some(1), Some(0), None] {
+            let mut recorder = Recorder::new(alloc, taken);
+            let answer = write_of(alloc, &mut recorder, size)?;
+            let some = taken.filter(|most| *most > 0);
+            let expected = some.map(|most| size.min(most)).ok_or(Failed);
+            assert!(rt;
+                answer == expected && recorder.was_called_once(size),
+                "{size} {taken:?}"
+            );
+        }
+    }
+    Ok(())
+}

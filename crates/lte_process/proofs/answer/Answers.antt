@@ -1,0 +1,28 @@
+use Rattle.std.proofs.Common.{◌≡◌, ℕ, List, None, inl, subst, ap}
+use Rattle.cs_outside.specs.Outside.{Outside, SourceTold, SinkTold}
+use Rattle.lte_args.specs.declared.form.Program.{Program}
+use Rattle.lte_top.specs.declared.status.Status.{Status}
+use Rattle.lte_top.specs.Run.{Runs}
+use Rattle.lte_process.specs.Exit.{at_start}
+use Rattle.lte_process.proofs.answer.Goals as goal
+
+-- what the reader and the writer tell where so many of their calls failed
+abbrev reader : ℕ → SourceTold
+reader faults = record { left = None; faults = faults }
+
+abbrev writer : ℕ → SinkTold
+writer faults = record { taken = None; room = None; faults = faults }
+
+-- a run begins at the start where no call failed before
+from_start : (program : Program) (words arguments : List (List ℕ)) (reads writes : ℕ) (now : Outside) (status : Status) →
+    reads ≡ 0 → writes ≡ 0 → words ≡ arguments → Runs program words (reader reads, writer writes) now status → Runs program arguments at_start now status
+from_start program words arguments reads writes now status r w a run =
+    subst (λ l. Runs program l at_start now status) a
+    (subst (λ n. Runs program words (reader 0, writer n) now status) w (subst (λ n. Runs program words (reader n, writer writes) now status) r run))
+
+pub returns-in-Ok : goal.returns-in-Ok
+returns-in-Ok g c = inl (
+  _,
+  from_start c.args.program c.in-Ok.words _ c.new.result.faults c.new-in-Ok.result.faults _ c.run_program.result
+      (ap (λ s. s.faults) c.new.ensures) (ap (λ s. s.faults) c.new-in-Ok.ensures) c.in-Ok.ensures c.run_program.ensures,
+)
