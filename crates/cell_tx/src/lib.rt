@@ -20,9 +20,7 @@ mod shared;
 mod source;
 
 pub use antenna::Port;
-pub use cell_plan::{
-    Cell, CellError, CellPlan, Emission, Transmission, accepted_are_sendable, gain_of_pair, pair_of,
-};
+pub use cell_plan::{Cell, CellError, CellPlan, Emission, Transmission};
 pub use emitter::{Emitter, emit};
 pub use laws::{frames_stand, sent_is_clean, sizes, sum_is_clean, symbols_stand};
 pub use samples::{Sender, frame, port_sample, sample, send, send_all, sequence};

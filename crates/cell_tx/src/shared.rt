@@ -39,10 +39,10 @@ pub(crate) fn shared_places(cell: &Cell, carrier: Carrier) -> (usize, [Place; 61
     ensures whole { length result.1 ≡ 612 }
 {
     let assignment = cell.assignment();
-    let count = shared_count(carrier, &assignment);
+    let count = shared_count(carrier, assignment);
     let mut places = [Place { symbol: 0, k: 0 }; 612];
     for i in 0..count {
-        places[i] = shared_place(carrier, cell.id(), &assignment, i);
+        places[i] = shared_place(carrier, cell.id(), assignment, i);
     }
     (count, places)
 }
