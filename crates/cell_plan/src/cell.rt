@@ -1,7 +1,7 @@
 //! Plans of cells, and the cells that can be sent.
 
-ghost use Rattle.std.specs.Prelude.{◌≡◌, ◌+◌, ◌≤◌, ◌&&◌, ◌||◌, nat_eq, nat_le, true, false, if◌then◌else◌, length, Some};
-ghost use Rattle.std.specs.Prelude.{None, MatchOption, MatchResult, IfSome, IfOk};
+ghost use Rattle.std.specs.Prelude.{◌≡◌, ◌+◌, ◌≤◌, ◌&&◌, ◌||◌, nat_eq, nat_le, false, if◌then◌else◌, length, Some};
+ghost use Rattle.std.specs.Prelude.{true, None, MatchOption, MatchResult, IfSome, IfOk};
 ghost use Rattle.std.specs.Option.{option_map_or};
 ghost use Rattle.lte_types.specs.Ranges.{IsValid};
 ghost use Rattle.dci.specs.Sizes.{size_of};
@@ -20,10 +20,9 @@ use std::marker::Model;
 use turbo_code::Coded;
 use uper::Writer;
 
-/// What a cell is to send, by whichever carrier. Its master block has bandwidth n6, the antenna ports of the carrier
-/// in the mask of its check, and the upper bits of the frame's number. With the extended cyclic prefix or four antenna
-/// ports only the identity, the PHICH fields and the spare bits are sent: there is no control region and no system
-/// information (own).
+/// The content of a cell, for any carrier. Its MIB has bandwidth n6 and the upper bits of the frame number; its CRC
+/// mask gives the antenna ports. With the extended cyclic prefix or four antenna ports only the identity, the PHICH
+/// fields and the spare bits are sent, without control region and system information (own).
 #[derive(Debug, Drop)]
 pub struct CellPlan {
     /// The physical-layer cell identity, 0 to 503 (TS 36.211 section 6.11).
@@ -32,7 +31,7 @@ pub struct CellPlan {
     pub duration: Duration,
     /// phich-Resource.
     pub resource: Resource,
-    /// The 10 spare bits of the master block, 0 to 1023.
+    /// The 10 spare bits of the MIB, 0 to 1023.
     pub spare: u16,
     /// The control format indicator, 2 or 3 (TS 36.212 section 5.3.4).
     pub cfi: u8,
@@ -64,8 +63,8 @@ impl CellPlan {
     ghost use Rattle.std.specs.Prelude.{◌*◌};
     ghost use Rattle.grid_map.specs.Shared.{block_places_of};
 
-    /// The places that the assigned resource blocks have for the shared channel of a carrier, each as many as
-    /// `grid_map::block_places` tells. Six blocks have at most 612.
+    /// Returns how many resource elements the assigned blocks have for the shared channel of `carrier`; six blocks have
+    /// at most 612.
     pub fn assigned_places(&self, carrier: Carrier) -> usize
         ensures value { result ≡ block_places_of carrier self.now.cfi * self.now.blocks }
         ensures bound { self.now.blocks ≤ 6 → result ≤ 612 }
@@ -208,8 +207,7 @@ impl Cell {
     ghost use Rattle.cell_plan.specs.Plan.{IsSendable, IsSendableBy, plan_refusal, refusal_of};
     ghost use Rattle.cell_plan.specs.Transport.{IsCoded};
 
-    /// The cell of a plan whose SystemInformationBlockType1 is in its ranges, to be sent by a carrier, or the first
-    /// failed condition:
+    /// Accepts a plan for `carrier`, or returns the first failed condition:
     ///
     /// - `Identity`: at most 503.
     /// - `Spare`: at most 1023.
@@ -271,7 +269,7 @@ impl Cell {
         })
     }
 
-    /// The cell of a plan with one antenna port and the normal cyclic prefix.
+    /// Accepts a plan for one antenna port and the normal cyclic prefix.
     pub fn new(plan: CellPlan) -> Result<Cell, CellError>
         requires { IsValid plan.sib1 }
         ensures refusal { MatchResult result (λ _. plan_refusal plan ≡ None)
@@ -282,7 +280,7 @@ impl Cell {
         Cell::of(Carrier::OnePort, plan)
     }
 
-    /// The plan.
+    /// Returns the plan.
     pub fn plan(&self) -> &CellPlan
         ensures plan { result.now ≡ self.now }
         ensures sendable { IsSendable self.now }
@@ -290,7 +288,7 @@ impl Cell {
         &self.plan
     }
 
-    /// The physical-layer cell identity.
+    /// Returns the physical-layer cell identity.
     pub fn id(&self) -> CellId
         ensures value { result ≡ self.now.identity }
         ensures sendable { IsSendable self.now }
@@ -298,21 +296,21 @@ impl Cell {
         self.id
     }
 
-    /// The control format indicator, 2 or 3.
+    /// Returns the control format indicator, 2 or 3.
     pub fn cfi(&self) -> Cfi
         ensures value { result ≡ self.now.cfi }
     {
         self.assignment.cfi()
     }
 
-    /// The assigned resource blocks, and the control format indicator.
+    /// Returns the assigned resource blocks with the control format indicator.
     pub fn assignment(&self) -> &Assignment
         ensures { result.now ≡ assignment_of self.now }
     {
         &self.assignment
     }
 
-    /// The size of the transport block in bits, without its check (TS 36.213 section 7.1.7.2).
+    /// Returns the size of the transport block in bits, without its CRC (TS 36.213 section 7.1.7.2).
     pub fn size(&self) -> u16
         ensures value { result ≡ block_size self.now }
         ensures entry { size_of self.now.mcs self.now.column ≡ Some result }
@@ -320,7 +318,7 @@ impl Cell {
         self.size
     }
 
-    /// The coded word of the transport block and its check (TS 36.212 section 5.3.2).
+    /// Returns the codeword of the transport block with its CRC (TS 36.212 section 5.3.2).
     pub fn coded(&self) -> &Coded
         ensures { IsCoded self.now result.now }
     {
