@@ -1,8 +1,8 @@
 //! The program `lte_cli` over a description without fields, so that the gate runs a refusal of it: code 9.
 #![tactic(auto)]
 
+use lte_args::Program;
 use lte_process::run_process;
-use lte_top::Program;
 use std::process::ExitCode;
 
 fn main(rt: HostRuntime) -> ExitCode {

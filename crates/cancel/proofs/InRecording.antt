@@ -18,8 +18,9 @@ use Rattle.lte_types.specs.Timing.{start_of, number_at_start}
 use Rattle.lte_types.proofs.Timings.{same_offset, same_number}
 use Rattle.pss_search.specs.Correlation.{pss_grid, wave}
 use Rattle.cell_plan.specs.declared.cell.CellPlan.{CellPlan}
-use Rattle.cell_tx.specs.Grid.{element}
-use Rattle.cell_tx.specs.Sent.{Elements, sent}
+use Rattle.cell_grid.specs.Grid.{element}
+use Rattle.cell_grid.specs.Grid.{Elements}
+use Rattle.cell_tx.specs.Sent.{sent}
 use Rattle.cell_tx.specs.Clean.{IsClean}
 use Rattle.budget.specs.Received.{samples_from}
 use Rattle.budget.proofs.PeakSums.{wave_is_sharp}

@@ -11,8 +11,9 @@ use Rattle.lte_types.specs.declared.frame.Half.TheVariants.{Zero}
 use Rattle.lte_types.specs.Timing.{start_of, number_at_start, offset_of, number_before}
 use Rattle.pss_search.specs.Correlation.{wave}
 use Rattle.cell_plan.specs.declared.cell.CellPlan.{CellPlan}
-use Rattle.cell_tx.specs.Grid.{element}
-use Rattle.cell_tx.specs.Sent.{Elements, sent}
+use Rattle.cell_grid.specs.Grid.{element}
+use Rattle.cell_grid.specs.Grid.{Elements}
+use Rattle.cell_tx.specs.Sent.{sent}
 use Rattle.cell_plan.specs.Pair.{gain_of}
 use Rattle.cell_tx.specs.Clean.{IsClean}
 use Rattle.clean_air.specs.Load.{IsLoaded}

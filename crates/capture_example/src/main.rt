@@ -1,8 +1,8 @@
 //! Runs a command on the recording that ships with the repository, so that the gate runs it.
 #![tactic(auto)]
 
+use lte_args::Program;
 use lte_process::run_process;
-use lte_top::Program;
 use std::process::ExitCode;
 
 fn main(rt: HostRuntime) -> ExitCode {

@@ -44,7 +44,8 @@ fn with_error(clean: Sample, error: Sample) -> Sample
     }
 }
 
-/// Adds the errors of number `n` to samples whose components have size at most 32,284.
+/// Adds the errors of number `n` to `samples`, whose components have magnitude at most 32,284. No error component
+/// exceeds `bound`, which is at most 56.
 pub(crate) fn add_errors(n: u32, bound: u16, samples: &mut [Sample])
     requires bound { bound ≤ 56 }
     requires room { All (λ s. IsWithin 32284 (value_of s)) samples.old }

@@ -1,4 +1,6 @@
-//! Recordings by number: of each whole number of 32 bits, what a cell sends and errors, from one recipe.
+//! Synthetic recordings: for each 32-bit number and carrier the samples that a cell sends, with errors, by one recipe.
+//!
+//! Tests: `sent_tests/src/made_recordings.rt`.
 #![tactic(auto)]
 
 mod errors;

@@ -21,26 +21,25 @@ use lte_types::Carrier;
 use sample_file::Recording;
 use std::alloc::{AllocError, Global};
 
-/// A recording by number of any carrier, and what was sent.
+/// Recording `n` of a carrier, and the emission that it contains.
 #[derive(Drop)]
 pub struct MadeBy {
-    /// What was sent.
+    /// The emission.
     pub sent: Emission,
-    /// The greatest bound that a clean recording with these gains allows: no component of an error has a greater size.
+    /// The maximum magnitude of an error component: the largest bound that a clean recording with these gains allows.
     pub bound: i16,
-    /// What was sent, with the errors.
+    /// The samples, with the errors.
     pub recording: Recording,
 }
 
-/// A recording by number of one antenna port, and what was sent.
+/// Recording `n` of one antenna port, and the transmission that it contains.
 #[derive(Drop)]
 pub struct Made {
-    /// What was sent.
+    /// The transmission.
     pub sent: Transmission,
-    /// The greatest whole number whose square is at most four times that of the gain's size: no component of
-    /// an error has a greater size.
+    /// The maximum magnitude of an error component: the largest whole number at most twice the gain's magnitude.
     pub bound: i16,
-    /// What was sent, with the errors.
+    /// The samples, with the errors.
     pub recording: Recording,
 }
 
@@ -78,9 +77,9 @@ fn with_bound(sent: Emission, bound: u16, recording: Recording) -> MadeBy
     }
 }
 
-/// Recording number `n` of a carrier, of 10 to 99 frames: what a cell that can be sent by it sends at each antenna
-/// port, times the gain of the port, and errors of the greatest bound that a clean recording allows, all by one recipe
-/// (`docs/FORMATS.md`). Only memory can be wanting. (own)
+/// Makes recording `n` of `carrier`, 10 to 99 frames long: the samples of each antenna port times the port's gain, plus
+/// errors up to the largest bound of a clean recording, by the recipe in `docs/FORMATS.md`. Fails only if an allocation
+/// fails. (own)
 pub fn make_by(alloc: Global, carrier: Carrier, n: u32) -> Result<MadeBy, AllocError>
     ensures made { IfOk result (IsMadeBy carrier n) }
     ensures sendable { IsSendableBy carrier (plan n) }
@@ -111,7 +110,8 @@ fn of_one_port(n: u32, made: MadeBy) -> Made
     }
 }
 
-/// Recording number `n` with one antenna port: that of `make_by`, with errors of at most twice the gain's size. (own)
+/// Makes recording `n` with one antenna port: that of `make_by`, whose errors are at most twice the gain's magnitude.
+/// Fails only if an allocation fails. (own)
 pub fn make(alloc: Global, n: u32) -> Result<Made, AllocError>
     ensures made { IfOk result (IsMade n) }
     ensures sendable { IsSendable (plan n) }
@@ -123,8 +123,7 @@ pub fn make(alloc: Global, n: u32) -> Result<Made, AllocError>
     Ok(of_one_port(n, made))
 }
 
-/// A law: the samples of each recording by number, with errors of the greatest bound that its gains allow, are a clean
-/// recording of what is sent for the number.
+/// A law: each recording of each carrier is a clean recording of its emission.
 pub fn numbers_are_clean()
     ensures { (carrier : AnyCarrier) (n : ℕ) (bound : ℤ) → IsBound carrier n bound →
         IsCleanNumber carrier n (samples_by carrier n (nat_abs bound)) (nat_abs bound) }
@@ -132,7 +131,7 @@ pub fn numbers_are_clean()
     sum_is_clean();
 }
 
-/// A law: each recording by number with one antenna port is a clean one of what was sent, with errors within the bound.
+/// A law: each recording with one antenna port is a clean recording of its transmission.
 pub fn made_is_clean()
     ensures { (n : ℕ) (made : MadeValue) → IsMade n made → IsCleanlyMade made }
 {

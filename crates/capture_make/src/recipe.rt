@@ -97,7 +97,7 @@ fn resource(n: u32) -> Resource
     }
 }
 
-/// The plan of the cell of recording number `n`.
+/// Returns the plan of the cell in recording `n`.
 pub fn plan(n: u32) -> CellPlan
     ensures { result ≡ plan_of n }
 {
@@ -126,7 +126,7 @@ fn cell(carrier: Carrier, n: u32) -> Cell
     }
 }
 
-/// The gain of recording number `n` with one antenna port.
+/// Returns the gain of recording `n` with one antenna port.
 pub fn gain(n: u32) -> Gain
     ensures { result ≡ gain_with n }
 {
@@ -187,7 +187,7 @@ fn gains_of_four(n: u32) -> [Cpx; 4]
     [first, second, third, fourth]
 }
 
-/// The gains of the antenna ports of a carrier for recording number `n`; that of a port which it has not is 0.
+/// Returns the gains of the carrier's antenna ports in recording `n`; 0 for ports that it does not have.
 pub fn gains(carrier: Carrier, n: u32) -> [Cpx; 4]
     ensures { result ≡ gains_of carrier n }
 {
@@ -198,7 +198,7 @@ pub fn gains(carrier: Carrier, n: u32) -> [Cpx; 4]
     }
 }
 
-/// Where in the sequence of its cell recording number `n` begins.
+/// Returns the frame number and the sample offset at which recording `n` begins.
 pub fn timing(n: u32) -> Timing
     ensures number { result.sfn ≡ number n }
     ensures offset { result.offset ≡ offset n }
@@ -217,7 +217,7 @@ fn sample_count(n: u32) -> u32
     FRAME * (10 + n % 90)
 }
 
-/// What is sent by a carrier for number `n`.
+/// Returns the emission of recording `n` of `carrier`.
 pub(crate) fn emission(carrier: Carrier, n: u32) -> Emission
     ensures carrier { result.carrier ≡ carrier }
     ensures cell { result.cell ≡ plan_of n }
@@ -287,7 +287,7 @@ fn bound_of_four(n: u32) -> u16
     (power_of_four(n) / 64).isqrt() as u16
 }
 
-/// The bound of the errors: the greatest that a clean recording with the gains of the number allows.
+/// Returns the largest error bound that a clean recording with the gains of recording `n` allows, at most 56.
 pub(crate) fn bound(carrier: Carrier, n: u32) -> u16
     ensures bound { IsBound carrier n (pos result) }
     ensures small { result ≤ 56 }

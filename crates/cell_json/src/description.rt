@@ -15,7 +15,7 @@ use cs_num::Cpx;
 use lte_types::{Carrier, Duration, Resource};
 use serde_json::Value;
 
-/// What is sent of the cell, not yet checked.
+/// Frame number, offset and sample count of the transmission, unchecked.
 #[derive(Clone, Copy)]
 pub(crate) struct Sending {
     pub sfn: i64,
@@ -23,7 +23,7 @@ pub(crate) struct Sending {
     pub samples: i64,
 }
 
-/// The numbers of the cell's plan, not yet checked.
+/// The numbers of the cell's plan, unchecked.
 #[derive(Clone, Copy)]
 pub(crate) struct Numbers {
     pub identity: i64,
@@ -35,7 +35,7 @@ pub(crate) struct Numbers {
     pub column: i64,
 }
 
-/// A JSON value with the form of a description by a carrier, and its values but for SystemInformationBlockType1.
+/// A JSON value that has the form of a description, and its values except SystemInformationBlockType1.
 #[derive(Clone, Copy)]
 pub(crate) struct Description<'a> {
     pub value: &'a Value,
@@ -44,7 +44,7 @@ pub(crate) struct Description<'a> {
     pub numbers: Numbers,
     pub duration: Duration,
     pub resource: Resource,
-    /// The gains of four antenna ports; 0 for a port which the carrier has not.
+    /// One gain per antenna port; 0 for ports that the carrier does not have.
     pub gains: [Cpx; 4],
     pub ghost has_form: { IsTrue (has_form carrier (view value.now)) },
     pub ghost has_sending: { HasSending sending (view value.now) },
@@ -163,7 +163,7 @@ fn gains_of(carrier: Carrier, value: &Value) -> Option<[Cpx; 4]>
     ])
 }
 
-/// The description by a carrier that a JSON value is; `None` exactly where it has not the form of one.
+/// Returns the description in `value`, or `None` if `value` does not have the form of one.
 #[tactic(auto, using(crate::proofs::Tables::form_parts))]
 pub(crate) fn description_of(carrier: Carrier, value: &Value) -> Option<Description<'_>>
     ensures { MatchOption result (IsFalse (has_form carrier (view value.now)))

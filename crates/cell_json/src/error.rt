@@ -12,7 +12,7 @@ use thiserror::Error;
 pub enum JsonError {
     /// The first failed condition.
     Cell(CellError),
-    /// Memory was wanting.
+    /// An allocation failed.
     OutOfMemory,
 }
 

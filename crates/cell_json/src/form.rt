@@ -161,7 +161,7 @@ fn has_schedule(value: &Value) -> bool
     has_messages(value, "scheduling") && has_whole(value, "window") && has_whole(value, "tag")
 }
 
-/// Whether a value has the form of SystemInformationBlockType1.
+/// Returns whether a value has the form of SystemInformationBlockType1.
 #[tactic(auto, using(crate::proofs::Tables::sib1_parts))]
 pub(crate) fn is_sib1(value: &Value) -> bool
     ensures { result ≡ has_exactly sib1_keys (view value.now) }

@@ -228,7 +228,7 @@ fn selection_in(value: &Value) -> Option<CellSelectionInfo>
     })
 }
 
-/// SystemInformationBlockType1 with each value in its range.
+/// Returns SystemInformationBlockType1, or `None` if one of its values is out of range.
 #[tactic(auto, unfolding(crate::specs::Information::sib1_in))]
 pub(crate) fn sib1_in(value: &Value) -> Option<Sib1>
     ensures { result ≡ described_sib1 (view value.now) }

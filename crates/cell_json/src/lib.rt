@@ -1,4 +1,6 @@
-//! Descriptions of a transmission in JSON, by each carrier.
+//! Descriptions of a transmission in JSON, for each carrier.
+//!
+//! Tests: `sent_tests/src/descriptions.rt`, `sent_tests/src/emissions.rt`.
 #![tactic(auto)]
 
 mod description;

@@ -25,12 +25,14 @@ const LEAST: u32 = LEAST_SAMPLES as u32;
 
 const MOST: u32 = MOST_SAMPLES as u32;
 
-/// The emission that a description in JSON has the values of, by a carrier and without load, or the first failed
-/// condition in this order: `Form`, `Sfn`, `Offset`, `Samples`, `Gain`, `Sib1Range`, and those of `Cell::of`. With two
-/// antenna ports a description has one key more, the second port's gain, and with four three more; the gains of all
-/// ports have to be those of the carrier's clean recordings (`AreGainsOf`), and of four ports a pair may be weak. JSON
-/// is what `serde_json` reads, so of a key that is written twice the last value stands. Want of memory may come at any
-/// bytes.
+/// Reads the emission, without load, that `bytes` describe in JSON for `carrier`.
+///
+/// With two antenna ports a description has one more key, the second port's gain; with four it has three more. The
+/// gains must be those of a clean recording (`AreGainsOf`); with four ports a pair may be weak. If a key occurs twice,
+/// its last value counts.
+///
+/// If several conditions fail, the first in this order is reported: `Form`, `Sfn`, `Offset`, `Samples`, `Gain`,
+/// `Sib1Range`, then those of `Cell::of`. `OutOfMemory` can be returned for any bytes.
 pub fn read_by(alloc: Global, carrier: Carrier, bytes: &[u8]) -> Result<Emission, JsonError>
     ensures { MatchResult result (DescribesBy carrier bytes.now) (IsRefusedBy carrier bytes.now) }
 {
@@ -48,8 +50,7 @@ pub fn read_by(alloc: Global, carrier: Carrier, bytes: &[u8]) -> Result<Emission
     }
 }
 
-/// The transmission that a description in JSON has the values of, as `read_by` reads it with one antenna port and the
-/// normal cyclic prefix.
+/// Reads the transmission that `bytes` describe: `read_by` for one antenna port and the normal cyclic prefix.
 pub fn read(alloc: Global, bytes: &[u8]) -> Result<Transmission, JsonError>
     ensures { MatchResult result (Describes bytes.now) (IsRefused bytes.now) }
 {

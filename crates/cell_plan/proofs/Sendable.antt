@@ -55,6 +55,9 @@ fits : (o : Option (List Bool)) (size : ℕ) → Decides (option_map_or (λ text
 fits None size = (λ e. absurd cc, λ s. absurd s)
 fits (Some text) size = le_decides (length text) size
 
+pub indicated : (plan : CellPlan) → Decides (nat_le 2 plan.cfi && nat_le plan.cfi 3) ((2 ≤ plan.cfi) × (plan.cfi ≤ 3))
+indicated plan = Decides-and _ _ (le_decides 2 plan.cfi) (le_decides plan.cfi 3)
+
 pub assigned : (plan : CellPlan) → Decides (nat_le 1 plan.blocks && nat_le (plan.start + plan.blocks) 6) ((1 ≤ plan.blocks) × (plan.start + plan.blocks ≤ 6))
 assigned plan = Decides-and _ _ (le_decides 1 plan.blocks) (le_decides (plan.start + plan.blocks) 6)
 
@@ -68,9 +71,6 @@ has_its_block plan duplex extension text =
 -- a test that says what is enough of each plan that has a size, and is passed by each that has a block
 module _ (enough : Bool) (Enough : Type 0) (plan : CellPlan) (is_enough : IsSome (size_of plan.mcs plan.column) → enough ≡ true → Enough)
     (is_passed : has_block plan ≡ true → Enough → enough ≡ true) where
-  in_range : Decides (nat_le 2 plan.cfi && nat_le plan.cfi 3) ((2 ≤ plan.cfi) × (plan.cfi ≤ 3))
-  in_range = Decides-and _ _ (le_decides 2 plan.cfi) (le_decides plan.cfi 3)
-
   sized : Decides ((nat_eq plan.column 2 || nat_eq plan.column 3) && is_some (size_of plan.mcs plan.column)) (((plan.column ≡ 2) ⊎ (plan.column ≡ 3)) × IsSome (size_of plan.mcs plan.column))
   sized = Decides-and _ _ (Decides-or _ _ (unsigned_Decides plan.column 2) (unsigned_Decides plan.column 3)) (is_there (size_of plan.mcs plan.column))
 
@@ -91,7 +91,7 @@ module _ (enough : Bool) (Enough : Type 0) (plan : CellPlan) (is_enough : IsSome
         valid = h.0;
         identity = leb-le plan.identity 503 a.first;
         spare = leb-le plan.spare 1023 b.first;
-        cfi = in_range.0 c.first;
+        cfi = (indicated plan).0 c.first;
         assignment = record { some = blocks.0; inside = blocks.1 };
         column = size.0;
         mcs = size.1;
@@ -106,7 +106,7 @@ module _ (enough : Bool) (Enough : Type 0) (plan : CellPlan) (is_enough : IsSome
     s.valid,
     pass (nat_le plan.identity 503) _ _ (le-leb plan.identity 503 s.identity)
         (pass (nat_le plan.spare 1023) _ _ (le-leb plan.spare 1023 s.spare)
-        (pass (nat_le 2 plan.cfi && nat_le plan.cfi 3) _ _ (in_range.1 s.cfi)
+        (pass (nat_le 2 plan.cfi && nat_le plan.cfi 3) _ _ ((indicated plan).1 s.cfi)
         (pass (nat_le 1 plan.blocks && nat_le (plan.start + plan.blocks) 6) _ _ ((assigned plan).1 (s.assignment.some, s.assignment.inside))
         (pass ((nat_eq plan.column 2 || nat_eq plan.column 3) && is_some (size_of plan.mcs plan.column)) _ _ (sized.1 (s.column, s.mcs))
         (pass enough _ _ (is_passed (has_its_block plan s.duplex s.extension s.text) s.enough)

@@ -1,12 +1,13 @@
 //! Plans of cells, and the cells that can be sent.
 
 ghost use Rattle.std.specs.Prelude.{◌≡◌, ◌+◌, ◌≤◌, ◌&&◌, ◌||◌, nat_eq, nat_le, false, if◌then◌else◌, length, Some};
-ghost use Rattle.std.specs.Prelude.{None, MatchOption, MatchResult, IfSome, IfOk};
+ghost use Rattle.std.specs.Prelude.{true, None, MatchOption, MatchResult, IfSome, IfOk};
 ghost use Rattle.std.specs.Option.{option_map_or};
 ghost use Rattle.lte_types.specs.Ranges.{IsValid};
 ghost use Rattle.dci.specs.Sizes.{size_of};
 ghost use Rattle.sib1.specs.Text.{text_of};
 ghost use Rattle.turbo_code.specs.Table.{IsSize};
+ghost use Rattle.cell_plan.specs.Parts.{assignment_of};
 ghost use Rattle.cell_plan.specs.Transport.{block_size, has_block, is_whole_of, is_resolvable};
 ghost use Rattle.cell_plan.specs.Plan.{needs_each_bit, is_enough};
 
@@ -19,10 +20,9 @@ use std::marker::Model;
 use turbo_code::Coded;
 use uper::Writer;
 
-/// What a cell is to send, by whichever carrier. Its master block has bandwidth n6, the antenna ports of the carrier
-/// in the mask of its check, and the upper bits of the frame's number. With the extended cyclic prefix or four antenna
-/// ports only the identity, the PHICH fields and the spare bits are sent: there is no control region and no system
-/// information (own).
+/// The content of a cell, for any carrier. Its MIB has bandwidth n6 and the upper bits of the frame number; its CRC
+/// mask gives the antenna ports. With the extended cyclic prefix or four antenna ports only the identity, the PHICH
+/// fields and the spare bits are sent, without control region and system information (own).
 #[derive(Debug, Drop)]
 pub struct CellPlan {
     /// The physical-layer cell identity, 0 to 503 (TS 36.211 section 6.11).
@@ -31,7 +31,7 @@ pub struct CellPlan {
     pub duration: Duration,
     /// phich-Resource.
     pub resource: Resource,
-    /// The 10 spare bits of the master block, 0 to 1023.
+    /// The 10 spare bits of the MIB, 0 to 1023.
     pub spare: u16,
     /// The control format indicator, 2 or 3 (TS 36.212 section 5.3.4).
     pub cfi: u8,
@@ -51,6 +51,10 @@ pub struct CellPlan {
 #[derive(Drop)]
 pub struct Cell {
     plan: CellPlan,
+    // The plan's identity, its assignment and the size of its transport block, as values in their ranges.
+    id: CellId,
+    assignment: Assignment,
+    size: u16,
     // The coded word of the plan's transport block, made once.
     coded: Coded,
 }
@@ -59,8 +63,8 @@ impl CellPlan {
     ghost use Rattle.std.specs.Prelude.{◌*◌};
     ghost use Rattle.grid_map.specs.Shared.{block_places_of};
 
-    /// The places that the assigned resource blocks have for the shared channel of a carrier, each as many as
-    /// `grid_map::block_places` tells. Six blocks have at most 612.
+    /// Returns how many resource elements the assigned blocks have for the shared channel of `carrier`; six blocks have
+    /// at most 612.
     pub fn assigned_places(&self, carrier: Carrier) -> usize
         ensures value { result ≡ block_places_of carrier self.now.cfi * self.now.blocks }
         ensures bound { self.now.blocks ≤ 6 → result ≤ 612 }
@@ -69,11 +73,27 @@ impl CellPlan {
     }
 }
 
-// Some of the six resource blocks are assigned, one after the other.
-fn has_blocks(plan: &CellPlan) -> bool
-    ensures { result ≡ (nat_le 1 plan.now.blocks && nat_le (plan.now.start + plan.now.blocks) 6) }
+// The control format indicator of a plan, where it is 2 or 3.
+fn indicator_of(plan: &CellPlan) -> Option<Cfi>
+    ensures { MatchOption result ((nat_le 2 plan.now.cfi && nat_le plan.now.cfi 3) ≡ false)
+        (λ cfi. ((nat_le 2 plan.now.cfi && nat_le plan.now.cfi 3) ≡ true) × (cfi ≡ plan.now.cfi)) }
 {
-    1 <= plan.blocks && plan.start as u32 + plan.blocks as u32 <= 6
+    if plan.cfi < 2 {
+        None
+    } else {
+        Cfi::new(plan.cfi)
+    }
+}
+
+// The assigned resource blocks of a plan, where they are some of the six, one after the other.
+fn assignment_of(plan: &CellPlan, cfi: Cfi) -> Option<Assignment>
+    requires indicator { cfi ≡ plan.now.cfi }
+    requires wide { 2 ≤ plan.now.cfi }
+    ensures { MatchOption result ((nat_le 1 plan.now.blocks && nat_le (plan.now.start + plan.now.blocks) 6) ≡ false)
+        (λ assignment. ((nat_le 1 plan.now.blocks && nat_le (plan.now.start + plan.now.blocks) 6) ≡ true)
+        × (assignment ≡ assignment_of plan.now)) }
+{
+    Assignment::new(cfi, plan.start, plan.blocks)
 }
 
 // The size of the transport block, where the plan's column is one of the table and has one.
@@ -164,6 +184,7 @@ fn is_sent_enough(carrier: Carrier, plan: &CellPlan, size: u16) -> bool
 
 impl Model for Cell {
     ghost use Rattle.cell_plan.specs.declared.cell.CellPlan.{CellPlan as Plan};
+    ghost use Rattle.cell_plan.specs.Parts.{ArePartsOf};
     ghost use Rattle.cell_plan.specs.Plan.{IsSendable};
     ghost use Rattle.cell_plan.specs.Transport.{IsCoded};
 
@@ -171,7 +192,7 @@ impl Model for Cell {
 
     ghost view = { λ c. c.plan };
 
-    ghost invariant = { λ c. IsSendable c.plan × IsCoded c.plan c.coded };
+    ghost invariant = { λ c. IsSendable c.plan × ArePartsOf c.plan c.id c.assignment c.size × IsCoded c.plan c.coded };
 }
 
 // A cell is told as its plan.
@@ -186,8 +207,7 @@ impl Cell {
     ghost use Rattle.cell_plan.specs.Plan.{IsSendable, IsSendableBy, plan_refusal, refusal_of};
     ghost use Rattle.cell_plan.specs.Transport.{IsCoded};
 
-    /// The cell of a plan whose SystemInformationBlockType1 is in its ranges, to be sent by a carrier, or the first
-    /// failed condition:
+    /// Accepts a plan for `carrier`, or returns the first failed condition:
     ///
     /// - `Identity`: at most 503.
     /// - `Spare`: at most 1023.
@@ -212,18 +232,18 @@ impl Cell {
         ensures plan { IfOk result (λ cell. cell ≡ plan) }
         ensures sendable { IfOk result (λ cell. IsSendableBy carrier cell) }
     {
-        if CellId::new(plan.identity).is_none() {
+        let Some(id) = CellId::new(plan.identity) else {
             return Err(CellError::Identity);
-        }
+        };
         if plan.spare > 1023 {
             return Err(CellError::Spare);
         }
-        if plan.cfi < 2 || plan.cfi > 3 {
+        let Some(cfi) = indicator_of(&plan) else {
             return Err(CellError::Cfi);
-        }
-        if !has_blocks(&plan) {
+        };
+        let Some(assignment) = assignment_of(&plan, cfi) else {
             return Err(CellError::Assignment);
-        }
+        };
         let Some(size) = size_of(&plan) else {
             return Err(CellError::Mcs);
         };
@@ -240,10 +260,16 @@ impl Cell {
             return Err(CellError::Sib1Long);
         };
         let coded = coded_block(text.bits(), size);
-        Ok(Cell { plan, coded })
+        Ok(Cell {
+            plan,
+            id,
+            assignment,
+            size,
+            coded,
+        })
     }
 
-    /// The cell of a plan with one antenna port and the normal cyclic prefix.
+    /// Accepts a plan for one antenna port and the normal cyclic prefix.
     pub fn new(plan: CellPlan) -> Result<Cell, CellError>
         requires { IsValid plan.sib1 }
         ensures refusal { MatchResult result (λ _. plan_refusal plan ≡ None)
@@ -254,7 +280,7 @@ impl Cell {
         Cell::of(Carrier::OnePort, plan)
     }
 
-    /// The plan.
+    /// Returns the plan.
     pub fn plan(&self) -> &CellPlan
         ensures plan { result.now ≡ self.now }
         ensures sendable { IsSendable self.now }
@@ -262,49 +288,37 @@ impl Cell {
         &self.plan
     }
 
-    /// The physical-layer cell identity.
+    /// Returns the physical-layer cell identity.
     pub fn id(&self) -> CellId
         ensures value { result ≡ self.now.identity }
         ensures sendable { IsSendable self.now }
     {
-        match CellId::new(self.plan.identity) {
-            Some(id) => id,
-            None => unreachable!(),
-        }
+        self.id
     }
 
-    /// The control format indicator, 2 or 3.
+    /// Returns the control format indicator, 2 or 3.
     pub fn cfi(&self) -> Cfi
         ensures value { result ≡ self.now.cfi }
     {
-        match Cfi::new(self.plan.cfi) {
-            Some(cfi) => cfi,
-            None => unreachable!(),
-        }
+        self.assignment.cfi()
     }
 
-    /// The assigned resource blocks, and the control format indicator.
-    pub fn assignment(&self) -> Assignment
-        ensures { result ≡ record { cfi = self.now.cfi; start = self.now.start; blocks = self.now.blocks } }
+    /// Returns the assigned resource blocks with the control format indicator.
+    pub fn assignment(&self) -> &Assignment
+        ensures { result.now ≡ assignment_of self.now }
     {
-        match Assignment::new(self.cfi(), self.plan.start, self.plan.blocks) {
-            Some(assignment) => assignment,
-            None => unreachable!(),
-        }
+        &self.assignment
     }
 
-    /// The size of the transport block in bits, without its check (TS 36.213 section 7.1.7.2).
+    /// Returns the size of the transport block in bits, without its CRC (TS 36.213 section 7.1.7.2).
     pub fn size(&self) -> u16
         ensures value { result ≡ block_size self.now }
         ensures entry { size_of self.now.mcs self.now.column ≡ Some result }
     {
-        match dci::size(self.plan.mcs, self.plan.column) {
-            Some(size) => size,
-            None => unreachable!(),
-        }
+        self.size
     }
 
-    /// The coded word of the transport block and its check (TS 36.212 section 5.3.2).
+    /// Returns the codeword of the transport block with its CRC (TS 36.212 section 5.3.2).
     pub fn coded(&self) -> &Coded
         ensures { IsCoded self.now result.now }
     {

@@ -7,7 +7,7 @@ ghost use Rattle.cell_plan.specs.Pair.{gain_of};
 
 use cs_num::{Cpx, Gain};
 
-/// The pair that a whole complex number is. Components have size at most 32,767.
+/// Returns `number` as a pair, real part first. Its components have magnitude at most 32,767.
 pub fn pair_of(number: Cpx) -> (i16, i16)
     requires { IsWithin 32767 number }
     ensures { gain_of result ≡ number }
@@ -16,7 +16,7 @@ pub fn pair_of(number: Cpx) -> (i16, i16)
     (parts.re, parts.im)
 }
 
-/// The gain that a pair is. The square of its size is 1 to 784.
+/// Returns the gain of a pair. The square of its magnitude is 1 to 784.
 pub fn gain_of_pair(pair: (i16, i16)) -> Gain
     requires { IsGain (gain_of pair) }
     ensures { result ≡ gain_of pair }

@@ -9,33 +9,21 @@ use Rattle.cs_num.specs.Complex.{sample_of}
 use Rattle.fold128.proofs.Samples.{useful_same}
 use Rattle.lte_types.specs.declared.numerology.Prefix.{Prefix}
 use Rattle.lte_types.specs.Numerology.{normal, extended, IsPrefix, symbols_of_slot, symbol_of}
-use Rattle.cell_tx.specs.declared.antenna.Port.{Port}
+use Rattle.cell_grid.specs.declared.antenna.Port.{Port}
 use Rattle.cell_plan.specs.declared.cell.CellPlan.{CellPlan}
-use Rattle.cell_tx.specs.declared.layout.Carried.{Carried}
-use Rattle.cell_tx.specs.Ports.{port_prefix, has_control}
-use Rattle.cell_tx.specs.Grid.{has_broadcast, port_channel_value, port_element}
-use Rattle.cell_tx.specs.Control.{control_word, control_point}
-use Rattle.cell_tx.specs.Shared.{shared_point}
-use Rattle.cell_tx.specs.Sent.{Elements, prefix_frame_sample, prefix_sent}
-use Rattle.cell_tx.specs.Rows.{useful_place, first_sample, frame_samples, IsCarried}
-use Rattle.cell_tx.proofs.Broadcast.{not_broadcast}
-use Rattle.cell_tx.proofs.Symbols.{with_prefix, frame_sample_is, slot_sample_is, frames_follow}
-
--- ---- what system information depends on
-
-control_same : (plan : CellPlan) (a b i : ℕ) → a % 8 / 2 ≡ b % 8 / 2 → control_point plan a i ≡ control_point plan b i
-unfolding control_point control_word
-control_same plan a b i e = rw e refl
-
-shared_same : (plan : CellPlan) (a b i : ℕ) → a % 8 / 2 ≡ b % 8 / 2 → shared_point plan a i ≡ shared_point plan b i
-unfolding shared_point
-shared_same plan a b i e = rw e refl
-
-pub carried_same : (plan : CellPlan) (a b : ℕ) (carried : Carried) → a % 8 / 2 ≡ b % 8 / 2 → IsCarried plan a carried → IsCarried plan b carried
-carried_same plan a b carried e is = record {
-  control = is.control ∙ values_below_same 144 (control_point plan a) (control_point plan b) (λ i l. control_same plan a b i e);
-  shared = is.shared ∙ values_below_same 612 (shared_point plan a) (shared_point plan b) (λ i l. shared_same plan a b i e);
-}
+use Rattle.cell_grid.specs.declared.layout.Carried.{Carried}
+use Rattle.cell_grid.specs.Ports.{port_prefix, has_control}
+use Rattle.cell_grid.specs.Grid.{has_broadcast, port_channel_value, port_element}
+use Rattle.cell_grid.specs.Control.{control_word, control_point}
+use Rattle.cell_grid.specs.Shared.{shared_point}
+use Rattle.cell_grid.specs.Grid.{Elements}
+use Rattle.cell_tx.specs.Sent.{prefix_frame_sample, prefix_sent}
+use Rattle.cell_tx.specs.Starts.{useful_place, first_sample}
+use Rattle.cell_tx.specs.Sent.{frame_samples}
+use Rattle.cell_grid.specs.Rows.{IsCarried}
+use Rattle.cell_grid.proofs.Broadcast.{not_broadcast}
+use Rattle.cell_grid.proofs.Prefixes.{with_prefix}
+use Rattle.cell_tx.proofs.Symbols.{frame_sample_is, slot_sample_is, frames_follow}
 
 -- ---- elements that do not depend on the frame
 

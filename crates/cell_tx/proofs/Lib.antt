@@ -1,5 +1,3 @@
-pub mod Word
-pub mod Elements
 pub mod Bounds
 pub mod Received
 pub mod Symbols
@@ -9,11 +7,3 @@ pub mod OwnSymbols
 pub mod Mixing
 pub mod Pieces
 pub mod Advancing
-pub mod PlaceValues
-pub mod LoadBits
-pub mod BitPoints
-pub mod ChannelValues
-pub mod Broadcast
-pub mod SignalSymbols
-pub mod SystemPlaces
-pub mod Grants

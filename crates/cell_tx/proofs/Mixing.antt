@@ -16,18 +16,19 @@ use Rattle.lte_types.specs.declared.carrier.Carrier.TheVariants.{OnePort, TwoPor
 use Rattle.lte_types.specs.Carrier.{prefix_of, ports_of}
 use Rattle.lte_types.specs.Numerology.{frame_length}
 use Rattle.lte_types.specs.Timing.{number_of}
-use Rattle.cell_tx.specs.declared.antenna.Port.{Port}
+use Rattle.cell_grid.specs.declared.antenna.Port.{Port}
 use Rattle.cell_tx.specs.declared.source.Ports.{Ports}
 use Rattle.cell_tx.specs.declared.source.Ports.TheVariants.{Alone, All}
 use Rattle.cell_tx.specs.declared.source.Source.{Source}
 use Rattle.cell_tx.specs.declared.frame_symbols.Symbols.{Symbols}
-use Rattle.cell_tx.specs.Ports.{port_by, port_prefix}
-use Rattle.cell_tx.specs.Load.{sent_element}
+use Rattle.cell_grid.specs.Ports.{port_by, port_prefix}
+use Rattle.cell_grid.specs.Load.{sent_element}
 use Rattle.cell_plan.specs.Gains.{AreGainsOf}
 use Rattle.cell_tx.specs.Emission.{mixed}
 use Rattle.cell_tx.specs.Mixing.{carrier_by, mixed_by, AreGainsBy}
 use Rattle.cell_tx.specs.Emitting.{made, sent_in_frame, framed, is_made_anew, AreOwn, AreChanged, added, FitSamples, AreSilent}
-use Rattle.cell_tx.proofs.Bounds.{amplified, sent_element-square, frame-square}
+use Rattle.cell_tx.proofs.Bounds.{amplified, frame-square}
+use Rattle.cell_grid.proofs.Bounds.{sent_element-square}
 use Rattle.cell_tx.proofs.Received.{IsSumOf, product_is, sum_is, sum_fits}
 use Rattle.cell_tx.proofs.Symbols.{prefix_sent_is}
 use Rattle.cell_tx.proofs.Changes.{changed_there, changed_alike, changed_twice}

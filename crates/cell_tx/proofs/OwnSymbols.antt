@@ -4,16 +4,16 @@ use Rattle.std.proofs.lemmas.Bool.{or_parts}
 use Rattle.lte_types.specs.declared.carrier.Carrier.{Carrier}
 use Rattle.lte_types.specs.Carrier.{prefix_of, has_control_by}
 use Rattle.lte_types.specs.Numerology.{symbols_of_slot}
-use Rattle.cell_tx.specs.declared.antenna.Port.{Port}
+use Rattle.cell_grid.specs.declared.antenna.Port.{Port}
 use Rattle.cell_plan.specs.declared.cell.CellPlan.{CellPlan}
-use Rattle.cell_tx.specs.Ports.{port_by}
+use Rattle.cell_grid.specs.Ports.{port_by}
 use Rattle.cell_tx.specs.declared.frame_symbols.Symbols.{Symbols}
-use Rattle.cell_tx.specs.Grid.{port_element}
-use Rattle.cell_tx.specs.Rows.{first_sample}
+use Rattle.cell_grid.specs.Grid.{port_element}
+use Rattle.cell_tx.specs.Starts.{first_sample}
 use Rattle.cell_tx.specs.Emitting.{is_between, sent_in_frame, AreOwn}
 use Rattle.cell_tx.proofs.Changes.{outside}
 use Rattle.cell_tx.proofs.Frames.{IsOutside, element_same, element_same_without, sample_same, sample_same_without}
-use Rattle.cell_tx.proofs.Symbols.{prefix_known}
+use Rattle.cell_grid.proofs.Prefixes.{prefix_known}
 
 -- the first four symbols of slot 1, with those of subframe 5 and without
 abbrev pub channels_of : ℕ → Symbols

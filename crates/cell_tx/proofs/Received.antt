@@ -12,7 +12,7 @@ use Rattle.norms.proofs.Squares.{re-le, im-le, square-times}
 use Rattle.norms.proofs.TwoTerms.{two_term_cauchy}
 use Rattle.cell_tx.specs.Clean.{AreNear, received_of_two}
 use Rattle.lte_types.specs.declared.carrier.Carrier.TheVariants.{OnePort, TwoPorts, LongPrefix, FourPorts}
-use Rattle.cell_tx.specs.Ports.{only_port, first_port, second_port, long_port, port_of_four}
+use Rattle.cell_grid.specs.Ports.{only_port, first_port, second_port, long_port, port_of_four}
 use Rattle.cell_tx.specs.Emission.{sent_by, received_by}
 use Rattle.cell_tx.proofs.Bounds.{amplified, added, sent_by-square}
 use Rattle.cell_tx.specs.Laws.{values_with, EmittedIsClean, EmittedIsSmall, ReceivedOfTwoIsClean, ReceivedOfTwoIsSmall, ReceivedOfTwoFits}

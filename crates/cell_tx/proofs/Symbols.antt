@@ -12,13 +12,15 @@ use Rattle.fold128.proofs.Samples.{useful_same}
 use Rattle.lte_types.specs.declared.numerology.Prefix.{Prefix}
 use Rattle.lte_types.specs.Numerology.{normal, extended, IsPrefix, prefix_length, symbols_of_slot, useful_start, symbol_of}
 use Rattle.lte_types.specs.Timing.{number_of, start_of, number_at_start}
-use Rattle.cell_tx.specs.declared.antenna.Port.{Port}
+use Rattle.cell_grid.specs.declared.antenna.Port.{Port}
 use Rattle.lte_types.specs.declared.carrier.Carrier.{Carrier}
 use Rattle.lte_types.specs.declared.carrier.Carrier.TheVariants.{OnePort, TwoPorts, LongPrefix, FourPorts}
 use Rattle.lte_types.specs.Carrier.{prefix_of}
-use Rattle.cell_tx.specs.Ports.{port_prefix}
-use Rattle.cell_tx.specs.Sent.{Elements, symbol_sample, prefix_slot_sample, prefix_frame_sample, prefix_sent}
-use Rattle.cell_tx.specs.Rows.{useful_place, first_in_slot, first_sample}
+use Rattle.cell_grid.specs.Ports.{port_prefix}
+use Rattle.cell_grid.proofs.Prefixes.{prefix_known, port_prefix_known, with_prefix}
+use Rattle.cell_grid.specs.Grid.{Elements}
+use Rattle.cell_tx.specs.Sent.{symbol_sample, prefix_slot_sample, prefix_frame_sample, prefix_sent}
+use Rattle.cell_tx.specs.Starts.{useful_place, first_in_slot, first_sample}
 
 -- a list that holds a grid makes its useful part
 pub useful_from : (grid : ℕ → Cpx) → useful_part (value_at (values_below 72 grid)) ≡ useful_part grid
@@ -29,22 +31,6 @@ useful_from grid = values_below_same 128 (useful_at (value_at (values_below 72 g
 pub useful_part_at : (grid : ℕ → Cpx) (n : ℕ) → n < 128 → value_at (useful_part grid) n ≡ useful_at grid n
 unfolding useful_part
 useful_part_at grid n l = values_below_at (useful_at grid) 128 n nothing l
-
--- ---- the prefix of a port
-
-pub prefix_known : (carrier : Carrier) → IsPrefix (prefix_of carrier)
-prefix_known OnePort = inl refl
-prefix_known TwoPorts = inl refl
-prefix_known LongPrefix = inr refl
-prefix_known FourPorts = inl refl
-
-pub port_prefix_known : (port : Port) → IsPrefix (port_prefix port)
-port_prefix_known port = prefix_known port.carrier
-
--- what holds with both prefixes holds with each
-pub with_prefix : (P : Prefix → Type 0) → P normal → P extended → (prefix : Prefix) → IsPrefix prefix → P prefix
-with_prefix P a b prefix (inl e) = subst P (sym e) a
-with_prefix P a b prefix (inr e) = subst P (sym e) b
 
 -- ---- a sample of a slot
 

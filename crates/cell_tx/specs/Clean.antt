@@ -8,8 +8,8 @@ use Rattle.cs_num.specs.Gain.{IsGain}
 use Rattle.lte_types.specs.Timing.{IsOffset}
 use Rattle.cell_plan.specs.declared.cell.CellPlan.{CellPlan}
 use Rattle.cell_plan.specs.Gains.{AreGains, IsAllowed}
-use Rattle.cell_tx.specs.Ports.{first_port, second_port}
-use Rattle.cell_tx.specs.Grid.{port_element, element}
+use Rattle.cell_grid.specs.Ports.{first_port, second_port}
+use Rattle.cell_grid.specs.Grid.{port_element, element}
 use Rattle.cell_tx.specs.Sent.{sent}
 
 -- each component of each sample is off from the given values by at most eps

@@ -8,11 +8,11 @@ use Rattle.cs_num.specs.Complex.{plus, times, value_at, sample_of}
 use Rattle.lte_types.specs.Timing.{IsOffset}
 use Rattle.lte_types.specs.declared.carrier.Carrier.{Carrier}
 use Rattle.lte_types.specs.Carrier.{ports_of}
-use Rattle.cell_tx.specs.declared.antenna.Port.{Port}
+use Rattle.cell_grid.specs.declared.antenna.Port.{Port}
 use Rattle.cell_plan.specs.declared.cell.CellPlan.{CellPlan}
 use Rattle.cell_plan.specs.declared.emission.Emission.{Emission}
-use Rattle.cell_tx.specs.Ports.{port_by, port_prefix}
-use Rattle.cell_tx.specs.Load.{sent_element}
+use Rattle.cell_grid.specs.Ports.{port_by, port_prefix}
+use Rattle.cell_grid.specs.Load.{sent_element}
 use Rattle.cell_tx.specs.Sent.{prefix_sent}
 use Rattle.cell_plan.specs.Gains.{AreGainsOf, IsAllowedBy}
 use Rattle.cell_tx.specs.Clean.{AreNear}

@@ -10,15 +10,15 @@ use Rattle.lte_types.specs.declared.numerology.Prefix.{Prefix}
 use Rattle.lte_types.specs.Carrier.{prefix_of}
 use Rattle.lte_types.specs.Numerology.{frame_length, symbols_of_slot}
 use Rattle.lte_types.specs.Timing.{number_of}
-use Rattle.cell_tx.specs.declared.antenna.Port.{Port}
+use Rattle.cell_grid.specs.declared.antenna.Port.{Port}
 use Rattle.cell_plan.specs.declared.cell.CellPlan.{CellPlan}
 use Rattle.cell_tx.specs.declared.source.Source.{Source}
 use Rattle.cell_tx.specs.declared.frame_symbols.Symbols.{Symbols}
-use Rattle.cell_tx.specs.Ports.{port_prefix}
+use Rattle.cell_grid.specs.Ports.{port_prefix}
 use Rattle.cell_tx.specs.Emission.{sent_by}
 use Rattle.cell_tx.specs.Mixing.{mixed_by}
-use Rattle.cell_tx.specs.Load.{sent_element}
-use Rattle.cell_tx.specs.Rows.{first_sample}
+use Rattle.cell_grid.specs.Load.{sent_element}
+use Rattle.cell_tx.specs.Starts.{first_sample}
 use Rattle.cell_tx.specs.Sent.{prefix_frame_sample}
 
 -- ---- what is made of a source

@@ -7,10 +7,11 @@ use Rattle.lte_types.specs.declared.carrier.Carrier.{Carrier}
 use Rattle.lte_types.specs.declared.numerology.Prefix.{Prefix}
 use Rattle.lte_types.specs.Numerology.{frame_length, IsPrefix, prefix_length, symbols_of_slot, useful_start}
 use Rattle.cell_plan.specs.declared.cell.CellPlan.{CellPlan}
-use Rattle.cell_tx.specs.declared.antenna.Port.{Port}
-use Rattle.cell_tx.specs.Ports.{port_prefix}
-use Rattle.cell_tx.specs.Load.{sent_element}
-use Rattle.cell_tx.specs.Sent.{Elements, prefix_frame_sample, prefix_sent, received}
+use Rattle.cell_grid.specs.declared.antenna.Port.{Port}
+use Rattle.cell_grid.specs.Ports.{port_prefix}
+use Rattle.cell_grid.specs.Load.{sent_element}
+use Rattle.cell_grid.specs.Grid.{Elements}
+use Rattle.cell_tx.specs.Sent.{prefix_frame_sample, prefix_sent, received}
 use Rattle.finite.specs.Lists.{values_below}
 use Rattle.cs_num.specs.declared.Cpx.{Cpx}
 use Rattle.cs_num.specs.Gain.{IsGain}

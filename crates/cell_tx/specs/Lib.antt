@@ -1,12 +1,5 @@
-pub mod Ports
-pub mod Points
-pub mod Block
-pub mod Control
-pub mod Shared
-pub mod Grid
 pub mod Sent
-pub mod Load
-pub mod Rows
+pub mod Starts
 pub mod Sending
 pub mod Clean
 pub mod Emission

@@ -5,7 +5,7 @@ use Rattle.cs_num.specs.declared.Cpx.{Cpx}
 use Rattle.cs_num.specs.Complex.{square, times, value_at}
 use Rattle.lte_types.specs.declared.carrier.Carrier.{Carrier}
 use Rattle.cell_plan.specs.Gains.{AreGainsOf, are_gains_prop}
-use Rattle.cell_tx.specs.declared.antenna.Port.{Port}
+use Rattle.cell_grid.specs.declared.antenna.Port.{Port}
 use Rattle.cell_tx.specs.declared.source.Ports.{Ports}
 use Rattle.cell_tx.specs.declared.source.Ports.TheVariants.{Alone, All}
 use Rattle.cell_tx.specs.Emission.{mixed}

@@ -4,14 +4,15 @@ use Rattle.finite.specs.Lists.{values_below}
 use Rattle.cs_num.specs.declared.Cpx.{Cpx}
 use Rattle.cs_num.specs.declared.Sample.{Sample}
 use Rattle.cs_num.specs.Complex.{sample_of}
-use Rattle.cell_tx.specs.declared.grid.Signals.{Signals}
+use Rattle.cell_grid.specs.declared.grid.Signals.{Signals}
 use Rattle.cell_tx.specs.declared.samples.Sender.{Sender}
 use Rattle.cell_plan.specs.declared.transmission.Transmission.{Transmission}
 use Rattle.cell_plan.specs.Pair.{gain_of}
-use Rattle.cell_tx.specs.Ports.{port_prefix}
-use Rattle.cell_tx.specs.Load.{sent_element}
-use Rattle.cell_tx.specs.Rows.{first_sample}
-use Rattle.cell_tx.specs.Sent.{Elements, prefix_frame_sample, received}
+use Rattle.cell_grid.specs.Ports.{port_prefix}
+use Rattle.cell_grid.specs.Load.{sent_element}
+use Rattle.cell_tx.specs.Starts.{first_sample}
+use Rattle.cell_grid.specs.Grid.{Elements}
+use Rattle.cell_tx.specs.Sent.{prefix_frame_sample, received}
 use Rattle.cell_tx.specs.Emission.{sent_by}
 
 -- ---- the frame of signals

@@ -1,19 +1,17 @@
 -- The samples that elements make, frame after frame without end (TS 36.211 section 6.12, in whole numbers); a cell
 -- sends those of its own.
-use Rattle.std.specs.Prelude.{ℕ, ◌+◌, ◌-◌, ◌*◌, ◌/◌, ◌%◌, nat_lt, if◌then◌else◌}
+use Rattle.std.specs.Prelude.{ℕ, ◌+◌, ◌-◌, ◌*◌, ◌/◌, ◌%◌, nat_lt, if◌then◌else◌, List}
+use Rattle.finite.specs.Lists.{values_below}
 use Rattle.cs_num.specs.declared.Cpx.{Cpx}
-use Rattle.cs_num.specs.Complex.{times}
+use Rattle.cs_num.specs.declared.Sample.{Sample}
+use Rattle.cs_num.specs.Complex.{times, sample_of}
 use Rattle.fold128.specs.Symbol.{useful_at}
 use Rattle.lte_types.specs.declared.numerology.Prefix.{Prefix}
 use Rattle.lte_types.specs.Numerology.{frame_length, slot_length, useful_length, normal, symbols_of_slot}
 use Rattle.lte_types.specs.Numerology.{useful_start, symbol_of}
 use Rattle.lte_types.specs.Timing.{number_of}
 use Rattle.cell_plan.specs.declared.cell.CellPlan.{CellPlan}
-use Rattle.cell_tx.specs.Grid.{element}
-
--- the elements of frames: by the number of the frame, the subframe, its symbol and the subcarrier
-abbrev pub Elements : Type 0
-Elements = ℕ → ℕ → ℕ → ℕ → Cpx
+use Rattle.cell_grid.specs.Grid.{Elements, element}
 
 -- a sample of a symbol whose useful part begins at the given sample: before it the useful sample 128 places later,
 -- which makes the cyclic prefix
@@ -35,6 +33,10 @@ prefix_frame_sample prefix grid sfn i = prefix_slot_sample prefix grid sfn (i / 
 -- sample i of the endless sequence of frames that begins with the frame numbered sfn
 unfoldable pub prefix_sent : Prefix → Elements → ℕ → ℕ → Cpx
 prefix_sent prefix grid sfn i = prefix_frame_sample prefix grid (number_of sfn i) (i % frame_length)
+
+-- the samples of the frame with this number
+unfoldable pub frame_samples : Prefix → Elements → ℕ → List Sample
+frame_samples prefix grid sfn = values_below frame_length (λ i. sample_of (prefix_frame_sample prefix grid sfn i))
 
 -- ---- the samples with the normal cyclic prefix
 

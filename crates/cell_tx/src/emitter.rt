@@ -4,16 +4,15 @@ ghost use Rattle.std.specs.Prelude.{ℕ, ◌≡◌, ◌+◌, ◌<◌, ◌≤◌,
 ghost use Rattle.cs_num.specs.Complex.{IsWithin, square, value_at};
 ghost use Rattle.lte_types.specs.Carrier.{prefix_of};
 ghost use Rattle.cell_tx.specs.declared.source.Ports.TheVariants.{All};
-ghost use Rattle.cell_tx.specs.Ports.{has_control};
-ghost use Rattle.cell_tx.specs.Rows.{IsLayout, AreVersions};
+ghost use Rattle.cell_grid.specs.Ports.{has_control};
+ghost use Rattle.cell_grid.specs.Rows.{IsLayout, AreVersions};
 ghost use Rattle.cell_tx.specs.Emission.{emitted, emitted_samples};
 ghost use Rattle.cell_tx.specs.Mixing.{carrier_by};
 
 use crate::Port;
 use crate::frame_symbols::{SILENCE, Symbols, add_symbols, clear_symbols, symbols_at};
-use crate::grid::Signals;
-use crate::layout::{Layout, Versions, layout_of, versions_of};
 use crate::source::{Ports, Source};
+use cell_grid::{Layout, Signals, Versions, layout_of, versions_of};
 use cell_plan::Emission;
 use cs_num::Sample;
 use lte_types::{Carrier, FRAME_LENGTH, Sfn};
@@ -35,7 +34,7 @@ impl<'a> FrameMaker<'a> {
     ghost use Rattle.cs_num.specs.Complex.{sample_of};
     ghost use Rattle.lte_types.specs.Numerology.{frame_length};
     ghost use Rattle.lte_types.specs.Timing.{number_of};
-    ghost use Rattle.cell_tx.specs.Ports.{port_prefix};
+    ghost use Rattle.cell_grid.specs.Ports.{port_prefix};
     ghost use Rattle.cell_tx.specs.Emitting.{sent_in_frame, framed, AreFrame, is_made_anew, AreSpans, AreChanged};
     ghost use Rattle.cell_tx.specs.Emitting.{added, FitSamples, AreSilent};
 
@@ -129,9 +128,8 @@ impl<'a> FrameMaker<'a> {
     }
 }
 
-/// Makes the samples of an emission piece by piece: those of a frame at a time, of which it holds one. The samples that
-/// every frame has are not made again. Contracts see it as the emission's samples and the places from which the last
-/// piece and the next one stand in them. (own)
+/// Makes the samples of an emission frame by frame, and holds one frame. Samples that all frames share are made once.
+/// Contracts see it as the emission's samples and the indices at which the last piece and the next one begin. (own)
 #[derive(Drop)]
 pub struct Emitter<'a> {
     maker: FrameMaker<'a>,
@@ -159,7 +157,7 @@ impl<'a> Emitter<'a> {
     ghost use Rattle.std.specs.Prelude.{nat_lt};
     ghost use Rattle.cell_tx.specs.Emitting.{made_samples, piece_end, piece_of};
 
-    /// Before the first piece of an emission.
+    /// Makes an emitter that has made no piece yet.
     pub fn new(emission: &'a Emission) -> Emitter<'a>
         ensures samples { result.samples ≡ emitted_samples emission.now }
         ensures offset { result.offset ≡ emission.now.timing.offset }
@@ -184,8 +182,7 @@ impl<'a> Emitter<'a> {
         }
     }
 
-    /// Makes the next piece, up to the end of the frame that it begins in or of the emission, and tells whether there
-    /// is one: there is none where all samples were made.
+    /// Makes the next piece, up to the end of its frame or of the emission. Returns whether there was one.
     pub fn advance(&mut self) -> bool
         ensures samples { self.new.samples ≡ self.old.samples }
         ensures offset { self.new.offset ≡ self.old.offset }
@@ -206,7 +203,7 @@ impl<'a> Emitter<'a> {
         more
     }
 
-    /// The samples of the last piece.
+    /// Returns the samples of the last piece.
     pub fn piece(&self) -> &[Sample]
         ensures { result.now ≡ piece_of self.now }
     {
@@ -239,8 +236,8 @@ pub(crate) fn put_all(mut emitter: Emitter, out: &mut [Sample])
     }
 }
 
-/// All samples of an emission, over as many: sample `i` is the sum of what each antenna port of the carrier sends as
-/// sample `i + offset` of its sequence, times the gain of the port. Components have size at most 32,284.
+/// Writes all samples of an emission into `out`, which has as many: the sum over the antenna ports of sample
+/// `i + offset` of the port's sequence, times its gain. Components have magnitude at most 32,284.
 pub fn emit(emission: &Emission, out: &mut [Sample])
     requires { length out.old ≡ emission.now.samples }
     ensures samples { out.new ≡ emitted_samples emission.now }

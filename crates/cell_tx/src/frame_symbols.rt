@@ -5,14 +5,15 @@ ghost use Rattle.cs_num.specs.Complex.{IsWithin, square, plus, times, value_of, 
 ghost use Rattle.fold128.specs.Symbol.{useful_part};
 ghost use Rattle.lte_types.specs.Numerology.{frame_length, slot_length};
 ghost use Rattle.lte_types.specs.Carrier.{prefix_of};
-ghost use Rattle.cell_tx.specs.Ports.{port_prefix, port_symbols};
-ghost use Rattle.cell_tx.specs.Rows.{first_in_slot, first_sample};
+ghost use Rattle.cell_grid.specs.Ports.{port_prefix, port_symbols};
+ghost use Rattle.cell_tx.specs.Starts.{first_in_slot, first_sample};
 ghost use Rattle.cell_tx.specs.Sending.{elements_of, sample_in, symbol_start};
 ghost use Rattle.cell_tx.specs.Emitting.{is_between, is_made_anew, AreSpans, AreAll, AreOwn, AreChanged, added};
 ghost use Rattle.cell_tx.specs.Emitting.{FitSamples};
 
 use crate::Port;
-use crate::grid::{Signals, useful_of};
+use crate::useful::useful_of;
+use cell_grid::Signals;
 use cs_num::{Cpx, Sample};
 use lte_types::{Carrier, SLOT_LENGTH};
 
@@ -124,7 +125,7 @@ fn first_sample_of(port: Port, symbol: usize) -> usize
     ensures value { result ≡ first_sample (port_prefix port) symbol }
     ensures inside { result ≤ frame_length }
 {
-    let symbols = port.symbols() as usize;
+    let symbols = port.carrier.prefix().symbols();
     SLOT_LENGTH * (symbol / symbols) + first_in_slot(port, symbol % symbols)
 }
 
@@ -135,7 +136,7 @@ fn useful_at(signals: &Signals, symbol: usize) -> [Cpx; 128]
         (port_symbols signals.now.port * (symbol / port_symbols signals.now.port % 2)
         + symbol % port_symbols signals.now.port)) }
 {
-    let symbols = signals.port.symbols() as usize;
+    let symbols = signals.port.carrier.prefix().symbols();
     useful_of(signals, (symbol / symbols) as u8, (symbol % symbols) as u8)
 }
 

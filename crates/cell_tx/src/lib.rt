@@ -1,28 +1,18 @@
-//! The transmitter of a described cell by any carrier: synchronisation signals, reference signals, the broadcast
-//! channel, and, but for the extended cyclic prefix and four antenna ports, the control region and the shared channel
-//! with SystemInformationBlockType1 (TS 36.211 section 6); with load at all other places, or without (own).
+//! The transmitter of a described cell by any carrier: the samples that its resource grid makes, frame after frame
+//! without end, at each antenna port or of all ports together (TS 36.211 section 6.12).
+//!
+//! Tests: `sent_tests/src/transmissions.rt`, `sent_tests/src/emissions.rt`.
 #![tactic(auto)]
 
-mod antenna;
-mod bits;
-mod block;
-mod channels;
-mod control;
 mod emitter;
 mod frame_symbols;
-mod grid;
 mod laws;
-mod layout;
-mod load;
-mod points;
 mod samples;
-mod shared;
 mod source;
+mod useful;
 
-pub use antenna::Port;
-pub use cell_plan::{
-    Cell, CellError, CellPlan, Emission, Transmission, accepted_are_sendable, gain_of_pair, pair_of,
-};
+pub use cell_grid::Port;
+pub use cell_plan::{Cell, CellError, CellPlan, Emission, Transmission};
 pub use emitter::{Emitter, emit};
 pub use laws::{frames_stand, sent_is_clean, sizes, sum_is_clean, symbols_stand};
 pub use samples::{Sender, frame, port_sample, sample, send, send_all, sequence};

@@ -7,17 +7,18 @@ ghost use Rattle.fold128.specs.Symbol.{useful_part};
 ghost use Rattle.lte_types.specs.Numerology.{frame_length, slot_length, useful_length, normal, symbol_of, most_samples};
 ghost use Rattle.cell_plan.specs.Pair.{gain_of};
 ghost use Rattle.cell_tx.specs.Emission.{sent_by};
-ghost use Rattle.cell_tx.specs.Ports.{port_prefix, port_symbols};
-ghost use Rattle.cell_tx.specs.Grid.{element};
-ghost use Rattle.cell_tx.specs.Rows.{useful_place, frame_samples};
+ghost use Rattle.cell_grid.specs.Ports.{port_prefix, port_symbols};
+ghost use Rattle.cell_grid.specs.Grid.{element};
+ghost use Rattle.cell_tx.specs.Starts.{useful_place};
+ghost use Rattle.cell_tx.specs.Sent.{frame_samples};
 ghost use Rattle.cell_tx.specs.Sending.{elements_of, sample_in, sample_by, received_samples};
 ghost use Rattle.cell_tx.specs.Sent.{prefix_slot_sample, sent, received};
 
 use crate::emitter::put_all;
-use crate::grid::{Signals, useful_of};
-use crate::layout::{carried_of, layout_of};
 use crate::source::Source;
+use crate::useful::useful_of;
 use crate::{Emitter, Port};
+use cell_grid::{Signals, carried_of, layout_of};
 use cell_plan::{Cell, Transmission};
 use cs_num::{Cpx, Gain, Sample};
 use lte_types::{Carrier, FRAME_LENGTH, SLOT_LENGTH, Sfn, Timing, USEFUL_LENGTH};
@@ -79,8 +80,8 @@ fn sample_of_frame(signals: &Signals, i: usize) -> Sample
     sample_of_slot(signals, &useful, slot, i % SLOT_LENGTH)
 }
 
-/// Sample `i` of the endless sequence of frames that a cell sends without load at an antenna port, which begins with
-/// the frame numbered `sfn` (TS 36.211 section 6.12, in whole numbers). The size of a sample is at most 1,153.
+/// Returns sample `i` of the endless frame sequence that a cell sends at `port` from frame `sfn`, without load (TS
+/// 36.211 section 6.12, in whole numbers). Its magnitude is at most 1,153.
 pub fn port_sample(cell: &Cell, port: Port, sfn: Sfn, i: u64) -> Sample
     ensures value { result ≡ sample_of (sent_by None port cell.now sfn i) }
     ensures size { square (sent_by None port cell.now sfn i) ≤ 1153 * 1153 }
@@ -92,9 +93,8 @@ pub fn port_sample(cell: &Cell, port: Port, sfn: Sfn, i: u64) -> Sample
     sample_of_frame(&signals, (i % FRAME) as usize)
 }
 
-/// Sample `i` of the endless sequence of frames that a cell sends with one antenna port and the normal cyclic prefix,
-/// which begins with the frame numbered `sfn` (TS 36.211 section 6.12, in whole numbers). The size of a sample is at
-/// most 1,153.
+/// Returns sample `i` of the endless frame sequence that a cell sends from frame `sfn`, with one antenna port and the
+/// normal cyclic prefix (TS 36.211 section 6.12, in whole numbers). Its magnitude is at most 1,153.
 pub fn sample(cell: &Cell, sfn: Sfn, i: u64) -> Sample
     ensures value { result ≡ sample_of (sent (element cell.now) sfn i) }
     ensures size { square (sent (element cell.now) sfn i) ≤ 1153 * 1153 }
@@ -102,8 +102,7 @@ pub fn sample(cell: &Cell, sfn: Sfn, i: u64) -> Sample
     port_sample(cell, ONLY, sfn, i)
 }
 
-/// The whole frame numbered `sfn`, over 19,200 samples: those of `sample` from 0 on. Sample `i` is
-/// sample `19,200 * j + i` of each sequence that has this frame as its frame `j`.
+/// Writes frame `sfn` into `out`, which has 19,200 samples: those of `sample` from 0.
 pub fn frame(cell: &Cell, sfn: Sfn, out: &mut [Sample])
     requires { length out.old ≡ frame_length }
     ensures { out.new ≡ frame_samples normal (element cell.now) sfn }
@@ -128,8 +127,8 @@ fn amplified(gain: Gain, clean: Sample) -> Sample
     gain.value().mul(Cpx::from(clean)).exact_sample()
 }
 
-/// Sample `i` of a transmission: sample `i + offset` of the cell's sequence, times the gain. `i` is
-/// below the number of samples. Components have size at most 32,284.
+/// Returns sample `i` of a transmission: sample `i + offset` of the cell's sequence, times the gain. `i` is below the
+/// sample count. Components have magnitude at most 32,284.
 pub fn send(t: &Transmission, i: u32) -> Sample
     requires { i < t.now.samples }
     ensures value { result ≡ sample_of (received t.now.cell t.now.sfn t.now.offset (gain_of t.now.gain) i) }
@@ -138,7 +137,7 @@ pub fn send(t: &Transmission, i: u32) -> Sample
     amplified(t.gain(), sample(&t.cell, t.sfn, i as u64 + t.offset as u64))
 }
 
-/// What sends a cell at an antenna port, from a sample of a frame on, with load or without.
+/// A cell that is sent at one antenna port, from a sample of a frame, with load or without.
 #[derive(Drop)]
 pub struct Sender<'a> {
     /// The cell. With the extended cyclic prefix or four antenna ports its system information is not sent.
@@ -151,8 +150,8 @@ pub struct Sender<'a> {
     pub load: Option<u32>,
 }
 
-/// What is sent at a port, over at most 1,920,000 samples: sample `i` is the one at `i + offset` of the endless
-/// sequence of frames at this port. No sample has a size above 1,153 (`sizes`).
+/// Writes what is sent at a port into `out`, at most 1,920,000 samples: sample `i + offset` of the port's sequence into
+/// item `i`. Magnitudes are at most 1,153 (`sizes`).
 pub fn sequence(sender: &Sender, out: &mut [Sample])
     requires { length out.old ≤ most_samples }
     ensures { out.new ≡ values_below (length out.old) (λ i. sample_of (sample_by sender.now i)) }
@@ -161,7 +160,7 @@ pub fn sequence(sender: &Sender, out: &mut [Sample])
     put_all(Emitter::by(&source), out);
 }
 
-/// All samples of a transmission, over as many: sample `i` is that of `send`.
+/// Writes all samples of a transmission into `out`, which has as many: that of `send` into item `i`.
 pub fn send_all(t: &Transmission, out: &mut [Sample])
     requires { length out.old ≡ t.now.samples }
     ensures { out.new ≡ received_samples t.now }

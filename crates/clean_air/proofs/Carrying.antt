@@ -17,21 +17,22 @@ use Rattle.grid_map.specs.declared.Place.{Place}
 use Rattle.grid_map.specs.Place.{place, index_in}
 use Rattle.grid_map.specs.Control.{pcfich_places}
 use Rattle.grid_map.specs.Laws.{IsIndexed}
-use Rattle.cell_tx.specs.declared.antenna.Port.{Port}
+use Rattle.cell_grid.specs.declared.antenna.Port.{Port}
 use Rattle.cell_plan.specs.declared.cell.CellPlan.{CellPlan}
 use Rattle.cell_plan.specs.Plan.{IsSendableWith}
-use Rattle.cell_tx.specs.Ports.{port_by, IsPortOf, only_port, port_symbols, port_slot, has_control, sent_point, is_own_reference, is_other_reference}
-use Rattle.cell_tx.specs.Control.{control_places, indicator_point, control_point}
-use Rattle.cell_tx.specs.Shared.{assigned_places, shared_point}
-use Rattle.cell_tx.specs.Grid.{is_one_of, has_system_information, has_broadcast, is_indicator, is_control, is_shared, port_channel_value, port_element}
-use Rattle.cell_tx.specs.Load.{is_signal_symbol, is_any_reference, has_system_place, has_channel, is_taken}
-use Rattle.cell_tx.specs.Sent.{Elements, sent}
+use Rattle.cell_grid.specs.Ports.{port_by, IsPortOf, only_port, port_symbols, port_slot, has_control, sent_point, is_own_reference, is_other_reference}
+use Rattle.cell_grid.specs.Control.{control_places, indicator_point, control_point}
+use Rattle.cell_grid.specs.Shared.{assigned_places, shared_point}
+use Rattle.cell_grid.specs.Grid.{is_one_of, has_system_information, has_broadcast, is_indicator, is_control, is_shared, port_channel_value, port_element}
+use Rattle.cell_grid.specs.Load.{is_signal_symbol, is_any_reference, has_system_place, has_channel, is_taken}
+use Rattle.cell_grid.specs.Grid.{Elements}
+use Rattle.cell_tx.specs.Sent.{sent}
 use Rattle.cell_tx.specs.Clean.{IsClean, IsCleanOf}
 use Rattle.budget.proofs.Scores.{amplitude}
 use Rattle.clean_air.specs.Load.{CarriesPlan, IsLoadedBy, IsLoaded, SentElementsCarry}
-use Rattle.cell_tx.proofs.Bounds.{sent_element-square}
-use Rattle.cell_tx.proofs.Elements.{sent_of_taken}
-use Rattle.cell_tx.proofs.SystemPlaces.{indicator_indexed, control_indexed, assigned_indexed, indicator_sent, control_sent, shared_sent}
+use Rattle.cell_grid.proofs.Bounds.{sent_element-square}
+use Rattle.cell_grid.proofs.Elements.{sent_of_taken}
+use Rattle.cell_grid.proofs.SystemPlaces.{indicator_indexed, control_indexed, assigned_indexed, indicator_sent, control_sent, shared_sent}
 
 -- ---- what the plan itself sends
 

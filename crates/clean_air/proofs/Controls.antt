@@ -32,7 +32,7 @@ use Rattle.sib1_reader.specs.Subframe.{Subframe, one_port}
 use Rattle.sib1_reader.specs.Control.{Grants}
 use Rattle.sib1_reader.specs.Attempt.{Follows}
 use Rattle.sib1_reader.proofs.Once.{one_grant}
-use Rattle.cell_tx.specs.Block.{coded_bit}
+use Rattle.cell_grid.specs.Block.{coded_bit}
 use Rattle.clean_air.specs.Words.{SpeakInOrder, IsOnlyWord}
 use Rattle.clean_air.specs.Carried.{AreHeard}
 use Rattle.clean_air.specs.Indicator.{IsOnlyIndicator, SentIndicatorIsTold, TellsIndicator, indicator_scrambled, HeardIndicatorIsTold, CarriedIndicatorIsTold}

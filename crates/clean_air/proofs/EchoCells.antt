@@ -26,10 +26,11 @@ use Rattle.budget.proofs.Parts.{square_in_parts}
 use Rattle.budget.proofs.SeenOver.{arriving_is_received}
 use Rattle.budget.proofs.BendsOver.{paths_leave_room, paths_are_through, paths_are_read, place-seen, pilot-seen}
 use Rattle.budget.proofs.SignalPaths.{signals_over_are_through, primary_over_is_within}
-use Rattle.cell_tx.specs.declared.antenna.Port.{Port}
-use Rattle.cell_tx.specs.Ports.{only_port}
+use Rattle.cell_grid.specs.declared.antenna.Port.{Port}
+use Rattle.cell_grid.specs.Ports.{only_port}
 use Rattle.cell_plan.specs.declared.cell.CellPlan.{CellPlan}
-use Rattle.cell_tx.specs.Sent.{Elements, sent}
+use Rattle.cell_grid.specs.Grid.{Elements}
+use Rattle.cell_tx.specs.Sent.{sent}
 use Rattle.cell_tx.proofs.Symbols.{frames_follow, prefixes_repeat}
 use Rattle.clean_air.specs.Faithful.{IsLookedAt, first_frame_of}
 use Rattle.clean_air.specs.Through.{ShowsSignals, IsFrameSlotThrough}

@@ -15,10 +15,10 @@ use Rattle.budget.specs.Received.{IsReceived, samples_from}
 use Rattle.budget.specs.Peak.{IsPrimaryAt}
 use Rattle.budget.specs.Score.{sss_grid, AreSignals}
 use Rattle.budget.proofs.SignalPaths.{signals_are_through}
-use Rattle.cell_tx.specs.declared.antenna.Port.{Port}
-use Rattle.cell_tx.specs.Ports.{only_port}
+use Rattle.cell_grid.specs.declared.antenna.Port.{Port}
+use Rattle.cell_grid.specs.Ports.{only_port}
 use Rattle.cell_plan.specs.declared.cell.CellPlan.{CellPlan}
-use Rattle.cell_tx.specs.Sent.{Elements}
+use Rattle.cell_grid.specs.Grid.{Elements}
 use Rattle.clean_air.specs.Faithful.{first_frame_of}
 use Rattle.clean_air.specs.Through.{ShowsSignals, IsFrameSlotThrough}
 use Rattle.clean_air.specs.Fading.{IsSlotFading, fading_bounds, by_symbol, LeaveFadingRoom, IsRead, IsFadingBy, FadingIsThrough, FaithfulIsFading}

@@ -14,10 +14,10 @@ use Rattle.budget.specs.Received.{IsSeenAs}
 use Rattle.budget.specs.Through.{level, level_bounds}
 use Rattle.budget.proofs.Seen.{amplitude_is_seen_in_recording}
 use Rattle.budget.proofs.Through.{one_gain_leaves_room, one_gain_is_through, one_gain_is_read}
-use Rattle.cell_tx.specs.declared.antenna.Port.{Port}
-use Rattle.cell_tx.specs.Ports.{only_port}
+use Rattle.cell_grid.specs.declared.antenna.Port.{Port}
+use Rattle.cell_grid.specs.Ports.{only_port}
 use Rattle.cell_plan.specs.declared.cell.CellPlan.{CellPlan}
-use Rattle.cell_tx.specs.Sent.{Elements}
+use Rattle.cell_grid.specs.Grid.{Elements}
 use Rattle.clean_air.specs.Faithful.{IsOfMaster, IsOfSystem, IsFaithfulBy, first_frame_of}
 use Rattle.clean_air.specs.Through.{IsFrameSlotThrough, ReceivedSlotIsThrough, FaithfulIsThrough}
 use Rattle.clean_air.proofs.SoftValues.{pattern_place_seen, pattern_pilots_seen}

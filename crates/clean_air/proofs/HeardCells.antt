@@ -8,9 +8,9 @@ use Rattle.soft_bits.specs.Soft.{SeenSlot, seen_at, soft_values}
 use Rattle.explain.specs.Frame.{frame_at, seen_slot, broadcast_slot}
 use Rattle.explain.specs.System.{even_frame}
 use Rattle.budget.proofs.Through.{values_speak_through}
-use Rattle.cell_tx.specs.Ports.{only_port}
+use Rattle.cell_grid.specs.Ports.{only_port}
 use Rattle.cell_plan.specs.declared.cell.CellPlan.{CellPlan}
-use Rattle.cell_tx.specs.Sent.{Elements}
+use Rattle.cell_grid.specs.Grid.{Elements}
 use Rattle.clean_air.specs.Load.{CarriesPlan}
 use Rattle.clean_air.specs.Values.{IsSlotHeard}
 use Rattle.clean_air.specs.Through.{SlotThroughIsHeard, IsThrough, IsCellThrough}

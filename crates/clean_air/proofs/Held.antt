@@ -43,12 +43,12 @@ use Rattle.explain.proofs.FirstEntries.{one_told_by}
 use Rattle.explain.proofs.Late.{are_taken}
 use Rattle.explain.proofs.Information.{told_at_first, one_system}
 use Rattle.explain.proofs.Listed.{sound_of, complete_of}
-use Rattle.cell_tx.specs.declared.antenna.Port.{Port}
-use Rattle.cell_tx.specs.Ports.{only_port}
+use Rattle.cell_grid.specs.declared.antenna.Port.{Port}
+use Rattle.cell_grid.specs.Ports.{only_port}
 use Rattle.cell_plan.specs.declared.cell.CellPlan.{CellPlan}
-use Rattle.cell_tx.specs.Load.{sent_element}
+use Rattle.cell_grid.specs.Load.{sent_element}
 use Rattle.cell_plan.specs.Plan.{IsSendableBy}
-use Rattle.cell_tx.specs.Sent.{Elements}
+use Rattle.cell_grid.specs.Grid.{Elements}
 use Rattle.budget.specs.Received.{in_parts}
 use Rattle.budget.proofs.Peaks.{primary_is_listed_within, only_hit_of_root_within}
 use Rattle.budget.proofs.Scores.{sent_pair_is_identified_through}

@@ -4,9 +4,9 @@ use Rattle.cs_num.specs.declared.Sample.{Sample}
 use Rattle.lte_types.specs.declared.carrier.Carrier.TheVariants.{OnePort}
 use Rattle.lte_types.specs.Timing.{start_of, number_at_start}
 use Rattle.soft_bits.specs.Places.{placed_values}
-use Rattle.cell_tx.specs.Ports.{only_port}
-use Rattle.cell_tx.specs.Block.{broadcast_word}
-use Rattle.cell_tx.specs.Sent.{Elements}
+use Rattle.cell_grid.specs.Ports.{only_port}
+use Rattle.cell_grid.specs.Block.{broadcast_word}
+use Rattle.cell_grid.specs.Grid.{Elements}
 use Rattle.cell_plan.specs.declared.cell.CellPlan.{CellPlan}
 use Rattle.cell_plan.specs.Plan.{IsSendable}
 use Rattle.explain.specs.Frame.{seen_slot, broadcast_slot}

@@ -13,8 +13,8 @@ use Rattle.lte_types.specs.declared.carrier.Carrier.{Carrier}
 use Rattle.lte_types.specs.declared.carrier.Carrier.TheVariants.{OnePort, TwoPorts, LongPrefix, FourPorts}
 use Rattle.lte_types.specs.Carrier.{prefix_of, has_control_by}
 use Rattle.lte_types.specs.Numerology.{symbols_of_slot, useful_start}
-use Rattle.cell_tx.specs.declared.antenna.Port.{Port}
-use Rattle.cell_tx.specs.Ports.{only_port, first_port, second_port, long_port, port_of_four, port_prefix}
+use Rattle.cell_grid.specs.declared.antenna.Port.{Port}
+use Rattle.cell_grid.specs.Ports.{only_port, first_port, second_port, long_port, port_of_four, port_prefix}
 use Rattle.cell_plan.specs.Gains.{AreGainsOf, IsAllowedBy}
 use Rattle.cell_tx.specs.Emission.{mixed}
 use Rattle.cell_tx.specs.Sent.{prefix_sent}

@@ -22,7 +22,7 @@ use Rattle.soft_bits.specs.Soft.{SeenSlot}
 use Rattle.soft_bits.specs.Places.{descrambled}
 use Rattle.pbch.specs.Values.{received_values, summed_values, coded_values}
 use Rattle.pbch.specs.Master.{total}
-use Rattle.cell_tx.specs.Block.{scrambled_bit}
+use Rattle.cell_grid.specs.Block.{scrambled_bit}
 use Rattle.clean_air.specs.Values.{IsSlotHeard}
 use Rattle.clean_air.specs.Carried.{SpeakOfWord, sums_of, CarryWord}
 use Rattle.clean_air.specs.Broadcast.{TellsFreely, SpokenWordIsTold, SentWordIsTold, HeardSlotTells}

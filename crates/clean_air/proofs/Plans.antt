@@ -26,9 +26,9 @@ use Rattle.lte_types.specs.Ranges.{IsValid}
 use Rattle.lte_types.specs.Timing.{start_of, number_at_start}
 use Rattle.cell_plan.specs.declared.error.CellError.{CellError}
 use Rattle.cell_plan.specs.declared.cell.CellPlan.{CellPlan}
-use Rattle.cell_tx.specs.Control.{grant_of as sent_grant}
+use Rattle.cell_grid.specs.Control.{grant_of as sent_grant}
 use Rattle.cell_plan.specs.Plan.{IsSendable, plan_refusal}
-use Rattle.cell_tx.specs.Sent.{Elements}
+use Rattle.cell_grid.specs.Grid.{Elements}
 use Rattle.budget.specs.Received.{in_parts}
 use Rattle.clean_air.specs.Faithful.{IsFaithful}
 use Rattle.cell_plan.proofs.Sendable.{accepted_is_sendable}

@@ -9,13 +9,13 @@ use Rattle.lte_types.specs.declared.resource.Resource.{Resource}
 use Rattle.lte_types.specs.Codes.{duration, duration_code, resource, resource_code}
 use Rattle.lte_types.proofs.RoundTrips.{duration-code, duration_code_fits, resource-code, resource_code_fits}
 use Rattle.pbch.specs.Master.{PassesWith}
-use Rattle.cell_tx.specs.declared.antenna.Port.{Port}
+use Rattle.cell_grid.specs.declared.antenna.Port.{Port}
 use Rattle.lte_types.specs.declared.carrier.Carrier.{Carrier}
 use Rattle.lte_types.specs.declared.carrier.Carrier.TheVariants.{OnePort, TwoPorts, LongPrefix, FourPorts}
 use Rattle.lte_types.specs.Carrier.{ports_of as count_of}
 use Rattle.cell_plan.specs.declared.cell.CellPlan.{CellPlan}
-use Rattle.cell_tx.specs.Block.{master_bits, master_word, port_word}
-use Rattle.cell_tx.specs.Ports.{mask_by, port_mask}
+use Rattle.cell_grid.specs.Block.{master_bits, master_word, port_word}
+use Rattle.cell_grid.specs.Ports.{mask_by, port_mask}
 
 -- ---- the parts of a word
 

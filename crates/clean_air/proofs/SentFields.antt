@@ -11,9 +11,9 @@ use Rattle.cell_plan.specs.Plan.{IsSendableWith}
 use Rattle.cell_plan.specs.Transport.{checked_size, row_with, shared_word, shared_coded}
 use Rattle.cell_plan.proofs.BlockRows.{IsRowOf}
 use Rattle.cell_plan.proofs.SystemWords.{row_is, word_checked, word_size, word_says}
-use Rattle.cell_tx.specs.Control.{version_of, grant_of}
-use Rattle.cell_tx.specs.Shared.{shared_bit}
-use Rattle.cell_tx.proofs.Grants.{version-fits}
+use Rattle.cell_grid.specs.Control.{version_of, grant_of}
+use Rattle.cell_grid.specs.Shared.{shared_bit}
+use Rattle.cell_grid.proofs.Grants.{version-fits}
 use Rattle.clean_air.specs.Block.{matched_bit}
 use Rattle.clean_air.specs.Carried.{AreHeard}
 use Rattle.clean_air.proofs.SharedBlocks.{heard_block_is_told}

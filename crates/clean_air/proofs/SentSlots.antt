@@ -19,18 +19,18 @@ use Rattle.grid_map.specs.Broadcast.{pbch_places, pbch_place, is_pbch, pbch_inde
 use Rattle.grid_map.specs.Scrambling.{pbch_c_init}
 use Rattle.grid_map.proofs.Points.{length-pbch_places, places_inside, index_of_place}
 use Rattle.cell_plan.specs.declared.cell.CellPlan.{CellPlan}
-use Rattle.cell_tx.specs.declared.antenna.Port.{Port}
+use Rattle.cell_grid.specs.declared.antenna.Port.{Port}
 use Rattle.lte_types.specs.declared.carrier.Carrier.TheVariants.{OnePort}
-use Rattle.cell_tx.specs.Ports.{only_port, port_symbols, sent_point, is_own_reference, port_reference}
-use Rattle.cell_tx.specs.Block.{port_point, port_bit, broadcast_word}
-use Rattle.cell_tx.specs.Grid.{is_synchronised, has_broadcast, port_element, element}
-use Rattle.cell_tx.specs.Sent.{Elements}
+use Rattle.cell_grid.specs.Ports.{only_port, port_symbols, sent_point, is_own_reference, port_reference}
+use Rattle.cell_grid.specs.Block.{port_point, port_bit, broadcast_word}
+use Rattle.cell_grid.specs.Grid.{is_synchronised, has_broadcast, port_element, element}
+use Rattle.cell_grid.specs.Grid.{Elements}
 use Rattle.clean_air.specs.Load.{CarriesPlan, IsLoaded, received_from}
 use Rattle.clean_air.specs.Faithful.{IsLookedAt, IsFaithfulBy, errors_from, first_frame_of}
 use Rattle.clean_air.specs.Through.{slot_elements}
-use Rattle.cell_tx.specs.Rows.{port_reference_if}
-use Rattle.cell_tx.proofs.Broadcast.{broadcast_there, broadcast_number}
-use Rattle.cell_tx.proofs.Elements.{is_zeroth, normal_reference, own_sent, none_of_four, element_of_reference, element_of_channel, channel_of_broadcast}
+use Rattle.cell_grid.specs.Rows.{port_reference_if}
+use Rattle.cell_grid.proofs.Broadcast.{broadcast_there, broadcast_number}
+use Rattle.cell_grid.proofs.Elements.{is_zeroth, normal_reference, own_sent, none_of_four, element_of_reference, element_of_channel, channel_of_broadcast}
 use Rattle.clean_air.proofs.Carrying.{of_own_reference, of_broadcast}
 use Rattle.lte_types.specs.Numerology.{normal, useful_start}
 use Rattle.lte_types.specs.Timing.{start_of, number_at_start}

@@ -15,11 +15,12 @@ use Rattle.lte_types.specs.declared.numerology.Prefix.{Prefix}
 use Rattle.lte_types.specs.Carrier.{prefix_of}
 use Rattle.lte_types.specs.Numerology.{IsPrefix, symbols_of_slot, useful_start}
 use Rattle.lte_types.specs.Timing.{start_of, number_at_start}
-use Rattle.cell_tx.specs.declared.antenna.Port.{Port}
+use Rattle.cell_grid.specs.declared.antenna.Port.{Port}
 use Rattle.cell_plan.specs.declared.cell.CellPlan.{CellPlan}
 use Rattle.cell_tx.specs.Emission.{mixed}
-use Rattle.cell_tx.specs.Ports.{IsPortOf, only_port, first_port, second_port, long_port, port_of_four, port_prefix}
-use Rattle.cell_tx.specs.Sent.{Elements, prefix_sent}
+use Rattle.cell_grid.specs.Ports.{IsPortOf, only_port, first_port, second_port, long_port, port_of_four, port_prefix}
+use Rattle.cell_grid.specs.Grid.{Elements}
+use Rattle.cell_tx.specs.Sent.{prefix_sent}
 use Rattle.cell_tx.proofs.Symbols.{frames_follow, useful_parts_stand, in_useful}
 use Rattle.clean_air.specs.Load.{received_from}
 use Rattle.clean_air.specs.Faithful.{IsLittle, IsLookedAt, IsFaithfulBy, first_frame_of}

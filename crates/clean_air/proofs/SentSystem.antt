@@ -9,16 +9,16 @@ use Rattle.sib1_reader.specs.Subframe.{one_port}
 use Rattle.sib1_reader.specs.Block.{BlockSays}
 use Rattle.sib1_reader.specs.Attempt.{Reads}
 use Rattle.pdsch.specs.Values.{shared_values}
-use Rattle.cell_tx.specs.Ports.{only_port}
+use Rattle.cell_grid.specs.Ports.{only_port}
 use Rattle.cell_plan.specs.declared.cell.CellPlan.{CellPlan}
 use Rattle.cell_plan.specs.Plan.{IsSendable}
-use Rattle.cell_tx.specs.Control.{version_of, grant_of, control_word, indicator_point, control_point}
-use Rattle.cell_tx.specs.Shared.{shared_places, shared_bit, shared_point}
-use Rattle.cell_tx.specs.Sent.{Elements}
-use Rattle.cell_tx.proofs.SystemPlaces.{indicator_indexed, control_indexed, assigned_bits_are}
+use Rattle.cell_grid.specs.Control.{version_of, grant_of, control_word, indicator_point, control_point}
+use Rattle.cell_grid.specs.Shared.{shared_places, shared_bit, shared_point}
+use Rattle.cell_grid.specs.Grid.{Elements}
+use Rattle.cell_grid.proofs.SystemPlaces.{indicator_indexed, control_indexed, assigned_bits_are}
 use Rattle.clean_air.proofs.Carrying.{indicator_carried, control_carried, shared_carried}
 use Rattle.cell_plan.proofs.WholeBlocks.{resolvable_at}
-use Rattle.cell_tx.proofs.Grants.{version-fits, grant_is}
+use Rattle.cell_grid.proofs.Grants.{version-fits, grant_is}
 use Rattle.explain.specs.Frame.{frame_at, seen_slot}
 use Rattle.explain.specs.System.{even_frame}
 use Rattle.explain.proofs.Information.{even_number}

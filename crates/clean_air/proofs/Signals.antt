@@ -21,16 +21,16 @@ use Rattle.lte_types.specs.declared.numerology.Prefix.{Prefix}
 use Rattle.lte_types.specs.Carrier.{prefix_of, ports_of}
 use Rattle.lte_types.specs.Numerology.{IsPrefix, symbols_of_slot, symbol_step, useful_start, subframe_of, primary_start}
 use Rattle.pss_search.specs.Correlation.{pss_grid}
-use Rattle.cell_tx.specs.declared.antenna.Port.{Port}
+use Rattle.cell_grid.specs.declared.antenna.Port.{Port}
 use Rattle.cell_plan.specs.declared.cell.CellPlan.{CellPlan}
-use Rattle.cell_tx.specs.Ports.{port_by, IsPortOf, port_symbols, port_slot, first_pattern, sent_signal}
-use Rattle.cell_tx.specs.Grid.{port_element, is_primary as holds_primary, is_secondary as holds_secondary, primary_value, secondary_value, port_channel_value}
-use Rattle.cell_tx.specs.Rows.{port_reference_if}
-use Rattle.cell_tx.specs.Sent.{Elements}
+use Rattle.cell_grid.specs.Ports.{port_by, IsPortOf, port_symbols, port_slot, first_pattern, sent_signal}
+use Rattle.cell_grid.specs.Grid.{port_element, is_primary as holds_primary, is_secondary as holds_secondary, primary_value, secondary_value, port_channel_value}
+use Rattle.cell_grid.specs.Rows.{port_reference_if}
+use Rattle.cell_grid.specs.Grid.{Elements}
 use Rattle.cell_tx.specs.Emission.{mixed}
-use Rattle.cell_tx.proofs.Elements.{no_port_reference, element_elsewhere}
-use Rattle.cell_tx.proofs.SignalSymbols.{no_channel}
-use Rattle.cell_tx.proofs.Symbols.{with_prefix}
+use Rattle.cell_grid.proofs.Elements.{no_port_reference, element_elsewhere}
+use Rattle.cell_grid.proofs.SignalSymbols.{no_channel}
+use Rattle.cell_grid.proofs.Prefixes.{with_prefix}
 use Rattle.budget.specs.Received.{in_parts, off_by, IsReceived, samples_from}
 use Rattle.budget.specs.Score.{sss_grid, AreSignals}
 use Rattle.budget.specs.Peak.{IsPrimaryAt, IsPrimaryWithin}

@@ -16,8 +16,8 @@ use Rattle.grid_map.specs.Place.{place}
 use Rattle.soft_bits.specs.Soft.{SeenSlot}
 use Rattle.soft_bits.specs.Places.{values_at, placed_values, descrambled, descrambled_value}
 use Rattle.soft_bits.proofs.Channel.{length-placed, placed-at, length-descrambled, descrambled-at}
-use Rattle.cell_tx.specs.Points.{scrambled}
-use Rattle.cell_tx.specs.Block.{scrambled_bit}
+use Rattle.cell_grid.specs.Points.{scrambled}
+use Rattle.cell_grid.specs.Block.{scrambled_bit}
 use Rattle.clean_air.specs.Values.{SupportBoth, IsSlotHeard}
 use Rattle.clean_air.specs.Words.{SpeakInOrderFrom}
 use Rattle.clean_air.specs.Carried.{SpeakOfWord, AreHeard, sums_of, SentWordIsOnly, ArePlacesHeardIn, ArePlacesHeard, ValuesOfPlacesAreHeard, DescrambledBitsAreHeard, CarryBits, CarriedBitsAreHeard}

@@ -14,7 +14,7 @@ use Rattle.grid_map.proofs.Apart.{shared_symbols}
 use Rattle.soft_bits.specs.Soft.{SeenSlot, soft_values}
 use Rattle.soft_bits.specs.Places.{slot_with, in_subframe}
 use Rattle.pdsch.specs.Values.{shared_values_by}
-use Rattle.cell_tx.specs.Points.{point_of}
+use Rattle.cell_grid.specs.Points.{point_of}
 use Rattle.clean_air.specs.Values.{SupportBoth}
 use Rattle.clean_air.specs.Carried.{CarryBits}
 use Rattle.clean_air.specs.Subframe.{IsSubframeHeard, shared_scrambled, ValuesOfBlocksAreHeard, AreSlotsHeard, CarryInSubframe, CarriedSubframeIsHeard, CarriedBlocksAreHeard}

@@ -8,17 +8,17 @@ use Rattle.norms.proofs.Squares.{square-conjugate}
 use Rattle.sync_seq.specs.Middle.{is_middle}
 use Rattle.crs.specs.Qpsk.{IsPoint}
 use Rattle.crs.specs.Ports.{is_reference_of_any}
-use Rattle.cell_tx.specs.declared.antenna.Port.{Port}
+use Rattle.cell_grid.specs.declared.antenna.Port.{Port}
 use Rattle.lte_types.specs.declared.carrier.Carrier.{Carrier}
 use Rattle.lte_types.specs.declared.carrier.Carrier.TheVariants.{OnePort, TwoPorts, LongPrefix, FourPorts}
 use Rattle.lte_types.specs.Carrier.{has_control_by}
-use Rattle.cell_tx.specs.Ports.{port_symbols, port_slot, has_control, port_by, crossed_point, paired_point, sent_point, is_own_reference, port_reference}
-use Rattle.cell_tx.specs.Block.{port_point}
-use Rattle.cell_tx.specs.Control.{indicator_point, control_point}
-use Rattle.cell_tx.specs.Shared.{shared_point}
-use Rattle.cell_tx.specs.Grid.{has_system_information, has_broadcast, is_indicator, is_control, is_shared, port_channel_value, port_element}
-use Rattle.cell_tx.proofs.Bounds.{pick, reference_full, broadcast_full, indicator_full, control_full, shared_full}
-use Rattle.cell_tx.specs.Load.{is_any_reference, has_channel, is_taken}
+use Rattle.cell_grid.specs.Ports.{port_symbols, port_slot, has_control, port_by, crossed_point, paired_point, sent_point, is_own_reference, port_reference}
+use Rattle.cell_grid.specs.Block.{port_point}
+use Rattle.cell_grid.specs.Control.{indicator_point, control_point}
+use Rattle.cell_grid.specs.Shared.{shared_point}
+use Rattle.cell_grid.specs.Grid.{has_system_information, has_broadcast, is_indicator, is_control, is_shared, port_channel_value, port_element}
+use Rattle.cell_grid.proofs.Bounds.{pick, reference_full, broadcast_full, indicator_full, control_full, shared_full}
+use Rattle.cell_grid.specs.Load.{is_any_reference, has_channel, is_taken}
 use Rattle.clean_air.specs.Load.{is_of_others_by, is_of_others, TakenPlacesAreSent}
 use Rattle.budget.proofs.Pilots.{full-size}
 use Rattle.clean_air.proofs.Carrying.{no_signal, left_false}

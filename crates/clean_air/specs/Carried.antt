@@ -9,8 +9,8 @@ use Rattle.grid_map.specs.Place.{place}
 use Rattle.conv_code.specs.Reading.{summed_from}
 use Rattle.soft_bits.specs.Soft.{SeenSlot}
 use Rattle.soft_bits.specs.Places.{values_at, placed_values, soft_values_of, descrambled}
-use Rattle.cell_tx.specs.Points.{scrambled, point_of}
-use Rattle.cell_tx.specs.Block.{scrambled_bit}
+use Rattle.cell_grid.specs.Points.{scrambled, point_of}
+use Rattle.cell_grid.specs.Block.{scrambled_bit}
 use Rattle.clean_air.specs.Values.{SupportBoth, IsSlotHeard}
 use Rattle.clean_air.specs.Words.{IsOnlyWord}
 

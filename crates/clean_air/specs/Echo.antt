@@ -12,10 +12,11 @@ use Rattle.lte_types.specs.Timing.{IsOffset}
 use Rattle.soft_bits.specs.Soft.{SeenSlot}
 use Rattle.budget.specs.Received.{in_parts, off_by, samples_from}
 use Rattle.budget.specs.Paths.{Paths, AreFaint, only_path, arriving, over, path_bounds, IsSlotReceivedOver}
-use Rattle.cell_tx.specs.declared.antenna.Port.{Port}
-use Rattle.cell_tx.specs.Ports.{only_port}
+use Rattle.cell_grid.specs.declared.antenna.Port.{Port}
+use Rattle.cell_grid.specs.Ports.{only_port}
 use Rattle.cell_plan.specs.declared.cell.CellPlan.{CellPlan}
-use Rattle.cell_tx.specs.Sent.{Elements, sent}
+use Rattle.cell_grid.specs.Grid.{Elements}
+use Rattle.cell_tx.specs.Sent.{sent}
 use Rattle.clean_air.specs.Load.{CarriesPlan, IsLoaded}
 use Rattle.clean_air.specs.Faithful.{IsLookedAt}
 use Rattle.clean_air.specs.Through.{IsSlotThrough, IsSeenThroughBy}

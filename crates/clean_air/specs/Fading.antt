@@ -13,10 +13,10 @@ use Rattle.soft_bits.specs.Soft.{SeenSlot, pilot_subcarrier, pattern_symbol, pat
 use Rattle.budget.specs.Received.{AreAmplitudes, IsReceived, samples_from}
 use Rattle.budget.specs.Budget.{AreUnitsOf}
 use Rattle.budget.specs.Through.{Channel, Bounds, LeaveRoom}
-use Rattle.cell_tx.specs.declared.antenna.Port.{Port}
-use Rattle.cell_tx.specs.Ports.{IsPortOf}
+use Rattle.cell_grid.specs.declared.antenna.Port.{Port}
+use Rattle.cell_grid.specs.Ports.{IsPortOf}
 use Rattle.cell_plan.specs.declared.cell.CellPlan.{CellPlan}
-use Rattle.cell_tx.specs.Sent.{Elements}
+use Rattle.cell_grid.specs.Grid.{Elements}
 use Rattle.clean_air.specs.Load.{CarriesPlan}
 use Rattle.clean_air.specs.Faithful.{IsOfMaster, IsOfSystem, IsOfPrimary, IsOfSecondary, errors_from, IsFaithfulBy}
 use Rattle.clean_air.specs.Through.{IsSlotThrough, IsSeenThroughBy}

@@ -17,11 +17,11 @@ use Rattle.lte_types.specs.Numerology.{symbols_of_slot, symbol_step, useful_star
 use Rattle.lte_types.specs.Timing.{IsOffset, number_at_start}
 use Rattle.pss_search.specs.Hits.{last_place}
 use Rattle.budget.specs.Received.{in_parts, off_by, samples_from}
-use Rattle.cell_tx.specs.declared.antenna.Port.{Port}
-use Rattle.cell_tx.specs.Ports.{IsPortOf}
+use Rattle.cell_grid.specs.declared.antenna.Port.{Port}
+use Rattle.cell_grid.specs.Ports.{IsPortOf}
 use Rattle.cell_plan.specs.declared.cell.CellPlan.{CellPlan}
 use Rattle.cell_plan.specs.Gains.{ArePairedBy}
-use Rattle.cell_tx.specs.Sent.{Elements}
+use Rattle.cell_grid.specs.Grid.{Elements}
 use Rattle.clean_air.specs.Load.{CarriesPlan, IsLoadedBy, received_from}
 
 -- ---- gains and errors

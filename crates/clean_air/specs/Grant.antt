@@ -17,7 +17,7 @@ use Rattle.dci.specs.Format1A.{IsGrant, sent_word}
 use Rattle.soft_bits.specs.Soft.{SeenSlot}
 use Rattle.pdcch.specs.Candidate.{candidate_values}
 use Rattle.sib1_reader.specs.Control.{Grants}
-use Rattle.cell_tx.specs.Block.{scrambled_bit}
+use Rattle.cell_grid.specs.Block.{scrambled_bit}
 use Rattle.clean_air.specs.Values.{IsSlotHeard}
 use Rattle.clean_air.specs.Words.{SpeakInOrder, IsOnlyWord}
 use Rattle.clean_air.specs.Carried.{ArePlacesHeard, CarryBits}

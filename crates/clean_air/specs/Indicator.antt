@@ -6,7 +6,7 @@ use Rattle.grid_map.specs.Scrambling.{pcfich_c_init, indicator_bit}
 use Rattle.soft_bits.specs.Soft.{SeenSlot}
 use Rattle.pcfich.specs.Indicator.{IsIndicator, Speak}
 use Rattle.pcfich.specs.Values.{indicator_values}
-use Rattle.cell_tx.specs.Points.{scrambled}
+use Rattle.cell_grid.specs.Points.{scrambled}
 use Rattle.clean_air.specs.Values.{IsSlotHeard}
 use Rattle.clean_air.specs.Carried.{ArePlacesHeard, CarryBits}
 

@@ -9,12 +9,13 @@ use Rattle.lte_types.specs.declared.carrier.Carrier.TheVariants.{OnePort}
 use Rattle.lte_types.specs.Carrier.{ports_of}
 use Rattle.lte_types.specs.Timing.{IsOffset}
 use Rattle.budget.specs.Received.{AreAmplitudes}
-use Rattle.cell_tx.specs.declared.antenna.Port.{Port}
+use Rattle.cell_grid.specs.declared.antenna.Port.{Port}
 use Rattle.cell_plan.specs.declared.cell.CellPlan.{CellPlan}
-use Rattle.cell_tx.specs.Ports.{IsPortOf, port_prefix, port_symbols, port_slot, has_control, is_other_reference}
-use Rattle.cell_tx.specs.Grid.{has_broadcast, broadcast_index, is_indicator, port_element}
-use Rattle.cell_tx.specs.Load.{is_signal_symbol, is_taken, sent_element}
-use Rattle.cell_tx.specs.Sent.{Elements, prefix_sent}
+use Rattle.cell_grid.specs.Ports.{IsPortOf, port_prefix, port_symbols, port_slot, has_control, is_other_reference}
+use Rattle.cell_grid.specs.Grid.{has_broadcast, broadcast_index, is_indicator, port_element}
+use Rattle.cell_grid.specs.Load.{is_signal_symbol, is_taken, sent_element}
+use Rattle.cell_grid.specs.Grid.{Elements}
+use Rattle.cell_tx.specs.Sent.{prefix_sent}
 use Rattle.cell_plan.specs.Gains.{AreGainsOf, IsAllowedBy}
 use Rattle.cell_tx.specs.Clean.{AreNear}
 use Rattle.cell_tx.specs.Emission.{mixed}

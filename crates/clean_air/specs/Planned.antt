@@ -12,7 +12,7 @@ use Rattle.explain.specs.Entries.{IsInList}
 use Rattle.explain.specs.Grant.{IsGrantOf}
 use Rattle.cell_plan.specs.declared.cell.CellPlan.{CellPlan}
 use Rattle.cell_plan.specs.Plan.{IsSendable, plan_refusal}
-use Rattle.cell_tx.specs.Sent.{Elements}
+use Rattle.cell_grid.specs.Grid.{Elements}
 use Rattle.clean_air.specs.Load.{IsLoaded}
 use Rattle.clean_air.specs.Faithful.{IsFaithful}
 

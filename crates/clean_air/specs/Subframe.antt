@@ -10,7 +10,7 @@ use Rattle.dci.specs.Fields.{system_information_rnti}
 use Rattle.soft_bits.specs.Soft.{SeenSlot}
 use Rattle.soft_bits.specs.Places.{in_subframe, placed_values}
 use Rattle.pdsch.specs.Values.{shared_values}
-use Rattle.cell_tx.specs.Points.{scrambled, point_of}
+use Rattle.cell_grid.specs.Points.{scrambled, point_of}
 use Rattle.clean_air.specs.Values.{IsSlotHeard}
 use Rattle.clean_air.specs.Carried.{AreHeard, ArePlacesHeardIn}
 

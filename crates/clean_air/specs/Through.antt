@@ -22,10 +22,10 @@ use Rattle.budget.specs.Peak.{IsPrimaryWithin}
 use Rattle.budget.specs.SignalPaths.{AreSignalsThrough}
 use Rattle.budget.specs.Through.{Channel, Bounds, ArePilotsThrough, IsReadThrough, LeaveRoom}
 use Rattle.budget.specs.Through.{level, level_bounds}
-use Rattle.cell_tx.specs.declared.antenna.Port.{Port}
-use Rattle.cell_tx.specs.Ports.{only_port}
+use Rattle.cell_grid.specs.declared.antenna.Port.{Port}
+use Rattle.cell_grid.specs.Ports.{only_port}
 use Rattle.cell_plan.specs.declared.cell.CellPlan.{CellPlan}
-use Rattle.cell_tx.specs.Sent.{Elements}
+use Rattle.cell_grid.specs.Grid.{Elements}
 use Rattle.clean_air.specs.Load.{CarriesPlan}
 use Rattle.clean_air.specs.Values.{IsSlotReceived, IsSlotHeard}
 use Rattle.clean_air.specs.Faithful.{IsFaithfulBy}

@@ -13,7 +13,7 @@ use Rattle.explain.specs.Frame.{broadcast_slot}
 use Rattle.explain.specs.Entries.{IsInList}
 use Rattle.cell_plan.specs.declared.cell.CellPlan.{CellPlan}
 use Rattle.cell_plan.specs.Plan.{IsSendable}
-use Rattle.cell_tx.specs.Sent.{Elements}
+use Rattle.cell_grid.specs.Grid.{Elements}
 use Rattle.evidence.specs.Evidence.{IsEvidence, noise_of, differences}
 use Rattle.evidence.proofs.SecondDifferences.{differences_of_one}
 use Rattle.budget.specs.Received.{in_parts}

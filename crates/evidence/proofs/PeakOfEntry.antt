@@ -14,7 +14,7 @@ use Rattle.pss_search.specs.Correlation.{peak, energy, wave_power}
 use Rattle.pss_search.proofs.Listed.{list_is_right}
 use Rattle.pss_search.proofs.Symmetry.{power_range}
 use Rattle.cell_plan.specs.declared.cell.CellPlan.{CellPlan}
-use Rattle.cell_tx.specs.Sent.{Elements}
+use Rattle.cell_grid.specs.Grid.{Elements}
 use Rattle.budget.specs.Peak.{StandsOut}
 use Rattle.budget.proofs.Peaks.{primary_stands_out}
 use Rattle.evidence.specs.Evidence.{IsToldBy, thousandths}

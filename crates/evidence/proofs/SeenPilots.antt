@@ -8,7 +8,7 @@ use Rattle.lte_types.specs.Numerology.{normal, useful_start}
 use Rattle.lte_types.specs.Timing.{start_of, number_at_start}
 use Rattle.explain.specs.Frame.{frame_at, broadcast_slot}
 use Rattle.cell_plan.specs.declared.cell.CellPlan.{CellPlan}
-use Rattle.cell_tx.specs.Sent.{Elements}
+use Rattle.cell_grid.specs.Grid.{Elements}
 use Rattle.budget.proofs.Seen.{amplitude_is_seen_in_recording}
 use Rattle.clean_air.specs.Faithful.{IsLookedAt, first_frame_of, IsFaithful}
 use Rattle.clean_air.specs.Values.{ArePilotsSeen}

@@ -10,7 +10,7 @@ use Rattle.lte_types.specs.Timing.{start_of, number_at_start}
 use Rattle.explain.specs.Entries.{IsInList}
 use Rattle.cell_plan.specs.declared.cell.CellPlan.{CellPlan}
 use Rattle.cell_plan.specs.Plan.{IsSendable}
-use Rattle.cell_tx.specs.Sent.{Elements}
+use Rattle.cell_grid.specs.Grid.{Elements}
 use Rattle.evidence.specs.Evidence.{IsEvidence}
 use Rattle.clean_air.specs.Load.{IsLoaded}
 use Rattle.clean_air.specs.Faithful.{IsFaithful}

@@ -2,8 +2,8 @@
 use Rattle.std.proofs.Common.{ℕ, ◌≤◌, true, arith, refl}
 use Rattle.cs_num.specs.Complex.{value_at}
 use Rattle.lte_types.specs.Timing.{number_at_start}
-use Rattle.cell_tx.specs.Ports.{port_of_four}
-use Rattle.cell_tx.specs.Block.{port_word}
+use Rattle.cell_grid.specs.Ports.{port_of_four}
+use Rattle.cell_grid.specs.Block.{port_word}
 use Rattle.clean_air.specs.Clean.{HoldsCells}
 use Rattle.clean_air.proofs.Held.{ShowsCells, number_fits, shown_are_held}
 use Rattle.clean_air.proofs.SentBlock.{is_block}

@@ -11,8 +11,8 @@ use Rattle.lte_types.specs.Numerology.{extended, useful_start}
 use Rattle.lte_types.specs.Timing.{start_of, number_at_start}
 use Rattle.grid_map.specs.Scrambling.{pbch_c_init}
 use Rattle.soft_bits.specs.Soft.{SeenSlot}
-use Rattle.cell_tx.specs.Ports.{long_port}
-use Rattle.cell_tx.specs.Block.{port_word, port_bit, port_point}
+use Rattle.cell_grid.specs.Ports.{long_port}
+use Rattle.cell_grid.specs.Block.{port_word, port_bit, port_point}
 use Rattle.cell_tx.specs.Clean.{IsCleanOf}
 use Rattle.capture_make.specs.Recipe.{plan as plan_of_number}
 use Rattle.explain.specs.Frame.{frame_at}

@@ -7,11 +7,12 @@ use Rattle.cs_num.specs.declared.Cpx.{Cpx}
 use Rattle.lte_types.specs.Numerology.{extended}
 use Rattle.lte_types.specs.declared.carrier.Carrier.TheVariants.{LongPrefix}
 use Rattle.dci.specs.Sizes.{column_2}
-use Rattle.cell_tx.specs.Ports.{long_port, port_slot, port_symbols, is_own_reference}
+use Rattle.cell_grid.specs.Ports.{long_port, port_slot, port_symbols, is_own_reference}
 use Rattle.cell_plan.specs.declared.cell.CellPlan.{CellPlan}
-use Rattle.cell_tx.specs.Block.{port_bit, port_point}
-use Rattle.cell_tx.specs.Grid.{port_channel_value, port_element}
-use Rattle.cell_tx.specs.Sent.{Elements, prefix_sent}
+use Rattle.cell_grid.specs.Block.{port_bit, port_point}
+use Rattle.cell_grid.specs.Grid.{port_channel_value, port_element}
+use Rattle.cell_grid.specs.Grid.{Elements}
+use Rattle.cell_tx.specs.Sent.{prefix_sent}
 use Rattle.cell_tx.specs.Emission.{sent_by}
 use Rattle.cell_plan.specs.Plan.{IsSendable, refusal_of}
 use Rattle.cell_plan.proofs.Sendable.{accepted_is_sendable_by}

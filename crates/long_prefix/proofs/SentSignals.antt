@@ -16,14 +16,14 @@ use Rattle.grid_map.specs.declared.Place.{Place}
 use Rattle.grid_map.specs.Place.{place, index_in}
 use Rattle.sync_seq.specs.Middle.{is_middle}
 use Rattle.soft_bits.specs.Soft.{pilot_subcarrier, pattern_symbol, pattern_sent}
-use Rattle.cell_tx.specs.declared.antenna.Port.{Port}
-use Rattle.cell_tx.specs.Ports.{long_port}
+use Rattle.cell_grid.specs.declared.antenna.Port.{Port}
+use Rattle.cell_grid.specs.Ports.{long_port}
 use Rattle.cell_plan.specs.declared.cell.CellPlan.{CellPlan}
-use Rattle.cell_tx.specs.Block.{port_point}
-use Rattle.cell_tx.specs.Grid.{has_broadcast, port_element}
-use Rattle.cell_tx.specs.Rows.{port_reference_if}
-use Rattle.cell_tx.specs.Sent.{Elements}
-use Rattle.cell_tx.proofs.Elements.{element_of_channel, channel_of_broadcast}
+use Rattle.cell_grid.specs.Block.{port_point}
+use Rattle.cell_grid.specs.Grid.{has_broadcast, port_element}
+use Rattle.cell_grid.specs.Rows.{port_reference_if}
+use Rattle.cell_grid.specs.Grid.{Elements}
+use Rattle.cell_grid.proofs.Elements.{element_of_channel, channel_of_broadcast}
 use Rattle.explain.specs.Frame.{frame_at}
 use Rattle.budget.specs.Received.{IsReceived, samples_from}
 use Rattle.clean_air.specs.Values.{IsPatternReceived}

@@ -10,7 +10,7 @@ use Rattle.grid_map.specs.Place.{place}
 use Rattle.soft_bits.specs.Soft.{SeenSlot, seen_at}
 use Rattle.budget.specs.Received.{IsSeenAs}
 use Rattle.budget.proofs.Seen.{amplitude_is_seen_in_recording}
-use Rattle.cell_tx.specs.Points.{point_of}
+use Rattle.cell_grid.specs.Points.{point_of}
 use Rattle.clean_air.specs.Values.{SupportBoth, IsPatternReceived}
 use Rattle.clean_air.specs.Carried.{AreHeard}
 use Rattle.clean_air.proofs.SoftValues.{seen_pair_supports_bits, pattern_place_seen, pattern_pilots_seen}

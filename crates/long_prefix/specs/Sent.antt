@@ -6,13 +6,14 @@ use Rattle.lte_types.specs.Numerology.{extended, half_of}
 use Rattle.sync_seq.specs.Primary.{pss_at}
 use Rattle.sync_seq.specs.Secondary.{sss_amplitude}
 use Rattle.grid_map.specs.Scrambling.{pbch_c_init}
-use Rattle.cell_tx.specs.Ports.{long_port}
+use Rattle.cell_grid.specs.Ports.{long_port}
 use Rattle.cell_plan.specs.declared.cell.CellPlan.{CellPlan}
-use Rattle.cell_tx.specs.Ports.{port_symbols, port_slot, port_mask, is_own_reference, port_reference}
-use Rattle.cell_tx.specs.Points.{point_of}
-use Rattle.cell_tx.specs.Block.{master_word, scrambled_bit}
-use Rattle.cell_tx.specs.Grid.{is_primary, is_secondary, has_broadcast, broadcast_index}
-use Rattle.cell_tx.specs.Sent.{Elements, prefix_sent}
+use Rattle.cell_grid.specs.Ports.{port_symbols, port_slot, port_mask, is_own_reference, port_reference}
+use Rattle.cell_grid.specs.Points.{point_of}
+use Rattle.cell_grid.specs.Block.{master_word, scrambled_bit}
+use Rattle.cell_grid.specs.Grid.{is_primary, is_secondary, has_broadcast, broadcast_index}
+use Rattle.cell_grid.specs.Grid.{Elements}
+use Rattle.cell_tx.specs.Sent.{prefix_sent}
 use Rattle.long_prefix.specs.declared.plan.LongPlan.{LongPlan}
 
 -- the master block of a plan in the frame with this number, and its check: it tells n6, one antenna port and the upper

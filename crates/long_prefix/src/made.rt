@@ -16,10 +16,10 @@ use lte_types::{Bandwidth, Carrier, CellId, Mib, Sfn};
 use sample_file::Recording;
 use std::alloc::{AllocError, Global};
 
-/// A recording by number, and what was sent.
+/// Recording `n` with the extended cyclic prefix, and the transmission that it contains.
 #[derive(Drop)]
 pub struct LongMade {
-    /// What the cell was to send.
+    /// The cell's plan.
     pub plan: LongPlan,
     /// The number of the first frame.
     pub sfn: Sfn,
@@ -27,9 +27,9 @@ pub struct LongMade {
     pub offset: u32,
     /// The gain, real before imaginary.
     pub gain: (i16, i16),
-    /// The bound of the errors: the greatest whole number whose square is at most four times that of the gain's size.
+    /// The maximum magnitude of an error component: the largest whole number at most twice the gain's magnitude.
     pub bound: i16,
-    /// What was sent, with the errors.
+    /// The samples, with the errors.
     pub recording: Recording,
 }
 
@@ -77,9 +77,8 @@ fn of_long_prefix(n: u32, made: MadeBy) -> LongMade
     }
 }
 
-/// Recording number `n` with the extended cyclic prefix, of 10 to 99 frames: that of `capture_make::make_by`, what a
-/// cell sends, times a gain, and errors of at most twice the gain's size, without the control region and system
-/// information. Only memory can be wanting. (own)
+/// Makes recording `n` with the extended cyclic prefix, 10 to 99 frames long, without control region and system
+/// information: that of `capture_make::make_by`. Fails only if an allocation fails. (own)
 pub fn make(alloc: Global, n: u32) -> Result<LongMade, AllocError>
     ensures made { IfOk result (IsMadeLong n) }
     ensures clean { IfOk result IsCleanlyMade }
@@ -90,7 +89,7 @@ pub fn make(alloc: Global, n: u32) -> Result<LongMade, AllocError>
     Ok(of_long_prefix(n, made))
 }
 
-/// A law: each recording by number is a clean one of what was sent, with errors within its bound.
+/// A law: each recording is a clean recording of its transmission.
 pub fn made_is_clean()
     ensures { (n : ℕ) (made : MadeValue) → IsMadeLong n made → IsCleanlyMade made }
 {

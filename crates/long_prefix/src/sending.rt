@@ -37,8 +37,8 @@ fn cell_of(plan: &LongPlan) -> Cell
     }
 }
 
-/// Sample `i` of the endless sequence of frames that is sent of a plan with the extended cyclic prefix, which begins
-/// with the frame numbered `sfn` (TS 36.211 section 6.12, in whole numbers). The size of a sample is at most 1,153.
+/// Returns sample `i` of the endless frame sequence of a plan with the extended cyclic prefix, from frame `sfn` (TS
+/// 36.211 section 6.12, in whole numbers). Its magnitude is at most 1,153.
 pub fn sample(plan: &LongPlan, sfn: Sfn, i: u64) -> Sample
     ensures value { result ≡ sample_of (long_sent plan.now sfn i) }
     ensures size { square (long_sent plan.now sfn i) ≤ 1153 * 1153 }

@@ -1,8 +1,8 @@
 //! The program `lte_cli`: a command over standard input and output.
 #![tactic(auto)]
 
+use lte_args::Program;
 use lte_process::run_process;
-use lte_top::Program;
 use std::process::ExitCode;
 
 fn main(rt: HostRuntime) -> ExitCode {

@@ -1,9 +1,10 @@
 // The samples are those of a second program, `scripts/peers/second_cell.py`.
 ghost use Rattle.std.specs.Prelude.{◌≡◌, IfOk};
 
+use cell_plan::accepted_are_sendable;
 use cell_tx::{
-    Cell, CellError, CellPlan, Transmission, accepted_are_sendable, frame, frames_stand, sample,
-    send, send_all, sent_is_clean, sizes, symbols_stand,
+    Cell, CellError, CellPlan, Transmission, frame, frames_stand, sample, send, send_all,
+    sent_is_clean, sizes, symbols_stand,
 };
 use cs_num::Sample;
 use lte_types::{Duration, Mnc, Plmn, Plmns, Resource, Schedule, Sfn, Sib1};

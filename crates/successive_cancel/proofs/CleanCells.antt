@@ -6,11 +6,11 @@ use Rattle.cs_num.specs.declared.Sample.{Sample}
 use Rattle.lte_types.specs.declared.entry.Entry.{Entry}
 use Rattle.lte_types.specs.Timing.{start_of, number_at_start}
 use Rattle.sample_file.specs.Recording.{IsRecording}
-use Rattle.cell_tx.specs.Ports.{only_port}
+use Rattle.cell_grid.specs.Ports.{only_port}
 use Rattle.cell_plan.specs.declared.cell.CellPlan.{CellPlan}
 use Rattle.cell_plan.specs.Plan.{IsSendable}
-use Rattle.cell_tx.specs.Grid.{element}
-use Rattle.cell_tx.specs.Sent.{Elements}
+use Rattle.cell_grid.specs.Grid.{element}
+use Rattle.cell_grid.specs.Grid.{Elements}
 use Rattle.clean_air.specs.Clean.{IsListOfCells}
 use Rattle.clean_air.specs.Load.{IsLoaded, SentElementsCarry}
 use Rattle.clean_air.proofs.Carrying.{loaded_of}

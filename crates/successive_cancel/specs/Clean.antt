@@ -9,7 +9,7 @@ use Rattle.lte_types.specs.Timing.{start_of, number_at_start}
 use Rattle.sample_file.specs.Recording.{IsRecording}
 use Rattle.cell_plan.specs.declared.cell.CellPlan.{CellPlan}
 use Rattle.cell_plan.specs.Plan.{IsSendable}
-use Rattle.cell_tx.specs.Sent.{Elements}
+use Rattle.cell_grid.specs.Grid.{Elements}
 use Rattle.cell_tx.specs.Clean.{IsClean}
 use Rattle.clean_air.specs.Clean.{IsListOfCells}
 use Rattle.clean_air.specs.Load.{IsLoaded}

@@ -3,8 +3,8 @@ use Rattle.std.proofs.Common.{ℕ, ◌≤◌, false, arith, refl}
 use Rattle.cs_num.specs.Complex.{value_at}
 use Rattle.lte_types.specs.declared.carrier.Carrier.TheVariants.{TwoPorts}
 use Rattle.lte_types.specs.Timing.{number_at_start}
-use Rattle.cell_tx.specs.Ports.{first_port}
-use Rattle.cell_tx.specs.Block.{port_word}
+use Rattle.cell_grid.specs.Ports.{first_port}
+use Rattle.cell_grid.specs.Block.{port_word}
 use Rattle.soft_bits.specs.Pairs.{over_two, paired_by}
 use Rattle.explain.specs.Receiver.{subframes_by}
 use Rattle.clean_air.specs.Clean.{HoldsCells}

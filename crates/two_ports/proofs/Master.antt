@@ -15,12 +15,12 @@ use Rattle.lte_types.specs.Numerology.{normal, useful_start}
 use Rattle.lte_types.specs.Timing.{start_of, number_at_start}
 use Rattle.soft_bits.specs.Pairs.{pair_at, paired_by}
 use Rattle.soft_bits.specs.Soft.{SeenSlot}
-use Rattle.cell_tx.specs.declared.antenna.Port.{Port}
+use Rattle.cell_grid.specs.declared.antenna.Port.{Port}
 use Rattle.cell_plan.specs.declared.cell.CellPlan.{CellPlan}
-use Rattle.cell_tx.specs.Ports.{sent_point}
-use Rattle.cell_tx.specs.Points.{point_of}
-use Rattle.cell_tx.specs.Block.{port_word}
-use Rattle.cell_tx.specs.Sent.{Elements}
+use Rattle.cell_grid.specs.Ports.{sent_point}
+use Rattle.cell_grid.specs.Points.{point_of}
+use Rattle.cell_grid.specs.Block.{port_word}
+use Rattle.cell_grid.specs.Grid.{Elements}
 use Rattle.explain.specs.Frame.{frame_at, seen_slot, broadcast_slot}
 use Rattle.clean_air.specs.Faithful.{IsFaithfulBy}
 use Rattle.clean_air.specs.Carried.{SpeakOfWord, AreHeard}

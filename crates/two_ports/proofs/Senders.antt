@@ -18,14 +18,14 @@ use Rattle.soft_bits.specs.Lines.{Line, line_of, line_place}
 use Rattle.soft_bits.specs.Pairs.{Pairing, over_two, over_four}
 use Rattle.soft_bits.specs.Soft.{SeenSlot}
 use Rattle.budget.specs.Received.{received_of}
-use Rattle.cell_tx.specs.declared.antenna.Port.{Port}
+use Rattle.cell_grid.specs.declared.antenna.Port.{Port}
 use Rattle.cell_plan.specs.declared.cell.CellPlan.{CellPlan}
-use Rattle.cell_tx.specs.Block.{port_word, port_point, port_bit, scrambled_bit}
+use Rattle.cell_grid.specs.Block.{port_word, port_point, port_bit, scrambled_bit}
 use Rattle.cell_tx.specs.Emission.{mixed}
-use Rattle.cell_tx.specs.Points.{point_of}
-use Rattle.cell_tx.specs.Ports.{IsPortOf, first_port, second_port, port_of_four, port_symbols, crossed_point, sent_point}
-use Rattle.cell_tx.specs.Rows.{port_reference_if}
-use Rattle.cell_tx.proofs.Elements.{is_zeroth, is_second, normal_reference}
+use Rattle.cell_grid.specs.Points.{point_of}
+use Rattle.cell_grid.specs.Ports.{IsPortOf, first_port, second_port, port_of_four, port_symbols, crossed_point, sent_point}
+use Rattle.cell_grid.specs.Rows.{port_reference_if}
+use Rattle.cell_grid.proofs.Elements.{is_zeroth, is_second, normal_reference}
 use Rattle.clean_air.specs.Faithful.{ArePartGains, IsLittle}
 use Rattle.two_ports.specs.Received.{only, over, CarryPair}
 use Rattle.two_ports.proofs.Energies.{squares, four_squares}

@@ -28,21 +28,21 @@ use Rattle.pdsch.specs.Values.{shared_values_by}
 use Rattle.sib1_reader.specs.Subframe.{subframe_by}
 use Rattle.sib1_reader.specs.Block.{BlockSays}
 use Rattle.sib1_reader.specs.Attempt.{Reads}
-use Rattle.cell_tx.specs.declared.antenna.Port.{Port}
+use Rattle.cell_grid.specs.declared.antenna.Port.{Port}
 use Rattle.lte_types.specs.Carrier.{ports_of}
-use Rattle.cell_tx.specs.Ports.{first_port, second_port}
+use Rattle.cell_grid.specs.Ports.{first_port, second_port}
 use Rattle.cell_plan.specs.declared.cell.CellPlan.{CellPlan}
-use Rattle.cell_tx.specs.Ports.{has_control, sent_point}
+use Rattle.cell_grid.specs.Ports.{has_control, sent_point}
 use Rattle.cell_plan.specs.Transport.{coded_count, assigned_bits_of, shared_word}
-use Rattle.cell_tx.specs.Block.{coded_bit}
-use Rattle.cell_tx.specs.Points.{point_of, scrambled}
-use Rattle.cell_tx.specs.Control.{version_of, grant_of, control_places, control_word, indicator_point, control_point}
-use Rattle.cell_tx.specs.Shared.{assigned_places, shared_bit, shared_point}
-use Rattle.cell_tx.specs.Sent.{Elements}
-use Rattle.cell_tx.proofs.SystemPlaces.{control_indexed, assigned_bits_are, assigned_size, indicator_stands, control_stands, assigned_stands}
+use Rattle.cell_grid.specs.Block.{coded_bit}
+use Rattle.cell_grid.specs.Points.{point_of, scrambled}
+use Rattle.cell_grid.specs.Control.{version_of, grant_of, control_places, control_word, indicator_point, control_point}
+use Rattle.cell_grid.specs.Shared.{assigned_places, shared_bit, shared_point}
+use Rattle.cell_grid.specs.Grid.{Elements}
+use Rattle.cell_grid.proofs.SystemPlaces.{control_indexed, assigned_bits_are, assigned_size, indicator_stands, control_stands, assigned_stands}
 use Rattle.clean_air.proofs.Carrying.{indicator_carried, control_carried, shared_carried}
 use Rattle.erasure.proofs.Whole.{whole_block_is_resolvable}
-use Rattle.cell_tx.proofs.Grants.{version-fits, grant_is}
+use Rattle.cell_grid.proofs.Grants.{version-fits, grant_is}
 use Rattle.explain.specs.Frame.{frame_at, seen_slot}
 use Rattle.explain.specs.System.{even_frame}
 use Rattle.explain.proofs.Information.{even_number}

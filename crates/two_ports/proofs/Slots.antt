@@ -12,14 +12,14 @@ use Rattle.observe.specs.Seen.{seen_symbol}
 use Rattle.soft_bits.specs.Lines.{Line, line_of, line_place}
 use Rattle.soft_bits.specs.Soft.{SeenSlot}
 use Rattle.soft_bits.proofs.Lines.{is_line}
-use Rattle.cell_tx.specs.declared.antenna.Port.{Port}
+use Rattle.cell_grid.specs.declared.antenna.Port.{Port}
 use Rattle.cell_plan.specs.declared.cell.CellPlan.{CellPlan}
-use Rattle.cell_tx.specs.Grid.{port_element}
+use Rattle.cell_grid.specs.Grid.{port_element}
 use Rattle.cell_tx.specs.Emission.{mixed}
-use Rattle.cell_tx.specs.Ports.{port_symbols, is_own_reference, is_other_reference}
-use Rattle.cell_tx.specs.Rows.{port_reference_if}
-use Rattle.cell_tx.specs.Sent.{Elements}
-use Rattle.cell_tx.proofs.Elements.{element_of_reference}
+use Rattle.cell_grid.specs.Ports.{port_symbols, is_own_reference, is_other_reference}
+use Rattle.cell_grid.specs.Rows.{port_reference_if}
+use Rattle.cell_grid.specs.Grid.{Elements}
+use Rattle.cell_grid.proofs.Elements.{element_of_reference}
 use Rattle.clean_air.specs.Faithful.{IsFaithfulBy, IsLittle, IsLookedAt, first_frame_of}
 use Rattle.clean_air.specs.Load.{CarriesPlan}
 use Rattle.clean_air.proofs.Carrying.{of_own_reference, of_other_reference}

@@ -3,8 +3,8 @@ use Rattle.std.specs.Prelude.{ℕ}
 use Rattle.cs_num.specs.declared.Cpx.{Cpx}
 use Rattle.lte_types.specs.declared.carrier.Carrier.TheVariants.{TwoPorts}
 use Rattle.cell_plan.specs.declared.cell.CellPlan.{CellPlan}
-use Rattle.cell_tx.specs.Ports.{port_by}
-use Rattle.cell_tx.specs.Grid.{port_element}
+use Rattle.cell_grid.specs.Ports.{port_by}
+use Rattle.cell_grid.specs.Grid.{port_element}
 use Rattle.cell_tx.specs.Sent.{sent}
 
 -- sample i of what antenna port 0 or 1 sends from the frame numbered sfn on

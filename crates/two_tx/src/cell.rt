@@ -26,8 +26,8 @@ impl Model for Cell2 {
 }
 
 impl Cell2 {
-    /// The cell of a plan whose SystemInformationBlockType1 is in its ranges, or the first failed condition: those of
-    /// `Cell::of` with two antenna ports.
+    /// Accepts a plan whose SystemInformationBlockType1 is in its ranges, or returns the first failed condition: those
+    /// of `Cell::of` with two antenna ports.
     pub fn new(plan: CellPlan) -> Result<Cell2, CellError>
         requires { IsValid plan.sib1 }
         ensures refusal { MatchResult result (λ _. refusal_of_two plan ≡ None)
@@ -39,7 +39,7 @@ impl Cell2 {
         Ok(Cell2 { cell })
     }
 
-    /// The plan.
+    /// Returns the plan.
     pub fn plan(&self) -> &CellPlan
         ensures plan { result.now ≡ self.now }
         ensures sendable { IsSendableOfTwo self.now }

@@ -16,20 +16,20 @@ use lte_types::{Carrier, Sfn};
 use sample_file::Recording;
 use std::alloc::{AllocError, Global};
 
-/// A recording by number, and what was sent.
+/// Recording `n` with two antenna ports, and the transmission that it contains.
 #[derive(Drop)]
 pub struct TwoMade {
-    /// What the cell was to send.
+    /// The cell's plan.
     pub plan: CellPlan,
     /// The number of the first frame.
     pub sfn: Sfn,
     /// The first sample of that frame which is sent, 0 to 19,199.
     pub offset: u32,
-    /// The gains of the first and of the second antenna port, real before imaginary; the second may be 0.
+    /// The gains of ports 0 and 1, real part first; that of port 1 may be 0.
     pub gains: [(i16, i16); 2],
-    /// The bound of the errors: the greatest that a clean recording with these gains allows for a component.
+    /// The maximum magnitude of an error component: the largest bound that a clean recording with these gains allows.
     pub bound: i16,
-    /// What both ports sent, with the errors.
+    /// The samples of both ports, with the errors.
     pub recording: Recording,
 }
 
@@ -59,8 +59,8 @@ fn of_two_ports(n: u32, made: MadeBy) -> TwoMade
     }
 }
 
-/// Recording number `n` with two antenna ports, of 10 to 99 frames: that of `capture_make::make_by`, what both ports of
-/// a cell send, each times its gain, and errors of the greatest bound that a clean recording allows. (own)
+/// Makes recording `n` with two antenna ports, 10 to 99 frames long: that of `capture_make::make_by`. Fails only if an
+/// allocation fails. (own)
 pub fn make(alloc: Global, n: u32) -> Result<TwoMade, AllocError>
     ensures made { IfOk result (IsMade n) }
     ensures sendable { IsSendableOfTwo (plan_of n) }
@@ -72,7 +72,7 @@ pub fn make(alloc: Global, n: u32) -> Result<TwoMade, AllocError>
     Ok(of_two_ports(n, made))
 }
 
-/// A law: each recording by number is a clean one of what was sent, with its gains and with errors within its bound.
+/// A law: each recording is a clean recording of its transmission.
 pub fn made_is_clean()
     ensures { (n : ℕ) (made : MadeValue) → IsMade n made → IsCleanlyMade made }
 {

@@ -9,8 +9,8 @@ use cell_tx::{Port, port_sample};
 use cs_num::Sample;
 use lte_types::{Carrier, Sfn};
 
-/// Sample `i` of the endless sequence of frames that antenna port `port` of a cell sends, 0 or 1, which begins with the
-/// frame numbered `sfn` (TS 36.211 sections 6.3.4.3 and 6.12, in whole numbers). The size of a sample is at most 1,153.
+/// Returns sample `i` of the endless frame sequence that antenna port `port`, 0 or 1, sends from frame `sfn` (TS 36.211
+/// sections 6.3.4.3 and 6.12, in whole numbers). Its magnitude is at most 1,153.
 pub fn sample(cell: &Cell2, port: u8, sfn: Sfn, i: u64) -> Sample
     requires { port < 2 }
     ensures value { result ≡ sample_of (sent_at_port port cell.now sfn i) }

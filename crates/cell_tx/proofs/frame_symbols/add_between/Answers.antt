@@ -1,8 +1,9 @@
 use Rattle.std.proofs.Common.{ℕ, ◌+◌, ◌≤◌, arith, ◌∙◌}
-use Rattle.cell_tx.specs.Ports.{port_prefix}
+use Rattle.cell_grid.specs.Ports.{port_prefix}
 use Rattle.cell_tx.specs.Sending.{sample_in, symbol_start}
 use Rattle.cell_tx.specs.Emitting.{is_between, added}
-use Rattle.cell_tx.proofs.Symbols.{port_prefix_known, first-mono}
+use Rattle.cell_grid.proofs.Prefixes.{port_prefix_known}
+use Rattle.cell_tx.proofs.Symbols.{first-mono}
 use Rattle.cell_tx.proofs.Changes.{between, after, is_from, is_below, room_left, changed_on}
 use Rattle.cell_tx.proofs.frame_symbols.add_between.Goals as goal
 

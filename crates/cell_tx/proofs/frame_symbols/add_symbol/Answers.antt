@@ -3,12 +3,14 @@ use Rattle.cs_num.specs.declared.Cpx.{Cpx}
 use Rattle.cs_num.specs.declared.Sample.{Sample}
 use Rattle.cs_num.specs.Complex.{IsWithin, square, plus, times, value_of, value_at, sample_of, silence}
 use Rattle.fold128.specs.Symbol.{useful_part}
-use Rattle.cell_tx.specs.declared.grid.Signals.{Signals}
-use Rattle.cell_tx.specs.Ports.{port_prefix, port_symbols}
+use Rattle.cell_grid.specs.declared.grid.Signals.{Signals}
+use Rattle.cell_grid.specs.Ports.{port_prefix, port_symbols}
 use Rattle.cell_tx.specs.Sending.{elements_of, sample_in, symbol_start}
 use Rattle.cell_tx.specs.Emitting.{is_between, AreChanged, added}
-use Rattle.cell_tx.proofs.Bounds.{sent_element-square, frame-square}
-use Rattle.cell_tx.proofs.Symbols.{port_prefix_known, value_there, first-mono}
+use Rattle.cell_grid.proofs.Bounds.{sent_element-square}
+use Rattle.cell_tx.proofs.Bounds.{frame-square}
+use Rattle.cell_grid.proofs.Prefixes.{port_prefix_known}
+use Rattle.cell_tx.proofs.Symbols.{value_there, first-mono}
 use Rattle.cell_tx.proofs.Changes.{between, after, kept_there, set_changed}
 use Rattle.cell_tx.proofs.frame_symbols.add_symbol.Goals as goal
 

@@ -1,11 +1,12 @@
 use Rattle.std.proofs.Common.{ℕ, ◌≤◌, Bool, arith}
 use Rattle.std.proofs.lemmas.Bool.{or_right}
-use Rattle.cell_tx.specs.declared.grid.Signals.{Signals}
+use Rattle.cell_grid.specs.declared.grid.Signals.{Signals}
 use Rattle.cell_tx.specs.declared.frame_symbols.Symbols.{Symbols}
-use Rattle.cell_tx.specs.Ports.{port_prefix}
+use Rattle.cell_grid.specs.Ports.{port_prefix}
 use Rattle.cell_tx.specs.Sending.{sample_in, symbol_start}
 use Rattle.cell_tx.specs.Emitting.{is_between, is_made_anew, AreSpans, added}
-use Rattle.cell_tx.proofs.Symbols.{port_prefix_known, first-mono}
+use Rattle.cell_grid.proofs.Prefixes.{port_prefix_known}
+use Rattle.cell_tx.proofs.Symbols.{first-mono}
 use Rattle.cell_tx.proofs.Changes.{before, after, is_from, is_below, room_left, changed_both}
 use Rattle.cell_tx.proofs.frame_symbols.add_symbols.Goals as goal
 

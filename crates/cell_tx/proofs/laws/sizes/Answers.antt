@@ -1,4 +1,5 @@
-use Rattle.cell_tx.proofs.Bounds.{sent_element-within, sent_element-square, small-sent-square, sent_by-square}
+use Rattle.cell_grid.proofs.Bounds.{sent_element-within, sent_element-square}
+use Rattle.cell_tx.proofs.Bounds.{small-sent-square, sent_by-square}
 use Rattle.cell_tx.proofs.laws.sizes.Goals as goal
 
 pub returns-clause-within : goal.returns-clause-within

@@ -1,6 +1,6 @@
 use Rattle.std.proofs.Common.{◌∙◌}
 use Rattle.lte_types.specs.Numerology.{normal}
-use Rattle.cell_tx.specs.Grid.{element}
+use Rattle.cell_grid.specs.Grid.{element}
 use Rattle.cell_tx.proofs.Frames.{first_frame}
 use Rattle.cell_tx.proofs.samples.frame.Goals as goal
 

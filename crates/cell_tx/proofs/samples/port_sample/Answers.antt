@@ -1,8 +1,8 @@
 use Rattle.std.proofs.Common.{ℕ, ap, sym, ◌∙◌, ◌≡◌, ◌+◌, arith, None}
 use Rattle.cs_num.specs.Complex.{sample_of}
 use Rattle.lte_types.specs.Timing.{number_of}
-use Rattle.cell_tx.specs.Ports.{port_prefix}
-use Rattle.cell_tx.specs.Load.{sent_element}
+use Rattle.cell_grid.specs.Ports.{port_prefix}
+use Rattle.cell_grid.specs.Load.{sent_element}
 use Rattle.cell_tx.proofs.Bounds.{sent_by-square}
 use Rattle.cell_tx.proofs.Symbols.{prefix_sent_is}
 use Rattle.cell_tx.proofs.samples.port_sample.Goals as goal

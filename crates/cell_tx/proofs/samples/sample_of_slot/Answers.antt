@@ -1,10 +1,12 @@
 use Rattle.std.proofs.Common.{ap, ◌∙◌}
 use Rattle.cs_num.specs.Complex.{sample_of}
-use Rattle.cell_tx.specs.Ports.{port_prefix}
+use Rattle.cell_grid.specs.Ports.{port_prefix}
 use Rattle.cell_tx.specs.Sending.{elements_of}
 use Rattle.cell_tx.specs.Sent.{prefix_slot_sample}
-use Rattle.cell_tx.proofs.Bounds.{sent_element-square, slot-square, small-within}
-use Rattle.cell_tx.proofs.Symbols.{port_prefix_known, slot_value}
+use Rattle.cell_grid.proofs.Bounds.{sent_element-square}
+use Rattle.cell_tx.proofs.Bounds.{slot-square, small-within}
+use Rattle.cell_grid.proofs.Prefixes.{port_prefix_known}
+use Rattle.cell_tx.proofs.Symbols.{slot_value}
 use Rattle.cell_tx.proofs.samples.sample_of_slot.Goals as goal
 
 pub exact_sample-requires : goal.exact_sample-requires

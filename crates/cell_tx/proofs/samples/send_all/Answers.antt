@@ -4,7 +4,7 @@ use Rattle.finite.proofs.Lists.{values_below-length}
 use Rattle.cs_num.specs.declared.Cpx.{Cpx}
 use Rattle.cs_num.specs.Complex.{times, sample_of}
 use Rattle.cell_plan.specs.declared.transmission.Transmission.{Transmission}
-use Rattle.cell_tx.specs.Grid.{element}
+use Rattle.cell_grid.specs.Grid.{element}
 use Rattle.cell_tx.specs.Sent.{sent}
 use Rattle.cell_tx.proofs.samples.send_all.Goals as goal
 

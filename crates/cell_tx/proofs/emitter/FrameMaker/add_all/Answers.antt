@@ -5,7 +5,7 @@ use Rattle.cs_num.specs.Complex.{sample_of}
 use Rattle.cell_tx.specs.declared.frame_symbols.Symbols.{Symbols}
 use Rattle.cell_tx.specs.declared.source.Ports.{Ports}
 use Rattle.cell_tx.specs.declared.source.Source.{Source}
-use Rattle.cell_tx.specs.Ports.{port_prefix}
+use Rattle.cell_grid.specs.Ports.{port_prefix}
 use Rattle.cell_tx.specs.Mixing.{carrier_by, mixed_by}
 use Rattle.cell_tx.specs.Emitting.{is_made_anew, AreChanged, AreSilent}
 use Rattle.cell_tx.proofs.Mixing.{heard, room_alone, alone_made}

@@ -1,7 +1,7 @@
 use Rattle.std.proofs.Common.{◌≡◌, true, sym, subst}
 use Rattle.cell_tx.specs.declared.source.Source.{Source}
-use Rattle.cell_tx.specs.Ports.{has_control}
-use Rattle.cell_tx.specs.Rows.{IsLayout, AreVersions}
+use Rattle.cell_grid.specs.Ports.{has_control}
+use Rattle.cell_grid.specs.Rows.{IsLayout, AreVersions}
 use Rattle.cell_tx.specs.Mixing.{carrier_by}
 use Rattle.cell_tx.proofs.emitter.FrameMaker.new.Goals as goal
 

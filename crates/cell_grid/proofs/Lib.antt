@@ -1,0 +1,13 @@
+pub mod Word
+pub mod Prefixes
+pub mod PlaceValues
+pub mod Elements
+pub mod Bounds
+pub mod LoadBits
+pub mod BitPoints
+pub mod ChannelValues
+pub mod Broadcast
+pub mod SignalSymbols
+pub mod SystemPlaces
+pub mod SameVersions
+pub mod Grants

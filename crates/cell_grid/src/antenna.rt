@@ -1,0 +1,57 @@
+//! Antenna ports.
+
+use lte_types::Carrier;
+
+/// An antenna port of a cell: the cell's carrier, and the port's number there, 0 to 3 (TS 36.211 sections 6.3.4.3 and
+/// 6.12). What any other number sends is fixed too, but no cell has it.
+#[derive(Clone, Copy, Debug, PartialEq, Eq)]
+pub struct Port {
+    /// The carrier of the cell, which has as many ports as `Carrier::ports` says.
+    pub carrier: Carrier,
+    /// The number of the port, below that count.
+    pub number: u8,
+}
+
+impl Port {
+    ghost use Rattle.std.specs.Prelude.{◌≡◌, ◌≤◌};
+    ghost use Rattle.cell_grid.specs.Ports.{port_symbols, port_block_bits, has_control, port_mask};
+
+    // The symbols of a slot: half of those of a subframe.
+    pub(crate) fn symbols(self) -> u8
+        ensures value { result ≡ port_symbols self }
+        ensures low { 6 ≤ result }
+        ensures high { result ≤ 7 }
+    {
+        self.carrier.prefix().symbols() as u8
+    }
+
+    // The bits of the broadcast channel in a frame (TS 36.211 section 6.6.1).
+    pub(crate) fn block_bits(self) -> usize
+        ensures value { result ≡ port_block_bits self }
+        ensures bound { result ≤ 480 }
+    {
+        if self.carrier.prefix().is_extended() {
+            432
+        } else {
+            480
+        }
+    }
+
+    // The control region and system information are sent. (own)
+    pub(crate) fn has_control(self) -> bool
+        ensures { result ≡ has_control self }
+    {
+        self.carrier.has_control()
+    }
+
+    // The mask of the check of its master block (TS 36.212 section 5.3.1.1).
+    pub(crate) fn mask(self) -> u16
+        ensures { result ≡ port_mask self }
+    {
+        match self.carrier.ports() {
+            1 => 0,
+            2 => 0xffff,
+            _ => 0x5555,
+        }
+    }
+}

@@ -1,0 +1,86 @@
+//! The broadcast channel of a cell.
+
+ghost use Rattle.std.specs.Prelude.{◌≡◌, ◌+◌, ◌*◌, ◌<◌, ◌≤◌, false, length, slice_index_or};
+ghost use Rattle.finite.specs.Lists.{values_below};
+ghost use Rattle.finite.specs.Bits.{xor};
+ghost use Rattle.conv_code.specs.Reading.{bit_of_item, item_of};
+ghost use Rattle.grid_map.specs.Scrambling.{pbch_c_init as c_init_of};
+ghost use Rattle.cell_grid.specs.Points.{point_of};
+ghost use Rattle.cell_grid.specs.Block.{master_word as master_word_of, scrambled_bit, port_word, port_point};
+
+use crate::Port;
+use crate::bits::put_bits;
+use cell_plan::Cell;
+use conv_code::{encode, match_out};
+use crs::point;
+use cs_bits::{Bits, crc16};
+use cs_num::Cpx;
+use grid_map::pbch_c_init;
+use lte_types::{Bandwidth, CellId, Duration, Resource, Sfn};
+
+// The word of the master block in a frame of a cell with 6 resource blocks: its 24 bits, by the duration and the
+// resource of the PHICH, the number of the frame and the 10 spare bits, and their check with the mask of the
+// antenna ports (TS 36.331 section 6.2.2, TS 36.212 section 5.3.1.1).
+fn master_word(mask: u16, duration: Duration, resource: Resource, sfn: Sfn, spare: u16) -> Bits<40>
+    ensures { result ≡ master_word_of mask duration resource sfn spare }
+{
+    let mut bits = [false; 40];
+    put_bits(&mut bits, 0, 3, Bandwidth::N6.code() as u64);
+    put_bits(&mut bits, 3, 1, duration.code() as u64);
+    put_bits(&mut bits, 4, 2, resource.code() as u64);
+    put_bits(&mut bits, 6, 8, sfn.value() as u64 / 4);
+    put_bits(&mut bits, 14, 10, spare as u64);
+    let check = crc16(&bits[..24]) ^ mask;
+    put_bits(&mut bits, 24, 16, check as u64);
+    Bits::new(bits)
+}
+
+// The master block of a plan with its check.
+fn word_of(cell: &Cell, port: Port, sfn: Sfn) -> Bits<40>
+    ensures { result ≡ port_word port cell.now sfn }
+{
+    let plan = cell.plan();
+    master_word(port.mask(), plan.duration, plan.resource, sfn, plan.spare)
+}
+
+// Bit n of a coded and matched word, scrambled.
+fn scrambled<const N: usize>(coded: &[[bool; 3]; N], scrambling: &[bool], n: usize) -> bool
+    requires low { 6 ≤ N }
+    requires high { N ≤ 64 }
+    requires inside { n < length scrambling.now }
+    ensures { result ≡ xor (bit_of_item coded.now (item_of N n)) (slice_index_or scrambling.now n false) }
+{
+    match_out(coded, n) != scrambling[n]
+}
+
+// Writes the points of the broadcast channel of a cell that carry bits of a word, coded, matched and scrambled, from
+// bit `first` of the endless sequence on, two a point (TS 36.212 section 5.3.1, TS 36.211 section 6.6). The sequence
+// has 1,920 bits at most.
+fn fill_broadcast(id: CellId, word: &Bits<40>, first: usize, points: &mut [Cpx])
+    requires { first + 2 * length points.old ≤ 1920 }
+    ensures { points.new ≡ values_below (length points.old)
+        (point_of (λ i. scrambled_bit (c_init_of id) word.now (first + i))) }
+{
+    let size = word.slice().len();
+    prove!(size == 40);
+    let coded = encode(word);
+    let mut scrambling = [false; 1920];
+    gold::fill(pbch_c_init(id), &mut scrambling);
+    for i in 0..points.len() {
+        points[i] = point(
+            scrambled(&coded, &scrambling, first + 2 * i),
+            scrambled(&coded, &scrambling, first + 2 * i + 1),
+        );
+    }
+}
+
+/// The 240 points of the broadcast channel in a frame of a cell with this port; with the extended prefix the first 216
+/// of them are sent.
+pub(crate) fn broadcast_points(cell: &Cell, port: Port, sfn: Sfn) -> [Cpx; 240]
+    ensures { result ≡ values_below 240 (port_point port cell.now sfn) }
+{
+    let mut points = [Cpx::ZERO; 240];
+    let first = port.block_bits() * (sfn.value() % 4) as usize;
+    fill_broadcast(cell.id(), &word_of(cell, port, sfn), first, &mut points);
+    points
+}

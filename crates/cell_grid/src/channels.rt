@@ -1,0 +1,134 @@
+//! What the channels of a frame carry at each place.
+
+ghost use Rattle.std.specs.Prelude.{◌≡◌, ◌<◌, true};
+ghost use Rattle.cell_grid.specs.Ports.{has_control};
+ghost use Rattle.cell_grid.specs.Grid.{may_broadcast, broadcast_symbol, has_system_information};
+ghost use Rattle.cell_grid.specs.Rows.{broadcast_if, indicator_if, control_if, shared_if, system_if, channel_if};
+
+use crate::Port;
+use crate::grid::Signals;
+use crate::points::value_at;
+use cs_num::Cpx;
+use grid_map::Place;
+use lte_types::Sfn;
+
+// Whether a subframe carries system information.
+fn has_system_information(sfn: Sfn, subframe: u8) -> bool
+    ensures { result ≡ has_system_information sfn subframe }
+{
+    subframe == 5 && sfn.value() % 2 == 0
+}
+
+// Whether a symbol of a subframe is in the slot of the broadcast channel.
+fn may_broadcast(port: Port, subframe: u8, symbol: u8) -> bool
+    requires subframe { subframe < 10 }
+    requires symbol { symbol < 14 }
+    ensures { result ≡ may_broadcast port subframe symbol }
+{
+    2 * subframe + symbol / port.symbols() == 1
+}
+
+// The number that a symbol of a subframe has among those by which the broadcast channel's places are numbered.
+fn broadcast_symbol(port: Port, symbol: u8) -> u8
+    requires { symbol < 14 }
+    ensures value { result ≡ broadcast_symbol port symbol }
+    ensures small { result < 14 }
+{
+    if port.carrier.prefix().is_extended() {
+        symbol % port.symbols()
+    } else {
+        symbol
+    }
+}
+
+// The value of the broadcast channel at a place of a subframe.
+fn broadcast_at(signals: &Signals, subframe: u8, here: Place) -> Option<Cpx>
+    requires subframe { subframe < 10 }
+    requires symbol { here.symbol < 14 }
+    requires k { here.k < 72 }
+    ensures { result ≡ broadcast_if signals.now.port signals.now.cell.now signals.now.sfn subframe here.symbol here.k }
+{
+    if !may_broadcast(signals.port, subframe, here.symbol) {
+        return None;
+    }
+    let symbol = broadcast_symbol(signals.port, here.symbol);
+    value_at(
+        signals.port,
+        &signals.layout.broadcast,
+        &signals.broadcast,
+        Place { symbol, k: here.k },
+    )
+}
+
+// What PCFICH carries at a place, which it does in every subframe.
+fn indicator_at(signals: &Signals, subframe: u8, here: Place) -> Option<Cpx>
+    requires subframe { subframe < 10 }
+    requires symbol { here.symbol < 14 }
+    requires k { here.k < 72 }
+    ensures { result ≡ indicator_if signals.now.port signals.now.cell.now subframe here.symbol here.k }
+{
+    let points = signals.layout.indicator_of(subframe);
+    value_at(signals.port, &signals.layout.indicator, points, here)
+}
+
+// What PDCCH carries at a place; none outside subframe 5 of even frames.
+fn control_at(signals: &Signals, subframe: u8, here: Place) -> Option<Cpx>
+    requires control { has_control signals.now.port ≡ true }
+    requires symbol { here.symbol < 14 }
+    requires k { here.k < 72 }
+    ensures { result ≡ control_if signals.now.port signals.now.cell.now signals.now.sfn subframe here.symbol here.k }
+{
+    if !has_system_information(signals.sfn, subframe) {
+        return None;
+    }
+    let points = &signals.carried.control;
+    value_at(signals.port, &signals.layout.control, points, here)
+}
+
+// What PDSCH carries at a place; none outside subframe 5 of even frames.
+fn shared_at(signals: &Signals, subframe: u8, here: Place) -> Option<Cpx>
+    requires control { has_control signals.now.port ≡ true }
+    requires symbol { here.symbol < 14 }
+    requires k { here.k < 72 }
+    ensures { result ≡ shared_if signals.now.port signals.now.cell.now signals.now.sfn subframe here.symbol here.k }
+{
+    if !has_system_information(signals.sfn, subframe) {
+        return None;
+    }
+    let points = &signals.carried.shared;
+    value_at(signals.port, &signals.layout.shared, points, here)
+}
+
+// What PCFICH, PDCCH and PDSCH have at a place of a subframe: the value of the first that is there.
+fn system_at(signals: &Signals, subframe: u8, here: Place) -> Option<Cpx>
+    requires control { has_control signals.now.port ≡ true }
+    requires subframe { subframe < 10 }
+    requires symbol { here.symbol < 14 }
+    requires k { here.k < 72 }
+    ensures { result ≡ system_if signals.now.port signals.now.cell.now signals.now.sfn subframe here.symbol here.k }
+{
+    if let Some(value) = indicator_at(signals, subframe, here) {
+        return Some(value);
+    }
+    if let Some(value) = control_at(signals, subframe, here) {
+        return Some(value);
+    }
+    shared_at(signals, subframe, here)
+}
+
+/// What the channels have at a place of a subframe: the value of the first that is there.
+pub(crate) fn channel_at(signals: &Signals, subframe: u8, here: Place) -> Option<Cpx>
+    requires subframe { subframe < 10 }
+    requires symbol { here.symbol < 14 }
+    requires k { here.k < 72 }
+    ensures { result ≡ channel_if signals.now.port signals.now.cell.now signals.now.sfn subframe here.symbol here.k }
+{
+    if let Some(value) = broadcast_at(signals, subframe, here) {
+        return Some(value);
+    }
+    if signals.port.has_control() {
+        system_at(signals, subframe, here)
+    } else {
+        None
+    }
+}

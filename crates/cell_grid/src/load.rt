@@ -1,0 +1,60 @@
+//! The load of a frame: the bits of the points that stand at open places. (own)
+
+ghost use Rattle.std.specs.Prelude.{◌≡◌, ℕ, ◌+◌, ◌*◌, ◌^◌, ◌<◌, ◌≤◌, ◌++◌, Some, length, take};
+ghost use Rattle.gold.specs.Gold.{gold_bits};
+ghost use Rattle.cell_grid.specs.Load.{load_c_init};
+ghost use Rattle.cell_grid.specs.Rows.{load_bits as bits_of};
+
+use crate::Port;
+use lte_types::Sfn;
+
+// The bits of a subframe's 14 symbols of 72 points.
+const SUBFRAME: usize = 2016;
+
+/// The bits of a frame.
+pub(crate) const LOAD_BITS: usize = 10 * SUBFRAME;
+
+// c_init of a load in a subframe.
+fn c_init(load: u32, port: Port, sfn: Sfn, subframe: u8) -> u32
+    requires { subframe < 10 }
+    ensures value { result ≡ load_c_init load port sfn subframe }
+    ensures fits { result < 2 ^ 31 }
+{
+    let number = 40_960 * load as u64
+        + 10_240 * port.number as u64
+        + 10 * sfn.value() as u64
+        + subframe as u64;
+    (number % (1 << 31)) as u32
+}
+
+// Writes the bits of a subframe from place `first` on.
+fn put_subframe(bits: &mut [bool], first: usize, c_init: u32)
+    requires inside { first + 2016 ≤ length bits.old }
+    requires c_init { c_init < 2 ^ 31 }
+    ensures bits { take (first + 2016) bits.new ≡ take first bits.old ++ gold_bits c_init 2016 }
+    ensures count { length bits.new ≡ length bits.old }
+{
+    gold::fill(c_init, &mut bits[first..first + SUBFRAME]);
+}
+
+// The bits of a load in a frame.
+fn bits_with(load: u32, port: Port, sfn: Sfn) -> [bool; LOAD_BITS]
+    ensures { result ≡ bits_of load port sfn }
+{
+    let mut bits = [false; LOAD_BITS];
+    for subframe in 0..10_u8 {
+        let c_init = c_init(load, port, sfn, subframe);
+        put_subframe(&mut bits, SUBFRAME * subframe as usize, c_init);
+    }
+    bits
+}
+
+/// The bits of a load in a frame, 2,016 for each subframe, where there is a load.
+pub(crate) fn load_bits(load: Option<u32>, port: Port, sfn: Sfn) -> [bool; LOAD_BITS]
+    ensures { (number : ℕ) → load ≡ Some number → result ≡ bits_of number port sfn }
+{
+    match load {
+        Some(number) => bits_with(number, port, sfn),
+        None => [false; LOAD_BITS],
+    }
+}

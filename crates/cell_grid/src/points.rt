@@ -1,0 +1,174 @@
+//! Points of scrambled bits, and the places that they take.
+
+ghost use Rattle.std.specs.Prelude.{◌≡◌, ℕ, ◌*◌, ◌/◌, ◌%◌, ◌^◌, ◌<◌, ◌≤◌, false, if◌then◌else◌, List, All};
+ghost use Rattle.std.specs.Prelude.{length, slice_index_or};
+ghost use Rattle.finite.specs.Lists.{values_below};
+ghost use Rattle.finite.specs.Bits.{xor};
+ghost use Rattle.gold.specs.Gold.{gold_bits};
+ghost use Rattle.cell_grid.specs.Points.{scrambled, point_of};
+ghost use Rattle.cs_num.specs.Complex.{IsWithin, value_at};
+ghost use Rattle.cell_grid.specs.Ports.{crossed_point, paired_point, in_turn, sent_point};
+ghost use Rattle.cell_grid.specs.Rows.{value_in, IsTableOf};
+ghost use Rattle.grid_map.specs.declared.Place.{Place};
+ghost use Rattle.grid_map.specs.Place.{place};
+
+use crate::Port;
+use crs::point;
+use cs_num::Cpx;
+use grid_map::Place;
+
+// The most bits of a channel: those of the shared channel over six resource blocks.
+const MOST: usize = 1224;
+
+// The first bits of the sequence of `c_init`.
+fn sequence_of(c_init: u32) -> [bool; MOST]
+    requires { c_init < 2 ^ 31 }
+    ensures { result ≡ gold_bits c_init 1224 }
+{
+    let mut sequence = [false; MOST];
+    gold::fill(c_init, &mut sequence);
+    sequence
+}
+
+// Bit n, scrambled.
+fn scrambled_at(bits: &[bool], sequence: &[bool; MOST], n: usize) -> bool
+    requires few { length bits.now ≤ 1224 }
+    requires n { n < length bits.now }
+    ensures { result ≡ xor (slice_index_or bits.now n false) (slice_index_or sequence.now n false) }
+{
+    bits[n] != sequence[n]
+}
+
+/// Writes the points that bits make which are scrambled by the sequence of `c_init`, two bits a point
+/// (TS 36.211 sections 7.2 and 7.1.2). `c_init` is below 2^31, and there are at most 1,224 bits.
+pub(crate) fn fill_points(c_init: u32, bits: &[bool], points: &mut [Cpx])
+    requires c_init { c_init < 2 ^ 31 }
+    requires few { length bits.now ≤ 1224 }
+    requires room { length bits.now ≡ 2 * length points.old }
+    ensures { points.new ≡ values_below (length points.old)
+        (point_of (scrambled c_init (λ i. slice_index_or bits.now i false))) }
+{
+    let sequence = sequence_of(c_init);
+    for i in 0..points.len() {
+        points[i] = point(
+            scrambled_at(bits, &sequence, 2 * i),
+            scrambled_at(bits, &sequence, 2 * i + 1),
+        );
+    }
+}
+
+// The places of a subframe's grid: 14 symbols of 72 subcarriers.
+const PLACES: usize = 14 * 72;
+
+/// For each place of a subframe its number in a list of places, and their count where it is not in it.
+#[derive(Drop)]
+pub(crate) struct PlaceTable {
+    pub count: u16,
+    pub numbers: [u16; PLACES],
+}
+
+// Writes the number of a place of a list, where the table has none for it yet.
+fn put_number(numbers: &mut [u16; PLACES], none: u16, here: Place, number: u16)
+    ensures here { (c : ℕ) → c < 1008 → place (c / 72) (c % 72) ≡ here → slice_index_or numbers.old c 0 ≡ none →
+        slice_index_or numbers.new c 0 ≡ number }
+    ensures taken { (c : ℕ) → (slice_index_or numbers.old c 0 ≡ none → ⊥) →
+        slice_index_or numbers.new c 0 ≡ slice_index_or numbers.old c 0 }
+    ensures elsewhere { (c : ℕ) → (place (c / 72) (c % 72) ≡ here → ⊥) →
+        slice_index_or numbers.new c 0 ≡ slice_index_or numbers.old c 0 }
+{
+    if here.symbol < 14 && here.k < 72 {
+        let cell = 72 * here.symbol as usize + here.k as usize;
+        if numbers[cell] == none {
+            numbers[cell] = number;
+        }
+    }
+}
+
+/// The table of at most 612 places.
+pub(crate) fn table_of(places: &[Place]) -> PlaceTable
+    requires { length places.now ≤ 612 }
+    ensures { IsTableOf places.now result }
+{
+    let count = places.len() as u16;
+    let mut numbers = [count; PLACES];
+    for i in 0..places.len() {
+        put_number(&mut numbers, count, places[i], i as u16);
+    }
+    PlaceTable { count, numbers }
+}
+
+// What a port sends at place i of a channel with these points.
+fn sent_point(port: Port, points: &[Cpx], i: usize) -> Cpx
+    requires i { i < length points.now }
+    requires pairs { length points.now % 2 ≡ 0 }
+    requires small { All (IsWithin 90) points.now }
+    ensures { result ≡ sent_point port (value_at points.now) i }
+{
+    match port.carrier.ports() {
+        1 => points[i],
+        2 => paired_point(1, port.number, points, i),
+        _ => point_of_four(port.number, points, i),
+    }
+}
+
+// What a port of four sends at place i of a channel: the pairs of even number go over ports 0 and 2 as over two ports,
+// and those of odd number over ports 1 and 3.
+fn point_of_four(number: u8, points: &[Cpx], i: usize) -> Cpx
+    requires i { i < length points.now }
+    requires pairs { length points.now % 2 ≡ 0 }
+    requires small { All (IsWithin 90) points.now }
+    ensures { result ≡ in_turn number i (paired_point 2 number (value_at points.now) i) }
+{
+    if i / 2 % 2 == number as usize % 2 {
+        paired_point(2, number, points, i)
+    } else {
+        Cpx::ZERO
+    }
+}
+
+// The point at place i as the first ports send it, as many as `half` says, or as the others do.
+fn paired_point(half: u8, number: u8, points: &[Cpx], i: usize) -> Cpx
+    requires i { i < length points.now }
+    requires pairs { length points.now % 2 ≡ 0 }
+    requires small { All (IsWithin 90) points.now }
+    ensures { result ≡ paired_point half number (value_at points.now) i }
+{
+    if number < half {
+        points[i]
+    } else {
+        crossed_point(points, i)
+    }
+}
+
+// What the second of two ports sends at place i of a channel: of a pair the negative conjugate of the other point at
+// the first place, and the conjugate of the other at the second.
+fn crossed_point(points: &[Cpx], i: usize) -> Cpx
+    requires i { i < length points.now }
+    requires pairs { length points.now % 2 ≡ 0 }
+    requires small { All (IsWithin 90) points.now }
+    ensures { result ≡ crossed_point (value_at points.now) i }
+{
+    if i % 2 == 0 {
+        -points[i + 1].conj()
+    } else {
+        points[i - 1].conj()
+    }
+}
+
+/// What a port sends at a place of the grid, by the table of a channel's places and its points in the same
+/// order, of which there is an even number; `None` at every other place.
+pub(crate) fn value_at(port: Port, table: &PlaceTable, points: &[Cpx], here: Place) -> Option<Cpx>
+    requires symbol { here.symbol < 14 }
+    requires k { here.k < 72 }
+    requires room { table.now.count ≤ length points.now }
+    requires pairs { length points.now % 2 ≡ 0 }
+    requires small { All (IsWithin 90) points.now }
+    ensures { (places : List Place) → IsTableOf places table.now → result ≡ value_in port places points.now here }
+{
+    let number = table.numbers[72 * here.symbol as usize + here.k as usize];
+    if number < table.count {
+        Some(sent_point(port, points, number as usize))
+    } else {
+        None
+    }
+}
