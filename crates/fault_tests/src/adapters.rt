@@ -25,15 +25,6 @@ impl Recorder {
         }
     }
 
-    // The answer to a call about so many bytes.
-    fn answer(&mut self, size: usize) -> io::Result<usize> {
-        self.sizes.push(size)?;
-        match self.taken {
-            Some(most) => Ok(size.min(most)),
-            None => Err(io::Error::from(ErrorKind::BrokenPipe)),
-        }
-    }
-
     // Whether one call was made, about so many bytes.
     fn was_called_once(&self, size: usize) -> bool {
         self.sizes.as_slice() == [size].as_slice()
@@ -42,13 +33,21 @@ impl Recorder {
 
 impl Read for Recorder {
     fn read(&mut self, into: &mut [u8]) -> io::Result<usize> {
-        self.answer(into.len())
+        self.sizes.push(into.len())?;
+        match self.taken {
+            Some(most) => Ok(into.len().min(most)),
+            None => Err(io::Error::from(ErrorKind::BrokenPipe)),
+        }
     }
 }
 
 impl Write for Recorder {
     fn write(&mut self, piece: &[u8]) -> io::Result<usize> {
-        self.answer(piece.len())
+        self.sizes.push(piece.len())?;
+        match self.taken {
+            Some(most) => Ok(piece.len().min(most)),
+            None => Err(io::Error::from(ErrorKind::BrokenPipe)),
+        }
     }
 
     fn flush(&mut self) -> io::Result<()> {

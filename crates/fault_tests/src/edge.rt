@@ -11,15 +11,16 @@ use std::io::{Eprint, Read};
 use std::process::{Abort, ExitCode};
 use std::test::Fail;
 
-// A runtime with arguments of its own, which keeps the text that is printed on standard error.
+// A runtime with arguments of its own, which keeps the text that is printed on standard error. The arguments are those
+// of a line, with one space between them; a question mark stands for a byte of no text.
 #[derive(Drop)]
 struct Process<'a> {
     alloc: Global,
-    arguments: &'a [&'static [u8]],
+    line: &'a str,
     printed: RefCell<String>,
 }
 
-impl Alloc for Process<'_> {
+impl<'a> Alloc for Process<'a> {
     type A = Global;
 
     fn alloc(&self) -> Global {
@@ -27,16 +28,20 @@ impl Alloc for Process<'_> {
     }
 }
 
-impl Env for Process<'_> {
+impl<'a> Env for Process<'a> {
     fn arg(&self, i: usize, buf: &mut [u8]) -> Result<usize, FillError> {
-        let Some(argument) = self.arguments.get(i) else {
+        let Some(argument) = self.line.split(' ').skip(i).next() else {
             return Err(FillError::NotPresent);
         };
-        if argument.len() > buf.len() {
+        let bytes = argument.as_bytes();
+        if bytes.len() > buf.len() {
             return Err(FillError::TooLong);
         }
-        buf[..argument.len()].copy_from_slice(argument);
-        Ok(argument.len())
+        buf[..bytes.len()].copy_from_slice(bytes);
+        if argument == "?" && !buf.is_empty() {
+            buf[0] = 255;
+        }
+        Ok(bytes.len())
     }
 
     fn var(&self, _name: &str, _buf: &mut [u8]) -> Result<usize, FillError> {
@@ -48,7 +53,7 @@ impl Env for Process<'_> {
     }
 }
 
-impl Eprint for Process<'_> {
+impl<'a> Eprint for Process<'a> {
     fn eprint<D: Display + Drop>(&self, value: D) -> io::Result<()> {
         let text = format!(in self.alloc; "{value}")?;
         self.keep(&text)
@@ -60,7 +65,7 @@ impl Eprint for Process<'_> {
     }
 }
 
-impl Process<'_> {
+impl<'a> Process<'a> {
     // Appends a text to what is printed.
     fn keep(&self, text: &str) -> io::Result<()> {
         match self.printed.try_borrow_mut() {
@@ -78,64 +83,51 @@ impl Process<'_> {
     }
 }
 
-// A run over these bytes ends with this exit code and this text on standard error.
+// Runs a program over a line of arguments and these bytes. It ends with this exit code and this text on standard error.
 fn ends_with(
     rt: &impl Abort,
     alloc: Global,
     program: Program,
-    arguments: &[&'static [u8]],
+    line: &str,
     bytes: &[u8],
     code: u8,
     text: &str,
 ) -> Result<(), Fail> {
     let process = Process {
         alloc,
-        arguments,
+        line,
         printed: RefCell::new(String::new(alloc)),
     };
     let exit = run_process(&process, program, bytes, io::sink());
-    assert!(rt; exit == ExitCode::from(code), "{text}");
-    assert!(rt; process.has_printed(text), "{text}");
+    assert!(rt; exit == ExitCode::from(code), "{line}");
+    assert!(rt; process.has_printed(text), "{line}");
     Ok(())
 }
 
-const PORTS: [&[u8]; 7] = [
-    b"lte_cli",
-    b"search",
-    b"--ports",
-    b"2",
-    b"--json",
-    b"--format",
-    b"cu8",
-];
-
-const EVIDENCE: [&[u8]; 7] = [
-    b"lte_cli",
-    b"evidence",
-    b"--prefix",
-    b"long",
-    b"--json",
-    b"--format",
-    b"cu8",
-];
-
-// A sample of 8-bit numbers is half a sample of 16-bit numbers.
+// A sample of 8-bit numbers is half a sample of 16-bit numbers, so the last two words change the answer.
 #[test]
 fn six_arguments_are_words(rt: HostRuntime) -> Result<(), Fail> {
     let alloc = rt.alloc();
-    for arguments in [PORTS, EVIDENCE] {
-        let line = "lte_cli: too short\n";
-        ends_with(&rt, alloc, Program::Receiver, &arguments, b"\0\0", 4, line)?;
-        let few = &arguments[..6];
+    let receiver = Program::Receiver;
+    for rule in [
+        "search --ports 2",
+        "search --prefix long",
+        "evidence --ports 4",
+    ] {
+        let line = format!(in alloc; "lte_cli {rule} --json --format cu8")?;
         ends_with(
             &rt,
             alloc,
-            Program::Receiver,
-            few,
+            receiver,
+            &line,
             b"\0\0",
-            2,
-            "lte_cli: usage\n",
+            4,
+            "lte_cli: too short\n",
         )?;
+        let line = format!(in alloc; "lte_cli {rule} --json --format")?;
+        ends_with(&rt, alloc, receiver, &line, b"\0\0", 2, "lte_cli: usage\n")?;
+        let line = format!(in alloc; "lte_cli {rule} --json")?;
+        ends_with(&rt, alloc, receiver, &line, b"\0\0", 3, "lte_cli: ragged\n")?;
     }
     Ok(())
 }
@@ -143,59 +135,57 @@ fn six_arguments_are_words(rt: HostRuntime) -> Result<(), Fail> {
 #[test]
 fn a_refusal_ends_with_its_code_and_the_name_of_its_program(rt: HostRuntime) -> Result<(), Fail> {
     let alloc = rt.alloc();
-    let apply: [&[u8]; 5] = [b"lte_tune", b"apply", b"-5", b"--format", b"cu8"];
+    let line = "lte_tune: ragged\n";
     ends_with(
         &rt,
         alloc,
         Program::Tuner,
-        &apply,
+        "lte_tune apply -5",
         b"\0",
         3,
-        "lte_tune: ragged\n",
+        line,
     )?;
-    let check: [&[u8]; 2] = [b"lte_cli", b"check"];
     let line = "lte_cli: bad certificate at byte 0\n";
-    ends_with(&rt, alloc, Program::Receiver, &check, b"\0", 10, line)?;
-    let alone: [&[u8]; 1] = [b"lte_tune"];
     ends_with(
         &rt,
         alloc,
-        Program::Tuner,
-        &alone,
-        b"",
-        2,
-        "lte_tune: usage\n",
-    )
+        Program::Receiver,
+        "lte_cli check",
+        b"\0",
+        10,
+        line,
+    )?;
+    let line = "lte_tune: usage\n";
+    ends_with(&rt, alloc, Program::Tuner, "lte_tune", b"", 2, line)
 }
 
 #[test]
 fn no_line_follows_an_output(rt: HostRuntime) -> Result<(), Fail> {
     let alloc = rt.alloc();
-    let help: [&[u8]; 2] = [b"lte_cli", b"help"];
-    ends_with(&rt, alloc, Program::Receiver, &help, b"", 0, "")?;
-    ends_with(&rt, alloc, Program::Tuner, &help, b"", 0, "")
+    ends_with(&rt, alloc, Program::Receiver, "lte_cli help", b"", 0, "")?;
+    ends_with(&rt, alloc, Program::Tuner, "lte_tune help", b"", 0, "")
 }
 
-// A reader that is not to be read.
+// A reader whose reads fail.
 #[derive(Drop)]
-struct Unread;
+struct Broken;
 
-impl Read for Unread {
+impl Read for Broken {
     fn read(&mut self, _into: &mut [u8]) -> io::Result<usize> {
         Err(io::Error::from(io::ErrorKind::BrokenPipe))
     }
 }
 
-// An argument that is not text is refused as usage, and a read would be a read fault.
+// Nothing is read, since a read would be a read fault.
 #[test]
 fn an_argument_that_is_not_text_is_usage(rt: HostRuntime) -> Result<(), Fail> {
     let alloc = rt.alloc();
     let process = Process {
         alloc,
-        arguments: &[b"lte_cli", b"search", b"\xff"],
+        line: "lte_cli search ?",
         printed: RefCell::new(String::new(alloc)),
     };
-    let exit = run_process(&process, Program::Receiver, Unread, io::sink());
+    let exit = run_process(&process, Program::Receiver, Broken, io::sink());
     assert!(rt; exit == ExitCode::from(2) && process.has_printed("lte_cli: usage\n"));
     Ok(())
 }
