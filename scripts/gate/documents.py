@@ -6,7 +6,7 @@ Looks whether what the pages name is there: definitions (`crate/specs/File.antt:
 are named by their last name alone; files that a block of commands reads, from the folder that it is in by then. The
 scripts that comments of tests name are looked for too. Numbers of crates, tests and wrong bodies have to be those of
 the tree, or of one crate of it, but in sentences with a date or with `Before` at their head, and in CHANGELOG.md. Each
-line of JSON in docs/FORMATS.md has to have the form of scripts/tools/report.schema.json under the words of its
+line of JSON in docs/FORMATS.md has to have the form of python/lte_tools/report.schema.json under the words of its
 heading, each file of scripts/examples/outputs that under its name, and each JSON output a line or a file; the form is
 left out, and said so, without jsonschema (Debian: python3-jsonschema). Sections that are named behind a page have to
 be in it, and the blocks of `help` and `version`, with the number of the definition, those of the test of these outputs.
@@ -25,7 +25,12 @@ except ImportError:
 
 TOP = pathlib.Path(__file__).resolve().parent.parent.parent
 CRATES = TOP / "crates"
-PAGES = [*sorted(TOP.glob("*.md")), *sorted((TOP / "docs").glob("*.md")), *sorted((TOP / "scripts").glob("**/*.md"))]
+PAGES = [
+    *sorted(TOP.glob("*.md")),
+    *sorted((TOP / "docs").glob("*.md")),
+    *sorted((TOP / "scripts").glob("**/*.md")),
+    *sorted((TOP / "python").glob("**/*.md")),
+]
 HISTORY = ("CHANGELOG.md",)
 BUDGETS = {
     "README.md": 900,
@@ -39,8 +44,8 @@ BUDGETS = {
     "docs/PERFORMANCE.md": 900,
     "docs/PROOF_NOTES.md": 4400,
     "docs/RECORDINGS.md": 3300,
-    "scripts/README.md": 200,
-    "scripts/peers/README.md": 450,
+    "scripts/README.md": 240,
+    "python/lte_reference/README.md": 450,
 }
 EXAMPLES = TOP / "scripts/examples/outputs"
 OUTPUTS = ("hits", "ids", "search", "search_all", "search_cancel", "evidence", "tell", "survey")
@@ -48,7 +53,7 @@ WORD = re.compile(r"`([^`]+)`")
 PLACE = re.compile(
     r"(?:crates/)?(?:(?:(\w+)/)?(specs|src|proofs|must-fail|wrong)/)?([\w/]+\.(?:antt|rt|edit))(?::([\w']+))?"
 )
-PATH = re.compile(r"(?<![\w/.$*{}-])((?:scripts|crates|docs|\.ci)/[\w./*-]*[\w*/])")
+PATH = re.compile(r"(?<![\w/.$*{}-])((?:scripts|python|crates|docs|\.ci)/[\w./*-]*[\w*/])")
 NUMBER = re.compile(r"(?<![\w,.])(\d[\d,]*) (?:of `(must-fail|wrong)/`|(crates|tests|edits|wrong bodies)\b)")
 SECTION = re.compile(r'`((?:docs/)?[A-Z]+\.md)`, "`?([^"`]+)`?"')
 PROGRAM_PAGES = CRATES / "top_tests/src/pages.rt"
@@ -192,7 +197,7 @@ def examples(text):
 
 
 def faults_of_examples(text):
-    schema = json.loads((TOP / "scripts/tools/report.schema.json").read_text())
+    schema = json.loads((TOP / "python/lte_tools/report.schema.json").read_text())
     found = list(examples(text))
     yield from (f"no line of JSON of {name}" for name in OUTPUTS if name not in dict(found))
     for name, one in found:
@@ -252,7 +257,8 @@ def faults_of(page, scripts, may):
 def main():
     if jsonschema is None:
         print("left out: lines of JSON against their schema: no jsonschema (Debian: python3-jsonschema)")
-    scripts, may = {file.name for file in (TOP / "scripts").glob("**/*") if file.suffix in (".py", ".sh")}, counts()
+    files = [file for room in ("scripts", "python") for file in (TOP / room).glob("**/*")]
+    scripts, may = {file.name for file in files if file.suffix in (".py", ".sh")}, counts()
     found = [f"{page.relative_to(TOP)}:{n}: {fault}" for page in PAGES for n, fault in faults_of(page, scripts, may)]
     for file in sorted(CRATES.glob("*_tests/src/**/*.rt")):
         for number, line in enumerate(file.read_text(encoding="utf-8").split("\n"), 1):

@@ -1,7 +1,7 @@
 #!/usr/bin/env python3
 """rows.py [--all]
 
-Runs the second programs of scripts/peers that end in some seconds, and looks up what they print in the tests and pages
+Runs the second programs of python/lte_reference that end in some seconds, and looks up what they print in the tests and pages
 that have it from them: a row that was changed is told, and so is a second program that was. The two shipped recordings
 are compared byte by byte. With --all it runs two more, which take half a minute each. Prints a line for what is not
 found, and a count; the status is 0 where all is found. What needs numpy is left out, and said so, where there is none
@@ -203,11 +203,11 @@ def all_sizes():
 # a folder of its own, where the top's paths lead on
 ROOM = """room=$(mktemp -d); trap 'rm -rf "$room"' EXIT; ln -s "$PWD" "$PWD/../crates" "$room"; cd "$room"\n"""
 PEERS = {
-    "lte_cli transmit": "$PY scripts/peers/second_cell.py",
-    "lte_cli evidence": "$PY scripts/peers/second_evidence.py",
-    "lte_cli search --cancel": "$PY scripts/peers/second_cancel.py",
-    "lte_cli search": "$PY scripts/peers/second_search.py",
-    "lte_tune tell": "$PY scripts/peers/tune_reference.py tell",
+    "lte_cli transmit": "$PY -m lte_reference.cell",
+    "lte_cli evidence": "$PY -m lte_reference.evidence",
+    "lte_cli search --cancel": "$PY -m lte_reference.cancel",
+    "lte_cli search": "$PY -m lte_reference.search",
+    "lte_tune tell": "$PY -m lte_reference.tune tell",
     "python3": "$PY",
 }
 
@@ -221,14 +221,14 @@ def shown(page):
     for block in re.findall(r"(?:^    .*\n)+", (TOP / page).read_text(encoding="utf-8"), re.M):
         script = "\n".join(re.findall(r"^    \$ (.*)", block, re.M))
         for words, peer in PEERS.items():
-            script = re.sub(rf"\b{words}({FURTHER})(?= [<|]| scripts|$)", peer + r"\1", script, flags=re.M)
-        if script and "lte_" not in re.sub(r"crates/\S+", "", script):
+            script = re.sub(rf"\b{words}({FURTHER})(?= [<|]| -m|$)", peer + r"\1", script, flags=re.M)
+        if script and not re.search(r"\blte_(cli|tune)\b", re.sub(r"crates/\S+", "", script)):
             yield Look(page, ROOM + script, lines_together)
 
 
 def of_forms(recording, files):
-    """What second_forms.py writes of a recording for the words of each form, and the file that has it."""
-    return [Look(file, f"{recording} | $PY peers/second_forms.py {words}", lines_together) for words, file in files]
+    """What lte_reference/forms.py writes of a recording for the words of each form, and the file that has it."""
+    return [Look(file, f"{recording} | $PY -m lte_reference.forms {words}", lines_together) for words, file in files]
 
 
 TESTS = "crates/top_tests/src/"
@@ -265,65 +265,65 @@ SHOWN_FORMS = (
     ("search --all --json", OUTPUTS + "search_all.json"),
 )
 OTHER_CARRIERS = (
-    ("second_two_ports", "--ports 2"),
-    ("second_four_ports", "--ports 4"),
-    ("second_long_prefix", "--prefix long"),
+    ("two_ports", "--ports 2"),
+    ("four_ports", "--ports 4"),
+    ("long_prefix", "--prefix long"),
 )
-CHANCE = "$PY peers/second_cell.py < examples/chance_line.json | $PY peers/second_evidence.py"
+CHANCE = "$PY -m lte_reference.cell < examples/chance_line.json | $PY -m lte_reference.evidence"
 # by hand
 SLOW_LOOKS = [
-    Look(PUNCTURED, "$PY peers/erasure_reference.py", counts),
-    Look(TRANSMISSIONS, "$PY peers/punctured_table.py", letters),
+    Look(PUNCTURED, "$PY -m lte_reference.erasure", counts),
+    Look(TRANSMISSIONS, "$PY -m lte_reference.punctured_table", letters),
 ]
 # without numpy
 PLAIN_LOOKS = [
-    Look("crates/slot_tests/src/*.rt", "$PY peers/subframe_reference.py", constants),
-    Look("crates/slot_tests/src/masters.rt crates/list_tests/src/rows.rt", "$PY peers/frames_reference.py", values),
-    Look("crates/code_tests/src/turbo_decoding.rt", "$PY peers/turbo_reference.py", turbo),
+    Look("crates/slot_tests/src/*.rt", "$PY -m lte_reference.subframe", constants),
+    Look("crates/slot_tests/src/masters.rt crates/list_tests/src/rows.rt", "$PY -m lte_reference.frames", values),
+    Look("crates/code_tests/src/turbo_decoding.rt", "$PY -m lte_reference.turbo", turbo),
 ]
 PLAIN_LOOKS += [
-    Look("crates/list_tests/src/turned.rt", f"$PY peers/tune_reference.py turn {m}", sums_of(name), all_sizes(), False)
+    Look("crates/list_tests/src/turned.rt", f"$PY -m lte_reference.tune turn {m}", sums_of(name), all_sizes(), False)
     for m, name in ((-2048, "back"), (77, "forth"))
 ]
 # with it
 LOOKS = [
     Look(
         "crates/list_tests/src/rounds_of_recordings.rt",
-        "$PY peers/second_cell.py | $PY peers/second_cancel.py",
+        "$PY -m lte_reference.cell | $PY -m lte_reference.cancel",
         lines_together,
         described(gain=[20, 9]),
     ),
-    Look("crates/top_tests/src/make.rt", "$PY peers/second_make.py 0 | $PY peers/second_search.py", lines_together),
+    Look("crates/top_tests/src/make.rt", "$PY -m lte_reference.make 0 | $PY -m lte_reference.search", lines_together),
     Look("crates/top_tests/src/evidence_of_cells.rt", CHANCE, lines_together),
     Look(
         "crates/top_tests/src/evidence_of_cells.rt",
-        "$PY peers/second_cell.py | $PY peers/second_evidence.py",
+        "$PY -m lte_reference.cell | $PY -m lte_reference.evidence",
         lines_together,
         described(),
     ),
     *(
-        Look(file, f"$PY peers/{peer}.py 90 | $PY peers/second_evidence.py {carrier}", lines_together)
+        Look(file, f"$PY -m lte_reference.{peer} 90 | $PY -m lte_reference.evidence {carrier}", lines_together)
         for peer, carrier in OTHER_CARRIERS
         for file in ("crates/top_tests/src/evidence_of_cells.rt", "docs/FORMATS.md")
     ),
-    Look("crates/list_tests/src/two_antenna_ports.rt", "$PY peers/second_pairs.py", pairs),
-    Look("crates/list_tests/src/four_antenna_ports.rt", "$PY peers/second_pairs.py --ports 4", pairs),
-    Look("crates/list_tests/src/ports.rt", "$PY peers/second_pairs.py --ports 4", pair_places),
-    Look(TRANSMISSIONS, "$PY peers/second_cell.py", table("ROW"), described(), False),
-    Look(TRANSMISSIONS, "$PY peers/second_cell.py", table("TURNED"), described(**TURNED), False),
+    Look("crates/list_tests/src/two_antenna_ports.rt", "$PY -m lte_reference.pairs", pairs),
+    Look("crates/list_tests/src/four_antenna_ports.rt", "$PY -m lte_reference.pairs --ports 4", pairs),
+    Look("crates/list_tests/src/ports.rt", "$PY -m lte_reference.pairs --ports 4", pair_places),
+    Look(TRANSMISSIONS, "$PY -m lte_reference.cell", table("ROW"), described(), False),
+    Look(TRANSMISSIONS, "$PY -m lte_reference.cell", table("TURNED"), described(**TURNED), False),
     Look(
-        "crates/capture_example/stdout", "$PY peers/second_search.py < ../crates/capture_example/stdin", lines_together
+        "crates/capture_example/stdout", "$PY -m lte_reference.search < ../crates/capture_example/stdin", lines_together
     ),
     Look(
         "",
-        "$PY peers/second_cell.py < examples/shipped_cell.json",
+        "$PY -m lte_reference.cell < examples/shipped_cell.json",
         file_itself("crates/capture_example/stdin"),
         b"",
         False,
     ),
     Look(
         "",
-        "$PY peers/second_cell.py < examples/shifted_cell.json | $PY trials/shift.py 26000 300 -180",
+        "$PY -m lte_reference.cell < examples/shifted_cell.json | $PY trials/shift.py 26000 300 -180",
         file_itself("crates/lte_tune/stdin"),
         b"",
         False,
@@ -339,22 +339,22 @@ SENT_FORMS = (
     ("LOADED_LONG_PREFIX", LONG_PREFIX, "--prefix long --load 2863311530"),
 )
 LOOKS += [
-    Look(EMISSIONS, f"$PY peers/second_cell.py {words}", table_and_sums(name), described(**keys), False)
+    Look(EMISSIONS, f"$PY -m lte_reference.cell {words}", table_and_sums(name), described(**keys), False)
     for name, keys, words in SENT_FORMS
 ]
 LOOKS += [*shown("README.md"), *shown("docs/FORMATS.md")]
-LOOKS += of_forms("$PY peers/second_cell.py < examples/plain_cell.json", PLAIN_FORMS)
-LOOKS += of_forms("$PY peers/second_two_ports.py 90", TWO_PORTS_FORMS)
-LOOKS += of_forms("$PY peers/second_four_ports.py 90", FOUR_PORTS_FORMS)
-LOOKS += of_forms("$PY peers/second_long_prefix.py 90", LONG_PREFIX_FORMS)
+LOOKS += of_forms("$PY -m lte_reference.cell < examples/plain_cell.json", PLAIN_FORMS)
+LOOKS += of_forms("$PY -m lte_reference.two_ports 90", TWO_PORTS_FORMS)
+LOOKS += of_forms("$PY -m lte_reference.four_ports 90", FOUR_PORTS_FORMS)
+LOOKS += of_forms("$PY -m lte_reference.long_prefix 90", LONG_PREFIX_FORMS)
 LOOKS += of_forms("cat ../crates/capture_example/stdin", SHOWN_FORMS)
 LOOKS += of_forms("cat ../crates/lte_tune/stdin", [("tell --json", OUTPUTS + "tell.json")])
 for n in ("0", "7", "4294967221"):
     LOOKS += [
-        Look("crates/sent_tests/src/made_recordings.rt", f"$PY peers/second_make.py -i {n}", made(n)),
-        Look("crates/sent_tests/src/two_antenna_ports.rt", f"$PY peers/second_two_ports.py -i {n}", made(n)),
-        Look("crates/sent_tests/src/four_antenna_ports.rt", f"$PY peers/second_four_ports.py -i {n}", made(n)),
-        Look("crates/list_tests/src/extended_prefix.rt", f"$PY peers/second_long_prefix.py -i {n}", made(n)),
+        Look("crates/sent_tests/src/made_recordings.rt", f"$PY -m lte_reference.make -i {n}", made(n)),
+        Look("crates/sent_tests/src/two_antenna_ports.rt", f"$PY -m lte_reference.two_ports -i {n}", made(n)),
+        Look("crates/sent_tests/src/four_antenna_ports.rt", f"$PY -m lte_reference.four_ports -i {n}", made(n)),
+        Look("crates/list_tests/src/extended_prefix.rt", f"$PY -m lte_reference.long_prefix -i {n}", made(n)),
     ]
 
 
@@ -362,6 +362,7 @@ def looked_up(look):
     """The count of patterns of a run, and a line for each that is not met."""
     words = ["bash", "-c", "set -eo pipefail; " + look.command]
     environment = {**os.environ, "PY": sys.executable, "PYTHONDONTWRITEBYTECODE": "1"}
+    environment["PYTHONPATH"] = str(TOP / "python")
     done = subprocess.run(
         words, input=look.data, cwd=TOP / "scripts", env=environment, capture_output=True, check=False
     )

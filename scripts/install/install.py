@@ -2,7 +2,7 @@
 """install.sh [PREFIX] [--jobs N] [--room DIR] [--quick] [--uninstall]
 
 Builds lte_cli and lte_tune, which proves them, and puts into PREFIX (~/.local where it is left out) both programs,
-lte_survey and lte_picture, which are scripts/tools/survey.py and picture.py over them, manual pages, completion for
+lte_survey and lte_picture, which are survey.py and picture.py of python/lte_tools over them, manual pages, completion for
 bash and zsh, and the pages (zsh finds its own where fpath has PREFIX/share/zsh/site-functions). A build that was
 stopped goes on from there; one of changed text builds what changed. --uninstall removes all of it.
 
@@ -29,9 +29,9 @@ DISK = 5_000_000_000  # bytes that a build from nothing may take
 LIST = "lib/lte_tools/installed"
 # what is put besides programs: folders or files of the repository, which of them, and where to
 FILES = (
-    ("scripts/tools", "*.py", "lib/lte_tools/scripts/tools"),
-    ("scripts/tools", "*.json", "lib/lte_tools/scripts/tools"),
-    ("scripts/peers", "*.py", "lib/lte_tools/scripts/peers"),
+    ("python/lte_tools", "*.py", "lib/lte_tools/lte_tools"),
+    ("python/lte_tools", "*.json", "lib/lte_tools/lte_tools"),
+    ("python/lte_reference", "*.py", "lib/lte_tools/lte_reference"),
     ("scripts/install/man", "*.1", "share/man/man1"),
     ("scripts/install/completion", "_*", "share/zsh/site-functions"),
     ("docs", "*", "share/doc/lte_cli/docs"),
@@ -40,7 +40,7 @@ FILES = (
 )
 WRAPPER = '''\
 #!/usr/bin/python3
-"""scripts/tools/{script}.py over the programs beside this file; install.sh put it here."""
+"""lte_tools.{script} over the programs beside this file; install.sh put it here."""
 import os
 import pathlib
 import sys
@@ -48,14 +48,13 @@ import sys
 BIN = pathlib.Path(__file__).resolve().parent
 for program in {programs}:
     os.environ.setdefault(program.upper(), str(BIN / program))
-sys.path.insert(0, str(BIN.parent / "lib/lte_tools/scripts/tools"))
-import machine
-import {script}
+sys.path.insert(0, str(BIN.parent / "lib/lte_tools"))
+from lte_tools import {script}
 
 if __name__ == "__main__":
     for name, script in {scripts}.items():
         {script}.__doc__ = {script}.__doc__.replace(f"{{script}}.py", name)
-    machine.run({script}.main)
+    {script}.main()
 '''
 
 

@@ -10,10 +10,9 @@ Debian: python3-numpy, python3-scipy, python3-matplotlib, which the scripts want
 import pathlib
 import sys
 
-sys.path.insert(1, str(pathlib.Path(__file__).resolve().parent.parent / "tools"))
-import machine
+sys.path.insert(1, str(pathlib.Path(__file__).resolve().parent.parent.parent / "python"))
+from lte_tools import machine
 
-machine.want("numpy", "scipy", "matplotlib")
 import completions
 import command_forms
 import man_pages

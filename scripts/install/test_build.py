@@ -292,7 +292,7 @@ class Put(unittest.TestCase):
     def test_again_replaces_and_removes_what_is_gone(self):
         before = self.files()
         files = install.wanted(self.programs)
-        gone = "lib/lte_tools/scripts/tools/radio.py"
+        gone = "lib/lte_tools/lte_tools/radio.py"
         del files[gone]
         self.programs["lte_cli"].write_text("another")
         install.put(self.prefix, files | {"bin/lte_cli": (b"another", True)})

@@ -3,7 +3,6 @@ import argparse
 import importlib
 import sys
 from dataclasses import dataclass
-from unittest import mock
 
 from command_forms import TOP
 
@@ -15,10 +14,6 @@ def installed(text):
     for name, script in SCRIPTS.items():
         text = text.replace(f"scripts/tools/{script}.py", name).replace(f"{script}.py", name)
     return text
-
-
-class Asked(Exception):
-    """A tool has made its parser."""
 
 
 @dataclass(frozen=True)
@@ -45,20 +40,12 @@ class Tool:
 
 
 def parser_of(script):
-    """The parser of a script, as its `main` makes it."""
-
-    def asked(parser, *_):
-        raise Asked(parser)
-
-    sys.path.insert(0, str(TOP / "scripts/tools"))
+    """The parser of a script."""
+    sys.path.insert(0, str(TOP / "python"))
     try:
-        with mock.patch.object(argparse.ArgumentParser, "parse_args", asked):
-            importlib.import_module(script).main()
-    except Asked as found:
-        return found.args[0]
+        return importlib.import_module(f"lte_tools.{script}").parser()
     finally:
         sys.path.pop(0)
-    raise ValueError(f"{script}.py asks for no arguments")
 
 
 def tools():
