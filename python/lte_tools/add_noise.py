@@ -7,24 +7,26 @@ noise. Each component is rounded, and kept within 16 bits: where that cuts more 
 
 Debian: python3-numpy. Needs lte_cli (README, "Build").
 """
+from __future__ import annotations
+
+import argparse
 import sys
 
 import numpy as np
 
-from . import machine, radio
+from . import foreign, machine, programs, radio
 from .arguments import Parser, number
 
 
-def element_of(data):
-    """The energy of a reference element of the strongest cell, as the energy that noise of it has in a sample."""
-    cells = machine.answer([machine.program("lte_cli"), "evidence", "--json"], data)
-    signals = [radio.elements(cell["power"], cell["noise"])[0] for cell in cells]
+def element_of(data: bytes) -> float:
+    """Returns the energy of a reference element of the strongest cell, as the energy that noise of it has in a sample."""
+    signals = [radio.elements(cell.power, cell.noise)[0] for cell in programs.evidence(data)]
     if not signals or max(signals) <= 0:
         raise machine.Refused("no cell in `lte_cli evidence` to measure the ratio by")
     return max(signals) / 16 / 128
 
 
-def parser():
+def parser() -> argparse.ArgumentParser:
     """Returns the parser of the arguments."""
     parser = Parser(__doc__)
     parser.add_argument("ratio", metavar="RATIO", type=number, help="Es/N0 in dB")
@@ -32,9 +34,9 @@ def parser():
     return parser
 
 
-def command():
+def command() -> None:
     args = parser().parse_args()
-    data = sys.stdin.buffer.read()
+    data = foreign.read_input(radio.LONGEST * 4)
     x, draw = radio.from_bytes(data), np.random.default_rng(args.seed)
     size = np.sqrt(element_of(data) / 10 ** (args.ratio / 10) / 2)
     x = x + size * (draw.standard_normal(len(x)) + 1j * draw.standard_normal(len(x)))
@@ -44,7 +46,7 @@ def command():
     sys.stdout.buffer.write(radio.to_bytes(x))
 
 
-def main():
+def main() -> None:
     machine.run(command, "numpy")
 
 

@@ -4,16 +4,22 @@
 The second begins LATER samples after the first (0), or before it where that is negative; where one is not, the other
 stays as it is. A sum that 16 bits do not hold is an error.
 """
+from __future__ import annotations
+
+import argparse
 import array
 import pathlib
 import sys
 
-from . import machine
+from . import foreign, machine
 from .arguments import Parser
 
+MOST_BYTES = 1_000_000_000  # of a recording
 
-def components(name):
-    data = name.read_bytes()
+
+def components(name: pathlib.Path) -> array.array[int]:
+    """Returns the components of a recording."""
+    data = foreign.read(name, MOST_BYTES)
     if len(data) % 4:
         raise machine.Refused(f"{name}: {len(data)} bytes, cut within a sample of 4")
     numbers = array.array("h", data)
@@ -22,12 +28,12 @@ def components(name):
     return numbers
 
 
-def placed(numbers, before, count):
-    """The components with so many zeros before them, and behind them up to a count."""
+def placed(numbers: array.array[int], before: int, count: int) -> array.array[int]:
+    """Returns the components with so many zeros before them, and behind them up to a count."""
     return array.array("h", bytes(2 * before)) + numbers + array.array("h", bytes(2 * (count - before - len(numbers))))
 
 
-def parser():
+def parser() -> argparse.ArgumentParser:
     """Returns the parser of the arguments."""
     parser = Parser(__doc__)
     parser.add_argument("first", metavar="FIRST", type=pathlib.Path)
@@ -36,7 +42,7 @@ def parser():
     return parser
 
 
-def command():
+def command() -> None:
     args = parser().parse_args()
     first, second, later = components(args.first), components(args.second), 2 * args.later
     before = max(0, -later), max(0, later)
@@ -50,7 +56,7 @@ def command():
     sys.stdout.buffer.write(total.tobytes())
 
 
-def main():
+def main() -> None:
     machine.run(command)
 
 

@@ -2,7 +2,6 @@
 from __future__ import annotations
 
 import argparse
-import math
 import pathlib
 import re
 from typing import Any, NoReturn
@@ -19,10 +18,15 @@ class Parser(argparse.ArgumentParser):
         self.exit(2, f"{self.prog}: {message}\n")
 
 
+GREATEST = 1e15  # absolute value of a number
+FASTEST = 1e10  # samples per second
+SHORTEST = 0.001  # seconds from one window to the next
+
+
 def number(text: str) -> float:
-    """Returns a finite number."""
+    """Returns a number whose absolute value is not above GREATEST."""
     value = float(text)
-    if not math.isfinite(value):
+    if not abs(value) <= GREATEST:
         raise ValueError(text)
     return value
 
@@ -32,6 +36,30 @@ def positive(text: str) -> float:
     value = number(text)
     if value <= 0:
         raise argparse.ArgumentTypeError(f"{text} is not above 0")
+    return value
+
+
+def rate(text: str) -> float:
+    """Returns a number of samples per second."""
+    value = positive(text)
+    if value > FASTEST:
+        raise argparse.ArgumentTypeError(f"{text} is above {FASTEST:g} samples per second")
+    return value
+
+
+def apart(text: str) -> float:
+    """Returns the seconds from one window to the next."""
+    value = positive(text)
+    if value < SHORTEST:
+        raise argparse.ArgumentTypeError(f"{text} is below {SHORTEST} s")
+    return value
+
+
+def decibels(text: str) -> float:
+    """Returns a number of decibels, -1000 to 1000."""
+    value = number(text)
+    if abs(value) > 1000:
+        raise argparse.ArgumentTypeError(f"{text} is not between -1000 and 1000 dB")
     return value
 
 

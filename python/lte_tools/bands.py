@@ -2,18 +2,20 @@
 
 The number of a carrier is 10 * (its MHz - the band's lowest) + the band's first number: they are 100 kHz apart.
 """
+from __future__ import annotations
+
 from typing import NamedTuple
 
 RASTER = 100_000  # hertz
 
 
 class Band(NamedTuple):
-    """A band's lowest frequency in hertz, its first EARFCN, and how many it has."""
+    """A band's lowest frequency in hertz, its first EARFCN, and the first that it does not have any more."""
 
     number: int
     lowest: int
     first: int
-    count: int
+    end: int
 
 
 # a band, its lowest and highest frequency in units of 100 kHz, and its first EARFCN
@@ -33,21 +35,21 @@ ROWS = (
     (88, 4220, 4270, 70596),
 )
 # fmt: on
-BANDS = tuple(Band(number, low * RASTER, first, high - low) for number, low, high, first in ROWS)
+BANDS = tuple(Band(number, low * RASTER, first, first + high - low) for number, low, high, first in ROWS)
 
 
-def frequency_of(earfcn):
-    """The hertz of a carrier's number, or nothing where no band has it."""
+def frequency_of(earfcn: int) -> int | None:
+    """Returns the hertz of a carrier's number, or None where no band has it."""
     for band in BANDS:
-        if band.first <= earfcn < band.first + band.count:
+        if band.first <= earfcn < band.end:
             return band.lowest + RASTER * (earfcn - band.first)
     return None
 
 
-def earfcns_of(hertz):
-    """Pairs of a band and the number that a frequency has in it."""
+def earfcns_of(hertz: float) -> list[tuple[int, int]]:
+    """Returns pairs of a band and the number that a frequency has in it."""
     step, beside = divmod(round(hertz), RASTER)
     if beside:
         return []
     steps = [(band, step - band.lowest // RASTER) for band in BANDS]
-    return [(band.number, band.first + n) for band, n in steps if 0 <= n < band.count]
+    return [(band.number, band.first + n) for band, n in steps if 0 <= n < band.end - band.first]

@@ -4,29 +4,33 @@
 A second checker of certificates, written from docs/FORMATS.md alone, which shares nothing with the repository's code.
 It prints what `lte_cli check` prints, or `bad certificate at byte N` to standard error.
 """
-import struct
-import sys
+from __future__ import annotations
 
-from . import machine
+import argparse
+import struct
+from typing import Callable, NoReturn, Sequence
+
+from . import foreign, machine
 from .arguments import Parser
 
+MOST_BYTES = 67_108_864  # that `lte_cli check` reads
 HEAD, TABLE = 10_501, 10_240
 TAPS = ((0, 2, 3, 5, 6), (0, 1, 2, 3, 6), (0, 1, 2, 4, 6))
 FREE = 2**32 - 1  # an entry that bounds nothing
 
 
-def refuse(place):
+def refuse(place: int) -> NoReturn:
     raise machine.Refused(f"bad certificate at byte {place}")
 
 
-def cost(values, back):
-    """The sizes of three values that disagree with the coded bits, where back(t) is the word's bit t places before."""
+def cost(values: Sequence[int], back: Callable[[int], int]) -> int:
+    """Returns the magnitudes of three values that disagree with the coded bits, where back(t) is the word's bit t places before."""
     bits = [sum(back(t) for t in taps) % 2 for taps in TAPS]
     return sum(abs(v) for v, bit in zip(values, bits) if (v > 0 and bit == 1) or (v < 0 and bit == 0))
 
 
-def branches(values):
-    """From each state, by each bit: the state, the next state and the step's cost."""
+def branches(values: Sequence[int]) -> list[tuple[int, int, int]]:
+    """Returns from each state, by each bit: the state, the next state and the step's cost."""
     return [
         (x, x // 2 + 32 * bit, cost(values, lambda t: bit if t == 0 else x >> (6 - t) & 1))
         for x in range(64)
@@ -34,8 +38,10 @@ def branches(values):
     ]
 
 
-def holds(steps, row, data, at):
-    """The last row of the table at a place, where no step rises by more than it costs."""
+def holds(
+    steps: Sequence[Sequence[tuple[int, int, int]]], row: Sequence[int], data: bytes, at: int
+) -> Sequence[int] | None:
+    """Returns the last row of the table at a place, where no step rises by more than it costs."""
     for i in range(40):
         after = struct.unpack_from("<64I", data, at + 256 * i)
         if any(row[x] != FREE and after[y] > row[x] + c for x, y, c in steps[i]):
@@ -44,8 +50,8 @@ def holds(steps, row, data, at):
     return row
 
 
-def length_of(data, at):
-    """How many bytes the certificate at a place has; refuses bytes that are none."""
+def length_of(data: bytes, at: int) -> int:
+    """Returns how many bytes the certificate at a place has; refuses bytes that are none."""
     for p, byte in enumerate(bytes.fromhex("4c544332")):
         if at + p < len(data) and data[at + p] != byte:
             refuse(at + p)
@@ -60,7 +66,8 @@ def length_of(data, at):
     return size
 
 
-def accepted(data):
+def accepted(data: bytes) -> bool:
+    """Returns whether a certificate is accepted."""
     flat = struct.unpack_from("<120h", data, 4)
     values = [flat[3 * k : 3 * k + 3] for k in range(40)]
     word = [int(bit) for bit in f'{int.from_bytes(data[244:249], "big"):040b}']
@@ -74,21 +81,24 @@ def accepted(data):
     for s in range(64):
         ends = general
         if own >> s & 1:
-            ends = holds(steps, [0 if x == s else FREE for x in range(64)], data, at)
+            own_ends = holds(steps, [0 if x == s else FREE for x in range(64)], data, at)
+            if own_ends is None:
+                return False
+            ends = own_ends
             at += TABLE
-        if ends is None or ends[s] < stated:
+        if ends[s] < stated:
             return False
     return True
 
 
-def parser():
+def parser() -> argparse.ArgumentParser:
     """Returns the parser of the arguments, of which there are none."""
     return Parser(__doc__)
 
 
-def answers_of(data):
+def answers_of(data: bytes) -> list[bool]:
     """Returns whether each of the certificates in `data` is accepted."""
-    at, answers = 0, []
+    at, answers = 0, list[bool]()
     while at < len(data):
         size = length_of(data, at)
         answers.append(accepted(data[at : at + size]))
@@ -96,15 +106,15 @@ def answers_of(data):
     return answers
 
 
-def command():
+def command() -> None:
     parser().parse_args()
-    answers = answers_of(sys.stdin.buffer.read())
+    answers = answers_of(foreign.read_input(MOST_BYTES))
     print("certificates", len(answers))
     for n, answer in enumerate(answers):
         print(n, "yes" if answer else "no")
 
 
-def main():
+def main() -> None:
     machine.run(command)
 
 

@@ -8,6 +8,9 @@ four frames or more.
 
 Debian: gnuradio.
 """
+from __future__ import annotations
+
+import argparse
 import math
 import os
 import pathlib
@@ -18,7 +21,7 @@ from .arguments import Parser, number, positive
 WANTED = 1_920_000
 
 
-def parser():
+def parser() -> argparse.ArgumentParser:
     """Returns the parser of the arguments."""
     parser = Parser(__doc__)
     parser.add_argument("source", metavar="IN", type=pathlib.Path)
@@ -29,12 +32,13 @@ def parser():
     return parser
 
 
-def command():
+def command() -> None:
+    args = parser().parse_args()
+    machine.check_packages("gnuradio")
     from gnuradio import blocks, filter as filters, gr
     from gnuradio.fft import window
     from gnuradio.filter import firdes
 
-    args = parser().parse_args()
     rate = int(args.rate)
     common = math.gcd(rate, WANTED)
     up, down = WANTED // common, rate // common
@@ -52,8 +56,8 @@ def command():
     os.replace(f"{args.sink}.part", args.sink)
 
 
-def main():
-    machine.run(command, "gnuradio")
+def main() -> None:
+    machine.run(command)
 
 
 if __name__ == "__main__":

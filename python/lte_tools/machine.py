@@ -5,6 +5,7 @@ A tool that cannot go on raises `Refused`. `run` prints that as one line on stan
 from __future__ import annotations
 
 import importlib.util
+import io
 import json
 import os
 import pathlib
@@ -53,6 +54,8 @@ def run(command: Callable[[], None], *packages: str) -> None:
     """Runs a tool's command, which needs these Python packages, and turns its refusals into one line each."""
     check_packages(*packages)
     signal.signal(signal.SIGINT, signal.default_int_handler)
+    if isinstance(sys.stdout, io.TextIOWrapper):
+        sys.stdout.reconfigure(errors="surrogateescape")  # names of files that are not UTF-8
     try:
         command()
         sys.stdout.flush()

@@ -16,97 +16,92 @@ code). What is said of the file as recorded is of its samples alone.
 
 Debian: python3-numpy, python3-scipy, python3-matplotlib. Needs lte_cli and lte_tune (README, "Build").
 """
-import json
+from __future__ import annotations
+
+import argparse
 import pathlib
+from typing import TYPE_CHECKING
 
-from . import machine
+from . import foreign, machine, options
+from .machine import Refused
+from .options import PictureOptions
+from .survey_data import Survey
 
-from . import picture_map
-from . import picture_panels
-from . import picture_view
-from . import radio_file
-from . import survey_page
-from .page import details, image, page, saved, text
-from .picture_style import begin
-from .arguments import Parser, number
+if TYPE_CHECKING:
+    from .picture_view import View
 
 
-def page_of_view(view, count):
+def survey_in(path: pathlib.Path) -> Survey | None:
+    """Returns the survey that a file of JSON has, or None if it is a file of samples."""
+    if path.suffix != ".json":
+        return None
+    return Survey.from_json(foreign.parsed(foreign.read(path, foreign.MOST_JSON), str(path)), str(path))
+
+
+def drawn(given: PictureOptions, form: str) -> bytes:
+    """Returns the bytes of what is asked for."""
+    from . import picture_panels, picture_view, radio_file
+    from .page import saved
+
+    found = survey_in(given.file)
+    if found:
+        return of_survey(found, given, form)
+    file = radio_file.opened(given)
+    file.check_holds(file.shift + (given.offset or 0), f"an offset of {given.offset or 0:,.0f} Hz")
+    view = picture_view.view_of(given, file)
+    return page_of_view(view, given.cells) if form == "html" else saved(picture_panels.sheet(view, given.cells), form)
+
+
+def page_of_view(view: View, count: int) -> bytes:
+    """Returns a page with the picture of some seconds of a file, and what the programs wrote."""
+    from . import picture_panels
+    from .page import details, image, page, text
+
     lines = "\n".join(f"<li>{text(line)}" for line in view.summary() if line)
     sheet = image(picture_panels.sheet(view, count), view.name)
     said = [details(name, value) for name, value in view.said.items()]
     return page(view.name, [f"<p>{text(view.facts)}", sheet, f"<ul>\n{lines}</ul>", *said])
 
 
-def survey_in(path):
-    """The survey that a file holds, or None."""
-    try:
-        found = json.loads(path.read_bytes())
-    except ValueError:
-        return None
-    return found if isinstance(found, dict) and {"cells", "windows", "offsets"} <= found.keys() else None
+def of_survey(found: Survey, given: PictureOptions, form: str) -> bytes:
+    """Returns the picture or the page of a survey."""
+    from . import picture_map, survey_page
+    from .page import saved
+
+    if form == "html":
+        return survey_page.page_of(found, given.title)
+    is_map = found.is_placed and not given.time
+    return saved((picture_map.map_sheet if is_map else picture_map.time_sheet)(found, given.title), form)
 
 
-def drawn(told, form):
-    """The bytes of what is asked for."""
-    found = survey_in(told.file) if told.file.suffix == ".json" else None
-    if found:
-        return of_survey(found, told, form)
-    file = radio_file.opened(told)
-    file.check_holds(file.shift + (told.offset or 0), f"an offset of {told.offset or 0:,.0f} Hz")
-    view = picture_view.view_of(told, file)
-    return page_of_view(view, told.cells) if form == "html" else saved(picture_panels.sheet(view, told.cells), form)
-
-
-def of_survey(found, told, form):
-    """Of what survey.py --json wrote."""
-    try:
-        if form == "html":
-            return survey_page.page_of(found, told.title)
-        is_map = picture_map.is_with_places(found) and not told.time
-        sheet = picture_map.map_sheet if is_map else picture_map.time_sheet
-        return saved(sheet(found, told.title), form)
-    except (KeyError, TypeError, AttributeError) as fault:
-        raise machine.Refused(f"{told.file}: not as survey.py --json writes it: {fault}") from None
-
-
-def form_of(out):
-    """The form of the output, where it can be written."""
+def form_of(out: pathlib.Path) -> str:
+    """Returns the form of the output; refuses one that cannot be written."""
     if out.suffix not in (".png", ".svg", ".html"):
-        raise machine.Refused(f"{out}: .png, .svg or .html is written")
+        raise Refused(f"{out}: .png, .svg or .html is written")
     machine.check_place(out)
     return out.suffix[1:]
 
 
-def parser():
+def parser() -> argparse.ArgumentParser:
     """Returns the parser of the arguments."""
-    parser = Parser(__doc__)
-    radio_file.add_arguments(parser)
-    parser.add_argument("-o", dest="out", metavar="OUT", type=pathlib.Path, required=True)
-    parser.add_argument("--tune", action="store_true", help="take off the offset that lte_tune tells")
-    parser.add_argument("--offset", type=number, help="hertz to take off")
-    parser.add_argument("--cells", type=int, default=4, help="how many cells are drawn (4)")
-    parser.add_argument("--time", action="store_true", help="of a survey with places: over time, in place of the map")
-    parser.add_argument("--title", help="in place of the file's name")
-    return parser
+    return options.picture_parser(__doc__)
 
 
-def arguments():
-    told = parser().parse_args()
-    if told.at < 0 or told.cells < 0:
-        raise machine.Refused("--at and --cells are not below 0")
-    return told
+def command() -> None:
+    args = parser().parse_args()
+    machine.check_packages("numpy", "scipy", "matplotlib")
+    if args.cells < 0:
+        raise Refused("--at and --cells are not below 0")
+    given = options.options_of(PictureOptions, args)
+    form, place = form_of(given.out), given.out.resolve()
+    from .picture_style import begin
 
-
-def command():
-    told = arguments()
-    form, place = form_of(told.out), told.out.resolve()
     begin()
-    machine.write(place, drawn(told, form))
+    machine.write(place, drawn(given, form))
 
 
-def main():
-    machine.run(command, "numpy", "scipy", "matplotlib")
+def main() -> None:
+    machine.run(command)
 
 
 if __name__ == "__main__":

@@ -2,25 +2,30 @@
 
 Debian: python3-numpy, python3-scipy, python3-matplotlib.
 """
+from __future__ import annotations
+
 import textwrap
-from typing import NamedTuple
+from typing import Any, NamedTuple, Sequence
 
 import numpy as np
 from matplotlib import pyplot
 from matplotlib.lines import Line2D
 from matplotlib.ticker import MaxNLocator
 
-from lte_reference import cell as reference_cell
-from lte_reference import search as reference
+import lte_reference.cell
+import lte_reference.search
 
 from . import radio
-from . import sightings
-from . import survey_table
+from .answers import Cell, Identity
 from .picture_style import COLOURS, LINES, WIDTH, carrier_text, headed, number_text
-from .picture_view import BAND
+from .picture_view import BAND, View
+from .radio import Real
+from .rules import BY_NAME, RULES
 
 
-RULES = {name: reference.RULES[words] for name, (words, _) in sightings.CARRIERS.items()}
+reference: Any = lte_reference.search
+reference_cell: Any = lte_reference.cell
+BY_RULE: dict[str, Any] = {rule.name: reference.RULES[rule.arguments] for rule in RULES}
 BINS = 48  # samples in a column of the metric
 LABELS = 16  # hits that are named
 LAST = 19_346  # the place behind the last one whose metric is compared
@@ -32,8 +37,8 @@ MHZ = 4e6  # samples per second from which on a frequency beside the file's cent
 # ---- the file as recorded
 
 
-def draw_file(figure, view):
-    """The spectrum over time and in all, and what there is to say of it."""
+def draw_file(figure: Any, view: View) -> None:
+    """Draws the spectrum over time and in all, and what there is to say of it."""
     over_time, in_all, text = figure.subplots(1, 3, gridspec_kw={"width_ratios": (2.1, 1, 1.35)})
     unit, scale, centre = frequency_unit(view)
     draw_waterfall(over_time, view, scale, centre)
@@ -49,8 +54,8 @@ def draw_file(figure, view):
     draw_nothing(text, "\n".join(view.summary()))
 
 
-def frequency_unit(view):
-    """What frequencies are told in: the words, hertz of a step, and steps at the file's centre."""
+def frequency_unit(view: View) -> tuple[str, float, float]:
+    """Returns what frequencies are told in: the words, hertz of a step, and steps at the file's centre."""
     if view.centre:
         return "MHz", 1e6, view.centre / 1e6
     if view.seen.rate > MHZ:
@@ -58,14 +63,20 @@ def frequency_unit(view):
     return "kHz beside the file's centre", 1e3, 0
 
 
-def draw_waterfall(ax, view, scale, centre):
-    """The power of each 15 kHz over time, the 1.08 MHz of the cell, and where samples are at full scale."""
+def draw_waterfall(ax: Any, view: View, scale: float, centre: float) -> None:
+    """Draws the power of each 15 kHz over time, the 1.08 MHz of the cell, and where samples are at full scale."""
     seen = view.seen
     level = 10 * np.log10(seen.power + 1e-20)
     low = centre + (seen.lowest - seen.step / 2) / scale
     ends = (0, 1000 * seen.seconds, low, low + len(level) * seen.step / scale)
     colours = pyplot.get_cmap("viridis", 40)  # few of them, so that a file stays small
-    keys = {"aspect": "auto", "interpolation": "none", "origin": "lower", "vmin": SCALE[0], "vmax": SCALE[1]}
+    keys: dict[str, Any] = {
+        "aspect": "auto",
+        "interpolation": "none",
+        "origin": "lower",
+        "vmin": SCALE[0],
+        "vmax": SCALE[1],
+    }
     image = ax.imshow(level, colours, extent=ends, **keys)
     box = {"facecolor": "black", "alpha": 0.6, "lw": 0, "pad": 1.5}
     note = {"color": "white", "transform": ax.transAxes, "bbox": box}
@@ -86,8 +97,8 @@ def draw_waterfall(ax, view, scale, centre):
     ax.figure.colorbar(image, ax=ax, label="dBFS in 15 kHz", pad=0.01)
 
 
-def draw_mean_spectrum(ax, view, scale, centre):
-    """The mean and the greatest power of each 15 kHz."""
+def draw_mean_spectrum(ax: Any, view: View, scale: float, centre: float) -> None:
+    """Draws the mean and the greatest power of each 15 kHz."""
     places = centre + view.seen.frequencies / scale
     greatest, mean = (10 * np.log10(part + 1e-20) for part in (view.seen.power.max(1), view.seen.power.mean(1)))
     ax.plot(greatest, places, ls=":", lw=0.9, color=COLOURS[5], label="greatest")
@@ -106,8 +117,8 @@ def draw_mean_spectrum(ax, view, scale, centre):
 # ---- hits
 
 
-def draw_metric(ax, view):
-    """How much of the energy is the primary signal, the greatest in each column, and the hits."""
+def draw_metric(ax: Any, view: View) -> None:
+    """Draws how much of the energy is the primary signal, the greatest in each column, and the hits."""
     energy, by_n2 = reference.metrics(view.samples)
     energy = np.array(energy, float)
     starts = np.arange(0, len(energy), BINS)
@@ -127,7 +138,7 @@ def draw_metric(ax, view):
     ax.set(xlabel="ms: hits are looked for in a frame's length", ylabel="% of 128 samples' energy", xticks=range(1, 11))
     ax.set_title("Primary signal: how much of the energy it explains")
     lines, _ = ax.get_legend_handles_labels()
-    triangle = {"marker": "v", "ls": "", "ms": 6, "color": "#444444"}
+    triangle: dict[str, Any] = {"marker": "v", "ls": "", "ms": 6, "color": "#444444"}
     lines.append(Line2D([], [], **triangle, label="hit of a listed cell,\nnamed by its list"))
     lines.append(Line2D([], [], **triangle, mfc="white", label="hit of no listed cell"))
     lines.append(Line2D([], [], ls="", label="?  two hits tell this PCI,\n    no list has it"))
@@ -135,15 +146,15 @@ def draw_metric(ax, view):
     ax.legend(handles=lines, loc="upper left", bbox_to_anchor=(1.005, 1.05), frameon=False, fontsize=7.5)
 
 
-def draw_hits(ax, view):
-    """A full triangle is a hit whose cell is listed, an empty one another; the strongest are named."""
+def draw_hits(ax: Any, view: View) -> None:
+    """Draws the detections: a full triangle is a hit whose cell is listed, an empty one another; the strongest are named."""
     hits = sorted(view.hits, key=lambda hit: -share_of(hit))
     for hit in hits:
-        colour = COLOURS[hit["n2"]]
+        colour = COLOURS[hit.n2]
         face = colour if view.cell_of(hit) else "white"
         ax.plot(milliseconds(hit), share_of(hit), "v", ms=6, mec=colour, mfc=face, zorder=3)
-    named = sorted([hit for hit in hits if view.name_of(hit)][:LABELS], key=lambda hit: hit["t"])
-    rows = []
+    named = sorted([hit for hit in hits if view.name_of(hit)][:LABELS], key=lambda hit: hit.t)
+    rows: list[float] = []
     for hit in named:
         place = milliseconds(hit)
         row = next((i for i, last in enumerate(rows) if place - last > 0.9), len(rows))
@@ -153,12 +164,12 @@ def draw_hits(ax, view):
             ax.annotate(view.name_of(hit), (place, 111 + 12 * row), ha=side, fontsize=8)
 
 
-def share_of(hit):
-    return 100 * hit["peak"] / (hit["energy"] * hit["power"])
+def share_of(hit: Identity) -> float:
+    return 100 * hit.peak / (hit.energy * hit.power)
 
 
-def milliseconds(hit):
-    return 1000 * hit["t"] / radio.RATE
+def milliseconds(hit: Identity) -> float:
+    return 1000 * hit.t / radio.RATE
 
 
 # ---- a cell
@@ -170,19 +181,20 @@ class Reading(NamedTuple):
     frames: int
     frame: int
     phase: int
-    agreement: list
+    agreement: list[int]
     cost: int
     total: int
 
 
-def reading_of(view, line):
-    """By the frames that `evidence` tells, with the second program's values."""
-    rule, its = RULES[line["rule"]], view.evidence(line)
-    identity, at, _ = sightings.place_of(line)
-    frames, frame, phase = its["frames"], its["frame"], its["phase"]
+def reading_of(view: View, line: Cell) -> Reading:
+    """Returns how it was read, by the frames that `evidence` gives, with the reference implementation's values."""
+    rule, support = BY_RULE[str(line.rule)], view.evidence(line)
+    identity, at = line.identity, line.at
+    frames, frame, phase = support.frames, support.frame, support.phase
     values = [reference.broadcast_values(view.samples, identity, at, j, rule) for j in range(frame, frame + frames)]
     sequence = reference.pseudo_random(identity, 1920)
-    flat, first = sum(values, []), rule.size * phase
+    flat: list[int] = sum(values, [])
+    first = rule.size * phase
     plain = [-value if bit else value for value, bit in zip(flat, sequence[first:])]
     order = reference.coded_reading(40)
     sums = reference.added(plain, order, first)
@@ -192,8 +204,8 @@ def reading_of(view, line):
     return Reading(frames, frame, phase, agreement, cost, sum(map(abs, agreement)))
 
 
-def draw_points(ax, values):
-    """The broadcast channel's elements, each by the values of its two bits."""
+def draw_points(ax: Any, values: Sequence[int]) -> None:
+    """Draws the broadcast channel's elements, each by the values of its two bits."""
     ax.plot(values[0::2], values[1::2], ".", ms=3.5, mew=0, color=COLOURS[0])
     ax.axhline(0, color="#555555", lw=0.6)
     ax.axvline(0, color="#555555", lw=0.6)
@@ -206,12 +218,12 @@ def draw_points(ax, values):
 class Port(NamedTuple):
     """The channel of an antenna port at its reference signals."""
 
-    kilohertz: list
-    size: np.ndarray  # dBFS
-    phase: np.ndarray  # degrees
+    kilohertz: list[float]
+    size: Real  # dBFS
+    phase: Real  # degrees
 
 
-def ports_of(view, symbols, identity, rule):
+def ports_of(view: View, symbols: Any, identity: int, rule: Any) -> list[Port]:
     seen = [row.seen for row in symbols]
     ports = []
     for port in range(rule.ports):
@@ -222,8 +234,10 @@ def ports_of(view, symbols, identity, rule):
     return ports
 
 
-def draw_channel(figure, place, view, symbols, identity, rule=reference.ONE_PORT):
-    """Size and phase of the channel at the places of the reference signals, of each antenna port apart."""
+def draw_channel(
+    figure: Any, place: Any, view: View, symbols: Any, identity: int, rule: Any = reference.ONE_PORT
+) -> None:
+    """Draws magnitude and phase of the channel at the places of the reference signals, of each antenna port apart."""
     ports = ports_of(view, symbols, identity, rule)
     rows, columns = {1: (1, 1), 2: (2, 1), 4: (2, 2)}[len(ports)]
     axes = (
@@ -233,7 +247,7 @@ def draw_channel(figure, place, view, symbols, identity, rule=reference.ONE_PORT
     )
     sizes = np.concatenate([port.size for port in ports])
     middle, reach = (sizes.min() + sizes.max()) / 2, 1.1 * max(6, (sizes.max() - sizes.min()) / 2)
-    small = {"fontsize": 7.5} if rows > 1 else {}
+    small: dict[str, Any] = {"fontsize": 7.5} if rows > 1 else {}
     for i, (ax, port) in enumerate(zip(axes, ports)):
         phases = ax.twinx()
         ax.plot(port.kilohertz, port.size, "-o", ms=2.5, lw=1, color=COLOURS[0])
@@ -256,9 +270,9 @@ def draw_channel(figure, place, view, symbols, identity, rule=reference.ONE_PORT
     axes[0].set_title("Channel, at the reference signals of slot 1")
 
 
-def draw_values(ax, reading):
-    """How much each of the 120 sums speaks for its bit of the word, and against it."""
-    reach = max(1, *map(abs, reading.agreement))
+def draw_values(ax: Any, reading: Reading) -> None:
+    """Draws how much each of the 120 sums speaks for its bit of the word, and against it."""
+    reach = max(1, max(abs(value) for value in reading.agreement))
     edges = np.linspace(-reach, reach, 42)
     values = np.array(reading.agreement)
     for part, colour, name in ((values >= 0, COLOURS[2], "for"), (values < 0, COLOURS[4], "against")):
@@ -269,16 +283,16 @@ def draw_values(ax, reading):
     ax.legend(loc="upper left", frameon=False, fontsize=7.5)
 
 
-def draw_nothing(ax, text):
-    """Lines of text alone, whose length moves no other panel."""
+def draw_nothing(ax: Any, text: str) -> None:
+    """Draws lines of text alone, whose length moves no other panel."""
     ax.axis("off")
     ax.text(0, 1, text, va="top", ha="left", transform=ax.transAxes, linespacing=1.4).set_in_layout(False)
 
 
-def draw_cell(figure, view, line):
-    """A row of four panels."""
-    reading, rule = reading_of(view, line), RULES[line["rule"]]
-    identity, at, _ = sightings.place_of(line)
+def draw_cell(figure: Any, view: View, line: Cell) -> None:
+    """Draws a row of four panels."""
+    reading, rule = reading_of(view, line), BY_RULE[str(line.rule)]
+    identity, at = line.identity, line.at
     start = at + reference.FRAME * reading.frame
     figure.suptitle(title_of(line), x=0.005, ha="left", fontsize=10, fontweight="bold")
     places = row_of(figure)
@@ -291,9 +305,9 @@ def draw_cell(figure, view, line):
     draw_nothing(figure.add_subplot(places[3]), "\n".join(fields_of(view, line, reading)))
 
 
-def draw_hit(figure, view, hit):
-    """The strongest hit, of which no cell is listed."""
-    identity, at = hit["identity"], hit["at"]
+def draw_hit(figure: Any, view: View, hit: Identity) -> None:
+    """Draws the strongest detection, of which no cell is listed."""
+    identity, at = hit.identity, hit.at
     name = view.name_of(hit) or "its identity is not sure"
     figure.suptitle(f"The strongest hit, of no listed cell: {name}", x=0.005, ha="left", fontsize=10, fontweight="bold")
     places = row_of(figure)
@@ -305,53 +319,53 @@ def draw_hit(figure, view, hit):
     draw_nothing(figure.add_subplot(places[3]), text)
 
 
-def row_of(figure):
+def row_of(figure: Any) -> Any:
     return figure.add_gridspec(1, 4, width_ratios=(1, 2.4, 1.2, 1.4))
 
 
-def title_of(line):
-    """A cell in a line: identity, networks and cell."""
-    sib1, text = line["sib1"], f"PCI {line['identity']}"
-    if "none" in sib1:
+def title_of(line: Cell) -> str:
+    """Returns a cell as a line: identity, networks and cell."""
+    sib1, text = line.sib1, f"PCI {line.identity}"
+    if sib1 is None:
         return f"{text}: no SIB1"
-    names = survey_table.networks(sib1)
+    names = sib1.networks
     more = f" and {len(names) - 3} more" if names[3:] else ""
-    return f"{text}: PLMN {' '.join(names[:3])}{more}, TAC {sib1['tac']}, cell {sib1['cell']}"
+    return f"{text}: PLMN {' '.join(names[:3])}{more}, TAC {sib1.tac}, cell {sib1.cell}"
 
 
-def fields_of(view, line, reading):
-    """The fields of a cell as lines."""
-    sib1, its = line["sib1"], view.evidence(line)
+def fields_of(view: View, line: Cell, reading: Reading) -> list[str]:
+    """Returns the fields of a cell as lines."""
+    sib1, support = line.sib1, view.evidence(line)
     lines = [
-        f"PCI {line['identity']}, rule {line['rule']}",
-        f"sample {line['at']:,} is SFN {line['sfn']}",
-        f"{line['ports']} antenna port{'s' * (line['ports'] > 1)}, {line['bandwidth'][1:]} resource blocks",
-        f"PHICH {line['duration']} {line['resource']}",
-        f"br {line['br']}, spare {line['spare']}",
+        f"PCI {line.identity}, rule {line.rule}",
+        f"sample {line.at:,} is SFN {line.sfn}",
+        f"{line.ports} antenna port{'s' * (line.ports > 1)}, {line.bandwidth[1:]} resource blocks",
+        f"PHICH {line.duration} {line.resource}",
+        f"br {line.br}, spare {line.spare}",
         "",
     ]
-    if "none" in sib1:
-        lines.append(f"no SIB1: {sib1['none']}")
+    if sib1 is None:
+        lines.append(f"no SIB1: {line.no_sib1}")
     else:
         lines += [
-            *textwrap.wrap(f"PLMN {' '.join(survey_table.networks(sib1))}", FIELD, break_on_hyphens=False),
-            f"TAC {sib1['tac']}, cell {sib1['cell']}",
-            f"eNodeB {sib1['cell'] >> 8}, its cell {sib1['cell'] & 255}",
-            f"band {sib1['band']}, {'barred' if sib1['barred'] else 'not barred'}",
-            f"q-RxLevMin {2 * sib1['q_rx']} dBm",
+            *textwrap.wrap(f"PLMN {' '.join(sib1.networks)}", FIELD, break_on_hyphens=False),
+            f"TAC {sib1.tac}, cell {sib1.cell}",
+            f"eNodeB {sib1.enodeb}, its cell {sib1.sector}",
+            f"band {sib1.band}, {'barred' if sib1.barred else 'not barred'}",
+            f"q-RxLevMin {2 * sib1.q_rx} dBm",
         ]
     lines += ["", f"cost {100 * reading.cost / (reading.total or 1):.1f} %, frames added: {reading.frames}"]
-    ratio = radio.ratio(its["power"], its["noise"], sightings.CARRIERS[line["rule"]][1])
+    ratio = radio.ratio(support.power, support.noise, BY_NAME[str(line.rule)])
     lines.append(f"level {number_text(view.level(line))} dBFS, S/N {number_text(ratio)} dB")
-    lines.append(f"primary signal {its['peak'] / 10:.1f} %")
+    lines.append(f"primary signal {support.peak / 10:.1f} %")
     return lines
 
 
 # ---- the sheet
 
 
-def sheet(view, count):
-    """The file, hits, and the first cells, or where there is none the strongest hit."""
+def sheet(view: View, count: int) -> Any:
+    """Returns the file, hits, and the first cells, or where there is none the strongest hit."""
     cells = view.cells[:count]
     rows = len(cells) or int(bool(view.hits))
     heights = [2.9, 2.5] + [3.2] * rows

@@ -1,25 +1,28 @@
-"""What a radio wrote, in a file of any length: its form, rate and size, and windows of it as recordings.
+"""Files of a radio, of any length: form, rate and size, and windows of them as recordings.
 
 Debian: python3-numpy, python3-scipy.
 """
+from __future__ import annotations
+
+import dataclasses
 import datetime
 import pathlib
 import stat
+from dataclasses import dataclass
 from fractions import Fraction
-from typing import NamedTuple
+from typing import Any, NamedTuple
 
 import numpy as np
+import numpy.typing as npt
 
-from . import radio
-from . import sigmf
+from . import radio, sigmf
 from .forms import FORMS, fault_of, is_number
 from .machine import Refused, note
+from .options import FileOptions, checked
 from .to_ci16 import converted, ratio_of
-from .arguments import number, positive
 
 LEAST = 57_600  # samples of a recording: three frames
 BESIDE = 540_000  # hertz on either side that a cell's six resource blocks take
-LOWEST = 1e6  # hertz of a carrier: less is one in megahertz
 PROBES, PROBE = 16, 16_384  # places of a file that are looked at for its form, and components of each
 # fmt: off
 SUFFIXES = {"cu8": "u8", "u8": "u8", "cs8": "s8", "ci8": "s8", "s8": "s8", "ci16": "s16", "cs16": "s16", "sc16": "s16",
@@ -30,11 +33,21 @@ TEXT = bytes([*range(7, 14), 27, *range(32, 127)])
 
 
 class Spoiled(Refused):
-    """Of samples that are no numbers."""
+    """Samples of a window are not numbers."""
 
 
-class RadioFile(NamedTuple):
-    """A file of interleaved I and Q; the cell stands so many hertz above its centre."""
+class Stretch(NamedTuple):
+    """Samples from `first` up to `end`, with the cell `shift` hertz above their centre, and the time of the first."""
+
+    first: int
+    end: int
+    shift: float
+    datetime: str | None
+
+
+@dataclass(frozen=True)
+class RadioFile:
+    """A file of interleaved I and Q; the cell is `shift` hertz above its centre."""
 
     path: pathlib.Path
     form: str
@@ -42,7 +55,7 @@ class RadioFile(NamedTuple):
     count: int  # samples
     shift: float  # hertz, in its first stretch
     carrier: float  # hertz at the cell's centre, 0 where it is not known
-    stretches: tuple = ()  # of SigMF's captures, those that have the cell
+    stretches: tuple[Stretch, ...] = ()  # of SigMF's captures, those that have the cell
     begins: int = 0  # bytes before the first sample
     channels: int = 1
     channel: int = 0
@@ -50,16 +63,16 @@ class RadioFile(NamedTuple):
     held: bytes | None = None  # its samples themselves, where they are in no file
 
     @property
-    def seconds(self):
+    def seconds(self) -> float:
         return self.count / self.rate
 
     @property
-    def rate_error(self):
+    def rate_error(self) -> float:
         """By how many millionths the rate at which it is read is above that of its samples."""
         return float(1e6 * (ratio_of(self.rate) * radio.RATE / Fraction(self.rate) - 1))
 
-    def time_at(self, second):
-        """The time of a second of it, as SigMF tells it, or nothing."""
+    def time_at(self, second: float) -> str | None:
+        """Returns the time of a second of it, as SigMF or --start has it, or None."""
         sample = round(second * self.rate)
         one = next((one for one in self.stretches if one.first <= sample < one.end), None)
         if one is None or one.datetime is None:
@@ -67,8 +80,8 @@ class RadioFile(NamedTuple):
         later = datetime.timedelta(seconds=second - one.first / self.rate)
         return (datetime.datetime.fromisoformat(one.datetime) + later).isoformat(timespec="milliseconds")
 
-    def samples(self, first, count):
-        """Samples from a place on, where 1 is full scale."""
+    def samples(self, first: int, count: int) -> radio.Complex:
+        """Returns samples from `first` on, where 1 is full scale; refuses those that are not numbers."""
         form = FORMS[self.form]
         parts = self.numbers(form.numbers, first, count)
         parts = parts[: len(parts) // (2 * self.channels) * 2 * self.channels].reshape(-1, self.channels, 2)
@@ -76,23 +89,25 @@ class RadioFile(NamedTuple):
         if self.form == "f32" and not np.all(is_number(parts)):
             raise Spoiled(f"{self.path}: no numbers of f32 near sample {first}")
         parts = (parts.astype(float) - form.middle) / form.full
-        return parts[:, 1] + 1j * parts[:, 0] if self.is_exchanged else parts[:, 0] + 1j * parts[:, 1]
+        i, q = (parts[:, 1], parts[:, 0]) if self.is_exchanged else (parts[:, 0], parts[:, 1])
+        found: radio.Complex = i + 1j * q
+        return found
 
-    def numbers(self, kind, first, count):
-        """The components of so many samples of every channel, as they were written."""
+    def numbers(self, kind: str, first: int, count: int) -> npt.NDArray[Any]:
+        """Returns the components of `count` samples of every channel, as they were written."""
         width, count = np.dtype(kind).itemsize, 2 * self.channels * count
         begins = self.begins + 2 * self.channels * width * first
         if self.held is None:
             return np.fromfile(self.path, kind, count, offset=begins)
         return np.frombuffer(self.held, kind, min(count, (len(self.held) - begins) // width), offset=begins)
 
-    def is_recording(self):
-        """Whether a second of it is a recording as it is."""
+    def is_recording(self) -> bool:
+        """Returns whether a second of it is a recording as it is."""
         plain = len(self.stretches) < 2 and not self.is_exchanged
         return plain and (self.form, self.rate, self.shift) == ("s16", radio.RATE, 0)
 
-    def recording(self, start, seconds, offset=0):
-        """The recording of a window that begins at this second, as bytes, and what full scale of the file is in it."""
+    def recording(self, start: float, seconds: float, offset: float = 0) -> tuple[bytes, float]:
+        """Returns the recording of a window that begins at second `start`, and what full scale of the file is in it."""
         first, count = round(start * self.rate), round(seconds * self.rate)
         samples = self.samples(first, count)
         if self.is_recording() and offset == 0:
@@ -101,17 +116,17 @@ class RadioFile(NamedTuple):
         scale = radio.FULL / 2 / (radio.peak(window) or 1)
         return radio.to_bytes(window * scale), scale
 
-    def shift_at(self, sample):
-        """Where the cell stands there."""
+    def shift_at(self, sample: int) -> float:
+        """Returns how many hertz the cell is above the centre at a sample."""
         return next((one.shift for one in self.stretches if one.first <= sample < one.end), self.shift)
 
-    def starts(self, at, length, every):
-        """The seconds at which windows begin, each of at least three frames and within one stretch."""
+    def starts(self, at: float, length: float, every: float) -> list[tuple[float, float]]:
+        """Returns the seconds at which windows begin and how long they are: three frames or more, within one stretch."""
         least = LEAST / radio.RATE
         if at + least > self.seconds + 1e-9:
             raise Refused(f"{self.path}: {max(0, self.seconds - at):.4f} s from second {at:g} on, and 0.03 are needed")
         ends = [(one.first / self.rate, one.end / self.rate) for one in self.stretches] or [(0, self.seconds)]
-        found = []
+        found: list[tuple[float, float]] = []
         for first, end in ends:
             begin = max(at, first)
             count = int((end - least - begin) / every + 1e-9) + 1 if begin + least <= end + 1e-9 else 0
@@ -120,114 +135,91 @@ class RadioFile(NamedTuple):
             raise Refused(f"{self.path}: no stretch of 0.03 s from second {at:g} on")
         return found
 
-    def check_holds(self, hertz, name):
-        """Refuses a frequency, so many hertz above the centre, that the file has not."""
+    def check_holds(self, hertz: float, name: str) -> None:
+        """Refuses a frequency, in hertz above the centre, that the file does not have."""
         if abs(hertz) + BESIDE > self.rate / 2:
             raise Refused(f"{self.path}: {name} is not in it: {width_text(self.rate)}")
 
 
-def width_text(rate):
-    """Which frequencies a file of this rate has."""
+def width_text(rate: float) -> str:
+    """Returns which frequencies a file of this rate has."""
     room = rate / 2 - BESIDE
     has = f"cells up to {room / 1e3:,.0f} kHz beside its centre" if room >= 0 else "less than a cell's 1.08 MHz"
     return f"{rate:,.0f} samples per second have {has}"
 
 
-# ---- words
-
-
-def add_arguments(parser):
-    """What a tool asks of a file."""
-    parser.add_argument("file", metavar="FILE", type=pathlib.Path)
-    parser.add_argument("--form", choices=[*FORMS, "sigmf"], help="by the file's name where it is left out, else s16")
-    parser.add_argument("--rate", type=positive, help="samples per second; of SigMF what it says, else 1.92e6")
-    parser.add_argument("--shift", type=number, help="hertz above the file's centre at which the cell stands (0)")
-    parser.add_argument("--carrier", type=number, default=0, help="the cell's frequency in hertz, for ppm and SigMF")
-    parser.add_argument("--at", type=number, default=0, help="the second at which to begin (0)")
-    parser.add_argument("--exchanged", action="store_true", help="Q comes before I in the file")
-    parser.add_argument("--channel", type=int, help="of several channels of SigMF this one, from 0")
-
-
 # ---- files
 
 
-def opened(told):
-    """The file that arguments tell."""
-    form = told.form or SUFFIXES.get(told.file.suffix[1:], "s16")
-    if told.carrier and told.carrier < LOWEST:
-        raise Refused(f"--carrier {told.carrier:g}: that is in hertz, 796 MHz are 796e6")
-    file = of_sigmf(told) if form == "sigmf" else of_samples(told, form)
-    file = file._replace(is_exchanged=getattr(told, "exchanged", False))
+def opened(options: FileOptions) -> RadioFile:
+    """Returns the file that options name."""
+    form = options.form or SUFFIXES.get(options.file.suffix[1:]) or "s16"
+    checked(options)
+    file = of_sigmf(options) if form == "sigmf" else of_samples(options, form)
+    file = dataclasses.replace(file, is_exchanged=options.exchanged)
+    is_carrier = options.carrier and options.shift is None
     for shift in {one.shift for one in file.stretches} or {file.shift}:
-        file.check_holds(
-            shift, f"{told.carrier:,.0f} Hz" if told.carrier and told.shift is None else f"{shift:+,.0f} Hz"
-        )
+        file.check_holds(shift, f"{options.carrier:,.0f} Hz" if is_carrier else f"{shift:+,.0f} Hz")
     check_form(file)
     return file
 
 
-def of_samples(told, form):
-    """A file of samples alone."""
-    count = whole_samples(told.file, size_of(told.file), form)
-    return RadioFile(told.file, form, whole(told.rate or radio.RATE), count, told.shift or 0, told.carrier)
+def of_samples(options: FileOptions, form: str) -> RadioFile:
+    """Returns a file of samples alone."""
+    count = whole_samples(options.file, size_of(options.file), form)
+    rate = whole(options.rate or radio.RATE)
+    return RadioFile(options.file, form, rate, count, options.shift or 0, options.carrier)
 
 
-def of_sigmf(told):
-    """A file that SigMF describes."""
-    meta = sigmf.read(told.file)
-    channel = getattr(told, "channel", None)
+def of_sigmf(options: FileOptions) -> RadioFile:
+    """Returns a file that SigMF describes."""
+    meta = sigmf.read(options.file)
+    channel = options.channel
     if meta.channels > 1 and channel is None:
-        raise Refused(f"{told.file}: {meta.channels} channels: --channel 0 to {meta.channels - 1} says which")
+        raise Refused(f"{options.file}: {meta.channels} channels: --channel 0 to {meta.channels - 1} says which")
     if not 0 <= (channel or 0) < meta.channels:
-        raise Refused(f"{told.file}: no channel {channel} of {meta.channels}")
+        raise Refused(f"{options.file}: no channel {channel} of {meta.channels}")
     size = meta.size if meta.is_archive else size_of(meta.data)
     count = whole_samples(meta.data, size, meta.form, meta.channels)
-    rate = whole(told.rate or meta.rate)
-    stretches, carrier = stretches_of(told, meta.captures, count, rate)
+    rate = whole(options.rate or meta.rate)
+    stretches, carrier = stretches_of(options, meta.captures, count, rate)
     shift = stretches[0].shift
     return RadioFile(
         meta.data, meta.form, rate, count, shift, carrier, stretches, meta.begins, meta.channels, channel or 0
     )
 
 
-class Stretch(NamedTuple):
-    """Samples from one on up to another, with the cell so many hertz above their centre."""
-
-    first: int
-    end: int
-    shift: float
-    datetime: str | None
-
-
-def stretches_of(told, captures, count, rate):
-    """The captures that have the cell, and its carrier."""
+def stretches_of(
+    options: FileOptions, captures: list[sigmf.Capture], count: int, rate: float
+) -> tuple[tuple[Stretch, ...], float]:
+    """Returns the captures that have the cell, and its carrier."""
     centres = sorted({one.centre for one in captures})
-    if not told.carrier and len(centres) > 1:
+    if not options.carrier and len(centres) > 1:
         names = " and ".join(f"{centre / 1e6:,g}" for centre in centres)
-        raise Refused(f"{told.file}: captures at {names} MHz: --carrier HZ says which")
-    if told.carrier and not all(centres) and told.shift is None:
-        note(f"{told.file}: no core:frequency in it, so the cell is looked for at the centre")
+        raise Refused(f"{options.file}: captures at {names} MHz: --carrier HZ says which")
+    if options.carrier and not all(centres) and options.shift is None:
+        note(f"{options.file}: no core:frequency in it, so the cell is looked for at the centre")
     ends = [one.first for one in captures[1:]] + [count]
     found = []
     for one, end in zip(captures, ends):
-        shift = told.shift
+        shift = options.shift
         if shift is None:
-            shift = told.carrier - one.centre if told.carrier and one.centre else 0
+            shift = options.carrier - one.centre if options.carrier and one.centre else 0
         found.append(Stretch(one.first, min(end, count), shift, one.datetime))
     held = [one for one in found if abs(one.shift) + BESIDE <= rate / 2]
     if held and len(held) < len(found):
-        note(f"{told.file}: {len(found) - len(held)} of {len(found)} captures have not this frequency")
-    return tuple(held or found[:1]), told.carrier or centres[-1]
+        note(f"{options.file}: {len(found) - len(held)} of {len(found)} captures do not have this frequency")
+    return tuple(held or found[:1]), options.carrier or centres[-1]
 
 
-def whole(rate):
-    """A whole number where it is one."""
+def whole(rate: float) -> float:
+    """Returns a whole number where it is one."""
     return int(rate) if rate == int(rate) else rate
 
 
-def whole_samples(path, size, form, channels=1):
-    """How many samples so many bytes are; the end of one that is cut is left out."""
-    width = 2 * np.dtype(FORMS[form].numbers).itemsize * channels
+def whole_samples(path: pathlib.Path, size: int, form: str, channels: int = 1) -> int:
+    """Returns how many samples `size` bytes are; the end of one that is cut is left out."""
+    width = FORMS[form].width * channels
     if cut := size % width:
         note(f"{path}: cut within a sample: {'the last byte is' if cut == 1 else f'the last {cut} bytes are'} left out")
     if size < width:
@@ -235,8 +227,8 @@ def whole_samples(path, size, form, channels=1):
     return size // width
 
 
-def size_of(path):
-    """The bytes of a file that is neither empty nor a text."""
+def size_of(path: pathlib.Path) -> int:
+    """Returns the bytes of a file that is neither empty nor a text."""
     status = path.stat()
     if not stat.S_ISREG(status.st_mode):
         kinds = {stat.S_IFDIR: "a directory", stat.S_IFIFO: "a pipe"}
@@ -250,7 +242,7 @@ def size_of(path):
     return status.st_size
 
 
-def check_form(file):
+def check_form(file: RadioFile) -> None:
     """Refuses a file whose numbers read like another form's."""
     width = np.dtype(FORMS[file.form].numbers).itemsize
     total = 2 * file.channels * file.count

@@ -1,301 +1,321 @@
-"""The cells of a window of a radio's file: what lte_cli and lte_tune say of it, with the offset taken off.
+"""The cells of a window of a radio's file: what lte_cli and lte_tune answer of it, with its frequency offset corrected.
 
 Debian: python3-numpy, python3-scipy. Needs lte_cli and lte_tune.
 """
+from __future__ import annotations
+
+import dataclasses
+from dataclasses import dataclass
 from typing import NamedTuple
 
 import numpy as np
 
-from . import machine
-from . import pilots
-from . import radio
-from . import radio_file
+from . import pilots, programs, radio
+from .answers import STEP_HERTZ, Cell, Evidence
+from .radio_file import LEAST, RadioFile, Spoiled
+from .rules import BY_NAME, RULES, Rule, reads
 
 WINDOW = 17 * radio.FRAME / radio.RATE  # seconds: what a list depends on
-CYCLE = 1024 * radio.FRAME  # samples until a frame number comes again
+CYCLE = 1024 * radio.FRAME  # samples until a frame number repeats
 NEAR = 9  # samples by which one cell's frames may differ in a list (docs/DEFINITION.md, rule 12)
-ECHO = 40  # samples by which a path of a cell may come later than its strongest one, or earlier
-STEP = radio.RATE / 128 / 128  # hertz of a turn
-TURNS = 3  # times that a window is turned by what is left
+ECHO = 40  # samples by which a path of a cell may be later than its strongest one, or earlier
+TURNS = 3  # times that a window is corrected by what is left
 FINE = 8  # hertz that may be left
-VAGUE = 250  # hertz of error from which on pilots tell nothing
-DEAR = 0.07  # cost by total from which on chance explains a line that was seen once
+VAGUE = 250  # hertz of error from which on pilots do not give an offset
+DEAR = 0.07  # cost by total from which on a line that was seen once is probably a false detection
 PARTS, PART = (3, 6, 9, 12), 4  # frames of a window from which on pilots are read again, and how many frames that takes
 
-# the words behind `evidence` for the list of a rule, and the antenna ports whose reference signals its numbers are of
-CARRIERS = {
-    "one-port": ((), 1),
-    "two-ports": (("--ports", "2"), 2),
-    "long-prefix": (("--prefix", "long"), 1),
-    "four-ports": (("--ports", "4"), 4),
-}
-READ_BY = {1: "one-port", 2: "two-ports", 4: "four-ports"}  # the rule that reads so many antenna ports
 
+@dataclass(frozen=True)
+class Task:
+    """A window of a file, in seconds, and the offset in hertz to correct at first."""
 
-class Task(NamedTuple):
-    """A window of a file, in seconds, and the offset to take off at first."""
-
-    file: radio_file.RadioFile
+    file: RadioFile
     start: float
     length: float
     offset: float = 0
+
+    def with_offset(self, offset: float) -> Task:
+        return dataclasses.replace(self, offset=offset)
 
 
 # ---- recordings
 
 
 class Window(NamedTuple):
-    """A window as a recording, what full scale of its file is in it, and hertz that were taken off."""
+    """A window as a recording, what full scale of its file is in it, and hertz that were corrected."""
 
     data: bytes
     full: float
     offset: float
 
-    def turned(self, hertz):
-        """With so many hertz more taken off."""
+    def turned(self, hertz: float) -> Window:
+        """Returns the window with `hertz` more corrected."""
         x = radio.shifted(radio.from_bytes(self.data), -hertz)
         scale = radio.FULL / 2 / (radio.peak(x) or 1)
         return Window(radio.to_bytes(scale * x), self.full * scale, self.offset + hertz)
 
-    def part(self, frame):
-        """Some frames from this one on."""
+    def part(self, frame: int) -> Window:
+        """Returns some frames from `frame` on."""
         size = 4 * radio.FRAME
         return self._replace(data=self.data[frame * size : (frame + PART) * size])
 
 
-def window_of(task):
-    """With the task's offset taken off, where there is one."""
+def window_of(task: Task) -> Window:
+    """Returns a window with the task's offset corrected, if there is one."""
     offset = task.offset if abs(task.offset) > FINE else 0
     return Window(*task.file.recording(task.start, task.length, offset), offset)
 
 
-def energy(task):
-    """The mean energy of ten milliseconds in its middle, below all where there are no numbers."""
+def energy(task: Task) -> float:
+    """Returns the mean energy of ten milliseconds in the window's middle, -1 where there are no numbers."""
     first, count = round((task.start + task.length / 2) * task.file.rate), round(task.file.rate / 100)
     try:
         x = task.file.samples(min(first, task.file.count - count), count)
-    except radio_file.Spoiled:
+    except Spoiled:
         return -1.0
     return float(np.mean(np.abs(x - x.mean()) ** 2))
 
 
-# ---- what is heard
+# ---- detections of a window
 
 
-class Heard(NamedTuple):
+@dataclass(frozen=True)
+class Detection:
     """A line of a window's list, and what `evidence` says of it, of some frames of the window."""
 
-    line: dict
-    evidence: list
-    paths: tuple = ()  # samples by which other paths of its cell are later, of which the list has lines too
+    line: Cell
+    evidence: list[Evidence]
+    paths: tuple[int, ...] = ()  # samples by which other paths of its cell are later, of which the list has lines too
 
     @property
-    def rule(self):
-        return self.line["rule"]
+    def rule(self) -> Rule:
+        return BY_NAME[str(self.line.rule)]
 
     @property
-    def share(self):
+    def share(self) -> float:
         """Cost by total."""
-        return self.evidence[0]["cost"] / self.evidence[0]["total"]
+        return self.evidence[0].share
 
     @property
-    def measured(self):
+    def measured(self) -> pilots.Measured:
         return pilots.measured(self.evidence, self.rule, self.paths)
 
 
-def heard_in(window):
-    """The lines of a window's list."""
-    listed = machine.answer([machine.program("lte_cli"), "search", "--all", "--json"], window.data)
-    support = {rule: {place_of(one): one for one in evidence_of(window, rule)} for rule in {x["rule"] for x in listed}}
-    return [Heard(line, [support[line["rule"]][place_of(line)]], paths_of(line, listed)) for line in listed]
+def detections_in(window: Window) -> list[Detection]:
+    """Returns the lines of a window's list."""
+    recording = programs.Recording(window.data)
+    found = programs.listed(Cell, ("search", "--all", "--json"), recording, "search_all")
+    used = [rule for rule in RULES if any(line.rule == rule.name for line in found)]
+    support = {rule.name: {place_of(one): one for one in evidence_of(window, rule)} for rule in used}
+    return [Detection(line, [support[str(line.rule)][place_of(line)]], paths_of(line, found.items)) for line in found]
 
 
-def paths_of(line, listed):
-    """By how many samples lines of the same cell are later, but those that are by another rule alone."""
+def paths_of(line: Cell, found: tuple[Cell, ...]) -> tuple[int, ...]:
+    """Returns by how many samples lines of the same cell are later, except those that are another rule's."""
     half, place = CYCLE // 2, epoch_of(line)
-    later = {(epoch_of(one) - place + half) % CYCLE - half for one in listed if is_of_one_cell(one, line)}
+    later = {(epoch_of(one) - place + half) % CYCLE - half for one in found if is_of_one_cell(one, line)}
     return tuple(sorted(delay for delay in later if NEAR < abs(delay) <= ECHO))
 
 
-def evidence_of(window, rule):
-    return machine.answer([machine.program("lte_cli"), "evidence", *CARRIERS[rule][0], "--json"], window.data)
+def evidence_of(window: Window, rule: Rule) -> programs.Answers[Evidence]:
+    return programs.listed(Evidence, rule.evidence, programs.Recording(window.data), "evidence")
 
 
-def matching(line, support, frame=0):
-    """Of the evidence of a window's part from this frame on what is about this line's cell."""
+def matching(line: Cell, support: programs.Answers[Evidence], frame: int = 0) -> list[Evidence]:
+    """Returns what of the evidence of a window's part, from `frame` on, is about this line's cell."""
     place = epoch_of(line)
     return [
         one
         for one in support
-        if one["identity"] == line["identity"] and distance(epoch_of(one) + radio.FRAME * frame, place) <= NEAR
+        if one.identity == line.identity and distance(epoch_of(one) + radio.FRAME * frame, place) <= NEAR
     ]
 
 
-def settled(window):
-    """A window turned until its surest cell is at 0, as far as pilots tell it, and what is heard then."""
-    heard = heard_in(window)
+def settled(window: Window) -> tuple[Window, list[Detection]]:
+    """Returns a window corrected until its surest cell is at 0, as far as pilots say, and its detections then."""
+    found = detections_in(window)
     for _ in range(TURNS):
-        hertz = to_turn(heard)
+        hertz = to_correct(found)
         if not hertz:
             break
         turned = window.turned(hertz)
-        if not (then := heard_in(turned)):
+        if not (then := detections_in(turned)):
             break
-        window, heard = turned, then
-    return window, heard
+        window, found = turned, then
+    return window, found
 
 
-def to_turn(heard):
-    """The hertz that are left of the surest cell, 0 where that is little or not sure."""
-    hertz, error = left_of_surest(heard)
+def to_correct(found: list[Detection]) -> float:
+    """Returns the hertz that are left of the surest cell, 0 where that is little or not sure."""
+    hertz, error = left_of_surest(found)
     return hertz if abs(hertz) > max(FINE, 2 * error) else 0
 
 
-def left_of_surest(heard):
-    """Its hertz, and their error."""
-    every = [one.measured for one in heard]
+def left_of_surest(found: list[Detection]) -> tuple[float, float]:
+    """Returns its hertz, and their error."""
+    every = [one.measured for one in found]
     return min(((one.hertz, one.error) for one in every), key=lambda left: left[1], default=(0, VAGUE))
 
 
-def heard_more(window, heard):
-    """Reads pilots of further frames where those of one do not tell what is left."""
-    unsure = [one for one in heard if one.measured.error > FINE]
+def add_evidence(window: Window, found: list[Detection]) -> None:
+    """Reads pilots of further frames where those of one do not say what is left."""
+    unsure = [one for one in found if one.measured.error > FINE]
     for frame in PARTS:
         part = window.part(frame)
-        if len(part.data) < 4 * radio_file.LEAST:
+        if len(part.data) < 4 * LEAST:
             break
-        support = {rule: evidence_of(part, rule) for rule in {one.rule for one in unsure}}
+        support = {rule.name: evidence_of(part, rule) for rule in {one.rule for one in unsure}}
         for one in unsure:
-            one.evidence.extend(matching(one.line, support[one.rule], frame))
+            one.evidence.extend(matching(one.line, support[one.rule.name], frame))
 
 
-def by_itself(window, one):
-    """A line with its own offset taken off, where that is sure to differ, and the window for it."""
-    told = one.measured
-    if abs(told.hertz) > max(FINE, 3 * told.error):
-        turned = window.turned(told.hertz)
-        if its := matching(one.line, evidence_of(turned, one.rule)):
-            window, one = turned, one._replace(evidence=its)
-            heard_more(window, [one])
+def by_itself(window: Window, one: Detection) -> tuple[Window, Detection]:
+    """Returns a line with its own offset corrected, where that is sure to differ, and the window for it."""
+    left = one.measured
+    if abs(left.hertz) > max(FINE, 3 * left.error):
+        turned = window.turned(left.hertz)
+        if own := matching(one.line, evidence_of(turned, one.rule)):
+            window, one = turned, dataclasses.replace(one, evidence=own)
+            add_evidence(window, [one])
     return window, one
 
 
-# ---- what is told of a window
+# ---- the offset of a window
 
 
-def told_offset(task):
-    """The offset of a window in hertz, as far as a cell is listed in it: `lte_tune` asks the list of one port alone, so
+def offset_in(task: Task) -> float | None:
+    """Returns the offset of a window in hertz, if a cell is listed in it: `lte_tune` asks the list of one port alone, so
     where that has none each of its candidates is asked of all lists."""
     try:
         window = window_of(task)
-    except radio_file.Spoiled:
+    except Spoiled:
         return None
-    answer = machine.answer([machine.program("lte_tune"), "tell", "--json"], window.data)
-    told = answer["told"]
-    if told and told["cells"]:
-        return offset_of(*settled(turned_by(window, told["turn"])))
-    for one in answer["candidates"]:
-        turned, heard = settled(turned_by(window, one["turn"]))
-        if any(its.share < DEAR for its in heard):
-            return offset_of(turned, heard)
+    answer = programs.tell(window.data)
+    if answer.told and answer.told.cells:
+        return offset_of(*settled(turned_by(window, answer.told.turn)))
+    for one in answer.candidates:
+        turned, found = settled(turned_by(window, one.turn))
+        if any(detection.share < DEAR for detection in found):
+            return offset_of(turned, found)
     return None
 
 
-def turned_by(window, turn):
-    return window.turned(turn * STEP) if turn else window
+def turned_by(window: Window, turn: int) -> Window:
+    return window.turned(turn * STEP_HERTZ) if turn else window
 
 
-def offset_of(window, heard):
-    """By the pilots of its surest cell, else what was taken off."""
-    hertz, error = left_of_surest(heard)
+def offset_of(window: Window, found: list[Detection]) -> float:
+    """Returns the offset by the pilots of its surest cell, else what was corrected."""
+    hertz, error = left_of_surest(found)
     return window.offset + (hertz if error < VAGUE else 0)
 
 
-class Sighting(NamedTuple):
+# ---- sightings
+
+
+@dataclass(frozen=True)
+class Sighting:
     """A cell in a window: a line of its list, and numbers of `evidence` of that list."""
 
     task: Task
-    line: dict
-    rules: list
-    level: float  # dBFS, or None
-    ratio: float  # dB, or None
+    line: Cell
+    rules: tuple[str, ...]
+    level: float | None  # dBFS
+    ratio: float | None  # dB
     cost: int
     total: int
     peak: int
-    taken: float  # hertz that were taken off
+    taken: float  # hertz that were corrected
     offset: float  # hertz, by its pilots
     error: float  # hertz
-    others: list  # where frame 0 begins on other paths, and their peaks
-    mib: str | None  # hexadecimal digits of the master block's bits
+    others: tuple[tuple[float, int], ...]  # where frame 0 begins on other paths, and their peaks
+    mib: str | None  # hexadecimal digits of the MIB's bits
     sib1_block: str | None  # and of those of SIB1's transport block, where it was read
 
     @property
-    def seconds(self):
+    def seconds(self) -> float:
         """When its first whole frame begins."""
-        return round(self.task.start * self.task.file.rate) / self.task.file.rate + self.line["at"] / radio.RATE
+        return round(self.task.start * self.task.file.rate) / self.task.file.rate + self.line.at / radio.RATE
 
     @property
-    def epoch(self):
+    def epoch(self) -> float:
         """Where frame number 0 begins, in samples of a recording, modulo the cycle."""
-        return (self.seconds * radio.RATE - radio.FRAME * self.line["sfn"]) % CYCLE
+        return (self.seconds * radio.RATE - radio.FRAME * self.line.sfn) % CYCLE
 
     @property
-    def share(self):
+    def share(self) -> float:
         """Cost by total."""
         return self.cost / self.total
 
     @property
-    def echoes(self):
+    def echoes(self) -> list[tuple[float, float]]:
         """Pairs of the microseconds by which a path is later than the strongest one, and its decibels by that."""
-        half, found = CYCLE / 2, []
+        half, found = CYCLE / 2, list[tuple[float, float]]()
         for place, peak in sorted(self.others):
             later = (place - self.epoch + half) % CYCLE - half
             if abs(later) > NEAR and all(abs(later - other) > NEAR for other, _ in found):
-                found.append((later, radio.decibels(peak / self.peak)))
+                found.append((later, radio.decibels(peak / self.peak) or 0.0))
         return [(1e6 * later / radio.RATE, level) for later, level in found]
 
+    def bare(self) -> Sighting:
+        """Returns the sighting without the samples that its task may hold."""
+        file = dataclasses.replace(self.task.file, held=None)
+        return dataclasses.replace(self, task=dataclasses.replace(self.task, file=file))
 
-def sightings(task):
-    """The cells of a window, each with the rules that list it; nothing where its samples are no numbers."""
+
+def sightings(task: Task) -> list[Sighting] | None:
+    """Returns the cells of a window, each with the rules that list it; None where its samples are not numbers."""
     try:
-        window, heard = settled(window_of(task))
-    except radio_file.Spoiled:
+        window, detections = settled(window_of(task))
+    except Spoiled:
         return None
-    heard_more(window, heard)
-    found = []
-    for one in heard:
+    add_evidence(window, detections)
+    found: list[Sighting] = []
+    for one in detections:
         add_line(found, sighting_of(task, *by_itself(window, one)))
     return found
 
 
-def sighting_of(task, window, one):
-    first, told = one.evidence[0], one.measured
-    numbers = (told.level(window.full), told.ratio, first["cost"], first["total"], first["peak"])
-    own = told.hertz if told.error < VAGUE else 0
-    hertz = (window.offset, window.offset + own, told.error)
-    blocks = first.get("mib"), first.get("sib1_block")
-    return Sighting(task, one.line, [one.rule], *numbers, *hertz, [], *blocks)
+def sighting_of(task: Task, window: Window, one: Detection) -> Sighting:
+    first, left = one.evidence[0], one.measured
+    return Sighting(
+        task=task,
+        line=one.line,
+        rules=(one.rule.name,),
+        level=left.level(window.full),
+        ratio=left.ratio,
+        cost=first.cost,
+        total=first.total,
+        peak=first.peak,
+        taken=window.offset,
+        offset=window.offset + (left.hertz if left.error < VAGUE else 0),
+        error=left.error,
+        others=(),
+        mib=first.mib,
+        sib1_block=first.sib1_block,
+    )
 
 
-def place_of(line):
-    return line["identity"], line["at"], line["sfn"]
+def place_of(line: Cell | Evidence) -> tuple[int, int, int]:
+    return line.identity, line.at, line.sfn
 
 
-def epoch_of(line):
-    """Where frame number 0 of a line begins."""
-    return line["at"] - radio.FRAME * line["sfn"]
+def epoch_of(line: Cell | Evidence) -> int:
+    """Returns where frame number 0 of a line begins."""
+    return line.at - radio.FRAME * line.sfn
 
 
-def distance(a, b, cycle=CYCLE):
-    """Between two places of a cycle."""
+def distance(a: float, b: float, cycle: int = CYCLE) -> float:
+    """Returns the distance between two places of a cycle."""
     return min((a - b) % cycle, (b - a) % cycle)
 
 
-def add_line(found, new):
+def add_line(found: list[Sighting], new: Sighting) -> None:
     """Adds a line of a window: to the same cell by another rule or on another path where there is one."""
     for i, old in enumerate(found):
         apart = distance(old.epoch, new.epoch)
-        if old.line["identity"] == new.line["identity"] and apart <= ECHO:
+        if old.line.identity == new.line.identity and apart <= ECHO:
             if apart <= NEAR:
                 found[i] = by_another_rule(old, new)
                 return
@@ -305,29 +325,32 @@ def add_line(found, new):
     found.append(new)
 
 
-def by_another_rule(old, new):
-    """The line that tells more, with both rules."""
-    more = max(old, new, key=lambda sighting: tells(sighting.line))
-    return more._replace(rules=old.rules + new.rules, others=old.others + new.others)
+def by_another_rule(old: Sighting, new: Sighting) -> Sighting:
+    """Returns the line that says more, with both rules."""
+    more = max(old, new, key=lambda sighting: saying(sighting.line))
+    return dataclasses.replace(more, rules=old.rules + new.rules, others=old.others + new.others)
 
 
-def on_another_path(old, new):
-    """The line of the stronger path, or of the first of equals."""
+def on_another_path(old: Sighting, new: Sighting) -> Sighting:
+    """Returns the line of the stronger path, or of the first of equals."""
     strong, weak = (old, new) if old.peak >= new.peak else (new, old)
-    others = strong.others + weak.others + [(weak.epoch, weak.peak)]
-    return strong._replace(others=others, rules=sorted({*old.rules, *new.rules}))
+    others = strong.others + weak.others + ((weak.epoch, weak.peak),)
+    return dataclasses.replace(strong, others=others, rules=tuple(sorted({*old.rules, *new.rules})))
 
 
-def is_of_one_cell(one, other):
-    return one["identity"] == other["identity"] and is_alike(one, other)
+def is_of_one_cell(one: Cell, other: Cell) -> bool:
+    return one.identity == other.identity and is_alike(one, other)
 
 
-def is_alike(one, other):
-    """Whether lines have the same master block and SIB1, as far as both have one."""
-    same = all(one[key] == other[key] for key in ("ports", "bandwidth", "duration", "resource", "br", "spare"))
-    return same and ("none" in one["sib1"] or "none" in other["sib1"] or one["sib1"] == other["sib1"])
+def is_alike(one: Cell, other: Cell) -> bool:
+    """Returns whether lines have the same MIB and SIB1, as far as both have one."""
+    same = all(
+        getattr(one, key) == getattr(other, key)
+        for key in ("ports", "bandwidth", "duration", "resource", "br", "spare")
+    )
+    return same and (one.sib1 is None or other.sib1 is None or one.sib1 == other.sib1)
 
 
-def tells(line):
-    """How much a line tells: SIB1, else a master block of the antenna ports that its rule reads."""
-    return "none" not in line["sib1"], line["rule"] == READ_BY[line["ports"]]
+def saying(line: Cell) -> tuple[bool, bool]:
+    """Returns how much a line says: SIB1, else a MIB of the antenna ports that its rule is made for."""
+    return line.sib1 is not None, reads(str(line.rule), line.ports)

@@ -1,4 +1,6 @@
 """Windows of samples as they come on standard input: a thread reads, and a ring has what waits to be looked at."""
+from __future__ import annotations
+
 import collections
 import fcntl
 import os
@@ -20,13 +22,15 @@ class Window(NamedTuple):
 class Ring:
     """Windows that wait. Where there is no room the oldest is skipped, or the reader waits."""
 
-    def __init__(self, room, waits):
+    def __init__(self, room: int, waits: bool) -> None:
         self.room, self.waits = room, waits
-        self.windows, self.changed = collections.deque(), threading.Condition()
-        self.skipped, self.size, self.begun = 0, 0, None  # windows, bytes that came, and when the first did
+        self.windows: collections.deque[Window] = collections.deque()
+        self.changed = threading.Condition()
+        self.skipped, self.size = 0, 0  # windows, and bytes that came
+        self.begun: float | None = None  # when the first byte came
         self.is_ended, self.is_stopped = False, False  # by the reader, or by a signal
 
-    def put(self, window):
+    def put(self, window: Window) -> None:
         with self.changed:
             while self.waits and len(self.windows) >= self.room and not self.is_ended:
                 self.changed.wait()
@@ -38,33 +42,33 @@ class Ring:
             self.windows.append(window)
             self.changed.notify_all()
 
-    def take(self):
-        """The oldest window, or nothing."""
+    def take(self) -> Window | None:
+        """Returns the oldest window, or None."""
         with self.changed:
             self.changed.notify_all()
             return self.windows.popleft() if self.windows else None
 
-    def is_over(self):
-        """Whether nothing waits, and nothing comes."""
+    def is_over(self) -> bool:
+        """Returns whether nothing waits, and nothing comes."""
         with self.changed:
             return self.is_ended and not self.windows
 
-    def end(self):
+    def end(self) -> None:
         with self.changed:
             self.is_ended = True
             self.changed.notify_all()
 
-    def drop(self):
+    def drop(self) -> None:
         """Skips what waits."""
         with self.changed:
             self.skipped += len(self.windows)
             self.windows.clear()
 
-    def wake(self, *_):
+    def wake(self, *_: object) -> None:
         with self.changed:
             self.changed.notify_all()
 
-    def wait(self, seconds):
+    def wait(self, seconds: float) -> None:
         with self.changed:
             self.changed.wait(seconds)
 
@@ -79,7 +83,7 @@ class Shape(NamedTuple):
     least: int
 
 
-def reading(source, ring, shape):
+def reading(source: int, ring: Ring, shape: Shape) -> None:
     """Starts a thread that reads from a descriptor into a ring, to the end or until the ring is ended."""
     try:
         fcntl.fcntl(source, fcntl.F_SETPIPE_SZ, PIPE)
@@ -91,12 +95,12 @@ def reading(source, ring, shape):
 class Reader:
     """What was read from a descriptor, and is held from a byte on."""
 
-    def __init__(self, source, ring):
+    def __init__(self, source: int, ring: Ring) -> None:
         self.source, self.ring = source, ring
         self.held = bytearray()
         self.begin = 0
 
-    def read(self, shape):
+    def read(self, shape: Shape) -> None:
         """Puts each window into the ring."""
         try:
             number = 0
@@ -113,8 +117,8 @@ class Reader:
         finally:
             self.ring.end()
 
-    def is_at(self, place):
-        """Whether what is held begins at this byte now."""
+    def is_at(self, place: int) -> bool:
+        """Returns whether what is held begins at this byte now."""
         gone = min(len(self.held), place - self.begin)
         del self.held[:gone]
         self.begin += gone
@@ -122,13 +126,13 @@ class Reader:
             self.begin += len(data)
         return self.begin == place
 
-    def fill(self, size):
+    def fill(self, size: int) -> None:
         """Holds so many bytes, or all that there are."""
         while len(self.held) < size and (data := self.more(size - len(self.held))):
             self.held += data
 
-    def more(self, size):
-        """Some bytes, none at the end."""
+    def more(self, size: int) -> bytes:
+        """Returns some bytes, none at the end."""
         data = b"" if self.ring.is_ended else os.read(self.source, min(size, PIPE))
         if data and self.ring.begun is None:
             self.ring.begun = time.time()

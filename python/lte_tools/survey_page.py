@@ -2,13 +2,15 @@
 
 Debian: python3-numpy, python3-matplotlib.
 """
-from . import machine
-from . import picture_map
-from . import survey_table
+from __future__ import annotations
+
+import pathlib
+
+from . import machine, picture_map, survey_table
+from .columns import BY_HEADING, CHANCE, meaning_of, word_meaning
 from .page import details, image, page, text
 from .picture_style import begin, facts_of
-from .places import strongest_place
-from .survey_says import COLUMNS, meaning
+from .survey_data import Survey
 
 MOST = 4_000  # lines of windows that a page has one by one
 BEFORE = ("EARFCN", "MHz")  # columns before the identity, its mark and its letter
@@ -46,56 +48,49 @@ heads.forEach((head, place) => head.firstChild.onclick = () => {
 </script>"""
 
 
-def page_of(found, title=None):
-    """The page of a survey, with a map where it has places."""
+def page_of(found: Survey, title: str | None = None) -> bytes:
+    """Returns the page of a survey, with a map where it has places."""
     rows = rows_of(found)
-    facts = facts_of(found["form"], found["rate"], found["carrier"], found["shift"])
+    facts = facts_of(found.form, found.rate, found.carrier, found.shift)
     parts = [f"<p>{text(', '.join([survey_table.head_of(found), *facts]))}."]
-    if found["hint"]:
-        parts.append(f"<p><b>{text(found['hint'])}</b>")
+    if found.hint:
+        parts.append(f"<p><b>{text(found.hint)}</b>")
     parts.append(table(rows) if rows else "<p>No cell.")
-    parts += [f"<p>{survey_table.CHANCE}."] * any(cell["chance"] for cell in found["cells"])
-    if picture_map.is_with_places(found):
+    parts += [f"<p>{CHANCE}."] * found.has_chance
+    if found.is_placed:
         says = "Map: at each place the strongest cell by letter and mark, its level by size"
         parts += ["<h2>Map</h2>", image(picture_map.map_alone(found), says)]
-    is_long = sum(len(cell["seen"]) for cell in found["cells"]) > MOST
+    is_long = sum(len(cell.seen) for cell in found.cells) > MOST
     if rows:
         says = "Level, signal to noise and frequency offset of each cell over time"
-        over = "Over frequency and time" if "scan" in found else "Over time"
+        over = "Over frequency and time" if found.scan else "Over time"
         parts += [f"<h2>{over}</h2>", image(picture_map.time_sheet(found, title), says, is_long), words_of(rows)]
-    said = ("The survey as JSON, without windows", without_windows(found)) if is_long else ("The survey as JSON", found)
-    parts += [details(*said), SCRIPT * bool(rows)]
-    return page(title or f"Survey of {found['file']}", parts, STYLE)
+    name = "The survey as JSON, without windows" if is_long else "The survey as JSON"
+    parts += [details(name, found.to_json(not is_long)), SCRIPT * bool(rows)]
+    return page(title or f"Survey of {found.file}", parts, STYLE)
 
 
-def without_windows(found):
-    """A survey without what is of single windows."""
-    cells = [{key: value for key, value in cell.items() if key != "seen"} for cell in found["cells"]]
-    track = {key: value for key, value in found.get("track", {}).items() if key != "windows"}
-    return {**found, "cells": cells, **({"track": track} if track else {})}
-
-
-def rows_of(found):
-    """The rows of the table, with letters and places where there is a map, without columns that tell nothing."""
-    rows = [survey_table.row_of(cell, found) for cell in found["cells"]]
-    if picture_map.is_with_places(found):
+def rows_of(found: Survey) -> list[dict[str, str]]:
+    """Returns the rows of the table, with letters and places where there is a map, without columns that say nothing."""
+    rows = survey_table.rows_of(found)
+    if found.is_placed:
         signs = picture_map.Map(found, picture_map.ALONE).signs
-        for i, (row, cell) in enumerate(zip(rows, found["cells"])):
-            place = strongest_place(cell)
+        for i, (row, cell) in enumerate(zip(rows, found.cells)):
+            place = cell.strongest_place
             row["map"] = signs[i][0] if i in signs else ""
             row["strongest at"] = f"{place[1]:.6f}, {place[0]:.6f}" if place else "-"
-    names = survey_table.telling(rows)
+    names = survey_table.saying(rows)
     first = [name for name in (*BEFORE, "PCI", "", "map") if name in names]
     names = first + [name for name in names if name not in first]
     return [{name: row[name] for name in names} for row in rows]
 
 
-def table(rows):
-    """The rows; each head and each word says on hovering what it means."""
-    left = {*survey_table.LEFT, "map", ""}
+def table(rows: list[dict[str, str]]) -> str:
+    """Returns the rows; each head and each word says on hovering what it means."""
+    left = {"map", *(name for name, column in BY_HEADING.items() if column.is_left)}
     kind = {name: "" if name in left else "number" for name in rows[0]}
     heads = "".join(
-        f'<th scope="col" aria-sort="none" class="{kind[name]}" title="{text(COLUMNS[name])}">'
+        f'<th scope="col" aria-sort="none" class="{kind[name]}" title="{text(meaning_of(name))}">'
         f'<button>{text(name or "?")}</button></th>'
         for name in rows[0]
     )
@@ -106,23 +101,23 @@ def table(rows):
     )
 
 
-def cell_of(name, word, kind):
-    says = meaning(name, word)
+def cell_of(name: str, word: str, kind: str) -> str:
+    says = word_meaning(name, word)
     classes = " ".join(filter(None, (kind, "word" if says and word != "-" else "")))
-    shown = f"{name or '?'}: {COLUMNS[name]}" if not says else says
+    shown = f"{name or '?'}: {meaning_of(name)}" if not says else says
     return f'<td class="{classes}" title="{text(shown)}">{text(word)}</td>'
 
 
-def words_of(rows):
-    """The words of the table, for who does not hover."""
+def words_of(rows: list[dict[str, str]]) -> str:
+    """Returns what the words of the table mean, for those who do not hover."""
     lines = []
     for name in rows[0]:
-        words = {row[name]: meaning(name, row[name]) for row in rows if row[name] not in ("", "-", "?")}
+        words = {row[name]: word_meaning(name, row[name]) for row in rows if row[name] not in ("", "-", "?")}
         said = "; ".join(f"<i>{text(word)}</i> {text(says)}" for word, says in words.items() if says)
-        lines.append(f"<dt>{text(name or '?')}<dd>{text(COLUMNS[name])}{': ' * bool(said)}{said}")
+        lines.append(f"<dt>{text(name or '?')}<dd>{text(meaning_of(name))}{': ' * bool(said)}{said}")
     return details("What the words say", f"<dl>{''.join(lines)}</dl>")
 
 
-def write(path, found):
+def write(path: pathlib.Path, found: Survey) -> None:
     begin()
     machine.write(path, page_of(found))

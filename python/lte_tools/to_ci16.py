@@ -8,6 +8,9 @@ filters to the 1.08 MHz of six resource blocks, scales the peak to half of full 
 
 Debian: python3-numpy, python3-scipy.
 """
+from __future__ import annotations
+
+import argparse
 import sys
 from fractions import Fraction
 
@@ -15,17 +18,16 @@ import numpy as np
 from scipy import signal
 
 from . import machine, radio
-from .arguments import Parser, not_negative, number, positive
+from .arguments import Parser, not_negative, number
+from .arguments import rate as rate_argument
 from .forms import FORMS, is_number
 
 PASS = 600_000  # hertz on either side: six blocks take 540,000
-
-
 NEAREST, FARTHEST = 0.5e-6, 10_000  # by which a rate may be another one, and a number of a ratio
 
 
-def ratio_of(rate):
-    """The ratio of the least numbers that is this rate by 1.92e6, or nearly so."""
+def ratio_of(rate: float) -> Fraction:
+    """Returns the ratio of the smallest numbers that is this rate by 1.92e6, or nearly so."""
     exact = Fraction(rate) / radio.RATE
     for most in (100, 300, 1_000, 3_000, FARTHEST):
         ratio = exact.limit_denominator(most)
@@ -34,44 +36,45 @@ def ratio_of(rate):
     raise machine.Refused(f"{rate:,} samples per second: nearer to 0 than any ratio to 1.92e6 that is read")
 
 
-def converted(x, rate, shift):
-    """One second at most of samples, in their own scale."""
+def converted(x: radio.Complex, rate: float, shift: float) -> radio.Complex:
+    """Returns one second at most of samples, in their own scale; the cell is `shift` hertz above the centre."""
     x = radio.shifted(x - x.mean(), -shift, rate)
     ratio = ratio_of(rate)
     x = signal.resample_poly(x, ratio.denominator, ratio.numerator)
-    return signal.oaconvolve(x, signal.firwin(129, PASS, fs=radio.RATE), "same")[: radio.LONGEST]
+    found: radio.Complex = signal.oaconvolve(x, signal.firwin(129, PASS, fs=radio.RATE), "same")[: radio.LONGEST]
+    return found
 
 
-def parser():
+def parser() -> argparse.ArgumentParser:
     """Returns the parser of the arguments."""
     parser = Parser(__doc__)
     parser.add_argument("form", metavar="TYPE", choices=list(FORMS), help="u8, s8, s16 or f32")
-    parser.add_argument("rate", metavar="RATE", type=positive, help="samples per second")
+    parser.add_argument("rate", metavar="RATE", type=rate_argument, help="samples per second")
     parser.add_argument("shift", metavar="SHIFT", nargs="?", type=number, default=0.0, help="hertz")
     parser.add_argument("start", metavar="START", nargs="?", type=not_negative, default=0.0, help="seconds")
     return parser
 
 
-def command():
+def command() -> None:
     args = parser().parse_args()
     form, rate = FORMS[args.form], args.rate
-    size = 2 * np.dtype(form.numbers).itemsize
+    size = form.width
     source = sys.stdin.buffer
     skip = int(args.start * rate) * size
     while skip > 0 and (gone := len(source.read(min(skip, 1 << 20)))):
         skip -= gone
     data = source.read(int(1.05 * rate) * size)
-    parts = np.frombuffer(data[: len(data) // size * size], form.numbers)
-    if len(parts) == 0:
+    numbers = np.frombuffer(data[: len(data) // size * size], form.numbers)
+    if len(numbers) == 0:
         raise machine.Refused("no samples")
-    if args.form == "f32" and not np.all(is_number(parts)):
+    if args.form == "f32" and not np.all(is_number(numbers)):
         raise machine.Refused("no numbers of f32 in it: is it another TYPE?")
-    parts = parts.astype(float) - form.middle
+    parts = numbers.astype(float) - form.middle
     x = converted(parts[0::2] + 1j * parts[1::2], rate, args.shift)
     sys.stdout.buffer.write(radio.to_bytes(x * (radio.FULL / 2 / (radio.peak(x) or 1))))
 
 
-def main():
+def main() -> None:
     machine.run(command, "numpy", "scipy")
 
 
