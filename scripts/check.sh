@@ -18,6 +18,7 @@ set -u
 cd "$(dirname "$0")/.." || exit 1
 python=/usr/bin/python3                 # Debian's, which has Debian's packages
 [ -x "$python" ] || python=python3
+export PYTHONPATH=$PWD/python
 failed=0
 
 check() { # check PACKAGE COMMAND WORD..: runs a command of a package of Debian
@@ -52,12 +53,16 @@ check python3 "$python" scripts/gate/documents.py
 check python3 "$python" scripts/gate/crates_picture.py docs/ARCHITECTURE.md
 check python3 "$python" scripts/gate/rows.py
 if "$python" -c 'import numpy, scipy, matplotlib' 2> /dev/null; then
-    check python3 "$python" scripts/install/made.py
+    check python3 "$python" -m lte_gate.made
 else
     echo 'left out: manual pages and completion as made now (Debian: python3-numpy, python3-scipy, python3-matplotlib)'
 fi
 check mandoc mandoc -Tlint scripts/install/man/*.1
-check python3 "$python" scripts/install/test_build.py
+if "$python" -c "import pytest" 2> /dev/null; then
+    check python3 "$python" -m pytest -c python/pyproject.toml python/tests
+else
+    echo 'left out: python/tests (Debian: python3-pytest)'
+fi
 
 program=$(realpath -m "${LTE_CLI:-crates/lte_cli/out/lte_cli}")
 export LTE_CLI=$program LTE_TUNE=${LTE_TUNE:-${program//lte_cli/lte_tune}}

@@ -8,12 +8,12 @@ ITEM = re.compile(r"(-|\d+\.) ")
 
 
 def plain(text):
-    """A text whose backslashes are no escapes."""
+    """Returns a text whose backslashes are not escapes."""
     return text.replace("\\", r"\e")
 
 
 def exact(text):
-    """A text whose hyphens, quotes and accents stay those of ASCII, to be copied from the page."""
+    """Returns a text whose hyphens, quotes and accents stay ASCII, so that it can be copied from the page."""
     text = plain(text)
     for character, escape in (("-", r"\-"), ("'", r"\(aq"), ("`", r"\(ga"), ("^", r"\(ha"), ("~", r"\(ti")):
         text = text.replace(character, escape)
@@ -25,7 +25,7 @@ def bold(words):
 
 
 def spans(text):
-    """A text in which code and what is marked as important is bold."""
+    """Returns a text in which code and marked words are bold."""
     parts, end = [], 0
     for span in SPANS.finditer(text):
         parts += [plain(text[end : span.start()]), bold(span[1]) if span[1] else rf"\fB{plain(span[2])}\fR"]
@@ -34,18 +34,18 @@ def spans(text):
 
 
 def safe(line):
-    """A line that begins no macro."""
+    """Returns a line that does not begin a macro."""
     return rf"\&{line}" if line.startswith((".", "'")) else line
 
 
 def filled(text):
-    """The lines of a paragraph."""
+    """Returns the lines of a paragraph."""
     lines = textwrap.wrap(spans(text), WIDTH, break_long_words=False, break_on_hyphens=False)
     return [safe(line) for line in lines]
 
 
 def labelled(label, text):
-    """A term, and what it says."""
+    """Returns the lines of a term and its text."""
     return [".TP", safe(label), *filled(text)]
 
 
@@ -55,7 +55,7 @@ def code(lines, is_first=False):
 
 
 def blocks(text):
-    """The blocks of a text: lines of code, of a list or of a table together, else one line."""
+    """Returns the blocks of a text: lines of code, of a list or of a table together, else one line."""
     kinds = (("code", "    "), ("table", "|"), ("head", "#"))
     found = []
     for line in text.splitlines():
@@ -70,11 +70,12 @@ def blocks(text):
 
 
 def table(lines):
-    """The rows of a table, each under its first cell, with the heads of the others before them."""
+    """Returns the rows of a table, each below its first cell; beyond two columns the others have headings."""
     heads, *rows = [[cell.strip() for cell in line.strip("|").split("|")] for line in lines if "|---" not in line]
     page = []
     for first, *others in rows:
-        page += labelled(spans(first), "; ".join(f"{head}: {cell}" for head, cell in zip(heads[1:], others)))
+        text = "; ".join(f"{head}: {cell}" for head, cell in zip(heads[1:], others)) if others[1:] else others[0]
+        page += labelled(spans(first), text)
     return page
 
 
@@ -87,7 +88,7 @@ def items(lines):
 
 
 def of_markdown(text):
-    """The macros of a text; heads below its own are subsections."""
+    """Returns the macros of a text; headings below its own are subsections."""
     page, is_first = [], True
     for kind, lines in blocks(text):
         if kind == "head":

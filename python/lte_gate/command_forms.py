@@ -1,23 +1,19 @@
-"""The forms of words of lte_cli and lte_tune, from the text of their `help` (the source that has `_HELP: &str`): the one
-table of which manual pages and completion are made.
+"""The command forms of lte_cli and lte_tune, from the text of their `help` (the constants `_HELP: &str`): the one table
+from which manual pages and completion are made.
 """
 import itertools
-import pathlib
 import re
 from dataclasses import dataclass, field
 
-TOP = pathlib.Path(__file__).resolve().parent.parent.parent
-# what a word in capitals stands for, as a regular expression of the words that are meant
+from .repository import TOP, Refused
+
+# the words that a word in capitals stands for, as a regular expression
 NUMBERS = {"N": "0|[1-9][0-9]*", "M": "0|-?[1-9][0-9]*"}
-
-
-class Unread(Exception):
-    """The line that says what of the source is not read."""
 
 
 @dataclass(frozen=True)
 class Option:
-    """Words that may be left out, as `--ports 2`, and what they change."""
+    """Optional words, as `--ports 2`, and what they change."""
 
     words: str
     says: str
@@ -25,7 +21,7 @@ class Option:
 
 @dataclass
 class Form:
-    """A line of help: words, those in brackets left out or not, and what they ask for."""
+    """A line of help: its words, the optional ones in brackets, and their meaning."""
 
     words: str
     says: str
@@ -36,12 +32,12 @@ class Form:
         return self.words.split()[0].rstrip(",")
 
     def sequences(self):
-        """Each sequence of words that the form allows, those that leave least out first."""
+        """Returns each sequence of words that the form allows, the longest first."""
         parts = [self.choices(part) for part in re.findall(r"\[[^]]*\]|[^][]+", self.words) if part.strip()]
         return [tuple(word for part in chosen for word in part) for chosen in itertools.product(*parts)]
 
     def choices(self, part):
-        """What may stand at a place of the line: `[A | B]` is A, B or nothing, and `A, B` one of them."""
+        """Returns the alternatives of a part of the line: `[A | B]` is A, B or nothing, `A, B` is A or B."""
         if not part.startswith("["):
             return [tuple(words.split()) for words in part.split(", ")]
         names = [option.words for option in self.options] if part == "[RULE]" else part[1:-1].split(" | ")
@@ -61,30 +57,30 @@ class Program:
 
 
 def found(name, pattern):
-    """What a pattern finds in the sources of this name."""
+    """Returns all matches of a pattern in the sources of this name."""
     sources = sorted(TOP.glob(f"crates/*/src/{name}"))
     return [one for file in sources for one in re.findall(pattern, file.read_text(encoding="utf-8"), re.M | re.S)]
 
 
 def programs():
-    """The two programs."""
+    """Returns both programs."""
     texts = found("pages.rt", r'^const \w+_HELP: &str = "\\\n(.*?)";$')
     if len(texts) != 2:
-        raise Unread(f"crates/*/src/pages.rt: {len(texts)} texts of help, and not 2")
+        raise Refused(f"crates/*/src/pages.rt: {len(texts)} texts of help, and not 2")
     return [program_of(text) for text in texts]
 
 
 def program_of(text):
-    """The program of a text of help."""
+    """Returns the program of a help text."""
     usage, *lines = text.splitlines()
     name = re.fullmatch(r"usage: (\w+) .*", usage)
     if not name:
-        raise Unread(f"no line of usage: {usage}")
+        raise Refused(f"no line of usage: {usage}")
     forms = []
     for line in lines:
         words, colon, says = line.partition(": ")
         if not colon:
-            raise Unread(f"{name[1]}: a line of help without a colon: {line}")
+            raise Refused(f"{name[1]}: a line of help without a colon: {line}")
         if line.startswith("  "):
             forms[-1].options.append(Option(words.strip(), says))
         else:
@@ -93,8 +89,8 @@ def program_of(text):
 
 
 def version():
-    """The version of both programs."""
-    told = found("version.rt", r'\bVERSION: &str = "([^"]+)"')
-    if len(told) != 1:
-        raise Unread(f"crates/*/src/version.rt: {len(told)} versions, and not 1")
-    return told[0]
+    """Returns the version of both programs."""
+    numbers = found("version.rt", r'\bVERSION: &str = "([^"]+)"')
+    if len(numbers) != 1:
+        raise Refused(f"crates/*/src/version.rt: {len(numbers)} versions, and not 1")
+    return numbers[0]

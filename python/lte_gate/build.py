@@ -1,14 +1,13 @@
-#!/usr/bin/env python3
-"""build.py ROOM CRATE.. [--jobs N]
+"""build ROOM CRATE.. [--jobs N]
 
-Builds crates of this repository and all that they stand on, in the folder ROOM: each once, behind those that it uses,
+Builds crates of this repository and all crates below them, in the folder ROOM: each once, after those that it uses,
 those with the longest chain of others above them first, as many side by side as there are processors and memory. What
-an earlier run built of the same text stays. A program ends as ROOM/built/NAME/NAME.
+an earlier run built from the same text stays. A program ends as ROOM/built/NAME/NAME.
 
 The kit makes a library by `rt lib` in its folder, and a program by `rt run`. Such a command locks the folders of its
-crate and of all below, so two of one checkout wait for each other. So ROOM has as many copies of the sources as crates
-are built at once, and each gets the libraries that the others made, by further names of the same files: what is built
-is never built again. What a command says is in ROOM/logs.
+crate and of all below, so two in one checkout wait for each other. So ROOM has as many copies of the sources as crates
+are built at once, and each gets the libraries that the others made, as hard links: what is built is never built again.
+The kit's script runs by kit_once.py, which spares it most of its checksums. The output of each command is in ROOM/logs.
 """
 import argparse
 import contextlib
@@ -20,16 +19,19 @@ import shutil
 import signal
 import subprocess
 import sys
+import threading
 import time
 from dataclasses import dataclass
 
-from crates import PARTS, Crates, Refused
+from .crates_list import PARTS, Crates
+from .repository import TOP, Refused, run
 
-TOP = pathlib.Path(__file__).resolve().parent.parent.parent
-SHARE = 0.85  # of the free memory that checks may take
-FURTHER = 0.6  # of a check's memory that a further process of it takes
-MOST = 4  # processes of one check
-KILLED = (-signal.SIGKILL, 256 - signal.SIGKILL)  # how the kit ends where its check was killed, most likely for memory
+SHARE = 0.85  # the part of the free memory that checks may take
+FURTHER = 0.6  # the part of a check's memory that each further process of it takes
+MOST = 4  # the maximum of processes of one check
+KILLED = (-signal.SIGKILL, 256 - signal.SIGKILL)  # the kit's status if its check was killed, most likely for memory
+GRACE = 10  # seconds that a command has to end before it is killed
+KIT_ONCE = pathlib.Path(__file__).with_name("kit_once.py")
 
 
 @dataclass
@@ -45,7 +47,7 @@ class Running:
 
 
 def number_in(path, pattern):
-    """A number in a file of the system, or None."""
+    """Returns a number in a file of the system, or None."""
     try:
         return int(re.search(pattern, pathlib.Path(path).read_text(encoding="utf-8"))[1])
     except (OSError, TypeError):
@@ -53,14 +55,14 @@ def number_in(path, pattern):
 
 
 def processors():
-    """How many processors may be used, under the quota of the control group too."""
+    """Returns how many processors may be used, within the quota of the control group."""
     count, quotas = len(os.sched_getaffinity(0)), "/sys/fs/cgroup/cpu.max"
     quota, period = number_in(quotas, r"^(\d+)"), number_in(quotas, r" (\d+)")
     return min(count, max(1, quota // period)) if quota and period else count
 
 
 def free_memory():
-    """Bytes that are free, under the limit of the control group too."""
+    """Returns how many bytes are free, within the limit of the control group."""
     free = 1024 * number_in("/proc/meminfo", r"MemAvailable:\s+(\d+)")
     limit, held = number_in("/sys/fs/cgroup/memory.max", r"(\d+)"), number_in(
         "/sys/fs/cgroup/memory.stat", r"anon (\d+)"
@@ -69,18 +71,29 @@ def free_memory():
 
 
 def kit():
-    """The kit's name for itself."""
+    """Returns the kit's name for itself."""
     try:
         done = subprocess.run(["rt", "version"], capture_output=True, text=True, check=False)
     except OSError:
-        raise Refused("rt is missing: the kit of Rattle is not there, or not in PATH") from None
+        raise Refused("rt is missing: Rattle's kit is not installed, or not in PATH") from None
     if done.returncode or not done.stdout.strip():
-        raise Refused("rt version fails: the kit of Rattle is not whole")
+        raise Refused("rt version fails: Rattle's kit is incomplete")
     return done.stdout.strip()
 
 
+def logic_of(text):
+    """Returns the name of the kit's logic, by which kits of several letters prove the same, or the text without one."""
+    found = re.search(r"\blogic [0-9a-f]+", text)
+    return found[0] if found else text
+
+
+def kit_command():
+    """Returns the words that run the kit's script with its checksums kept."""
+    return [sys.executable or "python3", str(KIT_ONCE), shutil.which("rt") or "rt"]
+
+
 def second_names(source, target):
-    """Gives the files of a library further names, or copies where the disk has none; the kit never writes into one."""
+    """Links a library's files into another folder, or copies them if links fail; the kit never writes into one."""
 
     def link(old, new):
         try:
@@ -121,7 +134,7 @@ class Room:
         self.filled.add(copy)
 
     def copy_for(self, name, taken):
-        """The copy in which to build a crate: one where the kit kept work of it, else the first that is free."""
+        """Returns the copy in which to build a crate: one with kept work of it, else the first free."""
         free = [copy for copy in self.copies if copy not in taken]
         copy = next((copy for copy in free if (copy / "crates" / name / "out/incremental").is_dir()), free[0])
         if copy not in self.filled:
@@ -129,20 +142,21 @@ class Room:
         return copy
 
     def is_built(self, name):
-        """Whether what is there of a crate is of its text."""
-        told = self.built / name / "sum"
-        return told.is_file() and told.read_text(encoding="utf-8") == self.sums[name]
+        """Returns whether the library or program in the room was built from the crate's present text."""
+        kept = self.built / name / "sum"
+        return kept.is_file() and kept.read_text(encoding="utf-8") == self.sums[name]
 
     def start(self, name, copy, jobs):
         """Starts the kit's command for a crate over the libraries that are built."""
         folder = copy / "crates" / name
         for low in self.crates.below[name]:
             second_names(self.built / low / "rlib", copy / "crates" / low / "out/rlib")
-        words = ["rt", "lib", "--jobs", str(jobs)]
+        words = ["lib", "--jobs", str(jobs)]
         if self.crates.by_name[name].is_program:
-            words = ["rt", "run", "--jobs", str(jobs), "--", "version"]
+            words = ["run", "--jobs", str(jobs), "--", "version"]
+        how = {"cwd": folder, "stdin": subprocess.DEVNULL, "stderr": subprocess.STDOUT}
         with (self.logs / f"{name}.log").open("wb") as log:
-            return subprocess.Popen(words, cwd=folder, stdin=subprocess.DEVNULL, stdout=log, stderr=subprocess.STDOUT)
+            return subprocess.Popen([*kit_command(), *words], stdout=log, **how)
 
     def keep(self, name, copy):
         """Keeps what a command made, and whether it made it."""
@@ -167,6 +181,34 @@ class Room:
             shutil.rmtree(copy, ignore_errors=True)
 
 
+class Stop:
+    """Notes SIGINT and SIGTERM while it is entered, and raises KeyboardInterrupt only where it is asked.
+
+    A signal's exception may come anywhere: in `Popen`, whose process is then started and unknown, or after
+    `Popen.poll` took its lock, for which `Popen.wait` then waits for ever.
+    """
+
+    def __init__(self):
+        self.is_asked, self.before = False, {}
+
+    def note(self, *_):
+        self.is_asked = True
+
+    def __enter__(self):
+        if threading.current_thread() is threading.main_thread():
+            self.before = {it: signal.signal(it, self.note) for it in (signal.SIGINT, signal.SIGTERM)}
+        return self
+
+    def __exit__(self, *_):
+        for number, handler in self.before.items():
+            signal.signal(number, handler)
+
+    def look(self):
+        """Raises KeyboardInterrupt if a signal came."""
+        if self.is_asked:
+            raise KeyboardInterrupt
+
+
 class Build:
     """Crates being built side by side."""
 
@@ -176,23 +218,25 @@ class Build:
         self.done = {name for name in self.crates if room.is_built(name)}
         self.left = sorted((name for name in self.crates if name not in self.done), key=lambda name: -chains[name])
         self.running, self.killed, self.since = [], set(), time.monotonic()
+        self.stop = Stop()
 
     def run(self):
-        """Builds all that is left, or says which crate was not built."""
+        """Builds all crates that are left, or raises for the crate that was not built."""
         if self.done:
             self.say(f"{self.count()} are there from an earlier run")
-        try:
-            while self.left or self.running:
-                self.start_all()
-                self.end(self.first_ended())
-        finally:
-            self.stop()
+        with self.stop:
+            try:
+                while self.left or self.running:
+                    self.start_all()
+                    self.end(self.first_ended())
+            finally:
+                self.end_all()
 
     def count(self):
         return f"{len(self.done)} of {len(self.crates)} crates"
 
     def start_all(self):
-        """Starts what can begin: crates over what is built, as many as processors and memory hold."""
+        """Starts each crate whose libraries are built, as many as processors and memory hold."""
         ready = [name for name in self.left if self.done.issuperset(self.crates.below[name])]
         for place, name in enumerate(ready):
             idle = len(self.room.copies) - sum(one.jobs for one in self.running)
@@ -209,17 +253,19 @@ class Build:
             self.running.append(Running(name, copy, memory, jobs, time.monotonic(), process))
 
     def first_ended(self):
+        """Waits until a command ends, and returns it."""
         while True:
+            self.stop.look()
             for one in self.running:
                 if one.process.poll() is not None:
                     return one
             time.sleep(0.05)
 
     def end(self, one):
-        """Takes what a command made; where it made nothing, the build ends."""
+        """Takes the library or program that a command made, or raises if it made none."""
         self.running.remove(one)
         if one.process.returncode in KILLED and one.name not in self.killed:
-            self.say(f"{one.name} was killed, most likely for memory: once more, with nothing beside it")
+            self.say(f"{one.name} was killed, most likely for memory: once more, with nothing next to it")
             self.killed.add(one.name)
             self.left.insert(0, one.name)
             return
@@ -229,12 +275,16 @@ class Build:
         took = time.monotonic() - one.since
         self.say(f"{self.count()}, {minutes(time.monotonic() - self.since)}: {one.name} in {took:.0f} s")
 
-    def stop(self):
-        """Ends what still runs; what the kit kept of it serves the next run."""
+    def end_all(self):
+        """Ends all commands that still run; the work that the kit kept serves the next run."""
         for one in self.running:
             one.process.terminate()
         for one in self.running:
-            one.process.wait()
+            try:
+                one.process.wait(GRACE)
+            except subprocess.TimeoutExpired:
+                one.process.kill()
+                one.process.wait()
 
 
 def minutes(seconds):
@@ -243,7 +293,7 @@ def minutes(seconds):
 
 @contextlib.contextmanager
 def alone(folder):
-    """Holds a room against a second build in it."""
+    """Keeps a second build out of a room while it is entered."""
     folder.mkdir(parents=True, exist_ok=True)
     with (folder / "lock").open("w") as lock:
         try:
@@ -266,7 +316,7 @@ def remove(folder):
 
 
 def build(top, folder, names, jobs, say):
-    """Builds these crates of a repository in a room, and gives where their programs are."""
+    """Builds these crates of a repository in a room, and returns the paths of their programs by name."""
     crates = Crates(top, names)
     with alone(folder):
         room = Room(folder, crates, min(jobs, len(crates)))
@@ -276,34 +326,27 @@ def build(top, folder, names, jobs, say):
     return {name: room.built / name / name for name in names if crates.by_name[name].is_program}
 
 
-def run(main, name="build.py"):
-    """Runs a command; what it refuses is one line on standard error."""
-    signal.signal(signal.SIGTERM, signal.default_int_handler)
-    try:
-        main()
-    except Refused as refusal:
-        sys.exit(f"{name}: {refusal}")
-    except OSError as fault:
-        sys.exit(f"{name}: {fault.filename or 'output'}: {fault.strerror}")
-    except KeyboardInterrupt:
-        sys.exit(f"{name}: stopped; the same command goes on from here")
-
-
 def at_least_one(text):
+    """Returns a number above 0."""
     if not text.isdigit() or int(text) < 1:
-        raise argparse.ArgumentTypeError(f"{text} is no whole number above 0")
+        raise argparse.ArgumentTypeError(f"{text} is not a whole number above 0")
     return int(text)
 
 
+def parser():
+    """Returns the parser of the command's arguments."""
+    made = argparse.ArgumentParser("build", description=__doc__, formatter_class=argparse.RawDescriptionHelpFormatter)
+    made.add_argument("room", metavar="ROOM", type=pathlib.Path)
+    made.add_argument("crates", metavar="CRATE", nargs="+")
+    made.add_argument("--jobs", type=at_least_one, default=processors(), help="processes at once (one a processor)")
+    made.add_argument("--top", type=pathlib.Path, default=TOP, help="the repository (this one)")
+    return made
+
+
 def main():
-    parser = argparse.ArgumentParser(description=__doc__, formatter_class=argparse.RawDescriptionHelpFormatter)
-    parser.add_argument("room", metavar="ROOM", type=pathlib.Path)
-    parser.add_argument("crates", metavar="CRATE", nargs="+")
-    parser.add_argument("--jobs", type=at_least_one, default=processors(), help="processes at once (one a processor)")
-    parser.add_argument("--top", type=pathlib.Path, default=TOP, help="the repository (this one)")
-    told = parser.parse_args()
-    build(told.top.resolve(), told.room.resolve(), told.crates, told.jobs, lambda text: print(text, flush=True))
+    args = parser().parse_args()
+    build(args.top.resolve(), args.room.resolve(), args.crates, args.jobs, lambda text: print(text, flush=True))
 
 
 if __name__ == "__main__":
-    run(main)
+    run(main, "build")

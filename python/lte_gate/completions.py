@@ -1,11 +1,11 @@
-"""Completion for bash and zsh: of lte_cli and lte_tune exactly the words of their forms, in their order; of the scripts
-their options, what may stand behind these, and files.
+"""Completion for bash and zsh: for lte_cli and lte_tune exactly the words of their forms, in their order; for the tools
+their options, the values of these, and files.
 """
 import shlex
 
-import command_forms
+from . import command_forms
 
-MADE = "# Made by scripts/install/made.py --write: what it is made of is to be changed, not this file."
+MADE = "# Made by scripts/gate.sh made --write: change its sources, not this file."
 
 BASH_PROGRAM = """\
 # bash completion for {name}
@@ -88,22 +88,25 @@ _arguments \\
 
 
 def numbers(template):
+    """Returns the lines for words that stand for numbers."""
     return "\n".join(
         template.format(letter=letter, pattern=pattern) for letter, pattern in command_forms.NUMBERS.items()
     )
 
 
 def program_text(template, number, program):
-    """The completion of a program in a shell."""
+    """Returns the completion of a program in a shell."""
     lines = "\n".join(" ".join(sequence) for sequence in program.sequences())
     return template.format(name=program.name, made=MADE, forms=lines, numbers=numbers(number))
 
 
 def takes_file(action):
+    """Returns whether an option's value is a path."""
     return getattr(action.type, "__name__", "") == "Path"
 
 
 def bash_tool(tool):
+    """Returns the completion of a tool in bash."""
     values = []
     for action in tool.options:
         pattern = " | ".join(action.option_strings)
@@ -118,7 +121,7 @@ def bash_tool(tool):
 
 
 def zsh_option(action, word):
-    """An option in the language of zsh's `_arguments`."""
+    """Returns an option in the language of zsh's `_arguments`."""
     says = (action.help or "").replace("[", "\\[").replace("]", "\\]").replace(":", "\\:")
     value = ""
     if action.choices:
@@ -132,6 +135,7 @@ def zsh_option(action, word):
 
 
 def zsh_tool(tool):
+    """Returns the completion of a tool in zsh."""
     options = [zsh_option(action, word) for action in tool.options for word in action.option_strings]
     options += [f"*:{action.dest}:_files" for action in tool.places]
     lines = " \\\n".join(f"    {shlex.quote(option)}" for option in options)
@@ -139,7 +143,7 @@ def zsh_tool(tool):
 
 
 def texts(programs, scripts):
-    """Each file of completion by its name."""
+    """Returns each completion file by its name."""
     found = {}
     for program in programs:
         found[f"{program.name}.bash"] = program_text(BASH_PROGRAM, BASH_NUMBER, program)
