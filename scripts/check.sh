@@ -47,10 +47,10 @@ if [[ $(black --version 2> /dev/null) == *' 23.'* ]]; then
 else
     echo 'left out: black, which formats by its version (Debian 12: black 23)'
 fi
-check python3 "$python" scripts/gate/edits.py
+check python3 "$python" -m lte_gate.edits
 check python3 "$python" scripts/gate/comments.py
-check python3 "$python" scripts/gate/documents.py
-check python3 "$python" scripts/gate/crates_picture.py docs/ARCHITECTURE.md
+check python3 "$python" -m lte_gate.documents
+check python3 "$python" -m lte_gate.crates_picture docs/ARCHITECTURE.md
 check python3 "$python" scripts/gate/rows.py
 if "$python" -c 'import numpy, scipy, matplotlib' 2> /dev/null; then
     check python3 "$python" -m lte_gate.made

@@ -1,5 +1,5 @@
-"""What a file of a crate defines and what it names, read from its text alone: `rust_file` of src/, `antt_file` of specs/
-and proofs/. stands.py looks whether one meets the other.
+"""Rattle source, read from its text alone: what a file defines and names (`rust_file` for src/, `antt_file` for specs/
+and proofs/), the functions and paragraphs of a file with their lines, its comments, and its crate's root file.
 """
 import collections
 import dataclasses
@@ -15,6 +15,8 @@ ENUM = re.compile(r"^(?:pub(?:\([^)]*\))? )?enum (\w+)[^{]*\{(.*?)^\}", re.M | r
 VARIANT = re.compile(r"^    (\w+)", re.M)
 BLOCK = re.compile(r"^(?:pub(?:\([^)]*\))? )?(impl|trait)\b(?:<(?:[^<>]|<[^<>]*>)*>)? ?([^{\n]*)\{?", re.M)
 METHOD = re.compile(r"^( *)(?:pub(?:\([^)]*\))? )?(?:(?:const|unsafe|ghost) )*fn (\w+)", re.M)
+DEFINED = re.compile(r"\s*(?:(?:abbrev|unfoldable|pub|record|data|module) )*([^\s:]+)")
+COMMENT = re.compile(r"\s*(--|//[/!]?)(?:\s+|$)(?:---- )?(.*)")
 USE = re.compile(r"^ *(pub(?:\([^)]*\))? )?use ([^;]+);", re.M)
 GHOST_USE = re.compile(r"^ *ghost use ([^;]+);", re.M)
 ANTT_USE = re.compile(r"^ *use (Rattle\.[^\s{]+(?:\{[^}]*\})?)", re.M)
@@ -40,7 +42,7 @@ class Named:
 
 @dataclasses.dataclass(frozen=True)
 class Cases:
-    """Cases of one type that are told apart without a rest: in code by the type's name, in equations without it."""
+    """Cases of a type that a match or equations have without a rest; only a match has the type's name."""
 
     line: int
     what: str
@@ -75,19 +77,110 @@ class AnttFile:
 
 
 def line_at(text, at):
+    """Returns the number of the line at an offset."""
     return text.count("\n", 0, at) + 1
+
+
+# ---- pieces of a file, with their lines
+
+
+@dataclasses.dataclass(frozen=True)
+class Function:
+    """A function in the layout of `rt fmt`: its type if it has one, its name, and its lines, from 1."""
+
+    owner: str
+    name: str
+    first: int
+    last: int
+
+
+@dataclasses.dataclass(frozen=True)
+class Comment:
+    """Comment lines of one mark that follow one another: the first line's number, their count, the mark, the words."""
+
+    line: int
+    count: int
+    mark: str
+    words: str
+
+
+def last_line_of(lines, first, indent):
+    """Returns the last line of the function whose head is line `first`, both from 1, in a text without comments."""
+    depth = 0
+    for at in range(first, len(lines) + 1):
+        line = lines[at - 1].rstrip()
+        depth += sum((letter in OPENING) - (letter in CLOSING) for letter in line)
+        if depth == 0 and (line == f"{indent}}}" or line.endswith((" {}", "{}", ";"))):
+            return at
+    return len(lines)
+
+
+def owner_of(line):
+    """Returns the type that the head of a block `impl` or `trait` names, else its trait, with a capital letter."""
+    head = re.sub(r"<.*?>|\bwhere\b.*", "", BLOCK.match(line)[2])
+    names = [re.sub(r"\W.*", "", part.strip(" &").split("::")[-1]) for part in reversed(head.split(" for "))]
+    name = next(filter(None, names), "")
+    return name[:1].upper() + name[1:]
+
+
+def functions_of(text):
+    """Returns the functions of a file of src/, those inside of others too."""
+    lines, found, owner = quiet(text).split("\n"), [], ""
+    for first, line in enumerate(lines, 1):
+        head = METHOD.match(line)
+        if BLOCK.match(line):
+            owner = owner_of(line)
+        elif head:
+            found.append(Function(owner if head[1] else "", head[2], first, last_line_of(lines, first, head[1])))
+    return found
+
+
+def paragraphs_of(text):
+    """Yields each paragraph of a file of specs/ or proofs/: its first name, its first line, from 1, its lines."""
+    part = []
+    for at, line in enumerate([*text.split("\n"), ""]):
+        if line.strip():
+            part.append(line)
+        elif part:
+            first = next((number for number, line in enumerate(part) if not line.strip().startswith("--")), 0)
+            yield DEFINED.match(part[first])[1], at - len(part) + first + 1, part[first:]
+            part = []
+
+
+def comments_of(text):
+    """Yields the comments of a file."""
+    first, mark, words = 0, "", []
+    for number, line in enumerate([*text.split("\n"), ""], 1):
+        found = COMMENT.match(line)
+        if words and (not found or found[1] != mark):
+            yield Comment(first, len(words), mark, " ".join(words).strip())
+            words = []
+        if found:
+            first, mark = (first, mark) if words else (number, found[1])
+            words.append(found[2])
+
+
+def root_of(crate):
+    """Returns the text of a crate's root file, of a library or of a program."""
+    files = [crate / "src/lib.rt", crate / "src/main.rt"]
+    return next((file.read_text(encoding="utf-8") for file in files if file.exists()), "")
+
+
+def is_of_tests(crate):
+    """Returns whether a crate of this name is of tests."""
+    return crate.endswith("_tests") or crate in ("test_support", "published_calls")
 
 
 # ---- src/
 
 
 def quiet(text):
-    """A text of src/ without comments and what stands in quotes, line by line."""
+    """Returns a text of src/ without comments and the contents of quotes, line by line."""
     return QUIET.sub(lambda found: "" if found[0][0] == "/" else '""' + "\n" * found[0].count("\n"), text)
 
 
 def split_outside(text, mark):
-    """The parts of a text between marks that stand in no bracket."""
+    """Returns the parts of a text between marks that are in no bracket."""
     parts, depth, begun = [], 0, 0
     for at, letter in enumerate(text):
         depth += (letter in OPENING) - (letter in CLOSING)
@@ -98,7 +191,7 @@ def split_outside(text, mark):
 
 
 def leaves(tree, before=()):
-    """The paths of a tree of `use`, each with the name that the file has for it."""
+    """Yields the paths of a tree of `use`, each with the file's name for it."""
     tree = tree.strip()
     if tree.endswith("}"):
         front, _, rest = tree.partition("{")
@@ -113,7 +206,7 @@ def leaves(tree, before=()):
 
 
 def dotted(words):
-    """The paths of an import `Rattle.A.B.{x, y as z}` or `Rattle.A.B as z`, each with the name that the file has."""
+    """Returns the paths of an import `Rattle.A.B.{x, y as z}` or `Rattle.A.B as z`, each with its alias."""
     path, brace, rest = words.partition("{")
     parts = tuple(path.split(" as ")[0].strip().removesuffix(".").split("."))
     if not brace:
@@ -131,7 +224,7 @@ def blocks_of(text):
 
 
 def methods_of(text):
-    """The functions of a file, each below its type where it has one."""
+    """Yields the functions of a file, each with its type if it has one."""
     blocks = list(blocks_of(text))
     for found in METHOD.finditer(text):
         inside = [name for at, name in blocks if at < found.start()]
@@ -139,7 +232,7 @@ def methods_of(text):
 
 
 def end_of(text, at):
-    """Where the bracket ends that opens at a place."""
+    """Returns the offset at which the bracket at an offset ends."""
     depth = 0
     for place in range(at, len(text)):
         depth += (text[place] in OPENING) - (text[place] in CLOSING)
@@ -149,7 +242,7 @@ def end_of(text, at):
 
 
 def arms_of(text):
-    """The patterns of a match, from what stands in its braces."""
+    """Yields the patterns of a match, from the text in its braces."""
     at = 0
     while "=>" in text[at:]:
         arrow = text.index("=>", at)
@@ -165,7 +258,7 @@ def arms_of(text):
 
 
 def matches_of(text):
-    """The cases of each match whose patterns are all cases of one type, without a rest."""
+    """Yields the cases of each match whose patterns are all cases of one type, without a rest."""
     blocks = list(blocks_of(text))
     for found in MATCH.finditer(text):
         opened = found.end()
@@ -182,7 +275,7 @@ def matches_of(text):
 
 
 def mentions_of(text):
-    """Where a name with a small letter stands behind a type, as a case does, and both; each once."""
+    """Returns each pair of a type and a case-like name after it, with the first line that has it."""
     seen = {}
     for found in MENTION.finditer(text):
         seen.setdefault((found[1], found[2]), line_at(text, found.start()))
@@ -211,7 +304,7 @@ def rust_file(text):
 
 
 def cases_of(text, variants):
-    """The cases of each function by equations that has at one place nothing but cases of one type."""
+    """Yields the cases of each function by equations that has only cases of one type at one place."""
     groups = collections.defaultdict(list)
     for found in EQUATION.finditer(text):
         groups[found[1], found[2]].append((line_at(text, found.start()), split_outside(found[3], " ")))

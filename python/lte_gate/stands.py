@@ -1,5 +1,4 @@
-#!/usr/bin/env python3
-"""stands.py [--all] [BASE[..END]]
+"""stands [--all] [BASE[..END]]
 
 Tells of each commit behind BASE, up to END (HEAD where none is named), whether its crates stand as a whole by their
 names: each `use` of a module, an item or a case of the tree's crates, and each import in src/, specs/ and proofs/, is of
@@ -15,11 +14,11 @@ import dataclasses
 import functools
 import pathlib
 import subprocess
-import sys
 
-from names import antt_file, rust_file
+from .crates_list import entries
+from .rattle_source import antt_file, rust_file
+from .repository import TOP, Refused, run
 
-TOP = pathlib.Path(__file__).resolve().parent.parent.parent
 LANDED = "origin/main"
 FOREIGN = ("", (), "")
 OUR_OWN = ("crate", "self", "super")
@@ -32,11 +31,11 @@ MADE = ("Given", "Goals")
 
 
 def git(*words):
-    """What git prints; where it fails, its last line is the script's."""
+    """Returns what git prints; if it fails, the refusal has its last line."""
     done = subprocess.run(["git", *words], cwd=TOP, capture_output=True, encoding="utf-8", errors="replace")
     if done.returncode:
         last = (done.stderr.strip().splitlines() or ["nothing found"])[-1]
-        sys.exit(f"stands.py: git {words[0]}: {last}")
+        raise Refused(f"git {words[0]}: {last}")
     return done.stdout
 
 
@@ -48,7 +47,7 @@ class Blobs:
         self.process = subprocess.Popen(words, cwd=TOP, stdin=subprocess.PIPE, stdout=subprocess.PIPE)
 
     def text(self, name):
-        """A text, or nothing where there is none."""
+        """Returns a text, or nothing if there is none."""
         self.process.stdin.write(f"{name}\n".encode())
         self.process.stdin.flush()
         head = self.process.stdout.readline().split()
@@ -71,7 +70,7 @@ class Crate:
 
 
 def module_of(path):
-    """The module of a file of src/, as a path."""
+    """Returns the module of a file of src/, as a path."""
     parts = tuple(path.removesuffix(".rt").split("/")[1:])
     return parts[:-1] if parts[-1] in ("lib", "main", "mod") else parts
 
@@ -115,12 +114,11 @@ class Tree:
 
     def __init__(self, crates, text):
         self.crates = crates
-        lines = [line.split(":") for line in text.splitlines() if ":" in line and not line.startswith("#")]
-        self.below = {name.strip(): frozenset(names.split()) for name, names in lines}
+        self.below = {entry.name: frozenset(entry.below) for entry in entries(text)}
         self.order = {name: place for place, name in enumerate(self.below)} if "stand above it" in text else {}
 
     def all_below(self, name):
-        """The crates of the tree that a crate stands on, and those below them."""
+        """Returns the crates of the tree below a crate."""
         found, waiting = set(), [name]
         while waiting:
             more = self.below.get(waiting.pop(), frozenset()) & self.crates.keys() - found
@@ -129,7 +127,7 @@ class Tree:
         return sorted(found)
 
     def item(self, crate, module, name, outside, tried=()):
-        """The crate, module and name that define an item of a module, FOREIGN or None."""
+        """Returns the crate, module and name that define an item of a module, FOREIGN or None."""
         file = self.crates[crate].src.get(module)
         if file is None or (crate, module, name) in tried:
             return None
@@ -140,7 +138,7 @@ class Tree:
         return None
 
     def walk(self, crate, module, rest, outside, tried=()):
-        """What a path stands for from a module on."""
+        """Returns what a path names, from a module on."""
         file = self.crates[crate].src.get(module)
         if file is None:
             return None
@@ -153,7 +151,7 @@ class Tree:
         return self.inside(found, rest[1:], outside, tried) if found and len(rest) > 1 else found
 
     def inside(self, found, rest, outside, tried):
-        """What stands in an item: a case of an enum, or something of a module that is published anew."""
+        """Returns what a path names in an item: a case of an enum, or something in a module that is published again."""
         if found == FOREIGN:
             return FOREIGN
         crate, module, name = found
@@ -163,7 +161,7 @@ class Tree:
         return self.walk(crate, (*module, name) if name else module, rest, outside, tried)
 
     def used(self, crate, module, path, tried=()):
-        """What a path of `use` in a module stands for."""
+        """Returns what a path of `use` in a module names."""
         file, first = self.crates[crate].src[module], path[0]
         if first == "crate":
             return self.walk(crate, (), path[1:], False, tried)
@@ -177,7 +175,7 @@ class Tree:
         return self.walk(crate, module, path, False, tried) if is_own else FOREIGN
 
     def variants(self, found):
-        """The cases of an enum, or None of what is no enum."""
+        """Returns the cases of an enum, or None if it is not an enum."""
         if not found or found == FOREIGN:
             return None
         return self.crates[found[0]].src[found[1]].variants.get(found[2])
@@ -187,7 +185,7 @@ class Tree:
 
 
 def declared_fault(crate, path, name):
-    """Of a type that src/ declares, and of a name in it."""
+    """Returns what is wrong with an import of a type that src/ declares, or of a name in it, or None."""
     place = next((at for at, part in enumerate(path) if part in INNER), len(path))
     module, kind = path[: place - 1], path[place - 1]
     if path[-1] == "TheConstants":
@@ -201,7 +199,7 @@ def declared_fault(crate, path, name):
 
 
 def made_fault(crate, path):
-    """Of what is made of a function: one of a module, or of a type of one, whose functions may stand in another."""
+    """Returns what is wrong with an import of what is made of a function of a module or of a type, or None."""
     *front, name = path[:-1] + (path[-1].removeprefix("+"),)
     own = crate.src.get(tuple(front))
     if own and ("", name) in own.methods:
@@ -212,7 +210,7 @@ def made_fault(crate, path):
 
 
 def defined_fault(crate, path, name, outside):
-    """Of a definition or a lemma."""
+    """Returns what is wrong with an import of a definition or a lemma, or None."""
     file, lib = crate.antt.get(path), crate.antt.get((path[0], "Lib"))
     if file is None:
         return f"{crate.name} has no {'.'.join(path)}"
@@ -224,7 +222,7 @@ def defined_fault(crate, path, name, outside):
 
 
 def import_fault(tree, crate, named):
-    """What is wrong with an import of the kit's names, or None."""
+    """Returns what is wrong with an import of the kit's names, or None."""
     other, path = named.path[1], named.path[2:]
     if other not in (crate.name, *ALWAYS_THERE) and other not in tree.below.get(crate.name, ()):
         return f"crates.txt has no {other} for {crate.name}"
@@ -242,7 +240,7 @@ def import_fault(tree, crate, named):
 
 
 def use_fault(tree, crate, module, named):
-    """What is wrong with a `use`, or None."""
+    """Returns what is wrong with a `use`, or None."""
     first, file = named.path[0], crate.src[module]
     is_own = first in (*OUR_OWN, *ALWAYS_THERE, *file.modules, *file.variants)
     is_other = not is_own and (first in tree.crates or first not in file.exports)
@@ -254,25 +252,27 @@ def use_fault(tree, crate, module, named):
 
 
 def case_fault(variants, cases):
-    """Which cases are left out, or not there, or None."""
+    """Returns which cases are missing, or None."""
     lacking = [name for name in variants or () if name not in cases.names]
     return f"{cases.what} is without {', '.join(lacking)}" if lacking else None
 
 
 def enum_of(tree, crate, module, name):
-    """The cases of the enum that a file of src/ calls by a name."""
-    return tree.variants(tree.used(crate.name, module, tuple(name.split("::"))) or None)
+    """Returns the cases of the enum that a file of src/ calls by a name, of which it may have a `use`."""
+    path, exports = tuple(name.split("::")), crate.src[module].exports
+    path = exports[path[0]][1] + path[1:] if path[0] in exports else path
+    return tree.variants(tree.used(crate.name, module, path) or None)
 
 
 def antt_enum_of(tree, path):
-    """The cases of the enum that an import of its cases names."""
+    """Returns the cases of the enum whose cases an import names."""
     crate = tree.crates.get(path[1])
     file = crate and crate.src.get(path[4:-1])
     return file.variants.get(path[-1]) if file else None
 
 
 def faults_of(tree, crate):
-    """Each fault of a crate, with its place."""
+    """Yields each fault of a crate, with its place."""
     for key, file in crate.src.items():
         where = crate.paths[key]
         for name in file.modules - file.inner:
@@ -331,29 +331,34 @@ class Judge:
 
 
 def commits_of(words):
-    """The commits behind a base up to an end, the first of them first."""
+    """Returns the commits after a base up to an end, the oldest first."""
     base, _, end = words.partition("..")
     base = base or git("merge-base", "HEAD", LANDED).strip()
     return git("rev-list", "--reverse", f"{base}..{end or 'HEAD'}", "--").split()
 
 
+def parser():
+    """Returns the parser of the command's arguments."""
+    made = argparse.ArgumentParser("stands", description=__doc__, formatter_class=argparse.RawDescriptionHelpFormatter)
+    made.add_argument("--all", action="store_true", help="every fault")
+    made.add_argument("commits", metavar="BASE[..END]", nargs="?", default="")
+    return made
+
+
 def main():
-    parser = argparse.ArgumentParser(description=__doc__, formatter_class=argparse.RawDescriptionHelpFormatter)
-    parser.add_argument("--all", action="store_true", help="every fault")
-    parser.add_argument("commits", metavar="BASE[..END]", nargs="?", default="")
-    words = parser.parse_args()
-    judge, commits, fallen = Judge(), commits_of(words.commits), 0
+    args = parser().parse_args()
+    judge, commits, fallen = Judge(), commits_of(args.commits), 0
     for commit in commits:
         faults = judge.faults(commit)
         if faults:
             fallen += 1
             subject = git("log", "-1", "--format=%h %s", commit).strip()
             print(f"{subject}: {len(faults)} faults, {faults[0]}", flush=True)
-            for fault in faults[1:] if words.all else ():
+            for fault in faults[1:] if args.all else ():
                 print(f"    {fault}")
     print(f"{len(commits)} commits, {fallen} do not stand")
     return 1 if fallen else 0
 
 
 if __name__ == "__main__":
-    sys.exit(main())
+    run(main, "stands")

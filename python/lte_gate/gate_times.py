@@ -1,15 +1,15 @@
-#!/usr/bin/env python3
-"""gate_times.py [WORD ..]
+"""gate_times [WORD ..]
 
 Runs `rt ci WORD ..` at the top of the repository and prints, as a Markdown table, the processor time (user and system)
 that each crate took of it: its proof, its tests (which prove the crate and the tests), the seed of its edits (one more
-check, with which they begin) and the edits themselves. What `rt ci` says goes to standard error. `gate_times.py --anew`
+check, with which they begin) and the edits themselves. What `rt ci` says goes to standard error. `gate_times --anew`
 measures the whole gate from nothing. The status is that of `rt ci`.
 
 Each second it looks at the processes below `rt ci`, so of each its last second is missed; a process that another of
 them started counts as a part of that one. The last line has what was not seen of any crate: the tests' runs, the
 programs' runs, and `rt ci` itself.
 """
+import argparse
 import collections
 import os
 import pathlib
@@ -20,13 +20,14 @@ import sys
 import threading
 import time
 
-TOP = pathlib.Path(__file__).resolve().parent.parent.parent
+from .repository import TOP, run
+
 TICK = os.sysconf("SC_CLK_TCK")
 KINDS = ("proof", "tests", "seed", "edits")
 
 
 def processes():
-    """Of each process: its parent, when it began, and its seconds with those of its ended children."""
+    """Returns, by process, its parent, its start, and its seconds with those of its ended children."""
     found = {}
     for name in os.listdir("/proc"):
         if name.isdigit():
@@ -40,7 +41,7 @@ def processes():
 
 
 def below(root, found):
-    """The processes below one."""
+    """Returns the processes below one."""
     children = collections.defaultdict(list)
     for number, (parent, _, _) in found.items():
         children[parent].append(number)
@@ -53,7 +54,7 @@ def below(root, found):
 
 
 def kind_of(words, folder):
-    """Of which crate a process is, and what it does for it, or None."""
+    """Returns the crate that a process works on, and the kind of work, or None."""
     if (
         len(words) < 2
         or not words[0].endswith("/rattle")
@@ -106,10 +107,19 @@ class Sampler:
         return sums, counts
 
 
+def parser():
+    """Returns the parser of the command's arguments, which are those of `rt ci`."""
+    how = {"description": __doc__, "formatter_class": argparse.RawDescriptionHelpFormatter}
+    made = argparse.ArgumentParser("gate_times", **how)
+    made.add_argument("words", metavar="WORD", nargs=argparse.REMAINDER)
+    return made
+
+
 def main():
+    words = parser().parse_args().words
     began = time.time()
     sampler, ended = Sampler(), threading.Event()
-    with subprocess.Popen(["rt", "ci", *sys.argv[1:]], cwd=TOP, stdin=subprocess.DEVNULL, stdout=sys.stderr) as gate:
+    with subprocess.Popen(["rt", "ci", *words], cwd=TOP, stdin=subprocess.DEVNULL, stdout=sys.stderr) as gate:
 
         def look():
             while not ended.wait(1):
@@ -143,4 +153,4 @@ def main():
 
 
 if __name__ == "__main__":
-    sys.exit(main())
+    run(main, "gate_times")

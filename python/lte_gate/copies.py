@@ -1,5 +1,4 @@
-#!/usr/bin/env python3
-"""copies.py [--likeness PERCENT] [--list] [FOLDER]
+"""copies [--likeness PERCENT] [--list] [FOLDER]
 
 Counts near copies: in src/ of functions with their clauses, in specs/ of paragraphs of definitions, in proofs/ of
 paragraphs of lemmas and definitions, and apart from these of the functions of crates of tests. A piece counts from 6
@@ -18,17 +17,16 @@ import collections
 import dataclasses
 import pathlib
 import re
-import sys
 
 import numpy
 
-TOP = pathlib.Path(__file__).resolve().parent.parent.parent
+from .rattle_source import functions_of, is_of_tests, paragraphs_of
+from .repository import TOP, Refused, run
+
 ROOMS = ("src", "tests", "specs", "proofs")
 LEAST = {"src": 6, "tests": 6, "specs": 3, "proofs": 6}
 BUCKETS = 128
 TOKEN = re.compile(r"\w+|[^\w\s]")
-FUNCTION = re.compile(r"( *)(?:pub(?:\(\w+\))? )?(?:(?:const|unsafe|ghost) )*fn (\w+)")
-DEFINED = re.compile(r"\s*(?:(?:abbrev|unfoldable|pub|record|data|module) )*([^\s:]+)")
 
 
 @dataclasses.dataclass(frozen=True)
@@ -62,55 +60,39 @@ class Family:
 # ---- the pieces
 
 
-def functions_of(lines):
-    """Each function's first line, by number from 0, its name and its lines, by the layout of `rt fmt`."""
-    at = 0
-    while at < len(lines):
-        found, first = FUNCTION.match(lines[at]), at
-        if found:
-            opened, inner = False, len(found[1]) + 1
-            while at < len(lines):
-                outer = lines[at][:inner].strip() != ""
-                opened = opened or (outer and lines[at].endswith("{"))
-                if outer and lines[at].strip() in ("}", "{}") or lines[at].endswith(" {}"):
-                    break
-                if not opened and lines[at].endswith(";"):
-                    break
-                at += 1
-            yield first, found[2], lines[first : at + 1]
-        at += 1
+def outermost(functions):
+    """Yields the functions that are in no other."""
+    last = 0
+    for function in functions:
+        if function.first > last:
+            last = function.last
+            yield function
 
 
-def paragraphs_of(lines):
-    """Each paragraph's first line, by number from 0, its first name and its lines: they end with a blank one."""
-    part = []
-    for at, line in enumerate([*lines, ""]):
-        if line.strip():
-            part.append(line)
-        elif part:
-            first = next((number for number, line in enumerate(part) if not line.strip().startswith("--")), 0)
-            yield at - len(part) + first, DEFINED.match(part[first])[1], part[first:]
-            part = []
+def parts_of(text, is_code):
+    """Yields the name, the first line and the lines of each function, or of each paragraph."""
+    if not is_code:
+        yield from paragraphs_of(text)
+        return
+    lines = text.split("\n")
+    for function in outermost(functions_of(text)):
+        yield function.name, function.first, lines[function.first - 1 : function.last]
 
 
 def pieces_of(room, crate, file, top):
-    lines = file.read_text(encoding="utf-8").split("\n")
+    """Yields the pieces of a file."""
     is_code = file.suffix == ".rt"
     mark = "//" if is_code else "--"
-    for first, name, part in functions_of(lines) if is_code else paragraphs_of(lines):
+    for name, first, part in parts_of(file.read_text(encoding="utf-8"), is_code):
         kept = [line for line in part if line.strip() and not line.strip().startswith((mark, "use "))]
         if len(kept) >= LEAST[room]:
             bare = [re.sub(rf"(?:^|\s){mark} .*", "", line) for line in kept]
             tokens = tuple(TOKEN.findall(" ".join(bare)))
-            yield Piece(room, crate, f"{file.relative_to(top)}:{first + 1}", name, len(kept), tokens)
-
-
-def is_of_tests(crate):
-    return crate.endswith("_tests") or crate in ("test_support", "published_calls")
+            yield Piece(room, crate, f"{file.relative_to(top)}:{first}", name, len(kept), tokens)
 
 
 def house(top):
-    """The pieces of each room."""
+    """Returns the pieces of each room."""
     pieces = {room: [] for room in ROOMS}
     for file in sorted(top.glob("crates/*/*/**/*")):
         crate, folder = file.relative_to(top).parts[1:3]
@@ -124,7 +106,7 @@ def house(top):
 
 
 def common(one, other):
-    """The length of the longest common subsequence of two lists of tokens, a bit of a number for each of the first."""
+    """Returns the length of the longest common subsequence of two token lists, with one bit per token of the first."""
     places = collections.defaultdict(int)
     for at, token in enumerate(one):
         places[token] |= 1 << at
@@ -137,7 +119,7 @@ def common(one, other):
 
 
 def counts_of(pieces):
-    """How often each piece has tokens of each bucket: no more can be common than the less of two counts."""
+    """Returns, by piece, how many tokens each bucket has: the lesser of two counts bounds what is common."""
     numbers = {}
     counts = numpy.zeros((len(pieces), BUCKETS), dtype=numpy.int16)
     for row, piece in zip(counts, pieces):
@@ -147,7 +129,7 @@ def counts_of(pieces):
 
 
 def alike(pieces, percent):
-    """Of each piece, by number, the later ones that are like it, each with its likeness in percent."""
+    """Yields, by piece number, the later pieces that are like it, each with its likeness in percent."""
     counts = counts_of(pieces)
     lengths = counts.sum(axis=1, dtype=numpy.int64)
     for head, piece in enumerate(pieces):
@@ -161,7 +143,7 @@ def alike(pieces, percent):
 
 
 def families_of(pieces, percent):
-    """The families of a room, greatest first."""
+    """Returns the families of a room, the largest first."""
     ordered = sorted(pieces, key=lambda piece: (-piece.lines, -len(piece.tokens), piece.place))
     taken, families = set(), []
     for head, others in alike(ordered, percent):
@@ -176,7 +158,7 @@ def families_of(pieces, percent):
 
 
 def table(pieces, families):
-    """The table of the rooms, and of all."""
+    """Yields the lines of the table of all rooms."""
     yield "| Room | pieces | families | lines | of these over several crates |"
     yield "| --- | --- | --- | --- | --- |"
     sums = [0, 0, 0, 0]
@@ -196,23 +178,28 @@ def listed(families):
             yield f"  {likeness:3.0f} % {piece.lines:4} {piece.place} {piece.name}"
 
 
+def parser():
+    """Returns the parser of the command's arguments."""
+    made = argparse.ArgumentParser("copies", description=__doc__, formatter_class=argparse.RawDescriptionHelpFormatter)
+    made.add_argument("--likeness", metavar="PERCENT", type=float, default=80.0)
+    made.add_argument("--list", action="store_true", help="each family too, with its places")
+    made.add_argument("folder", metavar="FOLDER", nargs="?", type=pathlib.Path, default=TOP)
+    return made
+
+
 def main():
-    parser = argparse.ArgumentParser(description=__doc__, formatter_class=argparse.RawDescriptionHelpFormatter)
-    parser.add_argument("--likeness", metavar="PERCENT", type=float, default=80.0)
-    parser.add_argument("--list", action="store_true", help="each family too, with its places")
-    parser.add_argument("folder", metavar="FOLDER", nargs="?", type=pathlib.Path, default=TOP)
-    words = parser.parse_args()
-    if not 0 < words.likeness <= 100:
-        sys.exit("copies.py: a likeness is above 0 and at most 100 percent")
-    if not (words.folder / "crates").is_dir():
-        sys.exit(f"copies.py: no crates in {words.folder}")
-    pieces = house(words.folder)
-    families = {room: families_of(pieces[room], words.likeness) for room in ROOMS}
+    args = parser().parse_args()
+    if not 0 < args.likeness <= 100:
+        raise Refused("a likeness is above 0 and at most 100 percent")
+    if not (args.folder / "crates").is_dir():
+        raise Refused(f"no crates in {args.folder}")
+    pieces = house(args.folder)
+    families = {room: families_of(pieces[room], args.likeness) for room in ROOMS}
     print("\n".join(table(pieces, families)))
-    if words.list:
+    if args.list:
         print("\n".join(listed(families)))
     return 0
 
 
 if __name__ == "__main__":
-    sys.exit(main())
+    run(main, "copies")

@@ -1,19 +1,17 @@
-#!/usr/bin/env python3
-"""wrong_bodies.py [--lanes N] [--wrong] [CRATE ..]
+"""mutants [--lanes N] [--wrong] [CRATE ..]
 
-Tries every wrong body of the crates (all where none is named): those of `must-fail/`, which the gate tries too, and
-those of `wrong/`, which are tried here alone (with --wrong these and no others). Each has to be refused at the function
-that it changes. Functions are checked each by itself, against the contracts of those that they call; so one check takes
-one wrong body of each function, and a crate needs as many checks as the function with the most of them. What counts is
-the line that `rt check` has for a function: that it is not proved, and not for a function that it calls. A wrong body
-that changes no function (a table, say) has a check of its own, and so has each that a shared check did not refuse. One
-that is refused only since a proof file names what it took away is told as weak: that says little of the contract.
+Tries every mutant (a planted bug that the prover must refuse) of the named crates, or of all: those of `must-fail/`,
+which the gate tries too, and those of `wrong/`, which only this tries (with --wrong nothing else). Each has to be
+refused at the function that it changes. The prover checks each function by itself, against the contracts of the
+functions that it calls, so one check takes one mutant of each function, and a crate needs as many checks as the function
+with the most mutants. A mutant counts as refused if `rt check` reports its function as not proved for a reason of its
+own, not for a function that it calls. A mutant that changes no function (a table, say) has a check of its own, and so
+has each that a shared check did not refuse. A mutant is weak if only a proof file that names a removed name refuses it:
+that says little about the contract.
 
-The checks are those of `rt check` in copies of the repository, N at a time (2); they begin with what `rt check` kept of
-the repository, so it should have been run in each crate before. Each crate is first checked as it stands. Prints a line
-for each wrong body that is weak or not refused, and a table; the status is 0 where all were tried and are refused.
-
-A wrong body is a file of lines `file: PATH`, `old: TEXT` (standing once in that file) and `new: TEXT`, each one line.
+The checks are those of `rt check` in copies of the repository, N at a time (2). They begin with what `rt check` kept in
+this repository, so run it in each crate before. Each crate is first checked without a mutant. Prints a line for each
+mutant that is weak or not refused, and a table; the status is 0 if all were tried and refused.
 """
 import argparse
 import collections
@@ -21,73 +19,40 @@ import pathlib
 import re
 import shutil
 import subprocess
-import sys
 import tempfile
 import threading
 
-TOP = pathlib.Path(__file__).resolve().parent.parent.parent
-HEAD = re.compile(r"^( *)(?:pub(?:\([a-z]+\))? )?(?:const )?(?:fn (\w+)|impl\b(?:<[^{]*?>)? ?(?:.* for )?&?(\w+))")
+from . import edit_file
+from .rattle_source import functions_of, line_at
+from .repository import TOP, Refused, run
+
 REFUSED = "logic=not-proved"
 NAMES = re.compile(r"has no field|is not in scope|has no `|was not admitted")
 
-# A function of a file: the type of its `impl`, or nothing, its name, its first and its last line.
-Function = collections.namedtuple("Function", "path owner name first last")
+# A function of a file: its path, the type that it belongs to, or nothing, its name, its first and its last line.
+Place = collections.namedtuple("Place", "path owner name first last")
 
 
-def functions_of(path, text):
-    """The functions of a file in the layout of `rt fmt`."""
-    lines, found, owner = text.split("\n"), [], ""
-    for first, line in enumerate(lines, 1):
-        head = HEAD.match(line)
-        if head and head[3] and not head[1]:
-            owner = head[3][0].upper() + head[3][1:]
-        elif head and head[2]:
-            indent = head[1]
-            ends = (f"{indent}}}", f"{indent}{{}}")
-            last = (
-                first
-                if line.endswith("{}")
-                else next(
-                    (
-                        at
-                        for at in range(first, len(lines) + 1)
-                        if lines[at - 1] in ends
-                        or at > first
-                        and lines[at - 1].endswith(";")
-                        and len(lines[at - 1]) - len(lines[at - 1].lstrip()) <= len(indent)
-                    ),
-                    len(lines),
-                )
-            )
-            found.append(Function(path, owner if indent else "", head[2], first, last))
-    return found
+class Mutant:
+    """A mutant, the lines that it changes, and the functions that these are in, or None for a line outside of them."""
 
-
-class WrongBody:
-    """A wrong body, the lines that it changes, and the functions that these stand in, or None for one."""
-
-    def __init__(self, file):
-        self.name, self.crate, self.in_gate = file.stem, file.parent.parent, file.parent.name == "must-fail"
-        self.pairs, path, old = [], None, None
-        for line in file.read_text(encoding="utf-8").split("\n"):
-            if line.startswith("file: "):
-                path = line[6:].strip()
-            elif line.startswith("old: "):
-                old = line[5:]
-            elif line.startswith("new:"):
-                self.pairs.append((path, old, line[4:].removeprefix(" ")))
+    def __init__(self, edit):
+        self.name, self.crate, self.in_gate = edit.name, edit.crate, edit.is_in_gate
+        self.pairs = [(pair.path, pair.old, pair.new) for pair in edit.pairs]
         self.lines = [self.line_of(path, old) for path, old, _ in self.pairs]
         self.functions = [self.function_at(path, line) for (path, _, _), line in zip(self.pairs, self.lines)]
 
     def line_of(self, path, old):
+        """Returns the number of the line that has this text."""
         text = (self.crate / path).read_text(encoding="utf-8")
         if text.count(old) != 1:
-            raise SystemExit(f"{self.crate.name}/{self.name}: the text {old!r} is in {path} {text.count(old)} times")
-        return text.count("\n", 0, text.index(old)) + 1
+            raise Refused(f"{self.crate.name}/{self.name}: {old!r} is in {path} {text.count(old)} times")
+        return line_at(text, text.index(old))
 
     def function_at(self, path, line):
-        functions = functions_of(path, (self.crate / path).read_text(encoding="utf-8"))
-        return next((it for it in functions if it.first <= line <= it.last), None)
+        """Returns the first function that has this line."""
+        functions = functions_of((self.crate / path).read_text(encoding="utf-8"))
+        return next((Place(path, *map(vars(it).get, Place._fields[1:])) for it in functions if is_in(it, line)), None)
 
     def apply(self, crate):
         """Changes the lines where the texts stand, and no others: a text is one line, before and after."""
@@ -98,15 +63,20 @@ class WrongBody:
             file.write_text("\n".join(lines), encoding="utf-8")
 
     def verdict(self, said):
-        """What a check of it says: 'refused', 'weak' where only names are gone, or None where it is not refused."""
+        """Returns 'refused', 'weak' if a proof file only names a removed name, or None if a check did not refuse it."""
         if None in self.functions:
             return "refused"
         verdicts = {verdict_on(it, said) for it in self.functions}
         return next((it for it in ("refused", "weak") if it in verdicts), None)
 
 
+def is_in(function, line):
+    """Returns whether a function has this line."""
+    return function.first <= line <= function.last
+
+
 def verdict_on(function, said):
-    """The same of one function."""
+    """Returns the verdict on one function."""
     if not any(is_own_failure(line, function) for line in said):
         return None
     reasons = [line for line in said if is_at(line, function)]
@@ -114,16 +84,16 @@ def verdict_on(function, said):
 
 
 def module_of(path):
-    """The names of a file's module: those of `src/a/b.rt` are a and b, and the root has none."""
+    """Returns the names of a file's module: a and b for `src/a/b.rt`, none for the root."""
     return [it for it in path.removeprefix("src/").removesuffix(".rt").split("/") if it not in ("lib", "main", "mod")]
 
 
 def is_own_failure(line, function):
-    """Whether a line says of the function, or of a closure in it, that it is not proved, not for one that it calls."""
-    told = re.match(r"fn (\S+): (?:not proved|no proof: (?!it calls|it passes))", line)
-    if not told:
+    """Returns whether a line reports the function, or a closure in it, as not proved for a reason of its own."""
+    found = re.match(r"fn (\S+): (?:not proved|no proof: (?!it calls|it passes))", line)
+    if not found:
         return False
-    crate, *names = re.split(r"::|\+\+?", told[1])
+    crate, *names = re.split(r"::|\+\+?", found[1])
     names = names[1:] if names[:1] == [crate] else names
     if function.name not in names:
         return False
@@ -134,7 +104,7 @@ def is_own_failure(line, function):
 
 
 def is_at(line, function):
-    """Whether a line of a check stands at a place of the function, in its text or in its proof."""
+    """Returns whether a line of a check is at a place of the function, in its text or in its proof."""
     at = re.match(r"(?:note: )?(?:\./)?([\w/.+-]+):(\d+):\d+: ", line)
     if not at:
         return False
@@ -150,7 +120,7 @@ def is_at(line, function):
 
 
 def batches_of(bodies):
-    """The wrong bodies in checks: of each function one, and alone what changes no function."""
+    """Returns the mutants of each check: one of each function, and alone those that change no function."""
     checks = []
     for body in bodies:
         free = (
@@ -168,7 +138,7 @@ def batches_of(bodies):
 
 
 class Lane:
-    """A copy of the repository, in which wrong bodies are tried."""
+    """A copy of the repository, in which mutants are tried."""
 
     def __init__(self, room, number):
         self.top = pathlib.Path(room) / f"lane{number}"
@@ -178,7 +148,7 @@ class Lane:
         shutil.copytree(TOP / "crates", self.top / "crates", ignore=shutil.ignore_patterns("out"))
 
     def check(self, name, bodies):
-        """The lines of a check of a crate with these wrong bodies, and its status."""
+        """Returns the lines of a check of a crate with these mutants, and its status."""
         crate = self.top / "crates" / name
         for body in bodies:
             body.apply(crate)
@@ -196,7 +166,7 @@ class Lane:
         return (done.stdout + done.stderr).split("\n"), done.returncode
 
     def tried(self, name, bodies):
-        """What was seen of each wrong body of one check (of none: of the crate), and how many checks that took."""
+        """Returns the outcome of each mutant of a check, or of the crate without one, and how many checks it took."""
         said, status = self.check(name, bodies)
         is_checked = status and any(line.startswith(REFUSED) for line in said)
         if not bodies:
@@ -230,42 +200,50 @@ def work(lane, waiting, counts, seen, alone):
                     print(f'{name}/{it.name if check else ""}: {what}', flush=True)
 
 
+def parser():
+    """Returns the parser of the command's arguments."""
+    made = argparse.ArgumentParser("mutants", description=__doc__, formatter_class=argparse.RawDescriptionHelpFormatter)
+    made.add_argument("--lanes", metavar="N", type=int, default=2, help="checks at once (2)")
+    made.add_argument("--wrong", action="store_true", help="only those of wrong/")
+    made.add_argument("crates", metavar="CRATE", nargs="*")
+    return made
+
+
 def main():
-    parser = argparse.ArgumentParser()
-    parser.add_argument("--lanes", type=int, default=2)
-    parser.add_argument("--wrong", action="store_true")
-    parser.add_argument("crates", nargs="*")
-    given = parser.parse_args()
+    args = parser().parse_args()
     bodies = collections.defaultdict(list)
-    folders = ["wrong"] if given.wrong else ["must-fail", "wrong"]
-    for file in (it for folder in folders for it in sorted(TOP.glob(f"crates/*/{folder}/*.edit"))):
-        if not given.crates or file.parent.parent.name in given.crates:
-            bodies[file.parent.parent.name].append(WrongBody(file))
-    if set(given.crates) - set(bodies):
-        raise SystemExit(f'no wrong bodies of {" ".join(set(given.crates) - set(bodies))}')
+    for edit in edit_file.edits_of(TOP, edit_file.FOLDERS[1:] if args.wrong else edit_file.FOLDERS):
+        if not args.crates or edit.crate.name in args.crates:
+            bodies[edit.crate.name].append(Mutant(edit))
+    if set(args.crates) - set(bodies):
+        raise Refused(f"no mutants of {' '.join(sorted(set(args.crates) - set(bodies)))}")
     waiting = [(name, check) for name in sorted(bodies) for check in [[], *batches_of(bodies[name])]]
     counts, seen, alone = collections.Counter(), {}, threading.Lock()
-    with tempfile.TemporaryDirectory(prefix="wrong-bodies-") as room:
+    with tempfile.TemporaryDirectory(prefix="mutants-") as room:
         lanes = [
             threading.Thread(target=work, args=(Lane(room, number), waiting, counts, seen, alone))
-            for number in range(given.lanes)
+            for number in range(args.lanes)
         ]
         for lane in lanes:
             lane.start()
         for lane in lanes:
             lane.join()
-    print("| Crate | wrong bodies | in the gate | checks | refused | weak | not refused |")
+    print("| Crate | mutants | in the gate | checks | refused | weak | not refused |")
     print("| --- | --- | --- | --- | --- | --- | --- |")
     whole = [0] * 6
     for name in sorted(bodies):
-        told = collections.Counter(seen.get(it) for it in bodies[name])
-        left = len(bodies[name]) - told["refused"] - told["weak"] if seen.get(name) == "proved" else len(bodies[name])
+        counted = collections.Counter(seen.get(it) for it in bodies[name])
+        left = (
+            len(bodies[name]) - counted["refused"] - counted["weak"]
+            if seen.get(name) == "proved"
+            else len(bodies[name])
+        )
         row = [
             len(bodies[name]),
             sum(it.in_gate for it in bodies[name]),
             counts[name],
-            told["refused"],
-            told["weak"],
+            counted["refused"],
+            counted["weak"],
             left,
         ]
         whole = [one + other for one, other in zip(whole, row)]
@@ -275,4 +253,4 @@ def main():
 
 
 if __name__ == "__main__":
-    sys.exit(main())
+    run(main, "mutants")

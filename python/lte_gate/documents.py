@@ -1,49 +1,44 @@
-#!/usr/bin/env python3
-"""documents.py
+"""documents
 
-Looks whether what the pages name is there: definitions (`crate/specs/File.antt:name`) and code
-(`crate/src/file.rt:name`), with the further names behind them; paths below scripts/, crates/ and docs/; scripts that
-are named by their last name alone; files that a block of commands reads, from the folder that it is in by then. The
-scripts that comments of tests name are looked for too. Numbers of crates, tests and wrong bodies have to be those of
-the tree, or of one crate of it, but in sentences with a date or with `Before` at their head, and in CHANGELOG.md. Each
-line of JSON in docs/FORMATS.md has to have the form of python/lte_tools/report.schema.json under the words of its
-heading, each file of scripts/examples/outputs that under its name, and each JSON output a line or a file; the form is
-left out, and said so, without jsonschema (Debian: python3-jsonschema). Sections that are named behind a page have to
-be in it, and the blocks of `help` and `version`, with the number of the definition, those of the test of these outputs.
-A page has at most as many words (`wc -w`) as its row of BUDGETS says. Prints a line for what is not so, and a count;
-the status is 0 where all is.
+Checks that what the pages name exists: definitions (`crate/specs/File.antt:name`) and code (`crate/src/file.rt:name`),
+with the further names after them; paths below scripts/, python/, crates/ and docs/; scripts that are named by their last
+name alone; files that a block of commands reads, from the folder that the block is in by then. Paths in comments of
+tests are checked too. Numbers of crates, tests and mutants have to be those of the tree, or of one crate, except in
+sentences with a date or with `Before` at their head, and in CHANGELOG.md.
+
+Each line of JSON in docs/FORMATS.md has to fit python/lte_tools/report.schema.json under the command of its heading,
+each file of scripts/examples/outputs under its name, and each JSON output needs a line or a file; without jsonschema
+(Debian: python3-jsonschema) that is left out, with a line that says so. Sections that are named after a page have to be
+in it. The blocks of `help` and `version`, and the number of the definition, have to be those of the test of these
+outputs. A page has at most as many words (`wc -w`) as its row of BUDGETS says. Prints a line for each fault, and a
+count; the status is 1 if there is one.
 """
 import json
-import pathlib
 import re
-import sys
 
 try:
     import jsonschema
 except ImportError:
     jsonschema = None
 
-TOP = pathlib.Path(__file__).resolve().parent.parent.parent
+from .crates_list import entries_of
+from .edit_file import FOLDERS
+from .repository import TOP, report, run
+
 CRATES = TOP / "crates"
-PAGES = [
-    *sorted(TOP.glob("*.md")),
-    *sorted((TOP / "docs").glob("*.md")),
-    *sorted((TOP / "scripts").glob("**/*.md")),
-    *sorted((TOP / "python").glob("**/*.md")),
-]
 HISTORY = ("CHANGELOG.md",)
 BUDGETS = {
     "README.md": 1700,
-    "CONTRIBUTING.md": 1600,
+    "CONTRIBUTING.md": 2000,
     "CHANGELOG.md": 1300,
-    "docs/ARCHITECTURE.md": 2400,
-    "docs/CLAIMS.md": 3000,
-    "docs/DECISIONS.md": 3600,
-    "docs/DEFINITION.md": 5400,
-    "docs/FORMATS.md": 7600,
+    "docs/ARCHITECTURE.md": 2900,
+    "docs/CLAIMS.md": 4300,
+    "docs/DECISIONS.md": 4200,
+    "docs/DEFINITION.md": 6700,
+    "docs/FORMATS.md": 9900,
     "docs/PERFORMANCE.md": 1250,
     "docs/PROOF_NOTES.md": 4400,
-    "docs/RECORDINGS.md": 3300,
+    "docs/RECORDINGS.md": 4100,
     "scripts/README.md": 240,
     "python/lte_reference/README.md": 450,
 }
@@ -54,17 +49,23 @@ PLACE = re.compile(
     r"(?:crates/)?(?:(?:(\w+)/)?(specs|src|proofs|must-fail|wrong)/)?([\w/]+\.(?:antt|rt|edit))(?::([\w']+))?"
 )
 PATH = re.compile(r"(?<![\w/.$*{}-])((?:scripts|python|crates|docs|\.ci)/[\w./*-]*[\w*/])")
-NUMBER = re.compile(r"(?<![\w,.])(\d[\d,]*) (?:of `(must-fail|wrong)/`|(crates|tests|edits|wrong bodies)\b)")
+NUMBER = re.compile(r"(?<![\w,.])(\d[\d,]*) (?:of `(must-fail|wrong)/`|(crates|tests|edits|wrong bodies|mutants)\b)")
 SECTION = re.compile(r'`((?:docs/)?[A-Z]+\.md)`, "`?([^"`]+)`?"')
 PROGRAM_PAGES = CRATES / "top_tests/src/pages.rt"
 DATE = re.compile(r"\b20\d\d-\d\d-\d\d\b")
+
+
+def pages():
+    """Returns the pages of the repository."""
+    patterns = ("*.md", "docs/*.md", "scripts/**/*.md", "python/**/*.md")
+    return [page for pattern in patterns for page in sorted(TOP.glob(pattern))]
 
 
 # ---- definitions and code
 
 
 def is_defined(file, name):
-    """Whether a file defines a name: at the head of a line, behind words such as `pub record`."""
+    """Returns whether a file defines a name: at the head of a line, after words such as `pub record`."""
     text = file.read_text(encoding="utf-8")
     if file.suffix == ".antt":
         return re.search(rf"^\s*(?:\|\s*)?(?:[a-z]+ )*{re.escape(name)}(?![\w'])", text, re.M) is not None
@@ -72,13 +73,13 @@ def is_defined(file, name):
 
 
 def file_of(crate, folder, name):
-    """A file of a crate; one that is named by its last name alone may be in another folder of it."""
+    """Returns a file of a crate; a file that is named by its last name alone may be in another folder of the crate."""
     file = CRATES / crate / folder / name
     return file if file.is_file() or "/" in name else next((CRATES / crate).glob(f"*/{name}"), file)
 
 
 def faults_of_places(line):
-    """Of each place in turn; a name or a file that follows one at once is of its file or crate."""
+    """Yields a line for each place that does not exist; a name or file directly after one is of its file."""
     crate = folder = file = None
     end = 0
     for word in WORD.finditer(line):
@@ -132,7 +133,7 @@ def faults_of_sections(line):
 
 
 def faults_of_block(lines):
-    """Of a block of commands, the folders that it goes to, and the files that it reads there."""
+    """Yields a line for each missing folder that a block of commands enters, and each missing file it reads."""
     folder = TOP
     for line in lines:
         for part in re.split(r"[;|&]+", re.sub(r"\s# .*", "", line.strip().removeprefix("$ "))):
@@ -160,17 +161,23 @@ def faults_of_block(lines):
 
 
 def counts():
-    """What may be said, by what is counted: of the whole tree, and of single crates."""
+    """Returns the numbers that may be written, by what is counted: those of the tree and those of single crates."""
     crates = [crate for crate in CRATES.iterdir() if crate.is_dir()]
-    edits = {kind: [len(list(crate.glob(f"{kind}/*.edit"))) for crate in crates] for kind in ("must-fail", "wrong")}
+    edits = {kind: [len(list(crate.glob(f"{kind}/*.edit"))) for crate in crates] for kind in FOLDERS}
     tests = [
         sum(file.read_text(encoding="utf-8").count("#[test]") for file in crate.glob("src/**/*.rt")) for crate in crates
     ]
     bodies = [one + other for one, other in zip(edits["must-fail"], edits["wrong"])]
-    named = len(re.findall(r"^\w+:", (TOP / "crates.txt").read_text(), re.M))
+    named = len(entries_of(TOP))
     if named != len(crates):
         print(f"crates.txt: {named} crates, and {len(crates)} folders")
-    found = {"must-fail": edits["must-fail"], "wrong": edits["wrong"], "tests": tests, "wrong bodies": bodies}
+    found = {
+        "must-fail": edits["must-fail"],
+        "wrong": edits["wrong"],
+        "tests": tests,
+        "wrong bodies": bodies,
+        "mutants": bodies,
+    }
     found["edits"] = edits["must-fail"] + bodies + [sum(edits["must-fail"])]
     return {kind: {sum(numbers), *numbers} for kind, numbers in found.items()} | {"crates": {named}}
 
@@ -213,7 +220,7 @@ def faults_of_examples(text):
 
 
 def faults_of_program_pages(text):
-    """Whether the test of these outputs has each block of `help` or `version`, and the number of the definition."""
+    """Yields a line for each block of `help` or `version`, and each definition's number, that the test lacks."""
     tested = PROGRAM_PAGES.read_text(encoding="utf-8").replace("\\n", "\n")
     for words, lines in re.findall(r"^    \$ (lte_\w+ (?:help|version))\n((?:    .+\n)+)", text, re.M):
         if re.sub(r"^    ", "", lines, flags=re.M) not in tested:
@@ -259,16 +266,13 @@ def main():
         print("left out: lines of JSON against their schema: no jsonschema (Debian: python3-jsonschema)")
     files = [file for room in ("scripts", "python") for file in (TOP / room).glob("**/*")]
     scripts, may = {file.name for file in files if file.suffix in (".py", ".sh")}, counts()
-    found = [f"{page.relative_to(TOP)}:{n}: {fault}" for page in PAGES for n, fault in faults_of(page, scripts, may)]
+    found = [f"{page.relative_to(TOP)}:{n}: {fault}" for page in pages() for n, fault in faults_of(page, scripts, may)]
     for file in sorted(CRATES.glob("*_tests/src/**/*.rt")):
         for number, line in enumerate(file.read_text(encoding="utf-8").split("\n"), 1):
             faults = [*faults_of_paths(line)] if line.lstrip().startswith("//") else []
             found += [f"{file.relative_to(TOP)}:{number}: {fault}" for fault in faults]
-    for line in found:
-        print(line)
-    print(f"pages: {len(PAGES)} looked through, {len(found)} faults")
-    return 1 if found else 0
+    return report("pages", found, f"{len(pages())} checked")
 
 
 if __name__ == "__main__":
-    sys.exit(main())
+    run(main, "documents")
