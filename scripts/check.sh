@@ -7,7 +7,8 @@
 #   documents.py: what the pages name is there, numbers and lists of cells are right, and no page is too long;
 #   crates_picture.py: the picture of the crates is that of crates.txt, the list of their calls that of the sources;
 #   edits.py: each wrong body changes what it means to change;
-#   comments.py: each comment says what it is about without what stands above it;
+#   comments: each comment is readable by itself, and follows the rules of English that a script can ask;
+#   layers: each entry of crates.txt is used, and large crates have a reason;
 #   install/: manual pages and completion are those of the forms of help, mandoc has no word against them, completion
 #   offers each form's words, and the build begins crates in their order (with a stand-in for the kit).
 # Not run here, but by hand: copies.py counts near copies; stands.py tells which commits do not stand as a whole.
@@ -48,7 +49,8 @@ else
     echo 'left out: black, which formats by its version (Debian 12: black 23)'
 fi
 check python3 "$python" -m lte_gate.edits
-check python3 "$python" scripts/gate/comments.py
+check python3 "$python" -m lte_gate.comments
+check python3 "$python" -m lte_gate.layers
 check python3 "$python" -m lte_gate.documents
 check python3 "$python" -m lte_gate.crates_picture docs/ARCHITECTURE.md
 check python3 "$python" scripts/gate/rows.py
