@@ -53,7 +53,7 @@ check python3 "$python" -m lte_gate.comments
 check python3 "$python" -m lte_gate.layers
 check python3 "$python" -m lte_gate.documents
 check python3 "$python" -m lte_gate.crates_picture docs/ARCHITECTURE.md
-check python3 "$python" scripts/gate/rows.py
+check python3 "$python" -m lte_gate.rows
 if "$python" -c 'import numpy, scipy, matplotlib' 2> /dev/null; then
     check python3 "$python" -m lte_gate.made
 else
