@@ -89,13 +89,13 @@ else
     leave_out 'made' 'no numpy, scipy or matplotlib (Debian: python3-numpy, python3-scipy, python3-matplotlib)'
 fi
 check mandoc mandoc -Tlint scripts/install/man/*.1
-if has pytest; then
+if has pytest numpy scipy matplotlib; then
     if ! (cd python && "$python" -m pytest -m 'not slow'); then
         echo 'check.sh: failed: pytest'
         failed+=(pytest)
     fi
 else
-    leave_out 'python/tests' 'no pytest (Debian: python3-pytest)'
+    leave_out 'python/tests' 'no pytest, numpy, scipy or matplotlib (Debian: python3-pytest and so on)'
 fi
 
 program=$(realpath -m "${LTE_CLI:-crates/lte_cli/out/lte_cli}")
