@@ -122,7 +122,7 @@ def fault_of(value: object, form: dict[str, Any], place: str) -> str | None:
     if isinstance(value, (int, float)):
         return fault_of_number(value, form, where)
     if isinstance(value, str):
-        is_like = re.search(form.get("pattern", ""), value)
+        is_like = re.search(form.get("pattern", ""), value) and not ("pattern" in form and value.endswith("\n"))
         return None if is_like else f"{where}: {shown(value)} does not have the form {form['pattern']}"
     if isinstance(value, list):
         return fault_of_list(value, form, place)

@@ -279,7 +279,7 @@ def draw_degrees(ax: Any, drawn: Map) -> None:
 
 def degrees_text(value: float, digits: int, names: str) -> str:
     value = (value + 180) % 360 - 180
-    return f"{abs(value):.{digits}f}\N{DEGREE SIGN} {names[value < 0]}"
+    return f"{abs(value):.{digits}f}\N{DEGREE SIGN} {names[int(value < 0)]}"
 
 
 def draw_sizes(ax: Any, drawn: Map) -> None:
