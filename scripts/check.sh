@@ -1,63 +1,102 @@
 #!/usr/bin/env bash
 # check.sh
 #
-# Checks of scripts and pages that need no built program and no toolchain, in less than a minute:
-#   pyflakes3, shellcheck and black (120 columns) on the scripts;
-#   rows.py: what the second programs print stands in the tests and pages that have it from them;
-#   documents.py: what the pages name is there, numbers and lists of cells are right, and no page is too long;
-#   crates_picture.py: the picture of the crates is that of crates.txt, the list of their calls that of the sources;
-#   edits.py: each wrong body changes what it means to change;
-#   comments.py: each comment says what it is about without what stands above it;
-#   install/: manual pages and completion are those of the forms of help, mandoc has no word against them, completion
-#   offers each form's words, and the build begins crates in their order (with a stand-in for the kit).
-# Not run here, but by hand: copies.py counts near copies; stands.py tells which commits do not stand as a whole.
-# Where lte_cli is built (crates/lte_cli/out/lte_cli, or LTE_CLI), the examples are run too, and each form that is
-# completed. A check that wants what is not there is left out, and said so: nothing is installed. The status is 1 where
-# anything is wrong.
+# Checks of the Python, the scripts and the pages. They need neither Rattle nor a built program, and take a minute once
+# the reference implementations have run (rows), which takes two minutes of processor time:
+#   pyflakes3, black (120 columns) and mypy on the Python, shellcheck on the scripts;
+#   edits: each mutant can be applied;
+#   comments: comments are readable by themselves and follow the rules of English that a script can ask;
+#   layers: each entry of crates.txt is used, and large crates have a reason;
+#   documents: what the pages name exists, numbers and lists of cells are right, and no page is too long;
+#   crates_picture: the picture and list of the crates are those of the tree;
+#   rows: what the reference implementations print is in the tests and pages that have it from them. A reference
+#     implementation runs again only if it, or its input, has changed since its last run on this machine: its output is
+#     kept in ~/.cache/lte_gate. It is not kept in the repository, where a committed checksum would not show that
+#     anybody ran it;
+#   made: manual pages and completion are those made from the forms of help and the tools' parsers, mandoc accepts them,
+#     and completion offers each form's words;
+#   pytest: python/tests, over all three packages.
+# Run by hand: copies counts near copies; stands lists commits that do not stand as a whole (scripts/gate.sh lists all).
+# If lte_cli is built (crates/lte_cli/out/lte_cli, or LTE_CLI), the examples are run too, and each completed form. A check
+# whose package is missing is left out, with a line that says so, here and at the end; nothing is installed. The status
+# is 1 if a check fails.
 set -u
 cd "$(dirname "$0")/.." || exit 1
 python=/usr/bin/python3                 # Debian's, which has Debian's packages
 [ -x "$python" ] || python=python3
-failed=0
+export PYTHONPATH=$PWD/python PYTHONDONTWRITEBYTECODE=1
+failed=()
+left=()
+
+leave_out() { # leave_out WHAT WHY
+    echo "left out: $1: $2"
+    left+=("$1")
+}
 
 check() { # check PACKAGE COMMAND WORD..: runs a command of a package of Debian
     if ! command -v "$2" > /dev/null; then
-        echo "left out: $2 (Debian: $1)"
+        leave_out "$2" "not installed (Debian: $1)"
     elif ! "${@:2}"; then
         echo "check.sh: failed: $2${3:+ $3}"
-        failed=1
+        failed+=("$2${3:+ $3}")
     fi
+}
+
+gate() { # gate MODULE WORD..: runs a check of python/lte_gate
+    if ! "$python" -m "lte_gate.$1" "${@:2}"; then
+        echo "check.sh: failed: $1"
+        failed+=("$1")
+    fi
+}
+
+has() { # has MODULE..: whether this Python has these modules
+    local module
+    for module; do "$python" -c "import $module" 2> /dev/null || return 1; done
 }
 
 says() { # says TEXT WORD..: an example writes this line
     if ! "${@:2}" | grep -q "^$1\$"; then
         echo "check.sh: failed: ${*:2}"
-        failed=1
+        failed+=("${*:2}")
     fi
 }
 
-mapfile -t sources < <(find scripts -name '*.py' | sort)
+mapfile -t sources < <(find scripts python -name '*.py' | sort)
 mapfile -t shells < <(find scripts -name '*.sh' | sort)
 check pyflakes3 pyflakes3 "${sources[@]}"
 check shellcheck shellcheck "${shells[@]}" .ci/run
 check shellcheck shellcheck -s bash scripts/install/completion/*.bash
 if [[ $(black --version 2> /dev/null) == *' 23.'* ]]; then
-    check black black --quiet --check --line-length 120 scripts
+    check black black --quiet --check --line-length 120 scripts python
 else
-    echo 'left out: black, which formats by its version (Debian 12: black 23)'
+    leave_out black 'it formats by its version (Debian 12: black 23)'
 fi
-check python3 "$python" scripts/gate/edits.py
-check python3 "$python" scripts/gate/comments.py
-check python3 "$python" scripts/gate/documents.py
-check python3 "$python" scripts/gate/crates_picture.py docs/ARCHITECTURE.md
-check python3 "$python" scripts/gate/rows.py
-if "$python" -c 'import numpy, scipy, matplotlib' 2> /dev/null; then
-    check python3 "$python" scripts/install/made.py
+if has numpy; then
+    check mypy mypy --config-file python/pyproject.toml --cache-dir "${XDG_CACHE_HOME:-$HOME/.cache}/lte_gate/mypy" \
+        python/lte_tools
 else
-    echo 'left out: manual pages and completion as made now (Debian: python3-numpy, python3-scipy, python3-matplotlib)'
+    leave_out mypy 'no numpy (Debian: python3-numpy)'
+fi
+gate edits
+gate comments
+gate layers
+gate documents
+gate crates_picture docs/ARCHITECTURE.md
+gate rows
+if has numpy scipy matplotlib; then
+    gate made
+else
+    leave_out 'made' 'no numpy, scipy or matplotlib (Debian: python3-numpy, python3-scipy, python3-matplotlib)'
 fi
 check mandoc mandoc -Tlint scripts/install/man/*.1
-check python3 "$python" scripts/install/test_build.py
+if has pytest numpy scipy matplotlib; then
+    if ! (cd python && "$python" -m pytest -m 'not slow'); then
+        echo 'check.sh: failed: pytest'
+        failed+=(pytest)
+    fi
+else
+    leave_out 'python/tests' 'no pytest, numpy, scipy or matplotlib (Debian: python3-pytest and so on)'
+fi
 
 program=$(realpath -m "${LTE_CLI:-crates/lte_cli/out/lte_cli}")
 export LTE_CLI=$program LTE_TUNE=${LTE_TUNE:-${program//lte_cli/lte_tune}}
@@ -67,6 +106,12 @@ if [ -x "$program" ]; then
     says '0 yes' bash scripts/examples/certify_and_check.sh
     says '9 refusals, 0 are others' bash scripts/examples/refusals.sh
 else
-    echo 'left out: examples: lte_cli is not built'
+    leave_out examples 'lte_cli is not built'
 fi
-exit "$failed"
+if [ ${#left[@]} != 0 ]; then
+    echo "check.sh: LEFT OUT ${#left[@]}: $(printf '%s; ' "${left[@]}")"
+fi
+if [ ${#failed[@]} != 0 ]; then
+    echo "check.sh: FAILED ${#failed[@]}: $(printf '%s; ' "${failed[@]}")"
+    exit 1
+fi

@@ -1,11 +1,11 @@
 #!/usr/bin/env bash
 # test_completion.sh
 #
-# Asks the completion of bash, and of zsh where it is there, for the next word behind each front of each form of lte_cli
-# and lte_tune, and behind fronts of words. The forms stand here once more, as docs/FORMATS.md has them. Where a program
-# is named by LTE_CLI or LTE_TUNE, it has to take each form (its status is not that of refused words, 2), so that the
-# forms here are the program's. Of the scripts it asks for an option, and for what stands behind one. Prints a line for
-# each answer that differs, and a count; the status is 1 where one does.
+# Asks the completion of bash, and of zsh if it is installed, for the next word after each front of each form of lte_cli
+# and lte_tune, and after fronts of words. The forms are listed here a second time, as docs/FORMATS.md has them. If LTE_CLI
+# or LTE_TUNE names a program, it has to accept each form (status 2 means refused arguments), so that the forms here are
+# the program's. For the tools it asks for an option and for an option's value. Prints a line for each answer that
+# differs, and a count; the status is 1 if one does.
 set -u
 shopt -s lastpipe
 here=$(cd "$(dirname "$0")" && pwd)/completion
@@ -124,7 +124,8 @@ takes() { # takes PROGRAM FORMS: the program itself refuses none of the forms' w
 
 shells=(bash)
 if command -v zsh > /dev/null; then shells+=(zsh); else echo 'left out: completion of zsh: no zsh (Debian: zsh)'; fi
-for name in lte_cli lte_tune lte_survey lte_picture; do
+tools=(lte_survey lte_picture lte_pcap lte_convert lte_check_certificate)
+for name in lte_cli lte_tune "${tools[@]}"; do
     # shellcheck source=/dev/null
     source "$here/$name.bash"
 done
@@ -133,9 +134,12 @@ ask_all lte_tune "$(tuner)"
 compare 'bash: lte_survey --cs' "$(offered lte_survey a.cu8 --cs)" '--csv'
 compare 'bash: lte_survey --form s' "$(offered lte_survey --form s)" 's8 s16 sigmf'
 compare 'bash: lte_survey --rate' "$(offered lte_survey --rate '')" ''
+compare 'bash: lte_pcap --ea' "$(offered lte_pcap --ea)" '--earfcn'
+compare 'bash: lte_pcap --earfcn' "$(offered lte_pcap --earfcn '')" ''
+compare 'bash: lte_convert u' "$(offered lte_convert --h)" '--help'
 compare 'bash: lte_picture --tu' "$(offered lte_picture --tu)" '--tune'
 if [ "${shells[1]-}" ]; then
-    for name in lte_survey lte_picture; do compare "zsh: _$name" "$(zsh -n "$here/_$name" 2>&1)" ''; done
+    for name in "${tools[@]}"; do compare "zsh: _$name" "$(zsh -n "$here/_$name" 2>&1)" ''; done
 fi
 if [ -x "${LTE_CLI-}" ]; then takes "$LTE_CLI" "$(receiver)"; fi
 if [ -x "${LTE_TUNE-}" ]; then takes "$LTE_TUNE" "$(tuner)"; fi

@@ -18,7 +18,7 @@ read -r type rate shift channels < <(jq -r --arg carrier "${2:-}" \
      | [."core:datatype", (."core:sample_rate" | tonumber),
         (if $carrier == "" then 0 else ($carrier | tonumber) - $centre end), (."core:num_channels" // 1)]
      | map(tostring) | join(" ")' "$meta" 2> /dev/null) || refuse "no datatype and rate in it, or CARRIER is no number"
-[ "$channels" = 1 ] || refuse "$channels channels: survey.py --channel reads one"
+[ "$channels" = 1 ] || refuse "$channels channels: lte_survey --channel reads one"
 case $type in
     cu8) kind=u8 ;;
     ci8) kind=s8 ;;
@@ -29,5 +29,5 @@ esac
 if [ "$kind $rate $shift" = "s16 1920000 0" ]; then
     head -c 7680000 "$data"                     # it is a recording already
 else
-    "$here/to_ci16.py" "$kind" "$rate" "$shift" < "$data"
+    PYTHONPATH=$here/../../python /usr/bin/python3 -m lte_tools.to_ci16 "$kind" "$rate" "$shift" < "$data"
 fi

@@ -3,8 +3,8 @@ carriers), for held.py. Values are made here by floating point, without their la
 """
 import numpy as np
 
-from second_cell import Frame
-from second_search import FREQUENCY, TAPS, channel, coded_reading, reference, reference_places, shared_places
+from lte_reference.cell import Frame
+from lte_reference.search import FREQUENCY, TAPS, channel, coded_reading, reference, reference_places, shared_places
 
 TURNS = np.exp(2j * np.pi * np.outer(FREQUENCY, np.arange(128)) / 128)  # of each subcarrier, by sample
 ATTACKS = ("value", "bit", "word", "block")

@@ -7,30 +7,30 @@ stronger port 1 is received than port 0; of four ports the lists of one port, of
 others are received beside port 0. The synchronisation signals come from port 0 alone. These are observations: nothing
 here is proved. The numbers are drawn with fixed seeds.
 
-PROGRAM is lte_cli, or the word `second`: then second_cell.py sends, and second_search.py searches.
+PROGRAM is lte_cli, or the word `second`: then lte_reference/cell.py sends, and lte_reference/search.py searches.
 
 Debian: python3-numpy.
 """
 import functools
 import json
-import pathlib
 import subprocess
 import sys
 from typing import NamedTuple
 
 import numpy as np
 
-SCRIPTS = pathlib.Path(__file__).resolve().parent.parent
-sys.path += [str(SCRIPTS / "tools"), str(SCRIPTS / "peers")]
-import radio
-import second_cell
-import second_search
+import packages
+
+packages.add()
+from lte_tools import radio
+from lte_reference import cell as second_cell
+from lte_reference import search as second_search
 
 NOISE = 32_400  # of a sample, where a resource element of energy 2 * 90^2 has Es/N0 0 dB
 NONE = -300  # dB of a port that is not received
 MOST = 30_000  # to which a recording's greatest component is brought down
 KEYS = ("gain", "gain2", "gain3", "gain4")
-PLAIN = json.loads((SCRIPTS / "examples/plain_cell.json").read_text())
+PLAIN = json.loads((packages.TOP / "scripts/examples/plain_cell.json").read_text())
 
 
 class Carrier(NamedTuple):

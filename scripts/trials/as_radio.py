@@ -6,15 +6,16 @@ RATE its samples per second, SHIFT the frequency in hertz at which the cell is t
 
 Debian: python3-numpy, python3-scipy.
 """
-import pathlib
 import sys
 from math import gcd
 
 import numpy as np
 from scipy import signal
 
-sys.path.append(str(pathlib.Path(__file__).resolve().parent.parent / "tools"))
-import radio
+import packages
+
+packages.add()
+from lte_tools import radio
 
 FORMS = {"u8": ("u1", 127, 127.5), "s8": ("i1", 127, 0), "s16": ("<i2", 32_767, 0), "f32": ("<f4", 1, 0)}
 

@@ -47,7 +47,7 @@ for samples in 57600 1920000; do
         cell.$samples.json > ports4.$samples.json
     "$program" transmit < cell.$samples.json > cell.$samples
     describe 102 12345 $samples | "$program" transmit > further
-    python3 "$scripts/tools/add_recordings.py" cell.$samples further > two.$samples
+    PYTHONPATH=$scripts/../python python3 -m lte_tools.add_recordings cell.$samples further > two.$samples
     "$tuner" apply 128 < cell.$samples > turned.$samples
 done
 python3 -c 'import sys; sys.stdout.buffer.write(bytes(b ^ 128 for b in sys.stdin.buffer.read()[1::2]))' \

@@ -18,11 +18,12 @@ import sys
 
 import numpy as np
 
-HERE = pathlib.Path(__file__).resolve().parent
-sys.path.append(str(HERE.parent / "tools"))
-import machine
-import picture_map
-import radio
+import packages
+
+packages.add()
+from lte_tools import machine
+from lte_tools import picture_map
+from lte_tools import radio
 from long_file import CYCLE, DRIFT, ELEMENT, OFF, RATE, RATIO, at_rate
 
 BEGIN = datetime.datetime(2026, 5, 1, 7, 30, tzinfo=datetime.timezone.utc)
@@ -54,7 +55,7 @@ def decibels(identity, second):
 
 def cell_of(name, **keys):
     """A described cell (scripts/examples), with other values of keys; those of `sib1` come to its own."""
-    cell = json.loads((HERE.parent / f"examples/{name}.json").read_text())
+    cell = json.loads((packages.TOP / f"scripts/examples/{name}.json").read_text())
     return {**cell, **keys, "sib1": {**cell["sib1"], **keys.get("sib1", {})}}
 
 
@@ -126,7 +127,7 @@ def surveyed(room):
     ]
     made = ["--html", "drive.html", "--geojson", "drive.geojson", "--json"]
     with (room / "drive.json").open("wb") as out:
-        subprocess.run([HERE.parent / "tools/survey.py", *words, *made], cwd=room, stdout=out, check=True)
+        subprocess.run([*packages.tool("survey"), *words, *made], cwd=room, stdout=out, check=True)
     return json.loads((room / "drive.json").read_text())
 
 

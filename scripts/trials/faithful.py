@@ -7,20 +7,19 @@ products are exact; energies are sums of whole numbers of 64 bits. Debian: pytho
 import itertools
 import json
 import math
-import pathlib
 import subprocess
-import sys
 from typing import NamedTuple
 
 import numpy as np
 
-SCRIPTS = pathlib.Path(__file__).resolve().parent.parent
-sys.path += [str(SCRIPTS / "peers"), str(SCRIPTS / "tools")]
+import packages
+
+packages.add()
 import fuzz_inputs
-import machine
-import second_cell
-import second_search
-from second_search import FRAME, SIZES
+from lte_tools import machine
+from lte_reference import cell as second_cell
+from lte_reference import search as second_search
+from lte_reference.search import FRAME, SIZES
 
 PARTS = 16_384
 UNIT = PARTS**2  # the square of a gain of 1

@@ -32,10 +32,10 @@ import numpy as np
 
 import faithful
 import seen_through
-import words
 from adverse import ATTACKS, TURNS, Leaking, Slot, elements, traffic_against
 from faithful import LATEST, PARTS, UNIT, energy, fitted, squares_of
-from second_search import RULES
+from lte_reference.search import RULES
+from lte_tools.arguments import Parser
 from seen_through import READ
 
 # by carrier: the energy of a symbol's errors by the sum of the gains' squares, and by the first one's square; the most
@@ -306,7 +306,7 @@ KINDS = {
     "paths-b": Kind("one", by_paths, Cone(4, 20, 3, 1), 256),
     "paths-c": Kind("one", by_paths, Cone(1, 17, 2, 3), 1_024),
 }
-# plans that hardly can be resolved (scripts/peers/punctured_table.py): cfi, blocks, mcs, column
+# plans that hardly can be resolved (python/lte_reference/punctured_table.py): cfi, blocks, mcs, column
 HARD = {
     "one": [(2, 3, 11, 2)],
     "two": [(2, 3, 5, 2)],
@@ -350,7 +350,7 @@ def first_lost(name, count, counts):
 
 
 def main():
-    parser = words.Words(usage=__doc__)
+    parser = Parser(__doc__)
     parser.add_argument("kinds", nargs="*", metavar="KIND")
     parser.add_argument("--count", type=int, default=200)
     parser.add_argument("--first", type=int, default=0)

@@ -22,8 +22,10 @@ import sys
 import numpy as np
 from scipy import signal
 
-sys.path.append(str(pathlib.Path(__file__).resolve().parent.parent / "tools"))
-import radio
+import packages
+
+packages.add()
+from lte_tools import radio
 
 GAIN = 20  # what is sent is multiplied by it
 ELEMENT = 2 * 90**2  # energy of a QPSK or reference point

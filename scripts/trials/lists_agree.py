@@ -1,7 +1,7 @@
 #!/usr/bin/python3
 """lists_agree.py [COUNT [SEED]]
 
-Holds the program's lists against those of second_search.py: COUNT (100) recordings each by one antenna port, by two,
+Holds the program's lists against those of lte_reference/search.py: COUNT (100) recordings each by one antenna port, by two,
 with the extended prefix and by four ports, and as many of each with load, from the second makers, of a cell or of two
 at a time, with noise between none and more than a list can bear, so that frames are added, blocks are refused, and some
 lists are empty. Each recording is listed by all four rules. A test, no proof; it needs crates/lte_cli/out/lte_cli.
@@ -11,20 +11,20 @@ added frames; the status is 0 where none differs.
 Debian: python3-numpy.
 """
 import multiprocessing
-import pathlib
 import subprocess
 import sys
 
 import numpy as np
 
-SCRIPTS = pathlib.Path(__file__).resolve().parent.parent
-sys.path.append(str(SCRIPTS / "peers"))
-import second_four_ports
-import second_long_prefix
-import second_make
-import second_two_ports
+import packages
 
-PROGRAM = SCRIPTS.parent / "crates/lte_cli/out/lte_cli"
+packages.add()
+from lte_reference import four_ports as second_four_ports
+from lte_reference import long_prefix as second_long_prefix
+from lte_reference import make as second_make
+from lte_reference import two_ports as second_two_ports
+
+PROGRAM = packages.TOP / "crates/lte_cli/out/lte_cli"
 MAKERS = {
     "one": second_make.recording,
     "two": second_two_ports.recording,
@@ -63,7 +63,7 @@ def compared(told):
     differ, some = [], 0
     for rule in RULES:
         here = said([PROGRAM, "search", *rule], data)
-        differ += [" ".join(rule)] * (here != said([SCRIPTS / "peers/second_search.py", *rule], data))
+        differ += [" ".join(rule)] * (here != said([sys.executable, "-m", "lte_reference.search", *rule], data))
         some += here != "cells 0\n"
     evidence = said([PROGRAM, "evidence"], data)
     added = any(word == "frames" and count != "1" for line in evidence.splitlines() for word, count in pairs(line))

@@ -19,12 +19,13 @@ import sys
 import tempfile
 import time
 
-HERE = pathlib.Path(__file__).resolve().parent
-sys.path.append(str(HERE.parent / "tools"))
-import machine
+import packages
+
+packages.add()
+from lte_tools import machine
 
 RATE = 2_400_000
-SURVEY = [HERE.parent / "tools/survey.py", *f"- --form u8 --rate {RATE} --follow --json --jobs 2".split()]
+SURVEY = [*packages.tool("survey"), *f"- --form u8 --rate {RATE} --follow --json --jobs 2".split()]
 STOPPED = 15  # seconds after which a stream is stopped
 
 

@@ -12,19 +12,19 @@ Debian: python3-numpy.
 """
 import itertools
 import math
-import pathlib
 import random
 import subprocess
 import sys
 
 import numpy as np
 
-SCRIPTS = pathlib.Path(__file__).resolve().parent.parent
-sys.path.append(str(SCRIPTS / "peers"))
-from second_cell import sent
-from second_make import recipe
+import packages
 
-PROGRAM = SCRIPTS.parent / "crates/lte_cli/out/lte_cli"
+packages.add()
+from lte_reference.cell import sent
+from lte_reference.make import recipe
+
+PROGRAM = packages.TOP / "crates/lte_cli/out/lte_cli"
 GAINS = ("gain", "gain2", "gain3", "gain4")
 WORDS = {"one": [], "two": ["--ports", "2"], "long": ["--prefix", "long"], "four": ["--ports", "4"]}
 

@@ -8,28 +8,28 @@ much as 20 dB below a resource element of the stronger cell. All 1,024 frames ar
 of memory, by two processes.
 
     scripts/trials/long_file.py > long.cu8
-    scripts/tools/survey.py long.cu8 --rate 2.4e6
+    lte_survey long.cu8 --rate 2.4e6
 
 Debian: python3-numpy, python3-scipy.
 """
 import concurrent.futures
 import json
-import pathlib
 import sys
 
 import numpy as np
 from scipy import signal
 
-SCRIPTS = pathlib.Path(__file__).resolve().parent.parent
-sys.path += [str(SCRIPTS / "tools"), str(SCRIPTS / "peers")]
-import radio
-from second_cell import Frame, FrameOfTwo
+import packages
+
+packages.add()
+from lte_tools import radio
+from lte_reference.cell import Frame, FrameOfTwo
 
 RATE = 2_400_000
-PLAIN = json.loads((SCRIPTS / "examples/usual_cell.json").read_text())
+PLAIN = json.loads((packages.TOP / "scripts/examples/usual_cell.json").read_text())
 STRONG = {**PLAIN, "identity": 217, "gain": [1, 0]}
 WEAK = {
-    **json.loads((SCRIPTS / "examples/weaker_cell.json").read_text()),
+    **json.loads((packages.TOP / "scripts/examples/weaker_cell.json").read_text()),
     "identity": 150,
     "gain": [1, 0],
     "gain2": [1, 0],

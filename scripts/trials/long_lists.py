@@ -12,22 +12,22 @@ others if frames were added as with the normal prefix. The status is 0 where non
 Debian: python3-numpy.
 """
 import multiprocessing
-import pathlib
 import struct
 import subprocess
 import sys
 
 import numpy as np
 
-SCRIPTS = pathlib.Path(__file__).resolve().parent.parent
-sys.path += [str(SCRIPTS / "peers"), str(SCRIPTS / "tools")]
-import check_certificate
-import second_evidence
-import second_long_prefix
-import second_make
-import second_search
+import packages
 
-PROGRAM = SCRIPTS.parent / "crates/lte_cli/out/lte_cli"
+packages.add()
+from lte_tools import check_certificate
+from lte_reference import evidence as second_evidence
+from lte_reference import long_prefix as second_long_prefix
+from lte_reference import make as second_make
+from lte_reference import search as second_search
+
+PROGRAM = packages.TOP / "crates/lte_cli/out/lte_cli"
 FRAME, SLOT = 19_200, 960
 RULE = second_search.LONG_PREFIX
 ADDING = RULE._replace(most=second_search.ONE_PORT.most)

@@ -4,13 +4,12 @@
 Sends CELLS random cells (100) of one antenna port, of two, of four and with the extended prefix, writes what
 `evidence --json` tells of them by pcap.py, and compares what tshark reads in each packet with what was sent: MIB and
 SIB1 field by field, the frame and its time, the cell's identity and its carrier's number. Fields of SIB1 are drawn by
-sib1_peer/texts.py, and tshark's are read by sib1_peer/compare.py. Prints a line for what differs, and a count; the
+sib1_tshark/texts.py, and tshark's are read by sib1_tshark/compare.py. Prints a line for what differs, and a count; the
 status is 0 where nothing does. The numbers are drawn with a fixed seed.
 
 Debian: tshark.
 """
 import json
-import pathlib
 import random
 import re
 import subprocess
@@ -19,10 +18,10 @@ import tempfile
 import xml.etree.ElementTree as ElementTree
 from typing import NamedTuple
 
-SCRIPTS = pathlib.Path(__file__).resolve().parent.parent
-sys.path.append(str(SCRIPTS / "peers/sib1_peer"))
-import compare
-import texts
+import packages
+
+packages.add()
+from lte_reference.sib1_tshark import compare, texts
 
 RATE, FRAME, FRAMES = 1_920_000, 19_200, 1024
 NEAR = 12  # samples by which a frame may seem to begin elsewhere
@@ -207,7 +206,7 @@ def main(program, count="100"):
     found = {identity: [] for identity in identities}
     with tempfile.TemporaryDirectory() as folder:
         for earfcn, its in filter(lambda pair: pair[1], lines.items()):
-            words = [SCRIPTS / "tools/pcap.py", "-o", f"{folder}/x.pcap", "--earfcn", str(earfcn)]
+            words = [*packages.tool("pcap"), "-o", f"{folder}/x.pcap", "--earfcn", str(earfcn)]
             subprocess.run(words, input=json.dumps(its).encode(), check=True)
             for packet in packets(f"{folder}/x.pcap"):
                 found[headers_of(packet)["identity"]].append(packet)

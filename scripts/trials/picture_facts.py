@@ -18,21 +18,21 @@ import subprocess
 import sys
 import tempfile
 
-TOP = pathlib.Path(__file__).resolve().parent.parent.parent
-sys.path.append(str(TOP / "scripts/tools"))
-import machine
+import packages
 
-machine.want("numpy", "scipy", "matplotlib")
+packages.add()
+from lte_tools import machine
+
 import numpy as np
 
-import picture_map
-import picture_style
-import picture_view
-import radio
-import radio_file
-import recorded
-import survey_says
-import survey_table
+from lte_tools import picture_map
+from lte_tools import picture_style
+from lte_tools import picture_view
+from lte_tools import radio
+from lte_tools import radio_file
+from lte_tools import recorded
+from lte_tools import survey_says
+from lte_tools import survey_table
 
 SECONDS = 0.1
 CASES = (("u8", 2_400_000), ("s8", 4_000_000), ("s16", 1_920_000), ("f32", 2_048_000), ("s16", 30_720_000))
@@ -164,11 +164,11 @@ def try_titles():
 
 def try_page(room):
     """A survey of 22 cells, of which one is by chance."""
-    found = json.loads((TOP / "scripts/examples/outputs/survey.json").read_text())
+    found = json.loads((packages.TOP / "scripts/examples/outputs/survey.json").read_text())
     (cell,) = found["cells"]
     found["cells"] = [{**cell, "identity": 400 + i, "chance": i == 21} for i in range(22)]
     (room / "survey.json").write_text(json.dumps(found))
-    command = [str(TOP / "scripts/tools/picture.py"), room / "survey.json", "-o", room / "x.html", "--title", "a < b"]
+    command = [*packages.tool("picture"), room / "survey.json", "-o", room / "x.html", "--title", "a < b"]
     subprocess.run(command, check=True)
     page = (room / "x.html").read_text()
     check("cells of the page", [i for i in range(22) if f">{400 + i}</td>" not in page], [])
@@ -181,12 +181,12 @@ def try_page(room):
 
 def try_words():
     """Whether the page has a meaning for each column, and for each reason for which SIB1 is not read."""
-    defined = json.loads((TOP / "scripts/tools/report.schema.json").read_text())["$defs"]
+    defined = json.loads((packages.TOP / "python/lte_tools/report.schema.json").read_text())["$defs"]
     reasons = re.sub(r"\([^()]*\)", "", defined["reason"]["properties"]["none"]["pattern"][2:-2]).split("|")
     check("reasons", set(survey_says.REASONS), {reason.split(" ")[0] for reason in reasons})
     check("rules", survey_says.RULES.keys(), picture_view.sightings.CARRIERS.keys())
     check("bandwidths", list(survey_says.BLOCKS), defined["cell"]["properties"]["bandwidth"]["enum"])
-    found = json.loads((TOP / "scripts/examples/outputs/survey.json").read_text())
+    found = json.loads((packages.TOP / "scripts/examples/outputs/survey.json").read_text())
     for unit in ("dBFS", "dBm"):
         row = survey_table.row_of(found["cells"][0], {**found, "unit": unit})
         check("columns without a meaning", row.keys() - survey_says.COLUMNS, set())
@@ -202,7 +202,7 @@ def seen_at(second, level, place):
 def survey_of_places(places):
     """A survey of a window at each place, a second apart: PCI 401 falls and 402 rises from window to window, 403 is by
     chance, and none is heard in the last window."""
-    found = json.loads((TOP / "scripts/examples/outputs/survey.json").read_text())
+    found = json.loads((packages.TOP / "scripts/examples/outputs/survey.json").read_text())
     (cell,), count = found["cells"], len(places)
     heard = [(i + 0.005, place) for i, place in enumerate(places[:-1])]
     levels = {401: lambda i: -40 - 2 * i, 402: lambda i: -40 - 2 * (count - i), 403: lambda i: -10}
@@ -239,7 +239,7 @@ def try_map(room):
     check("the scale", [picture_map.round_below(metres) for metres in (999, 1000, 4, 0.7, 74)], [500, 1000, 2, 0.5, 50])
     (room / "map.json").write_text(json.dumps(found))
     for form in ("png", "svg", "html"):
-        command = [str(TOP / "scripts/tools/picture.py"), room / "map.json", "-o", room / f"map.{form}"]
+        command = [*packages.tool("picture"), room / "map.json", "-o", room / f"map.{form}"]
         subprocess.run(command, check=True)
     check("the page has a map", (room / "map.html").read_text().count("<h2>Map</h2>"), 1)
     still = picture_map.Map(survey_of_places([[13.4, 52.5]] * 12), 6)

@@ -16,11 +16,13 @@ from typing import NamedTuple
 
 import numpy as np
 
-sys.path.append(str(pathlib.Path(__file__).resolve().parent.parent / "tools"))
+import packages
+
+packages.add()
 import impair
-import radio
-import radio_file
-import sightings
+from lte_tools import radio
+from lte_tools import radio_file
+from lte_tools import sightings
 
 ELEMENT = 16 * np.sqrt(impair.ELEMENT) * impair.GAIN / 128  # size of the wave of one element
 SUBCARRIERS = np.r_[-36:0, 1:37]

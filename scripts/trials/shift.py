@@ -4,11 +4,12 @@
 Moves a recording by an offset in hertz, and then adds a constant (DC), as a cheap radio does: to try `lte_tune` on.
 Each component is rounded and kept within 16 bits. Debian: python3-numpy.
 """
-import pathlib
 import sys
 
-sys.path.append(str(pathlib.Path(__file__).resolve().parent.parent / "tools"))
-import radio
+import packages
+
+packages.add()
+from lte_tools import radio
 
 
 def main():

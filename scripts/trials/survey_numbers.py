@@ -20,9 +20,10 @@ from typing import NamedTuple
 import numpy as np
 from scipy import signal
 
-SCRIPTS = pathlib.Path(__file__).resolve().parent.parent
-sys.path.append(str(SCRIPTS / "tools"))
-import radio
+import packages
+
+packages.add()
+from lte_tools import radio
 
 RATE = 2_400_000
 OFFSET = -31_000  # hertz
@@ -31,7 +32,7 @@ ELEMENT = 127 * 16 / 128  # the size of a reference element's wave where the gai
 ECHO = (12, -2.5)  # samples of a recording, and dB
 LEVELS, OFFSETS = 1, 60  # dB and hertz that are allowed
 GAIN = 10
-PLAIN = json.loads((SCRIPTS / "examples/usual_cell.json").read_text())
+PLAIN = json.loads((packages.TOP / "scripts/examples/usual_cell.json").read_text())
 
 
 class Put(NamedTuple):
@@ -123,7 +124,7 @@ def main(cli, tune, seconds="6"):
     with tempfile.TemporaryDirectory() as folder:
         path = pathlib.Path(folder) / "three.cu8"
         path.write_bytes(bytes_of(cli, int(seconds)))
-        words = [SCRIPTS / "tools/survey.py", path, "--rate", str(RATE), "--json"]
+        words = [*packages.tool("survey"), path, "--rate", str(RATE), "--json"]
         done = subprocess.run(
             words, env={**os.environ, "LTE_CLI": cli, "LTE_TUNE": tune}, stdout=subprocess.PIPE, check=True
         )

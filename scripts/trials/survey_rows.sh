@@ -8,7 +8,7 @@
 set -u
 shopt -s lastpipe                       # what the last command of a pipeline counts is kept
 here=$(cd "$(dirname "$0")" && pwd)
-tools=$here/../tools
+tools=$here/../tools top=$(realpath "$here/../..")
 program=$(realpath -m "${1:-$here/../../crates/lte_cli/out/lte_cli}")
 [ -x "$program" ] || { echo "survey_rows.sh: no program at $program; rt run in crates/lte_cli builds it" >&2; exit 1; }
 export LTE_CLI=$program
@@ -18,6 +18,10 @@ room=$(mktemp -d)
 trap 'rm -rf "$room"' EXIT
 cd "$room" || exit 1
 failed=0
+
+tool() { # tool NAME WORD..: a tool of lte_tools
+    PYTHONPATH=$top/python /usr/bin/python3 -m "lte_tools.$1" "${@:2}"
+}
 
 says() { # says NAME WANTED < TEXT: the text is what is wanted
     local text
@@ -32,7 +36,7 @@ says() { # says NAME WANTED < TEXT: the text is what is wanted
 
 refuses() { # refuses WANTED WORD..: in one line, which has the wanted text, with another status than 0
     local text
-    if text=$("$tools/survey.py" "${@:2}" 2>&1); then
+    if text=$(tool survey "${@:2}" 2>&1); then
         text="not refused: $text"
     elif [[ $text == *"$1"* && $text != *$'\n'* ]]; then
         text=refused
@@ -47,7 +51,7 @@ print(*(row.get(name, "none") for name in sys.argv[1:]))' "$@"
 }
 
 survey() { # survey WORD..: the table of few windows, quietly
-    "$tools/survey.py" "$@" --csv --jobs 1 2> words
+    tool survey "$@" --csv --jobs 1 2> words
 }
 
 echo '{"identity": 217, "sfn": 100, "offset": 5000, "samples": 192000, "gain": [20, 0],
@@ -123,14 +127,14 @@ survey two.sigmf-meta --carrier 796.3e6 | column of "${found[@]}" | says 'the ca
 survey pair.sigmf-meta --channel 1 | column "${found[@]}" | says 'the second channel' "$near"
 survey echo.ci16 | column "${found[@]}" echo | says 'an echo 12 samples later' "$near 6.2"
 survey echo.ci16 | wc -l | says 'is no second line' 2
-"$tools/survey.py" none.cf32 --json --jobs 1 |
+tool survey none.cf32 --json --jobs 1 |
     /usr/bin/python3 -c 'import json, sys; told = json.load(sys.stdin); print(told["spoiled"], len(told["cells"]) > 0)' |
     says 'one number that is none' '[0.17] True'
-"$tools/survey.py" exchanged.ci16 --jobs 1 | grep -o 'with --exchanged there is PCI 217' |
+tool survey exchanged.ci16 --jobs 1 | grep -o 'with --exchanged there is PCI 217' |
     says 'I and Q exchanged' 'with --exchanged there is PCI 217'
 survey exchanged.ci16 --exchanged | column "${found[@]}" | says '--exchanged' "$near"
 "$tools/from_sigmf.sh" drive.sigmf-meta 796.3e6 | "$program" search | grep -c '^cell 217' | says 'from_sigmf.sh, 796.3e6' 1
-"$tools/to_ci16.py" u8 abc < drive.cu8 2>&1 | wc -l | says 'to_ci16.py u8 abc' 1
+tool to_ci16 u8 abc < drive.cu8 2>&1 | wc -l | says 'to_ci16.py u8 abc' 1
 mkdir bin
 ln -s "$(command -v dirname)" bin
 PATH=$room/bin /bin/bash "$tools/many.sh" sent.ci16 2>&1 | says 'many.sh without parallel' \

@@ -9,7 +9,7 @@
 set -u
 shopt -s lastpipe                       # what the last command of a pipeline counts is kept
 here=$(cd "$(dirname "$0")" && pwd)
-tools=$here/../tools peers=$here/../peers top=$(realpath "$here/../..")
+tools=$here/../tools top=$(realpath "$here/../..")
 program=$(realpath -m "${1:-$here/../../crates/lte_cli/out/lte_cli}")
 [ -x "$program" ] || { echo "test.sh: no program at $program; rt run in crates/lte_cli builds it" >&2; exit 1; }
 tuner=$(realpath -m "${LTE_TUNE:-${program//lte_cli/lte_tune}}")
@@ -18,6 +18,14 @@ room=$(mktemp -d)
 trap 'rm -rf "$room"' EXIT
 cd "$room" || exit 1
 failed=0
+
+tool() { # tool NAME WORD..: a tool of lte_tools
+    PYTHONPATH=$top/python /usr/bin/python3 -m "lte_tools.$1" "${@:2}"
+}
+
+reference() { # reference NAME WORD..: a program of lte_reference
+    PYTHONPATH=$top/python /usr/bin/python3 -m "lte_reference.$1" "${@:2}"
+}
 
 has() { # has WORD..: whether these commands are there
     for word; do command -v "$word" > /dev/null || return 1; done
@@ -65,7 +73,7 @@ for form in 'u8 1920000' 'u8 2048000' 's8 15360000' 's16 30720000' 'f32 10000000
     [ "$has_scipy" ] || break
     read -r kind rate <<< "$form"
     "$here/as_radio.py" "$kind" "$rate" < sent.ci16 > radio
-    "$tools/to_ci16.py" "$kind" "$rate" < radio | "$program" search | finds "to_ci16.py $form"
+    tool to_ci16 "$kind" "$rate" < radio | "$program" search | finds "to_ci16.py $form"
     if has sox; then
         type=(-t "$kind")
         if [ "$kind" = s16 ]; then type+=(-L); fi
@@ -78,7 +86,7 @@ done
 
 if [ "$has_scipy" ] && /usr/bin/python3 -c 'import gnuradio' 2> /dev/null; then
     "$here/as_radio.py" f32 2000000 100000 < sent.ci16 > radio
-    "$tools/gr_to_ci16.py" radio 2000000 100000 made > /dev/null 2>&1
+    tool gr_to_ci16 radio 2000000 100000 made > /dev/null 2>&1
     "$program" search < made | finds 'GNU Radio, 2 Ms/s, 100 kHz beside the centre'
 else
     echo 'left out GNU Radio'
@@ -103,32 +111,32 @@ head -c 400000 /dev/zero | cat - sent.ci16 > long
 "$here/tracks.py" | says 'track.py reads GPX, NMEA and CSV, and refuses others' 'tracks: 0 faults'
 
 head -c 384000 sent.ci16 > five
-"$tools/add_recordings.py" sent.ci16 five 3 | head -c 12 | cmp - <(head -c 12 sent.ci16) > same
+tool add_recordings sent.ci16 five 3 | head -c 12 | cmp - <(head -c 12 sent.ci16) > same
 says 'add_recordings.py adds the second later' '' < same
 if [ "$has_scipy" ] && [ -x "$tuner" ]; then
-    "$tools/add_noise.py" 20 < sent.ci16 | "$program" search | finds 'add_noise.py, 20 dB'
+    tool add_noise 20 < sent.ci16 | "$program" search | finds 'add_noise.py, 20 dB'
     "$here/as_radio.py" u8 2400000 21500 < sent.ci16 > drive.cu8
-    "$tools/survey.py" drive.cu8 --rate 2.4e6 --every 0.03 --csv |
+    tool survey drive.cu8 --rate 2.4e6 --every 0.03 --csv |
         awk -F, '$2 == 217 { print $6, $7, $12, $13, int($19 / 200), $22 }' |
         says 'survey.py: a file of 8 bits at 2.4 Ms/s, 21.5 kHz off' '3 3 001-01 1 107 no'
     if has tshark; then
-        "$tools/survey.py" sent.ci16 --earfcn 303 --pcap sent.pcap > table
+        tool survey sent.ci16 --earfcn 303 --pcap sent.pcap > table
         tshark -r sent.pcap -T fields -e ip.src -e gsmtap.arfcn -e gsmtap.frame_nr -e lte-rrc.systemFrameNumber \
             -e lte-rrc.q_RxLevMin -E separator=, 2> words |
             says 'survey.py --pcap: tshark reads MIB and SIB1' $'127.0.2.17,303,101,19,\n127.0.2.17,303,102,,-70'
     else
         echo 'left out survey.py --pcap: no tshark'
     fi
-    "$tools/survey.py" sent.ci16 --json > survey.json
+    tool survey sent.ci16 --json > survey.json
     : > empty.cu8
     head -c 100001 sent.ci16 > short.ci16
     "$program" search < sent.ci16 > list.txt
     for file in empty.cu8 short.ci16 list.txt; do
-        "$tools/survey.py" "$file" 2>&1 | sed '/cut within/d; s/^[^:]*: [^:]*: //; s/,.*//'
+        tool survey "$file" 2>&1 | sed '/cut within/d; s/^[^:]*: [^:]*: //; s/,.*//'
     done | says 'survey.py refuses a file in a line' $'empty\n0.0130 s from second 0 on\na text'
     printf 'time,lat,lon\n2026-05-01T07:30:00Z,52,13\n2026-05-01T07:30:10Z,51,14\n' > way.csv
     walk=(sent.ci16 --offset 0 --every 0.03 --track way.csv --geojson cells.geojson --start)
-    "$tools/survey.py" "${walk[@]}" 2026-05-01T09:29:59.95+02:00 2> words > table
+    tool survey "${walk[@]}" 2026-05-01T09:29:59.95+02:00 2> words > table
     /usr/bin/python3 -c 'import json
 for one in json.load(open("cells.geojson"))["features"]:
     named, place = one["properties"], one["geometry"]["coordinates"]
@@ -149,13 +157,13 @@ os._exit(0)' 2> notes | says 'QGIS opens the places' 'True 2 EPSG:4326 Real Date
     fi
     grep -c 'no places before and after\|^survey.py: 2 of 3 windows' words | says 'survey.py says what has no place' 2
     for start in 2026-05-01T07:29:59.8Z 2026-05-01T07:30:10.1Z; do
-        "$tools/survey.py" "${walk[@]}" "$start" 2>&1 | sed 's/.*: //'
+        tool survey "${walk[@]}" "$start" 2>&1 | sed 's/.*: //'
     done | says 'survey.py refuses a track of another time' $'no place for any of it\nno place for any of it'
-    cat drive.cu8 /dev/null | "$tools/survey.py" - --form u8 --rate 2.4e6 --every 0.03 --wait --follow |
+    cat drive.cu8 /dev/null | tool survey - --form u8 --rate 2.4e6 --every 0.03 --wait --follow |
         awk '$3 == "PCI" && $4 == 217 && /001-01 TAC 1/ && /behind/ { lines++ } $1 == 217 { print lines, $5 }' |
         says 'survey.py tells a pipe as it comes' '3 3/3'
     mkfifo pipe
-    "$tools/survey.py" - --form u8 --rate 2.4e6 --follow < pipe > heard 2>&1 &
+    tool survey - --form u8 --rate 2.4e6 --follow < pipe > heard 2>&1 &
     exec 5> pipe
     cat drive.cu8 drive.cu8 >&5
     for ((i = 0; i < 600; i++)); do
@@ -167,34 +175,34 @@ os._exit(0)' 2> notes | says 'QGIS opens the places' 'True 2 EPSG:4326 Real Date
     echo "$? $(awk '$1 == 217 { print $5 }' heard)" | says 'survey.py tells what was heard at a signal' '0 1/1'
     exec 5>&-
     "$here/as_radio.py" u8 2400000 302050 < sent.ci16 > wide.cu8
-    "$tools/survey.py" wide.cu8 --rate 2.4e6 --carrier 2140e6 --scan | awk '$3 == 217 { print $1, $2, int($18 / 100) }' |
+    tool survey wide.cu8 --rate 2.4e6 --carrier 2140e6 --scan | awk '$3 == 217 { print $1, $2, int($18 / 100) }' |
         says 'survey.py --scan: the carrier by its number and frequency' '303 2140.3 20'
-    "$tools/survey.py" wide.cu8 --rate 2.4e6 --shift 0 --earfcn 303 --csv | awk -F, '$2 == 217 { print $1 }' |
+    tool survey wide.cu8 --rate 2.4e6 --shift 0 --earfcn 303 --csv | awk -F, '$2 == 217 { print $1 }' |
         says 'survey.py: no cell 300 kHz beside' ''
     if /usr/bin/python3 -c 'import matplotlib' 2> /dev/null; then
-        "$tools/picture.py" drive.cu8 --rate 2.4e6 --tune -o drive.svg
+        tool picture drive.cu8 --rate 2.4e6 --tune -o drive.svg
         head -c 5 drive.svg | says 'picture.py draws it' '<?xml'
-        "$tools/picture.py" "$top/crates/capture_example/stdin" --title 'The shipped recording' -o shipped.svg
+        tool picture "$top/crates/capture_example/stdin" --title 'The shipped recording' -o shipped.svg
         drawn_by='Matplotlib v[0-9.]*' picture=$top/docs/shipped_recording.svg
         if [ "$(grep -o "$drawn_by" shipped.svg)" = "$(grep -o "$drawn_by" "$picture")" ]; then
             cmp shipped.svg "$picture" | says 'picture.py draws what README shows' ''
         else
             echo 'left out the picture of README: another matplotlib drew it'
         fi
-        "$tools/picture.py" survey.json -o survey.html
+        tool picture survey.json -o survey.html
         head -c 15 survey.html | says 'picture.py draws a survey' '<!doctype html>'
-        "$tools/survey.py" "${walk[@]}" 2026-05-01T07:29:59.95Z --html walk.html --json > walk.json 2> words
+        tool survey "${walk[@]}" 2026-05-01T07:29:59.95Z --html walk.html --json > walk.json 2> words
         grep -o '<h2>[^<]*\|title="eNodeB [^"]*' walk.html | says 'survey.py writes a page with a map' 'title="eNodeB 0, its cell 1
 <h2>Map
 <h2>Over time'
-        "$tools/picture.py" walk.json -o same.html
+        tool picture walk.json -o same.html
         cmp walk.html same.html | says 'picture.py writes the same page' ''
         for words in map.svg map.png 'time.svg --time'; do
             read -ra words <<< "$words"
-            "$tools/picture.py" walk.json -o "${words[@]}"
+            tool picture walk.json -o "${words[@]}"
         done
         wc -l < <(cmp map.svg time.svg) | says 'picture.py draws a map, or cells over time' 1
-        cat drive.cu8 /dev/null | "$tools/survey.py" - --form u8 --rate 2.4e6 --wait --html live.html > table
+        cat drive.cu8 /dev/null | tool survey - --form u8 --rate 2.4e6 --wait --html live.html > table
         grep -c '<h2>Map\|<h2>Over time' live.html | says 'survey.py writes a page of a pipe' 1
         if has chromium; then
             sed 's|</body>|<script>document.querySelector("#cells button").click()</script></body>|' walk.html > click.html
@@ -221,31 +229,31 @@ fi
 
 "$program" certify < sent.ci16 > certificate
 "$program" check < certificate > answers
-"$tools/check_certificate.py" < certificate | says 'check_certificate.py answers as check does' "$(cat answers)"
-"$peers/second_search.py" < five | says 'second_search.py lists what search lists' "$("$program" search < five)"
+tool check_certificate < certificate | says 'check_certificate.py answers as check does' "$(cat answers)"
+reference search < five | says 'lte_reference/search.py lists what search lists' "$("$program" search < five)"
 "$program" transmit < "$here/../examples/chance_line.json" > two_lines
 for file in five two_lines "$top/crates/capture_example/stdin"; do
-    "$peers/second_evidence.py" < "$file" |
-        says "second_evidence.py writes what evidence writes of ${file##*/}" "$("$program" evidence < "$file")"
+    reference evidence < "$file" |
+        says "lte_reference/evidence.py writes what evidence writes of ${file##*/}" "$("$program" evidence < "$file")"
     for form in {hits,ids,evidence}' --json' search{,' --all',' --cancel'}' --json' 'search --all'; do
         read -ra words <<< "$form"
-        "$peers/second_forms.py" "${words[@]}" < "$file" |
-            says "second_forms.py writes what $form writes of ${file##*/}" "$("$program" "${words[@]}" < "$file")"
+        reference forms "${words[@]}" < "$file" |
+            says "lte_reference/forms.py writes what $form writes of ${file##*/}" "$("$program" "${words[@]}" < "$file")"
     done
 done
 for carrier in two_ports:'--ports 2' four_ports:'--ports 4' long_prefix:'--prefix long'; do
-    maker=second_${carrier%%:*} carrier=${carrier#*:}
+    maker=${carrier%%:*} carrier=${carrier#*:}
     read -ra words <<< "$carrier"
-    "$peers/$maker.py" 90 > other
-    "$peers/second_evidence.py" "${words[@]}" < other |
-        says "second_evidence.py writes what evidence $carrier writes" "$("$program" evidence "${words[@]}" < other)"
+    reference "$maker" 90 > other
+    reference evidence "${words[@]}" < other |
+        says "lte_reference/evidence.py writes what evidence $carrier writes" "$("$program" evidence "${words[@]}" < other)"
     "$program" certify "${words[@]}" < other > others
-    "$tools/check_certificate.py" < others | says "check_certificate.py accepts what certify $carrier writes" 'certificates 1
+    tool check_certificate < others | says "check_certificate.py accepts what certify $carrier writes" 'certificates 1
 0 yes'
 done
 printf '\377' | dd of=certificate bs=1 seek=244 conv=notrunc status=none
 "$program" check < certificate | says 'another word is refused' 'certificates 1
 0 no'
-"$tools/check_certificate.py" < certificate | says 'by check_certificate.py too' 'certificates 1
+tool check_certificate < certificate | says 'by check_certificate.py too' 'certificates 1
 0 no'
 exit "$failed"

@@ -12,9 +12,11 @@ import pathlib
 import sys
 import tempfile
 
-sys.path.append(str(pathlib.Path(__file__).resolve().parent.parent / "tools"))
-import machine
-import track
+import packages
+
+packages.add()
+from lte_tools import machine
+from lte_tools import track
 
 BEGIN = datetime.datetime(2026, 4, 30, 23, 59, 55, tzinfo=datetime.timezone.utc)
 SECONDS = (0, 1, 2, 3, 4, 5, 6, 7, 60, 61)  # from the begin on, with a gap of 53 seconds

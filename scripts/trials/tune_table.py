@@ -9,16 +9,17 @@ impair.py.
 
 Debian: python3-numpy, python3-scipy.
 """
-import pathlib
 import shutil
 import subprocess
 import sys
 
 import numpy as np
 
-sys.path.append(str(pathlib.Path(__file__).resolve().parent.parent / "tools"))
+import packages
+
+packages.add()
 import impair
-import radio
+from lte_tools import radio
 
 WIDEST = 60_000
 NOISES = (20, 10, 5, 3, 0)

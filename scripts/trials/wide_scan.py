@@ -21,11 +21,12 @@ from typing import NamedTuple
 import numpy as np
 from scipy import fft
 
-HERE = pathlib.Path(__file__).resolve().parent
-sys.path.append(str(HERE.parent / "tools"))
-import machine
-import radio
-import survey_table
+import packages
+
+packages.add()
+from lte_tools import machine
+from lte_tools import radio
+from lte_tools import survey_table
 
 RATE, CENTRE = 30_720_000, 806_000_000
 OFFSET, DC, NOISE = 2_300, 0.02, 20  # hertz; of full scale; dB by which noise is below an element of the strongest cell
@@ -59,7 +60,7 @@ CELLS = (
 
 def sent(cell):
     """A second of a cell."""
-    plan = json.loads((HERE.parent / "examples/usual_cell.json").read_text())
+    plan = json.loads((packages.TOP / "scripts/examples/usual_cell.json").read_text())
     plan |= {"identity": cell.identity, "samples": radio.RATE, "gain": [GAIN, 0], **cell.keys}
     plan |= {"offset": 40 * cell.identity, "sib1": {**plan["sib1"], "cell": 256 * cell.identity}}
     words = [machine.program("lte_cli"), "transmit", *cell.words, "--load", str(cell.identity)]
@@ -104,7 +105,7 @@ def main(folder, offset=str(OFFSET)):
     path, offset = pathlib.Path(folder) / "wide.cs16", int(offset)
     path.parent.mkdir(exist_ok=True)
     written(path, offset)
-    words = [HERE.parent / "tools/survey.py", path, "--rate", str(RATE), "--carrier", str(CENTRE), "--scan", "--json"]
+    words = [*packages.tool("survey"), path, "--rate", str(RATE), "--carrier", str(CENTRE), "--scan", "--json"]
     before, start = resource.getrusage(resource.RUSAGE_CHILDREN), time.monotonic()
     found = json.loads(subprocess.run(words, stdout=subprocess.PIPE, check=True).stdout)
     seconds, used = time.monotonic() - start, resource.getrusage(resource.RUSAGE_CHILDREN)

@@ -34,7 +34,7 @@ fn is_filled(size: u16, kind: usize, sent: u16) -> Option<bool>
 }
 
 // Whether the block can be resolved by so many bits, and not by one less; all such counts are those of
-// `scripts/peers/erasure_reference.py`.
+// `python/lte_reference/erasure.py`.
 fn is_least(size: u16, kind: usize, sent: u16) -> bool
     requires size { size ≤ 1000 }
     requires kind { kind ≤ 9 }

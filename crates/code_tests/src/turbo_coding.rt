@@ -166,7 +166,7 @@ fn coded_word_of_56_bits(rt: HostRuntime) {
 }
 
 // The streams of the word 0123456789abcdef of 64 bits and what is sent of it, by the encoder of
-// scripts/peers/turbo_reference.py and the matrix of TS 36.212 section 5.1.4.1.1.
+// python/lte_reference/turbo.py and the matrix of TS 36.212 section 5.1.4.1.1.
 #[test]
 fn coded_word_of_64_bits(rt: HostRuntime) {
     let Some(row) = further_row_of(40) else {

@@ -1,4 +1,4 @@
-// The numbers are those of a second program, `scripts/peers/second_long_prefix.py`.
+// The numbers are those of a second program, `python/lte_reference/long_prefix.py`.
 use cs_num::{Sample, clamp_div};
 use explain::EntryList;
 use long_prefix::{LongMade, LongPlan, Workspace3, explain_clean, made_is_clean, make, sample};
@@ -260,14 +260,14 @@ fn is_told_alone(alloc: Global, most: u16, frame: u8) -> Result<bool, Fail> {
     })
 }
 
-// By `second_long_prefix.py --spoiled 700 1` and `second_search.py --prefix long why`: frame 0 tells no block.
+// By `lte_reference/long_prefix.py --spoiled 700 1` and `lte_reference/search.py --prefix long why`: frame 0 tells no block.
 #[test]
 fn the_second_frame_tells_alone(rt: HostRuntime) -> Result<(), Fail> {
     assert!(rt; is_told_alone(rt.alloc(), 700, 1)?);
     Ok(())
 }
 
-// By `second_long_prefix.py --spoiled 1000 1` and `900 1`: no frame alone tells a block, though two frames, or four,
+// By `lte_reference/long_prefix.py --spoiled 1000 1` and `900 1`: no frame alone tells a block, though two frames, or four,
 // would together.
 #[test]
 fn no_frames_are_added(rt: HostRuntime) -> Result<(), Fail> {

@@ -1,5 +1,5 @@
-// The values of pairs are those of a second program, `scripts/peers/second_pairs.py --ports 4`, and the recordings by
-// number those whose samples `scripts/peers/second_four_ports.py` gives too.
+// The values of pairs are those of a second program, `python/lte_reference/pairs.py --ports 4`, and the recordings by
+// number those whose samples `python/lte_reference/four_ports.py` gives too.
 ghost use Rattle.std.specs.Prelude.{◌≡◌, IfOk, length};
 
 use crate::ports::{is_of, is_pair, of_port, opposed, symbols, values_of, with_port};

@@ -11,7 +11,7 @@ use std::test::Fail;
 use successive_cancel::{Round, cancel_rounds, clean_cell_is_taken_first, rounds_in_plain_words};
 use test_support::{description, silent, wide_cell};
 
-// Expected texts are those of `scripts/peers/second_cancel.py`.
+// Expected texts are those of `python/lte_reference/cancel.py`.
 
 // A gain of the plain cell.
 const LOUD: &str = ", \"gain\": [20, 9]";

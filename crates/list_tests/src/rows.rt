@@ -2,7 +2,7 @@
 
 use test_support::Rows;
 
-/// Symbols 0 to 4 of slot 1 of frames 0 to 3 of a period, made by `scripts/peers/frames_reference.py`: identity 0,
+/// Symbols 0 to 4 of slot 1 of frames 0 to 3 of a period, made by `python/lte_reference/frames.py`: identity 0,
 /// width n6, PHICH extended and two, upper bits 181, spare bits 1000, two ports. The frame of phase m keeps only
 /// every tenth place of the broadcast channel, from place m on: 12 of the 120 coded bits, and no fewer than
 /// all four frames tell the block.

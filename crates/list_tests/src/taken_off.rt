@@ -1,4 +1,4 @@
-// Expected values are those of `scripts/peers/second_cancel.py`.
+// Expected values are those of `python/lte_reference/cancel.py`.
 ghost use Rattle.std.specs.Prelude.{◌≡◌, length};
 
 use crate::examples::cell_of;

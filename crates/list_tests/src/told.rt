@@ -1,5 +1,5 @@
 //! What is told of recordings by number that were turned. The texts are those of two other programs,
-//! `scripts/peers/second_make.py` and `scripts/peers/tune_reference.py`.
+//! `python/lte_reference/make.py` and `python/lte_reference/tune.py`.
 
 use capture_make::make;
 use cs_num::Sample;

@@ -1,4 +1,4 @@
-//! Recordings turned. The sums are those of another program, `scripts/peers/tune_reference.py`.
+//! Recordings turned. The sums are those of another program, `python/lte_reference/tune.py`.
 
 use cs_num::Sample;
 use frequency_offset::turned;

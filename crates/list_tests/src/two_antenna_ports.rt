@@ -1,5 +1,5 @@
-// The values of pairs are those of a second program, `scripts/peers/second_pairs.py`, and the recordings by number
-// those of `two_tx`, whose samples `scripts/peers/second_two_ports.py` gives too.
+// The values of pairs are those of a second program, `python/lte_reference/pairs.py`, and the recordings by number
+// those of `two_tx`, whose samples `python/lte_reference/two_ports.py` gives too.
 ghost use Rattle.std.specs.Prelude.{◌≡◌, IfOk, length};
 
 use crate::ports::{is_of, is_pair, of_port, opposed, symbols, values_of, with_port};

@@ -1,4 +1,4 @@
-// The samples are those of a second program, `scripts/peers/second_cell.py`, and so are the sums.
+// The samples are those of a second program, `python/lte_reference/cell.py`, and so are the sums.
 use cell_json::{JsonError, read_by};
 use cell_tx::{Cell, CellError, CellPlan, Emission, emit, sum_is_clean};
 use lte_types::Carrier;

@@ -1,4 +1,4 @@
-// The numbers are those of a second program, `scripts/peers/second_four_ports.py`.
+// The numbers are those of a second program, `python/lte_reference/four_ports.py`.
 use capture_make::{MadeBy, make_by};
 use lte_types::Carrier;
 use std::test::Fail;

@@ -1,4 +1,4 @@
-// The numbers are those of a second program, `scripts/peers/second_make.py`; the first words of the generator
+// The numbers are those of a second program, `python/lte_reference/make.py`; the first words of the generator
 // those of PCG's reference code.
 use capture_make::{made_is_clean, make};
 use rand_core::utils::NextWord;

@@ -1,4 +1,4 @@
-// The samples are those of a second program, `scripts/peers/second_cell.py`.
+// The samples are those of a second program, `python/lte_reference/cell.py`.
 ghost use Rattle.std.specs.Prelude.{◌≡◌, IfOk};
 
 use cell_plan::accepted_are_sendable;
@@ -356,7 +356,7 @@ fn are_answers(cfi: u8, blocks: u8, column: u8, letters: &str) -> bool {
     all
 }
 
-// What `scripts/peers/punctured_table.py` prints: control format indicator, resource blocks, column and letters.
+// What `python/lte_reference/punctured_table.py` prints: control format indicator, resource blocks, column and letters.
 const ANSWERS: [(u8, u8, u8, &str); 24] = [
     (2, 1, 2, "lppppppppppppppppppppp"),
     (2, 2, 2, "llllrrrrpppppppppppppp"),

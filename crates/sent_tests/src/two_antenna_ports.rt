@@ -1,4 +1,4 @@
-// The numbers are those of a second program, `scripts/peers/second_two_ports.py`.
+// The numbers are those of a second program, `python/lte_reference/two_ports.py`.
 use capture_make::plan;
 use cell_tx::{CellError, CellPlan, sum_is_clean};
 use lte_types::{Sfn, Sib1};

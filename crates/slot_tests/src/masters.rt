@@ -55,7 +55,7 @@ const DAMAGED: Rows = [
     b"..1.....3.....1.....1.....2.....0.....3.....0.....0.....1.....0.....3...",
 ];
 
-// One port, of identity 0 in frames of phases 0 to 3, made by `scripts/peers/frames_reference.py`: the frame of
+// One port, of identity 0 in frames of phases 0 to 3, made by `python/lte_reference/frames.py`: the frame of
 // phase m keeps only every fourth place of the broadcast channel, from place m on.
 const QUARTERS: [Rows; 4] = [
     [

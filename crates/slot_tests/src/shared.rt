@@ -7,7 +7,7 @@ use pdsch::{MOST_VALUES, values};
 use std::process::Abort;
 use test_support::{EMPTY, Rows, bits_of};
 
-// Slots 10 and 11 with the shared channel alone, and its coded bits, by `scripts/peers/subframe_reference.py`.
+// Slots 10 and 11 with the shared channel alone, and its coded bits, by `python/lte_reference/subframe.py`.
 
 // Resource block 2, of identity 77 with indicator 2.
 const ONE_10: Rows = [

@@ -10,7 +10,7 @@ use std::process::Abort;
 use std::test::Fail;
 use test_support::{EMPTY, Rows};
 
-// Slots 10 and 11 with system information, by `scripts/peers/subframe_reference.py`.
+// Slots 10 and 11 with system information, by `python/lte_reference/subframe.py`.
 
 // Symbols 0 to 2 of slot 10.
 type ControlRows = [&'static [u8; 72]; 3];

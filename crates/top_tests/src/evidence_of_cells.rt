@@ -1,5 +1,5 @@
-//! The command `evidence`. The texts are those of other programs, `scripts/peers/second_evidence.py` and, as JSON,
-//! `scripts/peers/second_forms.py`.
+//! The command `evidence`. The texts are those of other programs, `python/lte_reference/evidence.py` and, as JSON,
+//! `python/lte_reference/forms.py`.
 
 use crate::cells::{EARLY, TURNED, plain_gives, zeros_give};
 use crate::lengths::refuse_lengths;

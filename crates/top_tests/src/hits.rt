@@ -143,7 +143,7 @@ fn readers_and_writers_of_std(rt: HostRuntime) -> Result<(), Fail> {
     Ok(())
 }
 
-// As the second program of outputs, `scripts/peers/second_forms.py`, writes it.
+// As the second program of outputs, `python/lte_reference/forms.py`, writes it.
 const AS_JSON: &str =
     "[{\"energy\":1996394,\"n2\":0,\"peak\":3985589003236,\"power\":1996394,\"t\":832},{\"energy\":1996394,\
 \"n2\":0,\"peak\":3985589003236,\"power\":1996394,\"t\":10432}]\n";

@@ -1,5 +1,5 @@
-//! The command `make`. The texts are those of two other programs, `scripts/peers/second_make.py` and
-//! `scripts/peers/second_search.py`; those of further antenna ports and of the extended prefix are worked rows.
+//! The command `make`. The texts are those of two other programs, `python/lte_reference/make.py` and
+//! `python/lte_reference/search.py`; those of further antenna ports and of the extended prefix are worked rows.
 
 use crate::{Output, command_line, output_unread};
 use lte_top::{Program, Status};

@@ -23,7 +23,7 @@ fn has_each(
     Ok(all)
 }
 
-/// Whether the line of an entry, counted from 0, has each of these numbers, given as names and values by turns.
+/// Returns whether the line of entry `entry`, counted from 0, has each of `numbers`, which are names and values by turns.
 pub(crate) fn line_has(
     alloc: Global,
     text: &str,
@@ -35,7 +35,7 @@ pub(crate) fn line_has(
     has_each(alloc, padded.as_str(), numbers, (" ", " ", " "))
 }
 
-/// Whether the object of the only entry has each of these numbers, given as names and values by turns.
+/// Returns whether the object of the only entry has each of `numbers`, which are names and values by turns.
 pub(crate) fn object_has(alloc: Global, json: &str, numbers: &str) -> Result<bool, AllocError> {
     has_each(alloc, json, numbers, ("\"", "\":", ","))
 }

@@ -1,4 +1,4 @@
-//! The command `search --all`. The texts are those of another program, `scripts/peers/second_forms.py`.
+//! The command `search --all`. The texts are those of another program, `python/lte_reference/forms.py`.
 
 use crate::cells::{plain_gives, zeros_give};
 use crate::lengths::refuse_lengths;

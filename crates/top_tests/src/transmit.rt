@@ -1,5 +1,5 @@
 //! The command `transmit`, where it refuses descriptions, and what is found of what it sends by each carrier. The lists
-//! are those of second programs: of `scripts/peers/second_search.py` over what `scripts/peers/second_cell.py` sends.
+//! are those of second programs: of `python/lte_reference/search.py` over what `python/lte_reference/cell.py` sends.
 
 use crate::{Output, gives, output_of, sent_by, sent_with_words};
 use cell_tx::CellError;

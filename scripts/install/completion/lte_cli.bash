@@ -1,5 +1,5 @@
 # bash completion for lte_cli
-# Made by scripts/install/made.py --write: what it is made of is to be changed, not this file.
+# Made by scripts/gate.sh made --write: change its sources, not this file.
 _lte_cli_forms='hits --json --format cu8
 hits --json
 hits --format cu8

@@ -1,5 +1,5 @@
 # bash completion for lte_picture
-# Made by scripts/install/made.py --write: what it is made of is to be changed, not this file.
+# Made by scripts/gate.sh made --write: change its sources, not this file.
 _lte_picture() {
     local current=${COMP_WORDS[COMP_CWORD]} choices=''
     COMPREPLY=()
@@ -10,7 +10,7 @@ _lte_picture() {
         --carrier) compopt +o default 2> /dev/null; return ;;
         --at) compopt +o default 2> /dev/null; return ;;
         --channel) compopt +o default 2> /dev/null; return ;;
-        -o) return ;;
+        -o) compopt +o default 2> /dev/null; return ;;
         --offset) compopt +o default 2> /dev/null; return ;;
         --cells) compopt +o default 2> /dev/null; return ;;
         --title) compopt +o default 2> /dev/null; return ;;

@@ -1,5 +1,5 @@
 # bash completion for lte_survey
-# Made by scripts/install/made.py --write: what it is made of is to be changed, not this file.
+# Made by scripts/gate.sh made --write: change its sources, not this file.
 _lte_survey() {
     local current=${COMP_WORDS[COMP_CWORD]} choices=''
     COMPREPLY=()
@@ -15,11 +15,11 @@ _lte_survey() {
         --gain) compopt +o default 2> /dev/null; return ;;
         --jobs) compopt +o default 2> /dev/null; return ;;
         --earfcn) compopt +o default 2> /dev/null; return ;;
-        --track) return ;;
+        --track) compopt +o default 2> /dev/null; return ;;
         --start) compopt +o default 2> /dev/null; return ;;
-        --geojson) return ;;
-        --pcap) return ;;
-        --html) return ;;
+        --geojson) compopt +o default 2> /dev/null; return ;;
+        --pcap) compopt +o default 2> /dev/null; return ;;
+        --html) compopt +o default 2> /dev/null; return ;;
         *) if [[ $current == -* ]]; then choices='-h --help --form --rate --shift --carrier --at --exchanged --channel --every --offset --gain --jobs --scan --earfcn --follow --wait --track --start --geojson --pcap --html --csv --json'; else return; fi ;;
     esac
     mapfile -t COMPREPLY < <(compgen -W "$choices" -- "$current")

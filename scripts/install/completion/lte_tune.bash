@@ -1,5 +1,5 @@
 # bash completion for lte_tune
-# Made by scripts/install/made.py --write: what it is made of is to be changed, not this file.
+# Made by scripts/gate.sh made --write: change its sources, not this file.
 _lte_tune_forms='tell --json --format cu8
 tell --json
 tell --format cu8

@@ -1,0 +1,84 @@
+"""What a script can ask of the English of comments in src/ and specs/: `faults_of` a file's text."""
+import re
+
+from .rattle_source import METHOD, comments_of
+
+MOST_WORDS = 39  # of the comment of a function
+QUOTED = re.compile(r"`[^`]*`|\"[^\"]*\"")
+TOLD = re.compile(r"\b(?:told|tells?|telling)\b", re.I)
+FRONTED = re.compile(r"(?:^|[.:;] )Of\b")
+VERB = re.compile(r"[A-Z][a-z]*(?:s|s,)(?= |$)(?! (?:of|that|which|are|were|have)\b)|Does not\b|A law\b")
+NO_VERB = ("This", "Its", "Is", "Was", "Has", "Thus", "Less", "Plus", "Minus", "Always", "As", "Yes", "Us", "Towards")
+LEANING = re.compile(
+    r"""
+    (?: it | its | they | their | them | that | those        # pronouns for a thing that was named before
+      | (?:this|these) (?= [ ](?:is|has|was|too|alone)\b | [,;:.] | $ )
+      | (?:both|all|each|none|some|one) (?= [ ](?:do|does|are|is|have|has|of[ ](?:it|them))\b | [.]? $ )
+      | the[ ](?:others?|rest|former|latter|second|next) (?= [ ](?:do|does|is|are|of[ ](?:it|them))\b | [.]? $ )
+      | another | such | here | there (?! [ ](?:is|are|was|were)\b )
+      | and | or | so | but | nor | then | also | too | else | again | otherwise | likewise
+      | of | with | by                                         # a preposition, without the thing
+      | as[ ](?:above|before|there|here|it|they|that|those|to)
+      | (?:in|on|at|to|from|for|as|without|beside)[ ](?:it|them|that|those|which|one|two)
+      | (?:what|whether|where|which|when|how(?:[ ]\w+)?)[ ](?:it|they|that|those)
+      | (?:whether|where)[ ]\w+[ ](?:do|does)
+      | in[ ]a[ ]recording (?= [:,] ) | which (?= [ ](?:is|are|has|have)\b ) | whose
+      | \w+[ ]times (?= [.]? $ )
+      | \w+s[ ](?:it|its|them|their)                          # a verb with such a pronoun: "adds its schedule"
+      | (?:\w+[ ]){1,5} of[ ](?:it|them) (?= [.]? $ )
+    )\b
+    """,
+    re.X | re.I,
+)
+SAME = re.compile(r"(?:the same|as many|as much)\b(?!.* as )", re.I)
+HANGING = re.compile(r"(?!what\b)[^,:;]*\b(?:do|does|so|likewise)(?:[.]?$|[:;])", re.I)
+PARAMETERS = re.compile(r"\bfn \w+[^(]*\((.*?)\)(?: ->|\s*$|\s*\{|\s*where|\s*requires|\s*ensures)", re.S | re.M)
+
+
+def leans(comment):
+    """Returns whether a comment needs what stands above it: it begins with a pronoun or ends with a bare verb."""
+    return bool(LEANING.match(comment) or SAME.match(comment) or HANGING.match(comment))
+
+
+def head_below(lines, number):
+    """Returns the head of the function that begins at a line, below attributes, or nothing if none does."""
+    while number <= len(lines) and lines[number - 1].strip().startswith("#["):
+        number += 1
+    if number > len(lines) or not METHOD.match(lines[number - 1]):
+        return ""
+    return "\n".join(lines[number - 1 : number + 9])
+
+
+def parameters_of(head):
+    """Returns the parameters' names that are not words of English: with an underscore or of a single letter."""
+    found = PARAMETERS.search(head)
+    names = re.findall(r"(?:^|,)\s*(?:mut )?(\w+):", found[1]) if found else []
+    return [name for name in names if "_" in name or len(name) == 1 and name not in "aI"]
+
+
+def function_faults(comment, head):
+    """Yields what is wrong with the comment of a function."""
+    words, bare = comment.words, QUOTED.sub("", comment.words)
+    first = words.split(" ")[0]
+    if not VERB.match(words) or first in NO_VERB:
+        yield f"begins with no verb in the third person: {words[:40]}"
+    if len(words.split()) > MOST_WORDS:
+        yield f"has {len(words.split())} words"
+    for name in parameters_of(head):
+        if re.search(rf"(?<![\w'^-]){re.escape(name)}(?![\w'^(-])", bare):
+            yield f"names `{name}` without backticks"
+
+
+def faults_of(text):
+    """Yields pairs of a line's number and what is wrong with the comment there, of a file of src/ or specs/."""
+    lines = text.split("\n")
+    for comment in comments_of(text):
+        bare = QUOTED.sub("", comment.words)
+        for found in TOLD.findall(bare):
+            yield comment.line, f"says {found}: {comment.words[:50]}"
+        if FRONTED.search(bare):
+            yield comment.line, f"has a fronted Of: {comment.words[:50]}"
+        if comment.mark == "///":
+            head = head_below(lines, comment.line + comment.count)
+            if head:
+                yield from ((comment.line, fault) for fault in function_faults(comment, head))

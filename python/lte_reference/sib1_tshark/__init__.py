@@ -1,0 +1,1 @@
+"""SIB1 texts, compared with tshark as an independent reader."""

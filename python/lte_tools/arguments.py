@@ -1,0 +1,86 @@
+"""Arguments of the tools: a parser that refuses in one line, and types of numbers."""
+from __future__ import annotations
+
+import argparse
+import pathlib
+import re
+from typing import Any, NoReturn
+
+
+class Parser(argparse.ArgumentParser):
+    """Refuses in one line, and takes a number such as -80e3 as the value of an option or an argument."""
+
+    def __init__(self, text: str | None, **keys: Any) -> None:
+        super().__init__(description=text, formatter_class=argparse.RawDescriptionHelpFormatter, **keys)
+        self._negative_number_matcher = re.compile(r"-\.?\d.*")
+
+    def error(self, message: str) -> NoReturn:
+        self.exit(2, f"{self.prog}: {message}\n")
+
+
+GREATEST = 1e15  # absolute value of a number
+FASTEST = 1e10  # samples per second
+SHORTEST = 0.001  # seconds from one window to the next
+
+
+def number(text: str) -> float:
+    """Returns a number whose absolute value is not above GREATEST."""
+    value = float(text)
+    if not abs(value) <= GREATEST:
+        raise ValueError(text)
+    return value
+
+
+def positive(text: str) -> float:
+    """Returns a number above 0."""
+    value = number(text)
+    if value <= 0:
+        raise argparse.ArgumentTypeError(f"{text} is not above 0")
+    return value
+
+
+def rate(text: str) -> float:
+    """Returns a number of samples per second."""
+    value = positive(text)
+    if value > FASTEST:
+        raise argparse.ArgumentTypeError(f"{text} is above {FASTEST:g} samples per second")
+    return value
+
+
+def apart(text: str) -> float:
+    """Returns the seconds from one window to the next."""
+    value = positive(text)
+    if value < SHORTEST:
+        raise argparse.ArgumentTypeError(f"{text} is below {SHORTEST} s")
+    return value
+
+
+def decibels(text: str) -> float:
+    """Returns a number of decibels, -1000 to 1000."""
+    value = number(text)
+    if abs(value) > 1000:
+        raise argparse.ArgumentTypeError(f"{text} is not between -1000 and 1000 dB")
+    return value
+
+
+def not_negative(text: str) -> float:
+    """Returns a number of 0 or more."""
+    value = number(text)
+    if value < 0:
+        raise argparse.ArgumentTypeError(f"{text} is below 0")
+    return value
+
+
+def at_least_one(text: str) -> int:
+    """Returns a whole number above 0."""
+    value = int(text)
+    if value < 1:
+        raise argparse.ArgumentTypeError(f"{text} is not above 0")
+    return value
+
+
+def path(text: str) -> pathlib.Path:
+    """Returns a path; a file's name has no byte 0."""
+    if "\0" in text or not text:
+        raise argparse.ArgumentTypeError("a file's name is missing")
+    return pathlib.Path(text)

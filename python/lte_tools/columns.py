@@ -1,0 +1,339 @@
+"""The columns of a survey: of the table, the CSV, the page with its tooltips, and docs/RECORDINGS.md, one row each here.
+
+A further column is a row of COLUMNS, its key in CSV_KEYS, a field of survey_data.SurveyCell with its line in cells.py,
+and that field's definition in report.schema.json. `python3 -m lte_tools.columns` prints the table for the page.
+"""
+from __future__ import annotations
+
+from dataclasses import dataclass
+from typing import Callable, Union
+
+from .rules import BY_NAME
+from .survey_data import Survey, SurveyCell
+
+Value = Union[str, int, float, None]
+CHANCE = "? chance explains this line: it was seen once, or at another's place, and no SIB1 was read"
+
+
+@dataclass(frozen=True)
+class Column:
+    """A column: its key in the CSV and its heading in the table (None where it has none there), its unit, how many digits
+    after the point the table shows (None: the value as it is), what it means, and its value."""
+
+    key: str | None
+    heading: str | None
+    unit: str
+    digits: int | None
+    meaning: str
+    of: Callable[[SurveyCell, Survey], Value]
+    shown: Callable[[SurveyCell, Survey], str] | None = None  # the text in the table, where it is not the value's own
+    is_left: bool = False
+
+    def text(self, cell: SurveyCell, survey: Survey) -> str:
+        """Returns the text in the table."""
+        if self.shown:
+            return self.shown(cell, survey)
+        value = self.of(cell, survey)
+        return "-" if value is None else str(value) if self.digits is None else f"{value:.{self.digits}f}"
+
+
+# ---- values that are not a field's own
+
+
+def earfcn_text(cell: SurveyCell) -> str:
+    """Returns the EARFCN of a scanned cell in the band of its SIB1, else one for each band that has the frequency."""
+    every = {band: str(number) for band, number in cell.earfcns}
+    own = every.get(cell.sib1.band) if cell.sib1 else None
+    return own or " ".join(f"{number}/b{band}" for band, number in every.items()) or "-"
+
+
+def megahertz_text(cell: SurveyCell) -> str:
+    """Returns a scanned cell's frequency, with a sign above the file's centre if that is not known."""
+    if cell.shift is None:
+        return "-"
+    return f"{cell.shift / 1e6:+.1f}" if cell.frequency is None else f"{cell.frequency / 1e6:.1f}"
+
+
+def echo_text(cell: SurveyCell) -> str:
+    return f"{cell.echo.delay} us {cell.echo.level} dB" if cell.echo else ""
+
+
+def networks_of(cell: SurveyCell) -> str | None:
+    return " ".join(cell.sib1.networks) if cell.sib1 else None
+
+
+def frequency_of(cell: SurveyCell, survey: Survey) -> float | None:
+    return survey.carrier if cell.shift is None else cell.frequency
+
+
+COLUMNS = (
+    Column("file", None, "", None, "the file's name", lambda cell, survey: survey.file),
+    Column(
+        "earfcn",
+        "EARFCN",
+        "",
+        None,
+        "the carrier's number; `/b` and the band if SIB1 does not give one",
+        lambda cell, survey: " ".join(str(number) for _, number in cell.earfcns),
+        lambda cell, survey: earfcn_text(cell),
+    ),
+    Column(
+        "frequency",
+        "MHz",
+        "Hz",
+        None,
+        "the carrier's frequency; with a sign, above the file's centre, which is not known",
+        frequency_of,
+        lambda cell, survey: megahertz_text(cell),
+    ),
+    Column("identity", "PCI", "", None, "physical-layer cell identity, 0 to 503", lambda cell, survey: cell.identity),
+    Column(
+        "rule",
+        "rule",
+        "",
+        None,
+        "the list that the line is from: the one with SIB1, else the one made for the cell's antenna ports",
+        lambda cell, survey: cell.rule,
+        is_left=True,
+    ),
+    Column(
+        "first",
+        "first s",
+        "s",
+        2,
+        "second at which a frame of the cell begins in the first window that lists it",
+        lambda cell, survey: cell.first,
+    ),
+    Column(
+        "last",
+        "last s",
+        "s",
+        2,
+        "second at which a frame of the cell begins in the last window that lists it",
+        lambda cell, survey: cell.last,
+    ),
+    Column(
+        "windows",
+        "windows",
+        "",
+        None,
+        "how many windows list it, of all that were looked at",
+        lambda cell, survey: cell.windows,
+        lambda cell, survey: f"{cell.windows}/{survey.windows}",
+    ),
+    Column("of", None, "", None, "windows that were looked at", lambda cell, survey: survey.windows),
+    Column("ports", "ports", "", None, "antenna ports, from the MIB", lambda cell, survey: cell.ports),
+    Column("bandwidth", "width", "", None, "resource blocks, from the MIB", lambda cell, survey: cell.bandwidth),
+    Column("duration", None, "", None, "PHICH duration, from the MIB", lambda cell, survey: cell.duration),
+    Column("resource", None, "", None, "PHICH resource (Ng), from the MIB", lambda cell, survey: cell.resource),
+    Column(
+        None,
+        "PHICH",
+        "",
+        None,
+        "PHICH duration and resource (Ng), from the MIB",
+        lambda cell, survey: f"{cell.duration} {cell.resource}",
+        is_left=True,
+    ),
+    Column(
+        "plmn",
+        "PLMN",
+        "",
+        None,
+        "networks, from SIB1: country and network code",
+        lambda cell, survey: networks_of(cell),
+        is_left=True,
+    ),
+    Column(
+        "tac",
+        "TAC",
+        "",
+        None,
+        "tracking area code, from SIB1",
+        lambda cell, survey: cell.sib1.tac if cell.sib1 else None,
+    ),
+    Column(
+        "cell",
+        "cell",
+        "",
+        None,
+        "cell identity, from SIB1: 256 times the eNodeB, plus its cell",
+        lambda cell, survey: cell.sib1.cell if cell.sib1 else None,
+    ),
+    Column(
+        "band",
+        "band",
+        "",
+        None,
+        "frequency band, from SIB1",
+        lambda cell, survey: cell.sib1.band if cell.sib1 else None,
+    ),
+    Column(
+        "level",
+        "dBFS",
+        "dBFS",
+        None,
+        "level of a reference element where it was strongest, relative to the file's full scale",
+        lambda cell, survey: cell.level,
+    ),
+    Column(
+        None,
+        "dBm",
+        "dBm",
+        None,
+        "level of a reference element where it was strongest, by `--gain`",
+        lambda cell, survey: cell.level,
+    ),
+    Column("unit", None, "", None, "the level's unit, dBFS or dBm", lambda cell, survey: survey.unit),
+    Column(
+        "ratio",
+        "S/N dB",
+        "dB",
+        None,
+        "signal to noise of a reference element where it was strongest",
+        lambda cell, survey: cell.ratio,
+    ),
+    Column(
+        "offset",
+        "offset Hz",
+        "Hz",
+        None,
+        "frequency offset there, mostly the radio's own error",
+        lambda cell, survey: cell.offset,
+    ),
+    Column("ppm", "ppm", "1e-6", None, "the offset in millionths of the carrier", lambda cell, survey: cell.ppm),
+    Column(
+        "echo",
+        "echo",
+        "us",
+        None,
+        "another path: its delay and its level, relative to the strongest path",
+        lambda cell, survey: cell.echo.delay if cell.echo else None,
+        lambda cell, survey: echo_text(cell),
+    ),
+    Column(
+        "echo_level",
+        None,
+        "dB",
+        None,
+        "that path's level, relative to the strongest path",
+        lambda cell, survey: cell.echo.level if cell.echo else None,
+    ),
+    Column(
+        "share",
+        "cost %",
+        "",
+        None,
+        "how much of the soft bits speaks against the MIB: near 0 if well received, 11 to 16 for a false detection",
+        lambda cell, survey: cell.share,
+        lambda cell, survey: f"{100 * cell.share:.1f}",
+    ),
+    Column(
+        "chance",
+        "",
+        "",
+        None,
+        "`?` marks a line that is probably a false detection",
+        lambda cell, survey: "yes" if cell.chance else "no",
+        lambda cell, survey: "?" if cell.chance else "",
+        is_left=True,
+    ),
+    Column(
+        "no_sib1",
+        "no SIB1",
+        "",
+        None,
+        "why SIB1 was not read",
+        lambda cell, survey: cell.no_sib1,
+        lambda cell, survey: cell.no_sib1 or "",
+        is_left=True,
+    ),
+    Column(
+        "enodeb", None, "", None, "the eNodeB, from SIB1", lambda cell, survey: cell.sib1.enodeb if cell.sib1 else None
+    ),
+    Column(
+        "sector", None, "", None, "its cell, from SIB1", lambda cell, survey: cell.sib1.sector if cell.sib1 else None
+    ),
+    Column("sfn", None, "", None, "frame number at `first`", lambda cell, survey: cell.seen[0].sfn),
+    Column("datetime", None, "", None, "time of `first`", lambda cell, survey: cell.datetime),
+)
+CSV_KEYS = """file identity rule first last windows of ports bandwidth duration resource plmn tac cell band level unit
+ratio offset ppm share chance echo echo_level enodeb sector sfn no_sib1 datetime frequency earfcn""".split()
+BY_KEY = {column.key: column for column in COLUMNS if column.key}
+BY_HEADING = {column.heading: column for column in COLUMNS if column.heading is not None}
+# of a page with a map
+MAP_MEANINGS = {
+    "map": "letter on the map, of a cell that is the strongest somewhere",
+    "strongest at": "latitude and longitude of the window where it was strongest",
+}
+
+
+def table_columns(survey: Survey) -> list[Column]:
+    """Returns the columns of a survey's table: those with a heading, and the level in its unit."""
+    other = {"dBFS": "dBm", "dBm": "dBFS"}[survey.unit]
+    return [column for column in COLUMNS if column.heading not in (None, other)]
+
+
+def meaning_of(heading: str) -> str:
+    """Returns what a column of the table or the page means."""
+    column = BY_HEADING.get(heading)
+    return (column.meaning if column else MAP_MEANINGS[heading]).replace("`", "")
+
+
+# ---- what the words in a column mean
+
+BLOCKS = {"n6": "1.4", "n15": "3", "n25": "5", "n50": "10", "n75": "15", "n100": "20"}  # MHz
+PHICH = {
+    "normal": "in the first symbol of a subframe",
+    "extended": "in three symbols of a subframe",
+    "oneSixth": "Ng 1/6",
+    "half": "Ng 1/2",
+    "one": "Ng 1",
+    "two": "Ng 2",
+}
+REASONS = {
+    "ports": "the MIB announces so many antenna ports, with which this list reads no SIB1",
+    "bandwidth": "the MIB announces so many resource blocks: SIB1 is read only with 6",
+    "no-search-space": "the control region has only so many elements, fewer than four",
+    "no-control": "no control information that grants system information",
+    "not-1a": "control information of another format",
+    "distributed": "a distributed grant, which is not read",
+    "bad-riv": "a grant of blocks that do not exist",
+    "reserved-mcs": "a grant with a reserved scheme",
+    "block-too-large": "a grant of a larger block than is read",
+    "not-decoded": "no block passed its CRC: mostly noise",
+    "not-sib1": "the block is another message",
+    "bad-fields": "the block's fields end or go wrong at this bit",
+    "long-prefix": "with the extended prefix no SIB1 is read",
+}
+
+
+def word_meaning(heading: str, word: str) -> str:
+    """Returns what a word in a column means, or nothing for a number alone."""
+    first = word.split(" ")[0]
+    if word in ("", "-"):
+        return "not known" if word else ""
+    if heading == "rule":
+        return BY_NAME[word].meaning if word in BY_NAME else ""
+    if heading == "width":
+        return f"{BLOCKS[word]} MHz, {word[1:]} resource blocks" if word in BLOCKS else ""
+    if heading == "PHICH":
+        return ", ".join(PHICH[part] for part in word.split(" ") if part in PHICH)
+    if heading == "cell":
+        return f"eNodeB {int(word) >> 8}, its cell {int(word) & 255}"
+    if heading == "no SIB1":
+        return REASONS.get(first, "")
+    return CHANCE.removeprefix("? ") if word == "?" else ""
+
+
+# ---- the table of docs/RECORDINGS.md
+
+
+def page_rows() -> list[str]:
+    """Returns the rows of the page's table."""
+    rows = [f"| `{heading or '?'}` | {column.meaning} |" for heading, column in BY_HEADING.items()]
+    return ["| Column | Meaning |", "|---|---|", *rows]
+
+
+if __name__ == "__main__":
+    print("\n".join(page_rows()))

@@ -1,0 +1,126 @@
+"""What the tools need from the machine: packages, the two programs, output files, and refusals in one line.
+
+A tool that cannot go on raises `Refused`. `run` prints that as one line on standard error and exits with status 1.
+"""
+from __future__ import annotations
+
+import importlib.util
+import io
+import json
+import os
+import pathlib
+import shutil
+import signal
+import subprocess
+import sys
+from typing import Any, Callable, NoReturn
+
+TOP = pathlib.Path(__file__).resolve().parent.parent.parent
+
+
+class Refused(Exception):
+    """A tool has no result; the text is one line that says why."""
+
+
+class ProgramRefused(Refused):
+    """A program refused its arguments or its recording.
+
+    `cause` is the line that the program wrote on standard error, `exit_code` its exit code (1 to 255, negative for a
+    signal), `command` its arguments.
+    """
+
+    def __init__(self, command: str, cause: str, exit_code: int) -> None:
+        super().__init__(f"{command}: {cause}")
+        self.command, self.cause, self.exit_code = command, cause, exit_code
+
+
+def tool_name() -> str:
+    """Returns the name by which this tool was called."""
+    return pathlib.Path(sys.argv[0]).name
+
+
+def note(text: str) -> None:
+    """Prints a line on standard error; the tool goes on."""
+    print(f"{tool_name()}: {text}", file=sys.stderr)
+
+
+def fail(text: str) -> NoReturn:
+    """Ends the tool with one line on standard error and status 1."""
+    print(f"{tool_name()}: {' '.join(text.split())}".encode(errors="backslashreplace").decode(), file=sys.stderr)
+    raise SystemExit(1)
+
+
+def run(command: Callable[[], None], *packages: str) -> None:
+    """Runs a tool's command, which needs these Python packages, and turns its refusals into one line each."""
+    check_packages(*packages)
+    signal.signal(signal.SIGINT, signal.default_int_handler)
+    if isinstance(sys.stdout, io.TextIOWrapper):
+        sys.stdout.reconfigure(errors="surrogateescape")  # names of files that are not UTF-8
+    try:
+        command()
+        sys.stdout.flush()
+    except Refused as refusal:
+        fail(str(refusal))
+    except OSError as fault:
+        if isinstance(fault, BrokenPipeError):
+            os.dup2(os.open(os.devnull, os.O_WRONLY), 1)
+        fail(f"{fault.filename or 'output'}: {fault.strerror}")
+    except MemoryError:
+        fail("out of memory: --every, or a shorter file, needs less")
+    except KeyboardInterrupt:
+        fail("stopped")
+
+
+def check_packages(*packages: str) -> None:
+    """Ends the tool if this Python does not have these packages."""
+    missing = [package for package in packages if importlib.util.find_spec(package) is None]
+    if missing:
+        names = " ".join(f"python3-{package}" for package in missing)
+        fail(f"no {', no '.join(missing)} for {sys.executable} (Debian: {names}, for /usr/bin/python3)")
+
+
+def check_place(path: pathlib.Path) -> None:
+    """Refuses a path at which no file can be written."""
+    if path.is_dir() or not os.access(path.parent, os.W_OK | os.X_OK):
+        raise Refused(f"{path}: {'a folder' if path.is_dir() else 'nothing can be written into its folder'}")
+
+
+def write(path: pathlib.Path, data: bytes) -> None:
+    """Writes a file under another name first, so that an older one of this name stays if that fails."""
+    part = path.with_name(f".{os.getpid()}.{path.name}")
+    try:
+        part.write_bytes(data)
+        os.replace(part, path)
+    except OSError as fault:
+        fault.filename = str(path)
+        raise
+    finally:
+        part.unlink(missing_ok=True)
+
+
+def program(name: str) -> str:
+    """Returns the path of a program: LTE_CLI or LTE_TUNE, else next to this tool, else built in this clone, else PATH."""
+    named = os.environ.get(name.upper())
+    beside = pathlib.Path(sys.argv[0]).resolve().parent / name
+    for place in [named] if named else [str(beside), str(TOP / "crates" / name / "out" / name), name]:
+        if found := shutil.which(place):
+            return os.path.abspath(found)
+    if named:
+        raise Refused(f"no program at {named}, which {name.upper()} names")
+    raise Refused(f"no {name}: `rt run -- version` in crates/{name} builds it, or {name.upper()} names it")
+
+
+def answer(words: list[str], data: bytes) -> Any:
+    """Returns a program's JSON answer for a recording."""
+    command = " ".join(words[1:])
+    try:
+        done = subprocess.run(words, input=data, capture_output=True, check=False)
+    except BrokenPipeError:
+        raise Refused(f"{words[0]}: reads no recording: is it the program?") from None
+    if done.returncode:
+        cause = done.stderr.decode(errors="replace").strip() or f"status {done.returncode}"
+        raise ProgramRefused(command, cause, done.returncode)
+    try:
+        return json.loads(done.stdout)
+    except (ValueError, RecursionError):
+        raise Refused(f"{words[0]} {command}: no JSON came: is it the program?") from None

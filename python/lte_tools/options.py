@@ -1,0 +1,193 @@
+"""Options of lte_survey and lte_picture as frozen dataclasses, and the parsers of their arguments.
+
+Nothing here needs numpy, so that manual pages and completion are made without it.
+"""
+from __future__ import annotations
+
+import argparse
+import dataclasses
+import datetime
+import os
+import pathlib
+from dataclasses import dataclass
+from typing import Any, TypeVar
+
+from . import bands, machine, track
+from .arguments import Parser, apart, at_least_one, decibels, not_negative, number, path, rate
+from .machine import Refused
+
+WINDOW = 0.17  # seconds of a window: the 17 frames that a list depends on
+EVERY_OF_SCAN = 10.0  # seconds from one window of a scan to the next
+LOWEST = 1e6  # hertz of a carrier: a lower number was meant in megahertz
+FORMS = ("u8", "s8", "s16", "f32", "sigmf")
+
+
+@dataclass(frozen=True)
+class FileOptions:
+    """Where samples are, and how they are read: `rate` in samples per second, `shift` in hertz above the file's centre,
+    `carrier` in hertz (0: not known), `at` the second at which to begin."""
+
+    file: pathlib.Path
+    form: str | None = None
+    rate: float | None = None
+    shift: float | None = None
+    carrier: float = 0
+    at: float = 0
+    exchanged: bool = False
+    channel: int | None = None
+
+    @property
+    def is_input(self) -> bool:
+        """Whether samples come on standard input."""
+        return str(self.file) == "-"
+
+
+@dataclass(frozen=True)
+class SurveyOptions(FileOptions):
+    """Options of a survey: `every` in seconds, `offset` in hertz, `gain` in dB, `jobs` processes."""
+
+    every: float = WINDOW
+    offset: float | None = None
+    gain: float | None = None
+    jobs: int = 1
+    scan: bool = False
+    earfcn: int | None = None
+    follow: bool = False
+    wait: bool = False
+    track: pathlib.Path | None = None
+    start: datetime.datetime | None = None
+    geojson: pathlib.Path | None = None
+    pcap: pathlib.Path | None = None
+    html: pathlib.Path | None = None
+    csv: bool = False
+    json: bool = False
+
+
+@dataclass(frozen=True)
+class PictureOptions(FileOptions):
+    """Options of a picture: `offset` in hertz, `cells` at most, `title` in place of the file's name."""
+
+    out: pathlib.Path = pathlib.Path("-")
+    tune: bool = False
+    offset: float | None = None
+    cells: int = 4
+    time: bool = False
+    title: str | None = None
+
+
+T = TypeVar("T", bound=FileOptions)
+
+
+def options_of(kind: type[T], args: argparse.Namespace) -> T:
+    """Returns the options that arguments name; the others keep their defaults."""
+    names = {one.name for one in dataclasses.fields(kind)}
+    return kind(**{key: value for key, value in vars(args).items() if key in names and value is not None})
+
+
+# ---- parsers
+
+
+def add_file_arguments(parser: argparse.ArgumentParser) -> None:
+    """Adds what a tool asks of a file."""
+    parser.add_argument("file", metavar="FILE", type=path)
+    parser.add_argument("--form", choices=FORMS, help="by the file's name where it is left out, else s16")
+    parser.add_argument("--rate", type=rate, help="samples per second; of SigMF what it says, else 1.92e6")
+    parser.add_argument("--shift", type=number, help="hertz above the file's centre at which the cell stands (0)")
+    parser.add_argument("--carrier", type=number, default=0, help="the cell's frequency in hertz, for ppm and SigMF")
+    parser.add_argument("--at", type=not_negative, default=0, help="the second at which to begin (0)")
+    parser.add_argument("--exchanged", action="store_true", help="Q comes before I in the file")
+    parser.add_argument("--channel", type=int, help="of several channels of SigMF this one, from 0")
+
+
+def time_of(text: str) -> datetime.datetime:
+    """Returns a time with its zone."""
+    try:
+        return datetime.datetime.fromtimestamp(track.seconds_of(text), track.UTC)
+    except (track.BadTrack, ValueError, OverflowError, OSError) as fault:
+        raise argparse.ArgumentTypeError(str(fault)) from None
+
+
+def survey_parser(text: str | None) -> argparse.ArgumentParser:
+    """Returns the parser of lte_survey."""
+    parser = Parser(text)
+    add_file_arguments(parser)
+    add: Any = parser.add_argument
+    add("--every", type=apart, help="seconds from one window to the next (0.17, of --scan 10)")
+    add("--offset", type=number, help="hertz to take off at first, in place of what lte_tune tells")
+    add("--gain", type=decibels, help="dBFS of a signal of 0 dBm at the antenna: levels are in dBm then")
+    add("--jobs", type=at_least_one, default=os.cpu_count() or 1, help="processes (one a processor)")
+    add("--scan", action="store_true", help="look at each carrier of the 100 kHz raster in the file")
+    add("--earfcn", type=int, metavar="N", help="the cell's carrier by its number, for --carrier")
+    add("--follow", action="store_true", help="of -: a line a window and cell as it is found")
+    add("--wait", action="store_true", help="of -: a pipe from a file, which waits: nothing is skipped")
+    add("--track", type=path, help="places by time: a .gpx, .nmea or .csv file")
+    add("--start", type=time_of, help="when the first sample was, as 2026-05-01T09:30:00+02:00")
+    add("--geojson", type=path, metavar="OUT", help="a file for the cells and their places")
+    add("--pcap", type=path, metavar="OUT", help="a file for Wireshark with MIB and SIB1")
+    add("--html", type=path, metavar="OUT", help="a page with the table, a map and pictures")
+    form = parser.add_mutually_exclusive_group()
+    form.add_argument("--csv", action="store_true", help="the table for other programs, with the file's name")
+    form.add_argument("--json", action="store_true", help="all that is known of each cell and window (docs/FORMATS.md)")
+    return parser
+
+
+def picture_parser(text: str | None) -> argparse.ArgumentParser:
+    """Returns the parser of lte_picture."""
+    parser = Parser(text)
+    add_file_arguments(parser)
+    add: Any = parser.add_argument
+    add("-o", dest="out", metavar="OUT", type=path, required=True)
+    add("--tune", action="store_true", help="take off the offset that lte_tune tells")
+    add("--offset", type=number, help="hertz to take off")
+    add("--cells", type=int, default=4, help="how many cells are drawn (4)")
+    add("--time", action="store_true", help="of a survey with places: over time, in place of the map")
+    add("--title", help="in place of the file's name")
+    return parser
+
+
+# ---- checks
+
+
+def checked(options: T) -> T:
+    """Returns options of a file; refuses a carrier that was meant in megahertz."""
+    if options.carrier and options.carrier < LOWEST:
+        raise Refused(f"--carrier {options.carrier:g}: that is in hertz, 796 MHz are 796e6")
+    return options
+
+
+def checked_survey(options: SurveyOptions, has_every: bool = True) -> SurveyOptions:
+    """Returns the options of a survey with the carrier of --earfcn; refuses options that exclude each other, and output
+    files that cannot be written."""
+    if options.earfcn is not None:
+        options = dataclasses.replace(options, carrier=carrier_of(options))
+    if options.scan and not has_every:
+        options = dataclasses.replace(options, every=EVERY_OF_SCAN)
+    check_input(options)
+    if options.geojson and not options.track:
+        raise Refused("--geojson: --track FILE says where the places are")
+    for out in (options.geojson, options.pcap, options.html):
+        if out:
+            machine.check_place(out)
+    if options.html:
+        machine.check_packages("matplotlib")
+    return checked(options)
+
+
+def carrier_of(options: SurveyOptions) -> float:
+    """Returns the carrier in hertz of the number that --earfcn has."""
+    if options.carrier:
+        raise Refused("--earfcn and --carrier: one of them says the frequency")
+    frequency = bands.frequency_of(options.earfcn or 0)
+    if frequency is None:
+        raise Refused(f"--earfcn {options.earfcn}: no downlink of an FDD band has it")
+    return frequency
+
+
+def check_input(options: SurveyOptions) -> None:
+    """Refuses options that are only for standard input, or only for a file."""
+    if options.is_input:
+        for name in ("track", "geojson", "scan"):
+            if getattr(options, name):
+                raise Refused(f"-: --{name} needs a file")
+    elif options.follow or options.wait:
+        raise Refused(f"{options.file}: --{'follow' if options.follow else 'wait'} is for -, standard input")

@@ -1,0 +1,108 @@
+#!/usr/bin/python3
+"""picture.py FILE -o OUT.png|OUT.svg|OUT.html [--form u8|s8|s16|f32|sigmf] [--rate R] [--shift HZ] [--at S] [--tune]
+
+What is in a radio's file in the first second from second S on. First the file as recorded: its spectrum over time at
+its own rate, in dBFS of one scale for all files, DC, samples at full scale, stretches that stand still. Then what a
+receiver sees: how much of the energy is a primary signal, place by place, with the hits; and of each listed cell its
+broadcast channel's points, the channel over the subcarriers, the values that the master block was read from, and its
+fields. Where no cell is listed, the strongest hit is drawn. --tune takes off the offset that `lte_tune tell` tells,
+unless no list has a cell then.
+FILE may also be what survey.py --json wrote: then it is a map with the table where that has places (--track), else each
+cell's level and signal to noise over time, a row a cell. A page of HTML has all of it, and what the programs wrote.
+
+Hits, identities, cells, evidence and the offset are those of lte_cli and lte_tune. The metric between the hits, points,
+channel and values are those of lte_reference.search, which was written from docs/DEFINITION.md (lte_reference.cell has the
+code). What is said of the file as recorded is of its samples alone.
+
+Debian: python3-numpy, python3-scipy, python3-matplotlib. Needs lte_cli and lte_tune (README, "Build").
+"""
+from __future__ import annotations
+
+import argparse
+import pathlib
+from typing import TYPE_CHECKING
+
+from . import foreign, machine, options
+from .machine import Refused
+from .options import PictureOptions
+from .survey_data import Survey
+
+if TYPE_CHECKING:
+    from .picture_view import View
+
+
+def survey_in(path: pathlib.Path) -> Survey | None:
+    """Returns the survey that a file of JSON has, or None if it is a file of samples."""
+    if path.suffix != ".json":
+        return None
+    return Survey.from_json(foreign.parsed(foreign.read(path, foreign.MOST_JSON), str(path)), str(path))
+
+
+def drawn(given: PictureOptions, form: str) -> bytes:
+    """Returns the bytes of what is asked for."""
+    from . import picture_panels, picture_view, radio_file
+    from .page import saved
+
+    found = survey_in(given.file)
+    if found:
+        return of_survey(found, given, form)
+    file = radio_file.opened(given)
+    file.check_holds(file.shift + (given.offset or 0), f"an offset of {given.offset or 0:,.0f} Hz")
+    view = picture_view.view_of(given, file)
+    return page_of_view(view, given.cells) if form == "html" else saved(picture_panels.sheet(view, given.cells), form)
+
+
+def page_of_view(view: View, count: int) -> bytes:
+    """Returns a page with the picture of some seconds of a file, and what the programs wrote."""
+    from . import picture_panels
+    from .page import details, image, page, text
+
+    lines = "\n".join(f"<li>{text(line)}" for line in view.summary() if line)
+    sheet = image(picture_panels.sheet(view, count), view.name)
+    said = [details(name, value) for name, value in view.said.items()]
+    return page(view.name, [f"<p>{text(view.facts)}", sheet, f"<ul>\n{lines}</ul>", *said])
+
+
+def of_survey(found: Survey, given: PictureOptions, form: str) -> bytes:
+    """Returns the picture or the page of a survey."""
+    from . import picture_map, survey_page
+    from .page import saved
+
+    if form == "html":
+        return survey_page.page_of(found, given.title)
+    is_map = found.is_placed and not given.time
+    return saved((picture_map.map_sheet if is_map else picture_map.time_sheet)(found, given.title), form)
+
+
+def form_of(out: pathlib.Path) -> str:
+    """Returns the form of the output; refuses one that cannot be written."""
+    if out.suffix not in (".png", ".svg", ".html"):
+        raise Refused(f"{out}: .png, .svg or .html is written")
+    machine.check_place(out)
+    return out.suffix[1:]
+
+
+def parser() -> argparse.ArgumentParser:
+    """Returns the parser of the arguments."""
+    return options.picture_parser(__doc__)
+
+
+def command() -> None:
+    args = parser().parse_args()
+    machine.check_packages("numpy", "scipy", "matplotlib")
+    if args.cells < 0:
+        raise Refused("--at and --cells are not below 0")
+    given = options.options_of(PictureOptions, args)
+    form, place = form_of(given.out), given.out.resolve()
+    from .picture_style import begin
+
+    begin()
+    machine.write(place, drawn(given, form))
+
+
+def main() -> None:
+    machine.run(command)
+
+
+if __name__ == "__main__":
+    main()

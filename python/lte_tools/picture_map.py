@@ -1,0 +1,352 @@
+"""A survey with places as a map without tiles, north up: at each place the strongest cell, its level by size.
+
+Windows one behind the other with the same strongest cell are one mark where they are near, with their median level. A
+cell has a letter, a mark and a colour, those of the most windows first; a line that chance explains has none.
+
+Debian: python3-numpy, python3-matplotlib.
+"""
+from __future__ import annotations
+
+import bisect
+import collections
+import itertools
+import math
+import string
+from typing import Any, Iterable, NamedTuple, Sequence
+
+import numpy as np
+from matplotlib import patheffects, pyplot, ticker
+
+from . import picture_survey
+from .picture_style import COLOURS, MARKS, WIDTH, headed
+from .survey_data import Survey, SurveyCell
+
+Windows = Sequence[tuple[float, float, float]]
+Sign = tuple[str, str, str]  # letter, mark and colour
+
+DEGREE = 111_195  # metres of a degree of latitude on a round earth
+LEAST = 40  # metres from the map's one side to the other
+MARGIN = 1.16  # by which the map is wider than what is on it
+APART = 1 / 55  # of the map's width: windows within it are one mark
+SMALL, GREAT = 9, 110  # square points of marks
+WINDOW_SLACK = 1e-4  # seconds to which the survey's times are rounded
+LOW, HIGH = 3.4, 6.2  # inches of a map's height
+MAP, TABLE = (0.85, 6.1), (7.3, 4.55)  # inches from the left, and of width
+HEAD, FOOT = 0.75, 0.95  # inches above and below the map
+ALONE = 7.2  # inches of a map without a table
+HALO = [patheffects.withStroke(linewidth=2.5, foreground="white")]
+NOTHING = "#808080"
+
+
+# ---- what stands where
+
+
+class Ground(NamedTuple):
+    """A plane on the earth, in metres east and north of a place."""
+
+    lon: float
+    lat: float
+
+    def metres(self, lon: float, lat: float) -> tuple[float, float]:
+        east = (lon - self.lon + 180) % 360 - 180
+        return DEGREE * east * math.cos(math.radians(self.lat)), DEGREE * (lat - self.lat)
+
+
+class Spot(NamedTuple):
+    """A place in metres, and the cell that is strongest there with its level, or nothing."""
+
+    east: float
+    north: float
+    cell: int | None
+    level: float | None
+
+
+def ground_of(windows: Windows) -> Ground:
+    """Returns the plane in the middle of all windows."""
+    first = windows[0][1]
+    east = [(lon - first + 180) % 360 - 180 for _, lon, _ in windows]
+    lats = [lat for _, _, lat in windows]
+    return Ground(first + (min(east) + max(east)) / 2, (min(lats) + max(lats)) / 2)
+
+
+def windows_of(found: Survey) -> Windows:
+    return found.track.windows if found.track else ()
+
+
+def strongest_of(found: Survey) -> dict[int, tuple[int, float]]:
+    """Returns by the number of a window with a place its strongest sure cell, by its number, and that one's level."""
+    starts = [second for second, _, _ in windows_of(found)]
+    best: dict[int, tuple[float, int]] = {}
+    for number, cell in enumerate(found.cells):
+        for one in () if cell.chance else cell.seen:
+            i = bisect.bisect_right(starts, one.seconds + WINDOW_SLACK) - 1
+            if i >= 0 and one.seconds < starts[i] + found.window:
+                level = -math.inf if one.level is None else one.level
+                best[i] = max(best.get(i, (level, number)), (level, number), key=lambda pair: pair[0])
+    return {i: (number, level) for i, (level, number) in best.items()}
+
+
+def spots_of(found: Survey) -> tuple[list[Spot], Ground]:
+    """Returns each window that has a place, and the plane that they are in."""
+    windows, best = windows_of(found), strongest_of(found)
+    ground = ground_of(windows)
+    spots = []
+    for i, (_, lon, lat) in enumerate(windows):
+        cell, level = best.get(i, (None, None))
+        spots.append(Spot(*ground.metres(lon, lat), cell, level))
+    return spots, ground
+
+
+def marks_of(spots: Sequence[Spot], apart: float) -> list[Spot]:
+    """Returns the spots, those within so many metres one behind the other that have one strongest cell as one."""
+    groups: list[list[Spot]] = []
+    for spot in spots:
+        first = groups[-1][0] if groups else None
+        if first and spot.cell == first.cell and math.dist(spot[:2], first[:2]) <= apart:
+            groups[-1].append(spot)
+        else:
+            groups.append([spot])
+    return [middle_of(group) for group in groups]
+
+
+def middle_of(group: Sequence[Spot]) -> Spot:
+    """Returns the spot in a group's middle with the median level."""
+    levels = [spot.level for spot in group if spot.level is not None and spot.level > -math.inf]
+    return group[len(group) // 2]._replace(level=float(np.median(levels)) if levels else None)
+
+
+def leaders_of(spots: Sequence[Spot]) -> list[int]:
+    """Returns the cells that are strongest somewhere, by number, those at most places first."""
+    named = collections.Counter(spot.cell for spot in spots if spot.cell is not None)
+    return sorted(named, key=lambda number: (-named[number], number))
+
+
+def signs_of(leaders: Iterable[int]) -> dict[int, Sign]:
+    """Returns a letter, a mark and a colour for each cell."""
+    letters = map(
+        "".join, itertools.chain.from_iterable(itertools.product(string.ascii_uppercase, repeat=n) for n in (1, 2))
+    )
+    count = len(MARKS)
+    return {
+        number: (letter, MARKS[i % count], COLOURS[(i + i // count) % len(COLOURS)])
+        for i, (number, letter) in enumerate(zip(leaders, letters))
+    }
+
+
+# ---- the map
+
+
+class Map:
+    """What is drawn of a survey's places, for axes of so many inches."""
+
+    def __init__(self, found: Survey, width: float) -> None:
+        self.found = found
+        self.spots, self.ground = spots_of(found)
+        self.signs = signs_of(leaders_of(self.spots))
+        east, north = (np.array(values) for values in list(zip(*self.spots))[:2])
+        wide, tall = (MARGIN * max(float(np.ptp(values)), LEAST / MARGIN) for values in (east, north))
+        self.width, self.height = width, min(HIGH, max(LOW, width * tall / wide))
+        self.metres = max(wide / self.width, tall / self.height)  # of an inch
+        self.marks = marks_of(self.spots, APART * self.metres * self.width)
+        self.low, self.high = picture_survey.bounds([mark.level for mark in self.marks if mark.level is not None])
+
+    @property
+    def limits(self) -> tuple[tuple[float, float], tuple[float, float]]:
+        wide, tall = self.metres * self.width / 2, self.metres * self.height / 2
+        return (-wide, wide), (-tall, tall)
+
+    def area(self, level: float | None) -> float:
+        """Returns the square points of a mark."""
+        part = 0 if level is None else (level - self.low) / (self.high - self.low)
+        return SMALL + (GREAT - SMALL) * part
+
+    def name(self, number: int) -> str:
+        cell = self.found.cells[number]
+        where = f", {cell.frequency / 1e6:.1f} MHz" if cell.frequency and self.found.scan else ""
+        return f"{picture_survey.name_of(cell)}{picture_survey.number_of(cell)}{where}"
+
+
+def draw_map(ax: Any, drawn: Map) -> None:
+    """Draws the way, the marks and letters on it, the scale, north and degrees."""
+    xlim, ylim = drawn.limits
+    ax.set(xlim=xlim, ylim=ylim)
+    ax.spines[["top", "right"]].set_visible(True)
+    draw_way(ax, drawn)
+    for number, (_, mark, colour) in drawn.signs.items():
+        marks = [one for one in drawn.marks if one.cell == number]
+        areas = [drawn.area(one.level) for one in marks]
+        keys = {"marker": mark, "color": colour, "edgecolors": "white", "linewidths": 0.4, "zorder": 4}
+        ax.scatter([one.east for one in marks], [one.north for one in marks], areas, **keys)
+    draw_letters(ax, drawn)
+    draw_scale(ax, drawn)
+    draw_degrees(ax, drawn)
+    ax.set_title(f"Strongest cell, by letter and mark; its level in {drawn.found.unit} by size")
+
+
+def draw_way(ax: Any, drawn: Map) -> None:
+    """Draws a thin line where windows follow each other, rings where none has a cell, and where it begins and ends."""
+    windows, every = windows_of(drawn.found), 1.5 * drawn.found.every
+    lines: list[list[tuple[float, float]]] = [[]]
+    for i, spot in enumerate(drawn.spots):
+        if i and windows[i][0] - windows[i - 1][0] > every:
+            lines.append([])
+        lines[-1].append((spot.east, spot.north))
+    for line in lines:
+        ax.plot(*zip(*line), color="#bbbbbb", lw=0.8, zorder=2)
+    none = [spot[:2] for spot in drawn.marks if spot.cell is None]
+    if none:
+        ax.scatter(*zip(*none), 22, facecolors="white", edgecolors=NOTHING, linewidths=0.9, zorder=3)
+    keys = {"fontsize": 7.5, "color": "#444444", "path_effects": HALO, "zorder": 6, "ha": "center", "va": "center"}
+    away = 18 * drawn.metres / 72
+    words: tuple[tuple[str, list[Spot]], ...] = (("begin", drawn.marks), ("end", drawn.marks[::-1]))
+    if math.dist(drawn.marks[0][:2], drawn.marks[-1][:2]) < away:
+        words = (("begin and end", drawn.marks),)
+    for word, marks in words:
+        ax.text(*beside(marks[0], marks[min(3, len(marks) - 1)], -away, 0), word, **keys)
+
+
+def beside(mark: Spot, other: Spot, ahead: float, left: float) -> tuple[float, float]:
+    """Returns a place so many metres ahead and to the left of a mark, seen towards another, or towards the north."""
+    east, north = other.east - mark.east, other.north - mark.north
+    size = math.hypot(east, north)
+    east, north = (east / size, north / size) if size else (0, 1)
+    return mark.east + ahead * east - left * north, mark.north + ahead * north + left * east
+
+
+def runs_of(marks: Sequence[Spot]) -> list[tuple[int, int]]:
+    """Returns places in the list of marks, from one up to another, with the same strongest cell, the longest first."""
+    runs = []
+    for number, group in itertools.groupby(range(len(marks)), key=lambda i: marks[i].cell):
+        places = list(group)
+        if number is not None:
+            runs.append((places[0], places[-1] + 1))
+    return sorted(runs, key=lambda run: run[0] - run[1])
+
+
+def draw_letters(ax: Any, drawn: Map) -> None:
+    """Draws a letter beside each run of marks that has room for one."""
+    taken: list[tuple[float, float]] = []
+    points = drawn.metres / 72
+    for first, end in runs_of(drawn.marks):
+        mark = drawn.marks[(first + end - 1) // 2]
+        place = beside(mark, drawn.marks[min(end, len(drawn.marks) - 1)], 0, 13 * points)
+        if mark.cell is not None and all(math.dist(place, other) > 13 * points for other in taken):
+            letter, _, colour = drawn.signs[mark.cell]
+            keys = {"ha": "center", "va": "center", "fontweight": "bold", "path_effects": HALO, "zorder": 7}
+            ax.text(*place, letter, fontsize=10, color=colour, **keys)
+            taken.append(place)
+
+
+def round_below(value: float) -> float:
+    """Returns the greatest of 1, 2 and 5 times a power of ten that is not above a value."""
+    power: float = 10 ** math.floor(math.log10(value))
+    return max(step * power for step in (1, 2, 5) if step * power <= value)
+
+
+def metres_text(metres: float) -> str:
+    return f"{metres / 1000:g} km" if metres >= 1000 else f"{metres:g} m"
+
+
+def draw_scale(ax: Any, drawn: Map) -> None:
+    """Draws a bar of metres below on the left, and an arrow to the north above on the right."""
+    length = round_below(drawn.metres * drawn.width / 4)
+    (left, right), (low, high) = drawn.limits
+    inch = drawn.metres
+    x, y = left + 0.2 * inch, low + 0.2 * inch
+    tick = 0.05 * inch
+    ax.plot([x, x, x, x + length, x + length, x + length], [y + tick, y - tick, y, y, y - tick, y + tick], "k-", lw=1.2)
+    keys = {"ha": "center", "path_effects": HALO, "zorder": 6}
+    ax.text(x + length / 2, y + 0.06 * inch, metres_text(length), fontsize=8, va="bottom", **keys)
+    x, y = right - 0.25 * inch, high - 0.2 * inch
+    arrow = {"arrowstyle": "-|>", "color": "black", "lw": 1.2, "shrinkA": 0, "shrinkB": 0}
+    ax.annotate("", (x, y), (x, y - 0.45 * inch), arrowprops=arrow, zorder=6)
+    ax.text(x, y - 0.5 * inch, "N", fontsize=9, va="top", fontweight="bold", **keys)
+
+
+def draw_degrees(ax: Any, drawn: Map) -> None:
+    """Draws ticks at whole steps of degrees."""
+    (left, right), (low, high) = drawn.limits
+    stretch = DEGREE * max(math.cos(math.radians(drawn.ground.lat)), 1e-6)
+    for axis, middle, ends, scale, names in (
+        (ax.xaxis, drawn.ground.lon, (left, right), stretch, "EW"),
+        (ax.yaxis, drawn.ground.lat, (low, high), DEGREE, "NS"),
+    ):
+        degrees = ticker.MaxNLocator(4).tick_values(*(middle + end / scale for end in ends))
+        inside = [value for value in degrees if ends[0] <= (value - middle) * scale <= ends[1]]
+        digits = next(n for n in range(9) if np.allclose(np.round(degrees, n), degrees, atol=1e-9, rtol=0))
+        axis.set_ticks([(value - middle) * scale for value in inside], [degrees_text(v, digits, names) for v in inside])
+
+
+def degrees_text(value: float, digits: int, names: str) -> str:
+    value = (value + 180) % 360 - 180
+    return f"{abs(value):.{digits}f}\N{DEGREE SIGN} {names[int(value < 0)]}"
+
+
+def draw_sizes(ax: Any, drawn: Map) -> None:
+    """Draws what sizes and rings stand for, below the map."""
+    for level in np.linspace(drawn.high, drawn.low, 3):
+        label = f"{level:g} {drawn.found.unit}"
+        ax.scatter([], [], drawn.area(level), color="#555555", edgecolors="white", linewidths=0.4, label=label)
+    if any(spot.cell is None for spot in drawn.marks):
+        ax.scatter([], [], 22, facecolors="white", edgecolors=NOTHING, linewidths=0.9, label="no sure cell")
+    keys = {"loc": "upper left", "borderaxespad": 0, "frameon": False, "handletextpad": 0.2, "columnspacing": 1.4}
+    ax.legend(bbox_to_anchor=(0, -0.36 / drawn.height), ncol=4, fontsize=8, **keys)
+    near = metres_text(float(f"{APART * drawn.metres * drawn.width:.1g}"))
+    text = f"Windows within {near} are one mark, of their median level. A cell without a letter is strongest nowhere."
+    ax.text(0, -0.66 / drawn.height, text, transform=ax.transAxes, fontsize=7.5, color="#555555", va="top")
+
+
+def in_order(found: Survey, signs: dict[int, Sign]) -> list[SurveyCell]:
+    """Returns the cells with letters by these, then the others."""
+    others = [i for i in range(len(found.cells)) if i not in signs]
+    return [found.cells[i] for i in (*signs, *others)]
+
+
+def map_sheet(found: Survey, title: str | None = None) -> Any:
+    """Returns the map, and beside it the table of the cells."""
+    drawn = Map(found, MAP[1])
+    cells = in_order(found, drawn.signs)[: picture_survey.MOST]
+    table = max(picture_survey.ROW * len(cells), min(picture_survey.TALL * len(cells), drawn.height))
+    tall = max(drawn.height + FOOT, table + 0.75) + HEAD
+    figure = pyplot.figure(figsize=(WIDTH, tall))
+    more = len(found.cells) - len(cells)
+    facts = picture_survey.facts_line(found, title) + (f"; {more} further cells" if more else "")
+    headed(figure, title or found.file, facts).set(y=1 - 0.12 / tall, va="top")
+    draw_map(axes_at(figure, MAP[0], HEAD, MAP[1], drawn.height), drawn)
+    draw_sizes(figure.axes[0], drawn)
+    signs = {id(found.cells[number]): sign for number, sign in drawn.signs.items()}
+    ax = axes_at(figure, TABLE[0], HEAD + 0.3, TABLE[1], table)
+    picture_survey.draw_table(ax, found, cells, signs)
+    return figure
+
+
+def time_sheet(found: Survey, title: str | None = None) -> Any:
+    """Returns the cells over time; where there is a map, those at the front of it have its letters, marks and colours."""
+    signs = Map(found, ALONE).signs if found.is_placed else {}
+    some = itertools.islice(signs.items(), len(MARKS))
+    return picture_survey.survey_sheet(found, title, {id(found.cells[number]): sign for number, sign in some})
+
+
+def map_alone(found: Survey) -> Any:
+    """Returns the map with the names of its cells below."""
+    drawn = Map(found, ALONE - 1)
+    rows = -(-len(drawn.signs) // 2)
+    names = 0.19 * rows
+    figure = pyplot.figure(figsize=(ALONE, drawn.height + FOOT + names + 0.35))
+    ax = axes_at(figure, 0.85, 0.3, drawn.width, drawn.height)
+    draw_map(ax, drawn)
+    draw_sizes(ax, drawn)
+    handles = [
+        ax.plot([], [], mark, color=colour, ms=6, label=f"{letter}  {drawn.name(number)}")[0]
+        for number, (letter, mark, colour) in drawn.signs.items()
+    ]
+    keys = {"loc": "upper left", "borderaxespad": 0, "frameon": False, "ncol": 2, "fontsize": 8.5}
+    ax.add_artist(ax.get_legend())  # that of the sizes, in place of which the next one comes
+    ax.legend(handles=handles, bbox_to_anchor=(0, -0.9 / drawn.height), **keys)
+    return figure
+
+
+def axes_at(figure: Any, left: float, top: float, width: float, height: float) -> Any:
+    """Returns axes by inches from the left and from the top."""
+    wide, tall = figure.get_size_inches()
+    return figure.add_axes((left / wide, 1 - (top + height) / tall, width / wide, height / tall))

@@ -1,0 +1,211 @@
+"""What is drawn of some seconds of a radio's file: the file as recorded, its recording, and what the programs say of it.
+
+Debian: python3-numpy, python3-scipy.
+"""
+from __future__ import annotations
+
+from dataclasses import dataclass
+from typing import Any
+
+import numpy as np
+import numpy.typing as npt
+
+from . import programs, radio, recorded, sightings
+from .answers import Cell, Evidence, Identity, Offset, Tuning
+from .options import PictureOptions
+from .picture_style import dbfs, facts_of
+from .programs import Answers
+from .radio_file import RadioFile
+from .rules import BY_NAME, RULES
+
+PRIMARY = 832  # sample of a frame at which the primary signal begins, with either prefix, and half a frame later
+HALF = radio.FRAME // 2
+BAND = 540_000  # hertz on either side that six resource blocks take
+
+
+@dataclass(frozen=True)
+class View:
+    """The first second from there on, at most: what the file has, and what the programs answer of its recording."""
+
+    name: str
+    facts: str  # a line on the file and the seconds
+    seen: recorded.Recorded
+    centre: float  # hertz at the file's centre, 0 where it is not known
+    carrier: float  # hertz beside the file's centre at which the cell is looked for
+    offset: float  # of these, what was taken off further to --shift
+    is_as_it_is: bool  # whether the programs read the file's own samples
+    samples: npt.NDArray[np.int64]  # of the recording, pairs of whole numbers
+    full: float  # full scale of the file in it
+    hits: Answers[Identity]
+    tuning: Tuning
+    lines: Answers[Cell]  # of all lists
+    supports: dict[str, Answers[Evidence]]  # by a rule's name
+
+    @property
+    def said(self) -> dict[str, Any]:
+        """What the programs wrote, by their commands."""
+        found: dict[str, Any] = {"lte_tune tell --json": self.tuning.to_json()}
+        found["lte_cli ids --json"] = self.hits.to_json()
+        found["lte_cli search --all --json"] = self.lines.to_json()
+        for rule in RULES:
+            found[f"lte_cli {' '.join(rule.evidence)}"] = self.supports[rule.name].to_json()
+        return found
+
+    @property
+    def tuned(self) -> Offset | None:
+        """The offset by lte_tune, or None."""
+        return self.tuning.told
+
+    @property
+    def cells(self) -> list[Cell]:
+        """The listed cells, each by the rule that says most, what is sure and strong first."""
+        found: dict[tuple[int, int, int], Cell] = {}
+        for line in self.lines:
+            key = sightings.place_of(line)
+            found[key] = max(found.get(key, line), line, key=sightings.saying)
+        return sorted(found.values(), key=lambda line: (line.sib1 is None, -(self.level(line) or -1e9)))
+
+    def evidence(self, line: Cell) -> Evidence:
+        """Returns the numbers of `evidence` about a line, of its rule's list."""
+        every = self.supports[str(line.rule)]
+        return next(one for one in every if sightings.place_of(one) == sightings.place_of(line))
+
+    def level(self, line: Cell) -> float | None:
+        support = self.evidence(line)
+        return radio.level(support.power, support.noise, self.full, BY_NAME[str(line.rule)])
+
+    def cell_of(self, hit: Identity) -> Cell | None:
+        """Returns the listed cell, by whichever rule, whose primary signal stands at a hit's place, or None."""
+        there = [
+            line
+            for line in self.cells
+            if line.identity % 3 == hit.n2 and sightings.distance(hit.t, line.at + PRIMARY, HALF) <= sightings.NEAR
+        ]
+        return max(there, key=lambda line: line.identity == hit.identity) if there else None
+
+    def is_agreed(self, hit: Identity) -> bool:
+        """Returns whether another detection has the same identity and frames."""
+        return sum((one.identity, one.at) == (hit.identity, hit.at) for one in self.hits) > 1
+
+    def name_of(self, hit: Identity) -> str:
+        """Returns the identity of a listed cell, with `?` one that two hits tell and no list has, else nothing."""
+        line = self.cell_of(hit)
+        if line:
+            return f"PCI {line.identity}"
+        return f"PCI {hit.identity}?" if self.is_agreed(hit) else ""
+
+    @property
+    def nothing(self) -> str:
+        """Why there is nothing to see, in a word or two, or nothing."""
+        if self.seen.is_still:
+            return "constant"
+        return "noise only" if not self.hits and self.seen.is_noise else ""
+
+    @property
+    def is_beyond(self) -> bool:
+        """Whether the file's rate leaves out a part of where the cell is looked for."""
+        return abs(self.carrier) + BAND > self.seen.rate / 2
+
+    def summary(self) -> list[str]:
+        """Returns lines on the file, and on what the programs say."""
+        seen, hits, count = self.seen, self.hits, len(self.cells)
+        still = [f"constant: {1000 * start:,.1f} to {1000 * end:,.1f} ms" for start, end in seen.still]
+        lines = [
+            f"{seen.count:,} samples at {seen.rate / 1e6:.10g} Ms/s",
+            f"mean {dbfs(seen.mean)}",
+            f"greatest component {dbfs(seen.greatest ** 2)}",
+            f"DC {dbfs(seen.dc)}, {'left as it is' if self.is_as_it_is else 'taken off for what follows'}",
+            f"at full scale: {share_text(seen.share_at_full)} of the samples",
+            *(["the cell's 1.08 MHz are not all in the file"] if self.is_beyond else []),
+            *still[:3],
+            *([f"and {len(still) - 3} more constant stretches"] if still[3:] else []),
+            "",
+            f"hits: {len(hits)}" + (f", {sum(map(bool, map(self.cell_of, hits)))} of listed cells" if hits else ""),
+            f"cells: {count}",
+            *self.offset_lines(),
+        ]
+        if not count:
+            lines += ["", *self.why_none()]
+        return lines
+
+    def offset_lines(self) -> list[str]:
+        """Returns the offset by lte_tune before it is corrected, and the cells then."""
+        if self.tuned is None:
+            return ["lte_tune: no primary signal, no offset told"]
+        hertz = self.tuned.hertz
+        line = f"lte_tune: {hertz:+,.0f} Hz" if hertz else "lte_tune: 0 Hz"
+        if self.tuned.cells:
+            return [f"{line}; cells then: {self.tuned.cells}"]
+        return [f"{line}; no cell of one port then" if self.cells else f"{line}: a guess, no cell then"]
+
+    def why_none(self) -> list[str]:
+        """Returns what a list without cells mostly comes from."""
+        if self.nothing == "constant":
+            return ["All samples are one: nothing was received."]
+        if self.nothing:
+            return ["Noise only: level over frequency and time,", "and no symbol's end comes again as a prefix."]
+        if not self.tuned:
+            return [
+                "No signal: the rate or the form of",
+                "the numbers, I and Q exchanged (--exchanged),",
+                "noise, or no carrier.",
+            ]
+        if self.tuned.cells and not self.offset and abs(self.tuned.hertz) > 500:
+            return ["The frequency offset hides the cell:", "--tune takes it off."]
+        if self.hits:
+            return [
+                "Signal, but no master block: noise, a carrier",
+                "beside the lines (--shift, --offset), I and Q",
+                "exchanged, or what docs/DEFINITION.md names.",
+            ]
+        return ["No hit at this frequency: --shift", "and --offset say another."]
+
+
+def share_text(share: float) -> str:
+    """Returns a ratio in percent, to two digits."""
+    return "none" if share == 0 else f"{100 * share:.2g} %" if share < 0.1 else f"{100 * share:.0f} %"
+
+
+def view_of(options: PictureOptions, file: RadioFile) -> View:
+    """Returns what is drawn of a file."""
+    start, seconds = file.starts(options.at, 1, 1)[0]
+    seen = recorded.recorded(file, start, seconds)
+    offset = options.offset or 0
+    data, full = recording_of(file, start, seconds, offset, seen)
+    tuning, is_guess = programs.tell(data), False
+    if options.tune and tuning.told and tuning.told.turn:
+        tuned = offset + tuning.told.hertz
+        data_then, full_then = recording_of(file, start, seconds, tuned, seen)
+        is_guess = not tuning.told.cells and not programs.search(data_then, all=True)
+        if not is_guess:
+            data, full, offset = data_then, full_then, tuned
+    recording = programs.Recording(data)
+    shift, time = file.shift_at(round(start * file.rate)), file.time_at(start)
+    facts = facts_of(file.form, file.rate, file.carrier, shift)
+    facts.append(f"{1000 * seconds:,.0f} ms from second {start:g} on" + (f" ({time})" if time else ""))
+    facts += [f"{offset:+,.0f} Hz taken off"] * bool(offset) + ["no offset taken off: it is a guess"] * is_guess
+    if options.title:
+        facts.insert(0, file.path.name)
+    return View(
+        name=options.title or str(file.path),
+        facts=", ".join(facts),
+        seen=seen,
+        centre=file.carrier - shift if file.carrier else 0,
+        carrier=shift + offset,
+        offset=offset,
+        is_as_it_is=file.is_recording() and offset == 0,
+        samples=np.frombuffer(data, "<i2").astype(np.int64).reshape(-1, 2),
+        full=full,
+        hits=programs.ids(data),
+        tuning=tuning,
+        lines=programs.search(data, all=True),
+        supports={rule.name: programs.listed(Evidence, rule.evidence, recording, "evidence") for rule in RULES},
+    )
+
+
+def recording_of(
+    file: RadioFile, start: float, seconds: float, offset: float, seen: recorded.Recorded
+) -> tuple[bytes, float]:
+    """Returns the recording, and what full scale of the file is in it; of one value alone it is silence."""
+    data, full = file.recording(start, seconds, offset)
+    return (bytes(len(data)), full) if seen.is_still else (data, full)

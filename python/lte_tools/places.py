@@ -1,0 +1,154 @@
+"""A survey with places: each window of a cell gets the place that a track has at its time, and GeoJSON has them all.
+
+GeoJSON is that of RFC 7946: a FeatureCollection of points in WGS84, longitude first. A feature of `kind` "window" is a
+cell in a window, one of `kind` "cell" a cell where it was strongest, without a geometry where none of its windows has a
+place.
+"""
+from __future__ import annotations
+
+import dataclasses
+import datetime
+import json
+import pathlib
+from typing import Any, Sequence
+
+from . import machine, track
+from .machine import Refused, note
+from .options import SurveyOptions
+from .radio_file import RadioFile, Stretch
+from .survey_data import Seen, Survey, SurveyCell, Track, timestamp
+from .track import Track as Way
+
+DIGITS = 7  # of a degree: a centimetre
+
+
+# ---- times
+
+
+def begun(file: RadioFile, start: datetime.datetime | None) -> RadioFile:
+    """Returns a file with the time at which it began, where it does not have that itself."""
+    if start is None:
+        return file
+    stretches = file.stretches or (Stretch(0, file.count, file.shift, None),)
+    timed = tuple(one if one.datetime else with_time(one, file, start) for one in stretches)
+    return dataclasses.replace(file, stretches=timed)
+
+
+def with_time(stretch: Stretch, file: RadioFile, start: datetime.datetime) -> Stretch:
+    try:
+        later = datetime.timedelta(seconds=stretch.first / file.rate)
+        return stretch._replace(datetime=(start + later).isoformat())
+    except OverflowError:
+        raise Refused(f"{file.path}: --start {start.isoformat()}: the file ends after the year 9999") from None
+
+
+def time_at(file: RadioFile, second: float) -> float | None:
+    """Returns the seconds since 1970 at a second of a file, or None. SigMF's times are UTC."""
+    text = file.time_at(second)
+    return None if text is None else timestamp(text)
+
+
+def track_of(options: SurveyOptions, file: RadioFile) -> Way | None:
+    """Returns the track that options name; notes where it does not have all of the file's time, and refuses one that has
+    none of it."""
+    if not options.track:
+        return None
+    way = track.read(options.track)
+    if way.wrong:
+        note(f"{options.track}: {way.wrong} lines with a wrong checksum or none were not read")
+    ends = [time_at(file, sample / file.rate) for one in file.stretches for sample in (one.first, one.end - 1)]
+    times = sorted(time for time in ends if time is not None)
+    if not times:
+        raise Refused(
+            f"{options.file}: no time in it: --start 2026-05-01T09:30:00+02:00 says when its first sample was"
+        )
+    between = f"is from {span(times[0], times[-1])}, and {options.track} from {span(way.first, way.last)}"
+    if times[0] > way.last or times[-1] < way.first:
+        raise Refused(f"{options.file}: {between}: no place for any of it")
+    if times[0] < way.first or times[-1] > way.last:
+        note(f"{options.file}: {between}: no places before and after that")
+    return way
+
+
+def span(first: float, last: float) -> str:
+    return f"{track.iso(first)} to {track.iso(last)}"
+
+
+# ---- places
+
+
+def with_places(survey: Survey, file: RadioFile, way: Way, starts: Sequence[float]) -> Survey:
+    """Returns a survey whose windows have their places, longitude first, or None; notes how many have none. `starts` are
+    the seconds at which all windows begin, whose places the survey's track has."""
+    cells = tuple(placed(cell, file, way) for cell in survey.cells)
+    windows = [(round(start, 6), place_at(file, way, start)) for start in starts]
+    every = [one for cell in cells for one in cell.seen]
+    if without := sum(one.place is None for one in every):
+        note(f"{without} of {len(every)} windows of cells have no place: the track has none within {track.NEAR} s")
+    found = tuple((start, *place) for start, place in windows if place)
+    where = Track(track.iso(way.first), track.iso(way.last), len(way.places), found)
+    return dataclasses.replace(survey, cells=cells, track=where)
+
+
+def placed(cell: SurveyCell, file: RadioFile, way: Way) -> SurveyCell:
+    seen = (dataclasses.replace(one, place=place_at(file, way, one.seconds)) for one in cell.seen)
+    return dataclasses.replace(cell, seen=tuple(seen))
+
+
+def place_at(file: RadioFile, way: Way, second: float) -> tuple[float, float] | None:
+    """Returns the place at a second of a file, longitude first, or None."""
+    time = time_at(file, second)
+    place = None if time is None else way.at(time)
+    return (round(place.lon, DIGITS), round(place.lat, DIGITS)) if place else None
+
+
+def geojson_of(survey: Survey, file: RadioFile) -> dict[str, Any]:
+    """Returns a survey's cells and windows as features."""
+    features = []
+    for cell in survey.cells:
+        shared = properties_of(cell, survey)
+        features.append(feature(cell.strongest_place, {"kind": "cell", **shared, **over_time(cell)}))
+        features += [
+            feature(one.place, {"kind": "window", **shared, **at_window(one, file)}) for one in cell.seen if one.place
+        ]
+    return {"type": "FeatureCollection", "features": features}
+
+
+def feature(place: tuple[float, float] | None, properties: dict[str, Any]) -> dict[str, Any]:
+    geometry = place and {"type": "Point", "coordinates": list(place)}
+    return {"type": "Feature", "geometry": geometry, "properties": properties}
+
+
+def properties_of(cell: SurveyCell, survey: Survey) -> dict[str, Any]:
+    """Returns what is said of a cell wherever it was seen; None is what is not known."""
+    sib1 = cell.sib1
+    return {
+        "identity": cell.identity,
+        "plmn": " ".join(sib1.networks) if sib1 else None,
+        "tac": sib1.tac if sib1 else None,
+        "cell": sib1.cell if sib1 else None,
+        "enodeb": sib1.enodeb if sib1 else None,
+        "sector": sib1.sector if sib1 else None,
+        "band": sib1.band if sib1 else None,
+        "carrier": survey.carrier if cell.shift is None else cell.frequency,
+        "bandwidth": cell.bandwidth,
+        "ports": cell.ports,
+        "chance": cell.chance,
+        "unit": survey.unit,
+    }
+
+
+def over_time(cell: SurveyCell) -> dict[str, Any]:
+    keys = ("level", "ratio", "offset", "windows", "first", "last", "datetime")
+    return {key: getattr(cell, key) for key in keys}
+
+
+def at_window(one: Seen, file: RadioFile) -> dict[str, Any]:
+    time = time_at(file, one.seconds)
+    keys = ("level", "ratio", "offset", "sfn", "seconds")
+    return {**{key: getattr(one, key) for key in keys}, "time": None if time is None else track.iso(time)}
+
+
+def write(path: pathlib.Path, survey: Survey, file: RadioFile) -> None:
+    """Writes the GeoJSON of a survey."""
+    machine.write(path, (json.dumps(geojson_of(survey, file), separators=(",", ":")) + "\n").encode())

@@ -1,0 +1,243 @@
+"""The programs from Python: lists of cells, detections, evidence, frequency offsets, transmissions and surveys.
+
+    import lte_tools
+    for cell in lte_tools.search("drive.cu8", rate=2.4e6, shift=300e3):
+        print(cell.identity, cell.sib1)
+
+`lte_cli` and `lte_tune` are the proved programs: those that LTE_CLI and LTE_TUNE name, else next to the command that was
+called, else built in this clone, else on PATH. What they answer comes as frozen dataclasses (answers.py). If a program
+refuses, `ProgramRefused` has its cause and exit code; what no program was asked for is `Refused`.
+
+Samples are `bytes` of a recording (signed 16-bit I and Q at 1.92 million samples per second; with `format="u8"` bytes as
+rtl_sdr writes them), a complex numpy array of any scale, or the path of a file that lte_survey reads. Of an array or a
+file at most one second is read.
+"""
+from __future__ import annotations
+
+import json
+import os
+import pathlib
+import subprocess
+from dataclasses import dataclass
+from typing import TYPE_CHECKING, Any, Generic, Iterator, Mapping, TypeVar, Union
+
+from . import foreign, machine, options, records
+from .answers import Answer, Cell, Evidence, Hit, Identity, Tuning
+from .machine import ProgramRefused, Refused
+from .rules import RULES, Rule
+from .survey_data import Survey
+
+if TYPE_CHECKING:
+    from .radio import Complex
+
+Samples = Union[bytes, str, "os.PathLike[str]", "Complex"]
+A = TypeVar("A", bound=Answer)
+RATE = 1_920_000  # samples per second of a recording
+MOST_DESCRIPTION = 65_536  # bytes that `transmit` reads
+
+
+@dataclass(frozen=True)
+class Answers(Generic[A]):
+    """The answers of one run, in the program's order."""
+
+    items: tuple[A, ...]
+
+    def __iter__(self) -> Iterator[A]:
+        return iter(self.items)
+
+    def __len__(self) -> int:
+        return len(self.items)
+
+    def __getitem__(self, place: int) -> A:
+        return self.items[place]
+
+    def to_json(self) -> list[dict[str, Any]]:
+        """Returns the JSON that the program wrote."""
+        return [one.to_json() for one in self.items]
+
+    def to_rows(self) -> list[dict[str, Any]]:
+        """Returns a row for each answer, for pandas.DataFrame."""
+        return [one.to_row() for one in self.items]
+
+
+@dataclass(frozen=True)
+class Transmission:
+    """The samples of a described cell: `data` are signed 16-bit I and Q at 1.92 million samples per second."""
+
+    data: bytes
+
+    @property
+    def samples(self) -> "Complex":
+        """The samples as a complex array, in units of the 16-bit numbers."""
+        from . import radio
+
+        return radio.from_bytes(self.data)
+
+
+# ---- recordings
+
+
+@dataclass(frozen=True)
+class Recording:
+    """What a program reads: bytes, and the arguments that say their form."""
+
+    data: bytes
+    arguments: tuple[str, ...] = ()
+
+
+def recording_of(samples: Samples, rate: float, format: str | None, shift: float, at: float) -> Recording:
+    """Returns the recording of samples; `rate` is in samples per second, `shift` in hertz, `at` in seconds."""
+    if isinstance(samples, bytes):
+        if rate != RATE or shift or at or format not in (None, "s16", "u8"):
+            raise Refused("bytes are a recording at 1.92e6 samples per second: name a file, or give an array")
+        return Recording(samples, ("--format", "cu8") if format == "u8" else ())
+    if isinstance(samples, (str, os.PathLike)):
+        return Recording(of_file(pathlib.Path(samples), rate, format, shift, at))
+    return Recording(of_array(samples, rate, shift, at))
+
+
+def of_file(path: pathlib.Path, rate: float, format: str | None, shift: float, at: float) -> bytes:
+    """Returns the recording of at most one second of a file."""
+    from . import radio_file
+
+    found = options.FileOptions(path, form=format, rate=None if rate == RATE else rate, shift=shift, at=at)
+    return radio_file.opened(found).recording(at, 1)[0]
+
+
+def of_array(samples: Any, rate: float, shift: float, at: float) -> bytes:
+    """Returns the recording of at most one second of a complex array."""
+    import numpy as np
+
+    from . import radio
+    from .to_ci16 import converted
+
+    x = np.asarray(samples, complex).ravel()[round(at * rate) :][: round(1.05 * rate)]
+    if not len(x) or not np.all(np.isfinite(x.real) & np.isfinite(x.imag)):
+        raise Refused("an array without samples, or with numbers that are not finite")
+    x = converted(x, rate, shift) if rate != RATE or shift else x[: radio.LONGEST]
+    return radio.to_bytes(x * (radio.FULL / 2 / (radio.peak(x) or 1)))
+
+
+def rule_of(ports: int, prefix: str) -> Rule:
+    """Returns the rule for this many antenna ports and this cyclic prefix."""
+    for rule in RULES:
+        if (rule.name == "long-prefix") == (prefix == "long") and rule.ports == ports:
+            return rule
+    raise Refused(f"ports {ports}, prefix {prefix}: 1, 2 or 4 with prefix normal, or 1 with prefix long")
+
+
+# ---- the programs
+
+
+def answer(program: str, arguments: tuple[str, ...], data: bytes, definition: str) -> Any:
+    """Returns a program's JSON answer for `data`, checked by a definition of the schema."""
+    found = machine.answer([machine.program(program), *arguments], data)
+    foreign.check(found, definition, f"{program} {' '.join(arguments)}")
+    return found
+
+
+def listed(kind: type[A], arguments: tuple[str, ...], recording: Recording, definition: str) -> Answers[A]:
+    """Returns the answers of lte_cli."""
+    found = answer("lte_cli", (*arguments, *recording.arguments), recording.data, definition)
+    return Answers(records.typed(tuple[kind, ...], found))  # type: ignore[valid-type]
+
+
+def hits(
+    samples: Samples, *, rate: float = RATE, format: str | None = None, shift: float = 0, at: float = 0
+) -> Answers[Hit]:
+    """Returns the PSS detections of a recording (`lte_cli hits`).
+
+    `rate` is in samples per second, `format` u8, s8, s16, f32 or sigmf (by the file's name if it is None), `shift` how
+    many hertz above the centre the cell is, `at` the second of the file at which to begin.
+    """
+    return listed(Hit, ("hits", "--json"), recording_of(samples, rate, format, shift, at), "hits")
+
+
+def ids(
+    samples: Samples, *, rate: float = RATE, format: str | None = None, shift: float = 0, at: float = 0
+) -> Answers[Identity]:
+    """Returns the PSS detections with their cell identities (`lte_cli ids`); parameters as in `hits`."""
+    return listed(Identity, ("ids", "--json"), recording_of(samples, rate, format, shift, at), "ids")
+
+
+def search(
+    samples: Samples,
+    *,
+    rate: float = RATE,
+    format: str | None = None,
+    ports: int = 1,
+    prefix: str = "normal",
+    all: bool = False,
+    shift: float = 0,
+    at: float = 0,
+) -> Answers[Cell]:
+    """Returns the list of cells (`lte_cli search`), exactly the one that docs/DEFINITION.md defines for the recording.
+
+    `ports` (1, 2 or 4) and `prefix` (normal or long) select the rule; with `all` the lists of all four rules are
+    returned, each cell with its `rule`. The other parameters are as in `hits`.
+    """
+    arguments = ("search", "--all", "--json") if all else ("search", *rule_of(ports, prefix).arguments, "--json")
+    recording = recording_of(samples, rate, format, shift, at)
+    return listed(Cell, arguments, recording, "search_all" if all else "search")
+
+
+def evidence(
+    samples: Samples,
+    *,
+    rate: float = RATE,
+    format: str | None = None,
+    ports: int = 1,
+    prefix: str = "normal",
+    shift: float = 0,
+    at: float = 0,
+) -> Answers[Evidence]:
+    """Returns what supports each cell of a list (`lte_cli evidence`); parameters as in `search`."""
+    recording = recording_of(samples, rate, format, shift, at)
+    return listed(Evidence, rule_of(ports, prefix).evidence, recording, "evidence")
+
+
+def tell(samples: Samples, *, rate: float = RATE, format: str | None = None, shift: float = 0, at: float = 0) -> Tuning:
+    """Returns the frequency offset of a recording (`lte_tune tell`); parameters as in `hits`."""
+    recording = recording_of(samples, rate, format, shift, at)
+    found = answer("lte_tune", ("tell", "--json", *recording.arguments), recording.data, "tell")
+    return records.from_json(Tuning, found)
+
+
+def transmit(
+    description: Mapping[str, Any] | str | os.PathLike[str],
+    *,
+    ports: int = 1,
+    prefix: str = "normal",
+    load: int | None = None,
+) -> Transmission:
+    """Returns the samples of a described cell (`lte_cli transmit`).
+
+    `description` is an object of docs/FORMATS.md, "Descriptions", or the path of its file; `load` is the number of the
+    load at all elements that the description leaves open, or None for none.
+    """
+    if isinstance(description, Mapping):
+        data = json.dumps(description).encode()
+    else:
+        data = foreign.read(pathlib.Path(description), MOST_DESCRIPTION)
+    more = () if load is None else ("--load", str(load))
+    arguments = ("transmit", *rule_of(ports, prefix).arguments, *more)
+    done = subprocess.run([machine.program("lte_cli"), *arguments], input=data, capture_output=True, check=False)
+    if done.returncode:
+        cause = done.stderr.decode(errors="replace").strip() or f"status {done.returncode}"
+        raise ProgramRefused(" ".join(arguments), cause, done.returncode)
+    return Transmission(done.stdout)
+
+
+def survey(path: str | os.PathLike[str], **keys: Any) -> Survey:
+    """Returns the survey of a file, as `lte_survey` makes it.
+
+    `keys` are the fields of `lte_tools.SurveyOptions`: rate, form, shift, carrier, at, every, offset, gain, jobs, scan,
+    track, start and others, in the units that it names.
+    """
+    from . import surveying
+
+    for key in ("track", "geojson", "pcap", "html"):
+        if isinstance(keys.get(key), str):
+            keys[key] = pathlib.Path(keys[key])
+    found = options.SurveyOptions(pathlib.Path(path), **keys)
+    return surveying.survey_of(options.checked_survey(found, "every" in keys))

@@ -1,0 +1,185 @@
+"""Looks for cells at each carrier frequency that a file holds: the raster of 100 kHz, with 540 kHz on either side.
+
+Each window is transformed once, and the samples about each frequency are taken from that. `lte_tune tell` tells up to
+60 kHz of offset, so a cell may be listed from two frequencies of the raster: it counts at the one that it is nearer to.
+Where the file's centre is not known, it is taken as one of the raster.
+
+Debian: python3-numpy, python3-scipy. Needs lte_cli and lte_tune.
+"""
+from __future__ import annotations
+
+import dataclasses
+import math
+from typing import TYPE_CHECKING, Any, NamedTuple, Sequence
+
+import numpy as np
+from scipy import fft
+
+from . import bands, radio, radio_file
+from .cells import SeenCell, joined, survey_of_cells
+from .machine import Refused
+from .options import SurveyOptions
+from .radio_file import RadioFile
+from .sightings import NEAR, WINDOW, Sighting, Task, distance, offset_in, sightings
+from .survey_data import Scan, Survey, SurveyCell
+from .to_ci16 import ratio_of
+
+if TYPE_CHECKING:
+    from .surveying import Ask
+
+SAME = 2_000  # hertz by which one cell may seem to stand elsewhere, by the raster's other frequency
+HELD = 8  # bytes of a sample in memory
+TOGETHER, EACH = 8, 4  # least frequencies that a process takes from one transform, and how often each has its turn
+
+
+def centre_of(file: RadioFile) -> float:
+    """Returns the file's centre in hertz, 0 where it is not known."""
+    return file.carrier - file.shift if file.carrier else 0
+
+
+def raster(file: RadioFile) -> list[float]:
+    """Returns how far above the centre each frequency is, in hertz."""
+    centre, room = centre_of(file), file.rate / 2 - radio_file.BESIDE
+    numbers = range(math.ceil((centre - room) / bands.RASTER), math.floor((centre + room) / bands.RASTER) + 1)
+    if not numbers:
+        raise Refused(f"{file.path}: no frequency of the raster has 540 kHz of it on either side")
+    return [bands.RASTER * n - centre for n in numbers]
+
+
+# ---- one window
+
+
+class Look(NamedTuple):
+    """A window of a file, in seconds, the frequencies to look at, and the offset to correct, if one is given."""
+
+    file: RadioFile
+    start: float
+    length: float
+    shifts: list[float]
+    offset: float | None
+
+
+def seen_at_each(look: Look) -> list[list[Sighting]] | None:
+    """Returns the sightings at each frequency; None where the samples are not numbers."""
+    try:
+        spectrum = transformed(look)
+    except radio_file.Spoiled:
+        return None
+    return [at_frequency(look, channel_of(spectrum, look, shift)) for shift in look.shifts]
+
+
+def transformed(look: Look) -> Any:
+    """Returns the transform of a window, of so many samples that 1.92e6 has a whole number in its time."""
+    rate = look.file.rate
+    count, step = round(look.length * rate), ratio_of(rate).numerator
+    x = look.file.samples(round(look.start * rate), count // step * step)
+    x = x[: len(x) // step * step]
+    return fft.fft((x - x.mean()).astype(np.complex64))
+
+
+def channel_of(spectrum: Any, look: Look, shift: float) -> RadioFile:
+    """Returns the samples about a frequency, at 1.92e6, held as a file of their own."""
+    rate, count = look.file.rate, len(spectrum)
+    ratio = ratio_of(rate)
+    kept = count // ratio.numerator * ratio.denominator
+    middle = round(shift * count / rate)
+    bins = middle + np.arange(kept) - kept // 2
+    part = np.where(abs(bins) <= count // 2, spectrum[bins % count], 0)
+    x = fft.ifft(fft.ifftshift(part)) * (kept / count)
+    first = round(look.start * radio.RATE)
+    return dataclasses.replace(
+        look.file,
+        form="f32",
+        rate=radio.RATE,
+        count=first + kept,
+        shift=shift - middle * rate / count,
+        stretches=(),
+        begins=-HELD * first,
+        channels=1,
+        channel=0,
+        is_exchanged=False,
+        held=x.astype("<c8").tobytes(),
+    )
+
+
+def at_frequency(look: Look, channel: RadioFile) -> list[Sighting]:
+    """Returns the sightings of a window's channel, without its samples."""
+    task = Task(channel, look.start, (channel.count * HELD + channel.begins) / HELD / radio.RATE, look.offset or 0)
+    offset = offset_in(task) if look.offset is None else look.offset
+    found = [] if offset is None else sightings(task.with_offset(offset))
+    return [one.bare() for one in found or []]
+
+
+# ---- the file
+
+
+def starts_of(options: SurveyOptions, file: RadioFile) -> list[tuple[float, float]]:
+    """Returns where windows begin, and how long they are: in the captures of one centre."""
+    stretches = tuple(one for one in file.stretches if one.shift == file.shift)
+    return dataclasses.replace(file, stretches=stretches).starts(options.at, WINDOW, options.every)
+
+
+def scanned(options: SurveyOptions, file: RadioFile, ask: Ask) -> Survey:
+    """Returns the survey of all frequencies; `ask` answers for many windows."""
+    shifts, starts = raster(file), starts_of(options, file)
+    together = max(TOGETHER, math.ceil(len(shifts) * len(starts) / (EACH * options.jobs)))
+    parts = [shifts[i : i + together] for i in range(0, len(shifts), together)]
+    looks = [Look(file, *start, part, options.offset) for start in starts for part in parts]
+    found = list(zip(looks, ask("scan", seen_at_each, looks)))
+    spoiled = [round(start, 6) for start in dict.fromkeys(look.start for look, one in found if one is None)]
+    seen_by_shift: dict[float, list[Sighting]] = {shift: [] for shift in shifts}
+    for look, one in found:
+        for shift, seen in zip(look.shifts, one or []):
+            seen_by_shift[shift] += seen
+    by_shift = {shift: joined(seen) for shift, seen in seen_by_shift.items()}
+    cells = tuple(cell_at(options, file, shift, cell, by_shift) for shift, cell in nearest(by_shift))
+    hint = None if any(not cell.chance for cell in cells) else "no sure cell at any of these frequencies"
+    survey = survey_of_cells(options, file, len(starts), spoiled, hint, [], [])
+    return dataclasses.replace(survey, cells=cells, scan=frequencies(file, shifts))
+
+
+def frequencies(file: RadioFile, shifts: Sequence[float]) -> Scan:
+    """Returns which frequencies were looked at, in hertz, or above the centre where it is not known."""
+    centre = centre_of(file)
+    return Scan(radio_file.whole(centre + shifts[0]), radio_file.whole(centre + shifts[-1]), len(shifts))
+
+
+def nearest(by_shift: dict[float, list[SeenCell]]) -> list[tuple[float, SeenCell]]:
+    """Returns pairs of a frequency and a cell, each cell once, in the order of frequency."""
+    every = [(shift, cell) for shift, cells in by_shift.items() for cell in cells]
+    every.sort(key=lambda pair: abs(offset_of(pair[1])))
+    kept: list[tuple[float, SeenCell]] = []
+    for shift, cell in every:
+        if not any(is_same(shift, cell, *other) for other in kept):
+            kept.append((shift, cell))
+    return sorted(kept, key=lambda pair: (pair[0], -pair[1].windows))
+
+
+def is_same(shift: float, cell: SeenCell, other_shift: float, other: SeenCell) -> bool:
+    """Returns whether two cells of different frequencies of the raster are one."""
+    return (
+        shift != other_shift
+        and cell.line.identity == other.line.identity
+        and abs(shift + offset_of(cell) - other_shift - offset_of(other)) <= SAME
+        and any(distance(a.epoch, b.epoch) <= NEAR for a in cell.seen for b in other.seen)
+    )
+
+
+def offset_of(cell: SeenCell) -> float:
+    return cell.strongest.offset
+
+
+def cell_at(
+    options: SurveyOptions, file: RadioFile, shift: float, cell: SeenCell, by_shift: dict[float, list[SeenCell]]
+) -> SurveyCell:
+    """Returns a cell as the survey has it, and its frequency."""
+    centre = centre_of(file)
+    here = dataclasses.replace(file, carrier=radio_file.whole(centre + shift) if centre else 0)
+    (found,) = survey_of_cells(options, here, 1, [], None, [], [cell]).cells
+    return dataclasses.replace(
+        found,
+        chance=cell.is_chance(by_shift[shift]),
+        shift=radio_file.whole(shift),
+        frequency=here.carrier or None,
+        earfcns=tuple(bands.earfcns_of(here.carrier)) if centre else (),
+    )

@@ -1,0 +1,356 @@
+"""The cells of a window of a radio's file: what lte_cli and lte_tune answer of it, with its frequency offset corrected.
+
+Debian: python3-numpy, python3-scipy. Needs lte_cli and lte_tune.
+"""
+from __future__ import annotations
+
+import dataclasses
+from dataclasses import dataclass
+from typing import NamedTuple
+
+import numpy as np
+
+from . import pilots, programs, radio
+from .answers import STEP_HERTZ, Cell, Evidence
+from .radio_file import LEAST, RadioFile, Spoiled
+from .rules import BY_NAME, RULES, Rule, reads
+
+WINDOW = 17 * radio.FRAME / radio.RATE  # seconds: what a list depends on
+CYCLE = 1024 * radio.FRAME  # samples until a frame number repeats
+NEAR = 9  # samples by which one cell's frames may differ in a list (docs/DEFINITION.md, rule 12)
+ECHO = 40  # samples by which a path of a cell may be later than its strongest one, or earlier
+TURNS = 3  # times that a window is corrected by what is left
+FINE = 8  # hertz that may be left
+VAGUE = 250  # hertz of error from which on pilots do not give an offset
+DEAR = 0.07  # cost by total from which on a line that was seen once is probably a false detection
+PARTS, PART = (3, 6, 9, 12), 4  # frames of a window from which on pilots are read again, and how many frames that takes
+
+
+@dataclass(frozen=True)
+class Task:
+    """A window of a file, in seconds, and the offset in hertz to correct at first."""
+
+    file: RadioFile
+    start: float
+    length: float
+    offset: float = 0
+
+    def with_offset(self, offset: float) -> Task:
+        return dataclasses.replace(self, offset=offset)
+
+
+# ---- recordings
+
+
+class Window(NamedTuple):
+    """A window as a recording, what full scale of its file is in it, and hertz that were corrected."""
+
+    data: bytes
+    full: float
+    offset: float
+
+    def turned(self, hertz: float) -> Window:
+        """Returns the window with `hertz` more corrected."""
+        x = radio.shifted(radio.from_bytes(self.data), -hertz)
+        scale = radio.FULL / 2 / (radio.peak(x) or 1)
+        return Window(radio.to_bytes(scale * x), self.full * scale, self.offset + hertz)
+
+    def part(self, frame: int) -> Window:
+        """Returns some frames from `frame` on."""
+        size = 4 * radio.FRAME
+        return self._replace(data=self.data[frame * size : (frame + PART) * size])
+
+
+def window_of(task: Task) -> Window:
+    """Returns a window with the task's offset corrected, if there is one."""
+    offset = task.offset if abs(task.offset) > FINE else 0
+    return Window(*task.file.recording(task.start, task.length, offset), offset)
+
+
+def energy(task: Task) -> float:
+    """Returns the mean energy of ten milliseconds in the window's middle, -1 where there are no numbers."""
+    first, count = round((task.start + task.length / 2) * task.file.rate), round(task.file.rate / 100)
+    try:
+        x = task.file.samples(min(first, task.file.count - count), count)
+    except Spoiled:
+        return -1.0
+    return float(np.mean(np.abs(x - x.mean()) ** 2))
+
+
+# ---- detections of a window
+
+
+@dataclass(frozen=True)
+class Detection:
+    """A line of a window's list, and what `evidence` says of it, of some frames of the window."""
+
+    line: Cell
+    evidence: list[Evidence]
+    paths: tuple[int, ...] = ()  # samples by which other paths of its cell are later, of which the list has lines too
+
+    @property
+    def rule(self) -> Rule:
+        return BY_NAME[str(self.line.rule)]
+
+    @property
+    def share(self) -> float:
+        """Cost by total."""
+        return self.evidence[0].share
+
+    @property
+    def measured(self) -> pilots.Measured:
+        return pilots.measured(self.evidence, self.rule, self.paths)
+
+
+def detections_in(window: Window) -> list[Detection]:
+    """Returns the lines of a window's list."""
+    recording = programs.Recording(window.data)
+    found = programs.listed(Cell, ("search", "--all", "--json"), recording, "search_all")
+    used = [rule for rule in RULES if any(line.rule == rule.name for line in found)]
+    support = {rule.name: {place_of(one): one for one in evidence_of(window, rule)} for rule in used}
+    return [Detection(line, [support[str(line.rule)][place_of(line)]], paths_of(line, found.items)) for line in found]
+
+
+def paths_of(line: Cell, found: tuple[Cell, ...]) -> tuple[int, ...]:
+    """Returns by how many samples lines of the same cell are later, except those that are another rule's."""
+    half, place = CYCLE // 2, epoch_of(line)
+    later = {(epoch_of(one) - place + half) % CYCLE - half for one in found if is_of_one_cell(one, line)}
+    return tuple(sorted(delay for delay in later if NEAR < abs(delay) <= ECHO))
+
+
+def evidence_of(window: Window, rule: Rule) -> programs.Answers[Evidence]:
+    return programs.listed(Evidence, rule.evidence, programs.Recording(window.data), "evidence")
+
+
+def matching(line: Cell, support: programs.Answers[Evidence], frame: int = 0) -> list[Evidence]:
+    """Returns what of the evidence of a window's part, from `frame` on, is about this line's cell."""
+    place = epoch_of(line)
+    return [
+        one
+        for one in support
+        if one.identity == line.identity and distance(epoch_of(one) + radio.FRAME * frame, place) <= NEAR
+    ]
+
+
+def settled(window: Window) -> tuple[Window, list[Detection]]:
+    """Returns a window corrected until its surest cell is at 0, as far as pilots say, and its detections then."""
+    found = detections_in(window)
+    for _ in range(TURNS):
+        hertz = to_correct(found)
+        if not hertz:
+            break
+        turned = window.turned(hertz)
+        if not (then := detections_in(turned)):
+            break
+        window, found = turned, then
+    return window, found
+
+
+def to_correct(found: list[Detection]) -> float:
+    """Returns the hertz that are left of the surest cell, 0 where that is little or not sure."""
+    hertz, error = left_of_surest(found)
+    return hertz if abs(hertz) > max(FINE, 2 * error) else 0
+
+
+def left_of_surest(found: list[Detection]) -> tuple[float, float]:
+    """Returns its hertz, and their error."""
+    every = [one.measured for one in found]
+    return min(((one.hertz, one.error) for one in every), key=lambda left: left[1], default=(0, VAGUE))
+
+
+def add_evidence(window: Window, found: list[Detection]) -> None:
+    """Reads pilots of further frames where those of one do not say what is left."""
+    unsure = [one for one in found if one.measured.error > FINE]
+    for frame in PARTS:
+        part = window.part(frame)
+        if len(part.data) < 4 * LEAST:
+            break
+        support = {rule.name: evidence_of(part, rule) for rule in {one.rule for one in unsure}}
+        for one in unsure:
+            one.evidence.extend(matching(one.line, support[one.rule.name], frame))
+
+
+def by_itself(window: Window, one: Detection) -> tuple[Window, Detection]:
+    """Returns a line with its own offset corrected, where that is sure to differ, and the window for it."""
+    left = one.measured
+    if abs(left.hertz) > max(FINE, 3 * left.error):
+        turned = window.turned(left.hertz)
+        if own := matching(one.line, evidence_of(turned, one.rule)):
+            window, one = turned, dataclasses.replace(one, evidence=own)
+            add_evidence(window, [one])
+    return window, one
+
+
+# ---- the offset of a window
+
+
+def offset_in(task: Task) -> float | None:
+    """Returns the offset of a window in hertz, if a cell is listed in it: `lte_tune` asks the list of one port alone, so
+    where that has none each of its candidates is asked of all lists."""
+    try:
+        window = window_of(task)
+    except Spoiled:
+        return None
+    answer = programs.tell(window.data)
+    if answer.told and answer.told.cells:
+        return offset_of(*settled(turned_by(window, answer.told.turn)))
+    for one in answer.candidates:
+        turned, found = settled(turned_by(window, one.turn))
+        if any(detection.share < DEAR for detection in found):
+            return offset_of(turned, found)
+    return None
+
+
+def turned_by(window: Window, turn: int) -> Window:
+    return window.turned(turn * STEP_HERTZ) if turn else window
+
+
+def offset_of(window: Window, found: list[Detection]) -> float:
+    """Returns the offset by the pilots of its surest cell, else what was corrected."""
+    hertz, error = left_of_surest(found)
+    return window.offset + (hertz if error < VAGUE else 0)
+
+
+# ---- sightings
+
+
+@dataclass(frozen=True)
+class Sighting:
+    """A cell in a window: a line of its list, and numbers of `evidence` of that list."""
+
+    task: Task
+    line: Cell
+    rules: tuple[str, ...]
+    level: float | None  # dBFS
+    ratio: float | None  # dB
+    cost: int
+    total: int
+    peak: int
+    taken: float  # hertz that were corrected
+    offset: float  # hertz, by its pilots
+    error: float  # hertz
+    others: tuple[tuple[float, int], ...]  # where frame 0 begins on other paths, and their peaks
+    mib: str | None  # hexadecimal digits of the MIB's bits
+    sib1_block: str | None  # and of those of SIB1's transport block, where it was read
+
+    @property
+    def seconds(self) -> float:
+        """When its first whole frame begins."""
+        return round(self.task.start * self.task.file.rate) / self.task.file.rate + self.line.at / radio.RATE
+
+    @property
+    def epoch(self) -> float:
+        """Where frame number 0 begins, in samples of a recording, modulo the cycle."""
+        return (self.seconds * radio.RATE - radio.FRAME * self.line.sfn) % CYCLE
+
+    @property
+    def share(self) -> float:
+        """Cost by total."""
+        return self.cost / self.total
+
+    @property
+    def echoes(self) -> list[tuple[float, float]]:
+        """Pairs of the microseconds by which a path is later than the strongest one, and its decibels by that."""
+        half, found = CYCLE / 2, list[tuple[float, float]]()
+        for place, peak in sorted(self.others):
+            later = (place - self.epoch + half) % CYCLE - half
+            if abs(later) > NEAR and all(abs(later - other) > NEAR for other, _ in found):
+                found.append((later, radio.decibels(peak / self.peak) or 0.0))
+        return [(1e6 * later / radio.RATE, level) for later, level in found]
+
+    def bare(self) -> Sighting:
+        """Returns the sighting without the samples that its task may hold."""
+        file = dataclasses.replace(self.task.file, held=None)
+        return dataclasses.replace(self, task=dataclasses.replace(self.task, file=file))
+
+
+def sightings(task: Task) -> list[Sighting] | None:
+    """Returns the cells of a window, each with the rules that list it; None where its samples are not numbers."""
+    try:
+        window, detections = settled(window_of(task))
+    except Spoiled:
+        return None
+    add_evidence(window, detections)
+    found: list[Sighting] = []
+    for one in detections:
+        add_line(found, sighting_of(task, *by_itself(window, one)))
+    return found
+
+
+def sighting_of(task: Task, window: Window, one: Detection) -> Sighting:
+    first, left = one.evidence[0], one.measured
+    return Sighting(
+        task=task,
+        line=one.line,
+        rules=(one.rule.name,),
+        level=left.level(window.full),
+        ratio=left.ratio,
+        cost=first.cost,
+        total=first.total,
+        peak=first.peak,
+        taken=window.offset,
+        offset=window.offset + (left.hertz if left.error < VAGUE else 0),
+        error=left.error,
+        others=(),
+        mib=first.mib,
+        sib1_block=first.sib1_block,
+    )
+
+
+def place_of(line: Cell | Evidence) -> tuple[int, int, int]:
+    return line.identity, line.at, line.sfn
+
+
+def epoch_of(line: Cell | Evidence) -> int:
+    """Returns where frame number 0 of a line begins."""
+    return line.at - radio.FRAME * line.sfn
+
+
+def distance(a: float, b: float, cycle: int = CYCLE) -> float:
+    """Returns the distance between two places of a cycle."""
+    return min((a - b) % cycle, (b - a) % cycle)
+
+
+def add_line(found: list[Sighting], new: Sighting) -> None:
+    """Adds a line of a window: to the same cell by another rule or on another path where there is one."""
+    for i, old in enumerate(found):
+        apart = distance(old.epoch, new.epoch)
+        if old.line.identity == new.line.identity and apart <= ECHO:
+            if apart <= NEAR:
+                found[i] = by_another_rule(old, new)
+                return
+            if is_alike(old.line, new.line):
+                found[i] = on_another_path(old, new)
+                return
+    found.append(new)
+
+
+def by_another_rule(old: Sighting, new: Sighting) -> Sighting:
+    """Returns the line that says more, with both rules."""
+    more = max(old, new, key=lambda sighting: saying(sighting.line))
+    return dataclasses.replace(more, rules=old.rules + new.rules, others=old.others + new.others)
+
+
+def on_another_path(old: Sighting, new: Sighting) -> Sighting:
+    """Returns the line of the stronger path, or of the first of equals."""
+    strong, weak = (old, new) if old.peak >= new.peak else (new, old)
+    others = strong.others + weak.others + ((weak.epoch, weak.peak),)
+    return dataclasses.replace(strong, others=others, rules=tuple(sorted({*old.rules, *new.rules})))
+
+
+def is_of_one_cell(one: Cell, other: Cell) -> bool:
+    return one.identity == other.identity and is_alike(one, other)
+
+
+def is_alike(one: Cell, other: Cell) -> bool:
+    """Returns whether lines have the same MIB and SIB1, as far as both have one."""
+    same = all(
+        getattr(one, key) == getattr(other, key)
+        for key in ("ports", "bandwidth", "duration", "resource", "br", "spare")
+    )
+    return same and (one.sib1 is None or other.sib1 is None or one.sib1 == other.sib1)
+
+
+def saying(line: Cell) -> tuple[bool, bool]:
+    """Returns how much a line says: SIB1, else a MIB of the antenna ports that its rule is made for."""
+    return line.sib1 is not None, reads(str(line.rule), line.ports)

@@ -1,0 +1,78 @@
+#!/usr/bin/python3
+"""survey.py FILE [--form u8|s8|s16|f32|sigmf] [--rate R] [--shift HZ] [--at S] [--every S] [--csv | --json]
+survey.py FILE --track TRACK [--start TIME] [--html OUT] [--geojson OUT]
+survey.py FILE --pcap OUT.pcap
+survey.py FILE --scan [--carrier CENTRE]
+rtl_sdr -f 796e6 -s 1.92e6 - | survey.py - --form u8 --rate 1.92e6 --follow
+
+One table of the cells in a radio's file of any length: identity, when it was first and last seen and in how many
+windows, master block, SIB1, the greatest level and its signal to noise, and the frequency offset. `?` marks what chance
+explains. docs/RECORDINGS.md, "A whole file", says what each column is.
+
+The file is read in windows of 17 frames, as far as a list looks, one after the other or every S seconds. Each becomes
+a recording as to_ci16.py makes it. `lte_tune tell` tells the offset of the strongest window and of some along the
+file, and of more where it drifts; between them it is a straight line. `lte_cli search --all`, and `lte_cli evidence` of
+each list with a cell, tell of each window, one process a processor; by the pilots that `evidence` writes (pilots.py)
+the rest of the offset is taken off, and each cell has its own. Lines are one cell where identity, frame numbers and
+offset fit, and one with an echo where they come within 40 samples. Where no cell is sure, I and Q are tried exchanged.
+
+With --track each window gets the place of its time: the file's time is SigMF's, else --start. --html writes a page with
+the table, which sorts, the cells over time, and a map where there are places. --pcap writes the blocks of MIB and SIB1 for
+Wireshark (pcap.py). --scan looks at each carrier of the 100 kHz raster in the file. Standard input (-) is looked at as
+it comes, until it ends or a signal comes.
+
+Debian: python3-numpy, python3-scipy; for --html python3-matplotlib. Needs lte_cli and lte_tune (README, "Build").
+"""
+from __future__ import annotations
+
+import argparse
+import json
+import sys
+import types
+from typing import Any
+
+from . import machine, options, programs
+
+
+def parser() -> argparse.ArgumentParser:
+    """Returns the parser of the arguments."""
+    return options.survey_parser(__doc__)
+
+
+def command() -> None:
+    args = parser().parse_args()
+    machine.check_packages("numpy", "scipy")
+    given = options.checked_survey(options.options_of(options.SurveyOptions, args), args.every is not None)
+    from . import pcap, survey_table, surveying
+
+    survey = surveying.survey_of(given)
+    if given.pcap:
+        pcap.write(given.pcap, pcap.of_survey(survey, given.earfcn))
+    if given.json:
+        print(json.dumps(survey.to_json(), sort_keys=True, separators=(",", ":")))
+    elif given.csv:
+        print(survey_table.csv_of(survey), end="")
+    else:
+        print("\n".join(survey_table.table_of(survey)), flush=True)
+    if given.html:
+        from . import survey_page
+
+        survey_page.write(given.html, survey)
+
+
+def main() -> None:
+    machine.run(command)
+
+
+class SurveyModule(types.ModuleType):
+    """This module, which is also `lte_tools.survey`, the function of programs.py."""
+
+    def __call__(self, *args: Any, **keys: Any) -> Any:
+        return programs.survey(*args, **keys)
+
+
+sys.modules[__name__].__class__ = SurveyModule
+
+
+if __name__ == "__main__":
+    main()

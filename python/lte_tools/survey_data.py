@@ -1,0 +1,228 @@
+"""A survey as frozen dataclasses, which have the keys of its JSON (docs/FORMATS.md, "The survey") as fields."""
+from __future__ import annotations
+
+import datetime
+from dataclasses import dataclass, fields
+from typing import Any
+
+from . import foreign, records
+from .answers import Answer, Sib1, sib1_json, sib1_of
+from .machine import Refused
+
+
+@dataclass(frozen=True)
+class Echo(Answer):
+    """Another path: its delay in microseconds, its level in dB by the strongest one's, and the windows that have it."""
+
+    delay: float
+    level: float | None
+    windows: int
+
+
+@dataclass(frozen=True)
+class Seen(Answer):
+    """A cell in a window: its first frame there (second and sample of the file, time, frame number), level in the survey's
+    unit, signal to noise in dB, frequency offset and its standard error in hertz, other paths (pairs of microseconds and
+    dB), cost and total of `evidence`, MIB and SIB1 in hexadecimal digits, and of a track longitude and latitude."""
+
+    seconds: float
+    at: int
+    datetime: str | None
+    sfn: int
+    level: float | None
+    ratio: float | None
+    offset: float
+    error: float
+    echoes: tuple[tuple[float, float], ...]
+    cost: int
+    total: int
+    mib: str | None
+    sib1_block: str | None
+    place: tuple[float, float] | None = None
+
+    @property
+    def time(self) -> float | None:
+        """Seconds since 1970 at which its first frame began, or None."""
+        return None if self.datetime is None else timestamp(self.datetime)
+
+
+@dataclass(frozen=True)
+class SurveyCell(Answer):
+    """A cell of a survey: the fields of its list's line, when it was seen, and its numbers where it was strongest.
+
+    `first` and `last` are seconds of the file, `level` is in the survey's unit, `ratio` in dB, `offset` in hertz, `ppm` in
+    millionths of the carrier, `share` the least cost by total; `chance` says whether it is probably a false detection. Of
+    a scan `shift` is in hertz above the file's centre, `frequency` in hertz, `earfcns` pairs of band and EARFCN.
+    """
+
+    identity: int
+    rule: str
+    rules: tuple[str, ...]
+    first: float
+    last: float
+    datetime: str | None
+    windows: int
+    ports: int
+    bandwidth: str
+    duration: str
+    resource: str
+    br: int
+    spare: int
+    sib1: Sib1 | None
+    no_sib1: str | None
+    level: float | None
+    ratio: float | None
+    offset: float
+    ppm: float | None
+    echoes: tuple[Echo, ...]
+    share: float
+    chance: bool
+    seen: tuple[Seen, ...]
+    shift: float | None = None
+    frequency: float | None = None
+    earfcns: tuple[tuple[int, int], ...] = ()
+
+    @classmethod
+    def from_json(cls, value: dict[str, Any]) -> SurveyCell:
+        """Returns a cell of the survey's JSON, which the schema has accepted."""
+        sib1, reason = sib1_of(value["sib1"])
+        kinds: dict[str, Any] = {"rules": tuple[str, ...], "echoes": tuple[Echo, ...], "seen": tuple[Seen, ...]}
+        kinds["earfcns"] = tuple[tuple[int, int], ...]
+        found: dict[str, Any] = {one.name: value[one.name] for one in fields(cls) if one.name in value}
+        found |= {key: records.typed(kind, found[key]) for key, kind in kinds.items() if key in found}
+        found["sib1"], found["no_sib1"] = sib1, reason
+        return cls(**found)
+
+    def to_json(self, is_placed: bool = False) -> dict[str, Any]:
+        """Returns the cell as the survey's JSON has it; with a track its windows have places."""
+        found = {key: value for key, value in records.to_json(self).items() if key not in ("no_sib1", "sib1")}
+        if self.shift is None:
+            for key in ("shift", "frequency", "earfcns"):
+                del found[key]
+        for one in found["seen"] if not is_placed else ():
+            del one["place"]
+        return {**found, "sib1": sib1_json(self.sib1, self.no_sib1)}
+
+    def to_row(self) -> dict[str, Any]:
+        """Returns the fields of one value, with those of SIB1, for a table."""
+        sib1 = self.sib1
+        more = {"tac": sib1 and sib1.tac, "cell": sib1 and sib1.cell, "band": sib1 and sib1.band}
+        return {**super().to_row(), **more, "plmn": " ".join(sib1.networks) if sib1 else None, "no_sib1": self.no_sib1}
+
+    @property
+    def echo(self) -> Echo | None:
+        """The path that most windows have, of equals the strongest."""
+        return max(self.echoes, key=lambda one: (one.windows, one.level or 0)) if self.echoes else None
+
+    @property
+    def strongest_place(self) -> tuple[float, float] | None:
+        """Where it was strongest, of the windows that have a place and a level, else of those with a place."""
+        placed = [one for one in self.seen if one.place]
+        loudest = max(placed, key=lambda one: -1e9 if one.level is None else one.level, default=None)
+        return loudest.place if loudest else None
+
+
+@dataclass(frozen=True)
+class Track(Answer):
+    """A track: times of its first and last place, their count, and of each window second, longitude and latitude."""
+
+    first: str
+    last: str
+    places: int
+    windows: tuple[tuple[float, float, float], ...]
+
+
+@dataclass(frozen=True)
+class Scan(Answer):
+    """The frequencies of a scan: first and last in hertz, or above the centre where that is not known, and the count."""
+
+    first: float
+    last: float
+    count: int
+
+
+@dataclass(frozen=True)
+class Live(Answer):
+    """A survey of a pipe: windows that were skipped, lines that were forgotten, and seconds behind at most."""
+
+    skipped: int
+    forgotten: int
+    behind: float
+
+
+@dataclass(frozen=True)
+class Survey(Answer):
+    """A survey: the file's name, time, form, rate in samples per second and length in seconds, the windows that were
+    looked at, the frequency offsets that were found (pairs of a second and hertz), and the cells.
+
+    `shift` is where the cells stand in hertz above the file's centre, `carrier` their frequency in hertz, `rate_error` in
+    millionths, `unit` that of levels, `spoiled` the seconds of windows without numbers, `hint` what may be wrong.
+    """
+
+    file: str
+    datetime: str | None
+    form: str
+    exchanged: bool
+    rate: float
+    rate_error: float
+    shift: float
+    carrier: float | None
+    unit: str
+    seconds: float
+    window: float
+    every: float
+    windows: int
+    spoiled: tuple[float, ...]
+    hint: str | None
+    offsets: tuple[tuple[float, float], ...]
+    cells: tuple[SurveyCell, ...]
+    track: Track | None = None
+    scan: Scan | None = None
+    live: Live | None = None
+
+    @classmethod
+    def from_json(cls, value: Any, name: str = "survey") -> Survey:
+        """Returns the survey of a JSON value; `name` is that of its file in a refusal."""
+        foreign.check(value, "survey", name)
+        found = records.from_json(cls, value)
+        times = [found.datetime, *(cell.datetime for cell in found.cells)]
+        for text in [*times, *(one.datetime for cell in found.cells for one in cell.seen)]:
+            try:
+                if text is not None:
+                    timestamp(text)
+            except (ValueError, OverflowError):
+                raise Refused(f"{name}: {text!r} is not a time") from None
+        return found
+
+    def to_json(self, has_windows: bool = True) -> dict[str, Any]:
+        """Returns the survey's JSON, or that without single windows."""
+        found: dict[str, Any] = {one.name: records.plain(getattr(self, one.name)) for one in fields(self)}
+        found["cells"] = [cell.to_json(self.track is not None) for cell in self.cells]
+        for key in ("track", "scan", "live"):
+            if found[key] is None:
+                del found[key]
+        if not has_windows:
+            for cell in found["cells"]:
+                del cell["seen"]
+            found.get("track", {}).pop("windows", None)
+        return found
+
+    def to_rows(self) -> list[dict[str, Any]]:
+        """Returns a row for each cell, for pandas.DataFrame."""
+        return [cell.to_row() for cell in self.cells]
+
+    @property
+    def is_placed(self) -> bool:
+        """Whether a window has a place."""
+        return self.track is not None and bool(self.track.windows)
+
+    @property
+    def has_chance(self) -> bool:
+        """Whether a cell is probably a false detection."""
+        return any(cell.chance for cell in self.cells)
+
+
+def timestamp(text: str) -> float:
+    """Returns the seconds since 1970 of a time; one without a zone is UTC."""
+    time = datetime.datetime.fromisoformat(text)
+    return (time if time.tzinfo else time.replace(tzinfo=datetime.timezone.utc)).timestamp()

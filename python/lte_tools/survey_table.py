@@ -1,0 +1,104 @@
+"""The survey as a table for people and as CSV for other programs."""
+from __future__ import annotations
+
+import csv
+import io
+
+from .answers import STEP_HERTZ
+from .columns import BY_KEY, CHANCE, CSV_KEYS, Value, table_columns
+from .survey_data import Live, Scan, Survey
+
+FORMULA = ("=", "+", "-", "@", "\t", "\r")  # with which a spreadsheet begins a formula
+
+
+def rows_of(survey: Survey) -> list[dict[str, str]]:
+    """Returns the texts of each cell's row by heading, without columns that say nothing."""
+    columns = table_columns(survey)
+    rows = [{str(column.heading): column.text(cell, survey) for column in columns} for cell in survey.cells]
+    names = saying(rows)
+    return [{name: row[name] for name in names} for row in rows]
+
+
+def saying(rows: list[dict[str, str]]) -> list[str]:
+    """Returns the headings under which a row says something."""
+    return [name for name in rows[0] if any(row[name] not in ("", "-") for row in rows)] if rows else []
+
+
+def table_of(survey: Survey) -> list[str]:
+    """Returns the table as lines of text."""
+    head, last = head_of(survey), [survey.hint] if survey.hint else []
+    rows = rows_of(survey)
+    if not rows:
+        return [head, *last]
+    left = {column.heading for column in table_columns(survey) if column.is_left and column.heading}
+    names = list(rows[0])
+    lines = [{name: name for name in names}, *rows]
+    width = {name: max(len(line[name]) for line in lines) for name in names}
+    text = [
+        "  ".join(line[n].ljust(width[n]) if n in left else line[n].rjust(width[n]) for n in names).rstrip()
+        for line in lines
+    ]
+    return [head, *text, *[CHANCE] * survey.has_chance, *last]
+
+
+# ---- the line above the table
+
+
+def head_of(survey: Survey) -> str:
+    """Returns the line on the file."""
+    parts = [f"{survey.file}: {survey.seconds:.2f} s", windows_text(survey.windows)]
+    if survey.datetime:
+        parts.insert(1, f"from {survey.datetime} on")
+    if survey.spoiled:
+        parts.append(f"{len(survey.spoiled)} of them left out, where samples are no numbers")
+    if survey.rate_error:
+        parts.append(f"read at {1 + survey.rate_error / 1e6:.9f} of its rate")
+    if survey.live:
+        parts.append(live_text(survey.live))
+    return ", ".join([*parts, scan_text(survey.scan) if survey.scan else offset_text(survey.offsets)])
+
+
+def windows_text(count: int) -> str:
+    return f"{count} window{'s' * (count != 1)}"
+
+
+def live_text(live: Live) -> str:
+    """Returns what was not looked at, and how late the rest was."""
+    texts = [
+        f"{live.skipped} more skipped",
+        f"{live.forgotten} lines forgotten",
+        f"up to {live.behind} s behind",
+    ]
+    return ", ".join(text for text in texts if not text.startswith("0 "))
+
+
+def scan_text(scan: Scan) -> str:
+    beside = "" if scan.last > 1e8 else " beside the centre"
+    return f"{scan.count} frequencies from {scan.first / 1e6:,.1f} to {scan.last / 1e6:,.1f} MHz{beside}"
+
+
+def offset_text(points: tuple[tuple[float, float], ...]) -> str:
+    if not points:
+        return "no offset told"
+    hertz = [offset for _, offset in points]
+    if max(hertz) - min(hertz) < STEP_HERTZ:
+        return f"offset {sum(hertz) / len(hertz):,.0f} Hz"
+    return f"offset {min(hertz):,.0f} to {max(hertz):,.0f} Hz, told {len(hertz)} times"
+
+
+# ---- CSV
+
+
+def csv_of(survey: Survey) -> str:
+    """Returns the table for other programs: a key a column, nothing where nothing is known, networks joined by spaces."""
+    out = io.StringIO()
+    writer = csv.writer(out, lineterminator="\n")
+    writer.writerow(CSV_KEYS)
+    for cell in survey.cells:
+        writer.writerow([safe(BY_KEY[key].of(cell, survey)) for key in CSV_KEYS])
+    return out.getvalue()
+
+
+def safe(value: Value) -> Value:
+    """Returns a value as it is, and a text that a spreadsheet would run as a formula with an apostrophe before it."""
+    return f"'{value}" if isinstance(value, str) and value.startswith(FORMULA) else value

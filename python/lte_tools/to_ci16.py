@@ -1,0 +1,82 @@
+#!/usr/bin/python3
+"""to_ci16.py TYPE RATE [SHIFT [START]] < FILE > RECORDING
+
+Makes a recording of any file of interleaved I and Q: TYPE is u8, s8, s16 or f32 (the low byte first), RATE its samples
+per second, SHIFT the frequency in hertz at which the cell stands in the file (0 where it is the centre), START
+the second at which to begin. Takes off the mean, moves SHIFT to 0, resamples to 1.92 million samples per second,
+filters to the 1.08 MHz of six resource blocks, scales the peak to half of full scale, and writes at most one second.
+
+Debian: python3-numpy, python3-scipy.
+"""
+from __future__ import annotations
+
+import argparse
+import sys
+from fractions import Fraction
+
+import numpy as np
+from scipy import signal
+
+from . import machine, radio
+from .arguments import Parser, not_negative, number
+from .arguments import rate as rate_argument
+from .forms import FORMS, is_number
+
+PASS = 600_000  # hertz on either side: six blocks take 540,000
+NEAREST, FARTHEST = 0.5e-6, 10_000  # by which a rate may be another one, and a number of a ratio
+
+
+def ratio_of(rate: float) -> Fraction:
+    """Returns the ratio of the smallest numbers that is this rate by 1.92e6, or nearly so."""
+    exact = Fraction(rate) / radio.RATE
+    for most in (100, 300, 1_000, 3_000, FARTHEST):
+        ratio = exact.limit_denominator(most)
+        if ratio and abs(ratio / exact - 1) <= NEAREST:
+            return ratio
+    raise machine.Refused(f"{rate:,} samples per second: nearer to 0 than any ratio to 1.92e6 that is read")
+
+
+def converted(x: radio.Complex, rate: float, shift: float) -> radio.Complex:
+    """Returns one second at most of samples, in their own scale; the cell is `shift` hertz above the centre."""
+    x = radio.shifted(x - x.mean(), -shift, rate)
+    ratio = ratio_of(rate)
+    x = signal.resample_poly(x, ratio.denominator, ratio.numerator)
+    found: radio.Complex = signal.oaconvolve(x, signal.firwin(129, PASS, fs=radio.RATE), "same")[: radio.LONGEST]
+    return found
+
+
+def parser() -> argparse.ArgumentParser:
+    """Returns the parser of the arguments."""
+    parser = Parser(__doc__)
+    parser.add_argument("form", metavar="TYPE", choices=list(FORMS), help="u8, s8, s16 or f32")
+    parser.add_argument("rate", metavar="RATE", type=rate_argument, help="samples per second")
+    parser.add_argument("shift", metavar="SHIFT", nargs="?", type=number, default=0.0, help="hertz")
+    parser.add_argument("start", metavar="START", nargs="?", type=not_negative, default=0.0, help="seconds")
+    return parser
+
+
+def command() -> None:
+    args = parser().parse_args()
+    form, rate = FORMS[args.form], args.rate
+    size = form.width
+    source = sys.stdin.buffer
+    skip = int(args.start * rate) * size
+    while skip > 0 and (gone := len(source.read(min(skip, 1 << 20)))):
+        skip -= gone
+    data = source.read(int(1.05 * rate) * size)
+    numbers = np.frombuffer(data[: len(data) // size * size], form.numbers)
+    if len(numbers) == 0:
+        raise machine.Refused("no samples")
+    if args.form == "f32" and not np.all(is_number(numbers)):
+        raise machine.Refused("no numbers of f32 in it: is it another TYPE?")
+    parts = numbers.astype(float) - form.middle
+    x = converted(parts[0::2] + 1j * parts[1::2], rate, args.shift)
+    sys.stdout.buffer.write(radio.to_bytes(x * (radio.FULL / 2 / (radio.peak(x) or 1))))
+
+
+def main() -> None:
+    machine.run(command, "numpy", "scipy")
+
+
+if __name__ == "__main__":
+    main()

@@ -1,0 +1,152 @@
+"""What the tests of lte_tools share: the stored programs, recordings of cells, and tools that are run in this process."""
+import io
+import json
+import os
+import pathlib
+import sys
+from typing import NamedTuple
+
+import numpy as np
+import pytest
+
+from lte_reference import cell as reference_cell
+from lte_tools import radio
+
+HERE = pathlib.Path(__file__).resolve().parent
+TOP = HERE.parent.parent
+EXAMPLES = TOP / "scripts/examples"
+CELL = {
+    "identity": 217,
+    "sfn": 100,
+    "offset": 5000,
+    "samples": 96_000,
+    "gain": [20, 0],
+    "duration": "normal",
+    "resource": "two",
+    "spare": 5,
+    "cfi": 2,
+    "start": 0,
+    "blocks": 6,
+    "mcs": 4,
+    "column": 2,
+    "sib1": {
+        "plmns": [{"mcc": "001", "mnc": "01", "reserved": False}],
+        "tac": 1,
+        "cell": 18_905_602,
+        "barred": False,
+        "intra": True,
+        "csg": False,
+        "csg_identity": None,
+        "q_rx": -70,
+        "q_offset": None,
+        "p_max": None,
+        "band": 1,
+        "scheduling": [{"period": 8, "sibs": []}],
+        "window": 1,
+        "tag": 0,
+    },
+}
+FULL = {"u8": (127.5, 127.5, "u1"), "s8": (0, 128, "i1"), "s16": (0, 32_768, "<i2"), "f32": (0, 1, "<f4")}
+
+
+class Run(NamedTuple):
+    """What a tool did."""
+
+    status: int
+    out: str
+    err: str
+
+
+@pytest.fixture(autouse=True)
+def programs(request, tmp_path, monkeypatch):
+    """The stored programs, under the names of lte_cli and lte_tune; tests of lte_gate have their own."""
+    if request.path.parent == HERE / "gate":
+        return None
+    folder = tmp_path / "programs"
+    folder.mkdir()
+    for name in ("lte_cli", "lte_tune"):
+        text = f'#!/bin/sh\nexec {sys.executable} {HERE / "stored_program.py"} {name} "$@"\n'
+        (folder / name).write_text(text)
+        (folder / name).chmod(0o755)
+        monkeypatch.setenv(name.upper(), str(folder / name))
+    return folder
+
+
+@pytest.fixture
+def tool(monkeypatch, capfd):
+    """Runs a tool of lte_tools in this process."""
+
+    def run(name, *arguments, stdin=b""):
+        module = __import__(f"lte_tools.{name}", fromlist=["main"])
+        monkeypatch.setattr(sys, "argv", [f"/bin/lte_{name}", *map(str, arguments)])
+        monkeypatch.setattr(sys, "stdin", io.TextIOWrapper(io.BytesIO(stdin)))
+        capfd.readouterr()
+        try:
+            module.main()
+            status = 0
+        except SystemExit as ended:
+            status = ended.code or 0
+        done = capfd.readouterr()
+        return Run(status, done.out, done.err)
+
+    return run
+
+
+def is_one_line(run):
+    """Whether a tool refused in one line without a traceback."""
+    lines = run.err.strip().splitlines()
+    return run.status in (1, 2) and len(lines) == 1 and "Traceback" not in run.err and run.out == ""
+
+
+@pytest.fixture(scope="session")
+def sent():
+    """The samples of cell 217, five frames of a recording."""
+    return radio.from_bytes(reference_cell.sent(CELL).astype("<i2").tobytes())
+
+
+@pytest.fixture
+def recording(tmp_path, sent):
+    """A file of that recording."""
+    path = tmp_path / "sent.ci16"
+    path.write_bytes(radio.to_bytes(sent))
+    return path
+
+
+def as_radio(x, form, rate, shift=0.0):
+    """Returns what a radio of this form and rate would have written of a recording's samples."""
+    from math import gcd
+
+    from scipy import signal
+
+    common = gcd(rate, radio.RATE)
+    x = signal.resample_poly(x, rate // common, radio.RATE // common)
+    x = radio.shifted(x, shift, rate)
+    return written(0.9 * x / radio.peak(x), form)
+
+
+def written(x, form):
+    """Returns samples of full scale 1 as bytes of a form."""
+    middle, full, kind = FULL[form]
+    parts = np.stack([x.real, x.imag], 1) * full + middle
+    if form != "f32":
+        parts = np.clip(np.round(parts), np.iinfo(kind).min, np.iinfo(kind).max)
+    return parts.astype(kind).tobytes()
+
+
+@pytest.fixture
+def drive(tmp_path, sent):
+    """A file of bytes at 2.4 million samples per second with the cell 300 kHz above the centre."""
+    path = tmp_path / "drive.cu8"
+    path.write_bytes(as_radio(sent, "u8", 2_400_000, 300_000))
+    return path
+
+
+@pytest.fixture
+def survey_json():
+    """The survey of scripts/examples."""
+    return json.loads((EXAMPLES / "outputs/survey.json").read_text())
+
+
+@pytest.fixture(scope="session", autouse=True)
+def one_thread():
+    os.environ.setdefault("OMP_NUM_THREADS", "1")

@@ -1,0 +1,195 @@
+"""python3 -m tests.fuzz [COUNT [SEED]], in python/
+
+Gives COUNT (5000) mutated inputs to the readers of foreign files: SigMF pairs and archives, tracks as GPX, NMEA and CSV,
+what lte_survey and lte_cli wrote as JSON, and files of samples. Each has to be read, or to be refused in one line: no
+other exception, and no part of an output. Memory is limited to 2 GB. Prints what is not so, and a count; the status is 1
+where anything is. The same SEED (1) gives the same inputs.
+"""
+import io
+import json
+import pathlib
+import random
+import resource
+import sys
+import tarfile
+import tempfile
+
+from lte_tools import foreign, machine, options, pcap, radio_file, survey_page, track
+from lte_tools.survey_data import Survey
+
+TOP = pathlib.Path(__file__).resolve().parents[2]
+OUTPUTS = TOP / "scripts/examples/outputs"
+MEMORY = 2 << 30
+GPX = "<?xml version='1.0'?><gpx><trk><trkseg>{}</trkseg></trk></gpx>".format(
+    "".join(f"<trkpt lat='{i}' lon='2'><time>2026-05-01T10:00:0{i}Z</time></trkpt>" for i in range(4))
+)
+CSV = "time,lat,lon\n2026-05-01T10:00:05Z,1,2\n1777629606,1.5,2.5\n"
+NMEA = "$GPRMC,100005.00,A,0100.0,N,00200.0,E,1.0,2.0,010526,,,A*5B\n$GPGGA,100006.00,0100.0,N,00200.0,E,1,08,1,1,M,,M,,*5F\n"
+META = {"global": {"core:datatype": "cu8", "core:sample_rate": 2.4e6}, "captures": [{"core:frequency": 796e6}]}
+TOKENS = [
+    "0",
+    "-1",
+    "1e999",
+    "1e300",
+    "NaN",
+    "null",
+    "true",
+    '""',
+    "[]",
+    "{}",
+    "[" * 2_000,
+    "9" * 400,
+    "1e-300",
+    "\0",
+    "\udcff",
+]
+VALUES = [0, -1, 1e300, 10**400, True, None, "", "x", [], {}, [[[]]], 0.5, "9" * 500, "2026-13-01T00:00:00Z", "\0"]
+
+
+def mutated(draw, data):
+    """Returns bytes with some of them changed, cut out, doubled, or replaced by a token."""
+    data = bytearray(data)
+    for _ in range(draw.randint(1, 4)):
+        if not data:
+            break
+        at, size = draw.randrange(len(data)), draw.randint(1, 20)
+        kind = draw.randrange(5)
+        if kind == 0:
+            data[at] = draw.randrange(256)
+        elif kind == 1:
+            del data[at : at + size]
+        elif kind == 2:
+            data[at:at] = data[at : at + size] * draw.randint(1, 50)
+        elif kind == 3:
+            data[at : at + draw.randrange(4)] = draw.choice(TOKENS).encode(errors="replace")
+        else:
+            del data[at:]
+    return bytes(data)
+
+
+def mutated_json(draw, value):
+    """Returns a JSON text with a value somewhere in it replaced or removed."""
+    value = json.loads(json.dumps(value))
+    place = value
+    while isinstance(place, (list, dict)) and place:
+        key = draw.choice(list(place) if isinstance(place, dict) else range(len(place)))
+        if not isinstance(place[key], (list, dict)) or not place[key] or draw.random() < 0.2:
+            if draw.random() < 0.1:
+                del place[key]
+            else:
+                place[key] = draw.choice(VALUES)
+            break
+        place = place[key]
+    return json.dumps(value).encode()
+
+
+def either(draw, value):
+    return mutated_json(draw, value) if draw.random() < 0.6 else mutated(draw, json.dumps(value).encode())
+
+
+# ---- inputs: each writes a file, and reads it
+
+
+def try_track(draw, folder):
+    suffix, text = draw.choice(((".gpx", GPX), (".csv", CSV), (".nmea", NMEA)))
+    path = folder / f"a{suffix}"
+    path.write_bytes(mutated(draw, text.encode()))
+    way = track.read(path)
+    track.iso(way.first), track.iso(way.last), way.at(way.first)
+
+
+def try_sigmf(draw, folder):
+    (folder / "a.sigmf-meta").write_bytes(either(draw, META))
+    (folder / "a.sigmf-data").write_bytes(draw.randbytes(draw.choice((0, 1, 999, 300_000))))
+    read_file(folder / "a.sigmf-meta")
+
+
+def try_archive(draw, folder):
+    out = io.BytesIO()
+    with tarfile.open(fileobj=out, mode="w", format=draw.choice((tarfile.PAX_FORMAT, tarfile.GNU_FORMAT))) as archive:
+        for name, data in (("a.sigmf-meta", either(draw, META)), ("a.sigmf-data", draw.randbytes(300_000))):
+            info = tarfile.TarInfo(name)
+            info.size = len(data)
+            archive.addfile(info, io.BytesIO(data))
+    data = bytearray(out.getvalue())
+    for _ in range(draw.randint(0, 6)):
+        data[draw.randrange(1_536)] = draw.randrange(256)
+    (folder / "a.sigmf").write_bytes(data[: draw.choice((len(data), draw.randrange(len(data))))])
+    read_file(folder / "a.sigmf")
+
+
+def try_samples(draw, folder):
+    form = draw.choice(("u8", "s8", "s16", "f32"))
+    size = draw.choice((0, 1, 3, 7, 8, 100, 70_000, 300_000))
+    data = draw.choice((draw.randbytes(size), bytes(size), b"text " * (size // 5), b"\xff" * size))
+    (folder / "a.bin").write_bytes(data)
+    read_file(
+        folder / "a.bin", form=form, rate=draw.choice((None, 1.92e6, 2.4e6, 1e10)), shift=draw.choice((None, -1e5))
+    )
+
+
+def read_file(path, **keys):
+    file = radio_file.opened(options.FileOptions(path, **keys))
+    for start, seconds in file.starts(0, 0.17, 10)[:2]:
+        file.recording(start, min(seconds, 0.17))
+        file.time_at(start)
+
+
+def try_survey(draw, folder):
+    path, out = folder / "a.json", folder / "a.pcap"
+    path.write_bytes(either(draw, json.loads((OUTPUTS / "survey.json").read_text())))
+    survey = Survey.from_json(foreign.parsed(foreign.read(path, foreign.MOST_JSON), str(path)), str(path))
+    pcap.write(out, pcap.of_survey(survey))
+    out.unlink()
+    if draw.random() < 0.02:
+        survey_page.page_of(survey)
+
+
+def try_evidence(draw, folder):
+    found, out = json.loads((OUTPUTS / "evidence.json").read_text()), folder / "a.pcap"
+    pcap.write(out, pcap.read("input", either(draw, found), draw.choice((None, 303))))
+    out.unlink()
+
+
+KINDS = (try_track, try_sigmf, try_archive, try_samples, try_survey, try_evidence)
+
+
+def fault_of(draw, kind, folder):
+    """Returns what is wrong with a reader of one input, or None."""
+    try:
+        kind(draw, folder)
+    except machine.Refused as refused:
+        if "\n" in str(refused).strip():
+            return f"more than one line: {refused}"
+    except OSError as fault:
+        if fault.strerror is None:
+            return f"{type(fault).__name__}: {fault}"
+    except Exception as fault:  # what must not come through
+        return f"{type(fault).__name__}: {fault}"
+    left = [path.name for path in folder.iterdir() if path.suffix in (".pcap", ".html") or path.name.startswith(".")]
+    return f"a part of an output: {left}" if left else None
+
+
+def faults(count, seed):
+    """Yields what is wrong, with the number of the input."""
+    with tempfile.TemporaryDirectory() as room:
+        for number in range(count):
+            draw, folder = random.Random(f"{seed} {number}"), pathlib.Path(room) / str(number)
+            folder.mkdir()
+            kind = KINDS[number % len(KINDS)]
+            if fault := fault_of(draw, kind, folder):
+                yield f"{number} {kind.__name__}: {fault}"
+            for path in folder.iterdir():
+                path.unlink()
+
+
+def main(count="5000", seed="1"):
+    resource.setrlimit(resource.RLIMIT_AS, (MEMORY, MEMORY))
+    machine.note = radio_file.note = lambda text: None
+    found = list(faults(int(count), seed))
+    print(*found, f"fuzz: {count} inputs, {len(found)} faults", sep="\n")
+    return bool(found)
+
+
+if __name__ == "__main__":
+    sys.exit(main(*sys.argv[1:]))

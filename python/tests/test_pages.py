@@ -1,0 +1,252 @@
+"""A survey's table, CSV, page, map and pictures."""
+import csv
+import dataclasses
+import io
+import json
+import re
+
+import numpy as np
+import pytest
+
+from tests.conftest import EXAMPLES, TOP
+from lte_tools import columns, foreign, page, picture_map, picture_style, survey_page, survey_table
+from lte_tools.rules import BY_NAME
+from lte_tools.survey_data import Echo, Scan, Survey
+
+
+@pytest.fixture
+def survey(survey_json):
+    return Survey.from_json(survey_json)
+
+
+def with_cells(survey, count):
+    """A survey of so many cells, of which the last is a false detection."""
+    (cell,) = survey.cells
+    cells = (dataclasses.replace(cell, identity=400 + i, chance=i == count - 1) for i in range(count))
+    return dataclasses.replace(survey, cells=tuple(cells))
+
+
+# ---- columns
+
+
+def test_csv_keys_are_those_of_columns():
+    assert sorted(columns.CSV_KEYS) == sorted(columns.BY_KEY)
+
+
+def test_page_names_each_key_and_heading():
+    formats = (TOP / "docs/FORMATS.md").read_text()
+    section = formats.partition("--csv`\n")[2].partition("\n###")[0]
+    assert [key for key in columns.CSV_KEYS if f"`{key}`" not in section] == []
+    recordings = (TOP / "docs/RECORDINGS.md").read_text().splitlines()
+    assert [row for row in columns.page_rows() if row not in recordings] == []
+
+
+def test_words_have_meanings():
+    defined = foreign.schema()["$defs"]
+    reasons = re.sub(r"\([^()]*\)", "", defined["reason"]["properties"]["none"]["pattern"][2:-2]).split("|")
+    assert set(columns.REASONS) == {reason.split(" ")[0] for reason in reasons}
+    assert list(BY_NAME) == defined["ruled"]["properties"]["rule"]["enum"]
+    assert list(columns.BLOCKS) == defined["cell"]["properties"]["bandwidth"]["enum"]
+    assert all(columns.meaning_of(name) for name in [*columns.BY_HEADING, *columns.MAP_MEANINGS])
+
+
+@pytest.mark.parametrize(
+    "heading, word, text",
+    [
+        ("rule", "two-ports", "two antenna ports"),
+        ("rule", "other", ""),
+        ("width", "n25", "5 MHz, 25 resource blocks"),
+        ("PHICH", "normal oneSixth", "first symbol of a subframe, Ng 1/6"),
+        ("cell", "18905602", "eNodeB 73850, its cell 2"),
+        ("no SIB1", "bad-riv 7", "blocks that do not exist"),
+        ("", "?", "chance explains"),
+        ("ppm", "-", "not known"),
+        ("ppm", "", ""),
+        ("ppm", "1.5", ""),
+    ],
+)
+def test_meaning_of_a_word(heading, word, text):
+    found = columns.word_meaning(heading, word)
+    assert text in found and bool(text) == bool(found)
+
+
+def test_schema_has_the_fields_of_the_survey(survey):
+    defined = foreign.schema()["$defs"]
+    assert set(survey.to_json()) | {"live", "scan", "track"} == set(defined["survey"]["properties"])
+    cell = dataclasses.replace(survey.cells[0], shift=0.0)
+    assert set(cell.to_json()) == set(defined["surveyed"]["properties"])
+    assert set(cell.to_json(True)["seen"][0]) == set(defined["sighting"]["properties"])
+
+
+# ---- table and CSV
+
+
+def test_table(survey):
+    head, names, row, *last = survey_table.table_of(survey)
+    assert head == "crates/capture_example/stdin: 0.03 s, 1 window, offset 1 Hz"
+    assert names.split()[:3] == ["PCI", "rule", "first"] and row.split()[:2] == ["271", "one-port"] and last == []
+    assert survey_table.table_of(dataclasses.replace(survey, cells=(), hint="why")) == [head, "why"]
+    assert survey_table.table_of(with_cells(survey, 2))[-1] == columns.CHANCE
+
+
+@pytest.mark.parametrize(
+    "keys, text",
+    [
+        ({"offsets": ()}, "no offset told"),
+        ({"offsets": ((0.0, 10.0), (1.0, 900.0))}, "offset 10 to 900 Hz, told 2 times"),
+        ({"spoiled": (0.5,)}, "1 of them left out"),
+        ({"rate_error": 1.0}, "read at 1.000001000 of its rate"),
+        ({"datetime": "2026-05-01T00:00:00+00:00"}, "from 2026-05-01T00:00:00+00:00 on"),
+        ({"scan": Scan(-1e5, 2e5, 4)}, "4 frequencies from -0.1 to 0.2 MHz beside the centre"),
+        ({"windows": 2}, "2 windows"),
+    ],
+)
+def test_head(survey, keys, text):
+    assert text in survey_table.head_of(dataclasses.replace(survey, **keys))
+
+
+def test_table_of_a_scan_in_dbm(survey):
+    cell = dataclasses.replace(
+        survey.cells[0], shift=1e5, frequency=2140.1e6, earfcns=((1, 301), (4, 2151)), echoes=(Echo(6.2, -3.0, 2),)
+    )
+    found = dataclasses.replace(survey, cells=(cell,), unit="dBm", scan=Scan(2139.9e6, 2140.3e6, 5))
+    (row,) = survey_table.rows_of(found)
+    assert row["EARFCN"] == "301/b1 2151/b4" and row["MHz"] == "2140.1" and row["dBm"] == "-52.3"
+    assert row["echo"] == "6.2 us -3.0 dB" and "dBFS" not in row
+    (line,) = csv.DictReader(io.StringIO(survey_table.csv_of(found)))
+    assert (line["earfcn"], line["frequency"], line["echo"]) == ("301 2151", "2140100000.0", "6.2")
+    bare = dataclasses.replace(cell, frequency=None, earfcns=())
+    (row,) = survey_table.rows_of(dataclasses.replace(found, cells=(bare,)))
+    assert row["MHz"] == "+0.1" and "EARFCN" not in row
+
+
+@pytest.mark.parametrize("name", ["=1+1.cu8", "+a", "-b", "@c", "\td"])
+def test_no_formula_reaches_a_spreadsheet(survey, name):
+    (line,) = csv.DictReader(io.StringIO(survey_table.csv_of(dataclasses.replace(survey, file=name))))
+    assert line["file"] == f"'{name}" and line["level"] == "-52.3" and line["offset"] == "0.9"
+
+
+def test_csv_of_what_is_not_known(survey):
+    cell = dataclasses.replace(survey.cells[0], sib1=None, no_sib1="no-control", level=None)
+    text = survey_table.csv_of(dataclasses.replace(survey, cells=(cell,)))
+    (line,) = csv.DictReader(io.StringIO(text))
+    assert (line["tac"], line["level"], line["no_sib1"], line["enodeb"]) == ("", "", "no-control", "")
+    assert text.splitlines()[0] == ",".join(columns.CSV_KEYS)
+
+
+# ---- the page
+
+
+def test_page_names_each_cell(survey):
+    text = survey_page.page_of(with_cells(survey, 22), "a < b").decode()
+    assert [i for i in range(22) if f">{400 + i}</td>" not in text] == []
+    assert "<h1>a &lt; b</h1>" in text and "<p>? chance explains this line" in text
+    assert "<button></button>" not in text and 'title=""' not in text
+    assert re.findall(r'(?:src|href)="(?!data:)[^"]*"', text) == []
+
+
+def test_page_escapes_all_texts(survey):
+    evil = "<script>alert(1)</script>"
+    cell = dataclasses.replace(survey.cells[0], rule=evil, bandwidth=evil, no_sib1=evil, sib1=None, duration=evil)
+    found = dataclasses.replace(survey, file=evil, hint=evil, cells=(cell,))
+    assert evil not in survey_page.page_of(found).decode()
+
+
+def test_page_of_no_cell(survey):
+    assert "<p>No cell." in survey_page.page_of(dataclasses.replace(survey, cells=(), hint="none")).decode()
+
+
+def test_page_without_single_windows(survey, monkeypatch):
+    monkeypatch.setattr(survey_page, "MOST", 0)
+    text = survey_page.page_of(survey).decode()
+    assert "The survey as JSON, without windows" in text and "sib1_block" not in text
+
+
+@pytest.mark.parametrize("text", ["drive/" * 200, "long words " * 100, "x" * 999, "\udcff$a^b"])
+def test_titles_fit(text):
+    rows = picture_style.fitted(text, 95).split("\n")
+    assert len(rows) <= 2 and max(map(len, rows)) <= 95
+    rows[0].encode()
+
+
+# ---- maps
+
+
+def survey_of_places(survey, places):
+    """A survey of a window at each place, a second apart: PCI 401 falls and 402 rises from window to window, 403 is a
+    false detection, and none is heard in the last window."""
+    (cell,), count = survey.cells, len(places)
+    (seen,) = cell.seen
+    levels = {401: lambda i: -40 - 2 * i, 402: lambda i: -40 - 2 * (count - i), 403: lambda i: -10}
+    cells = tuple(
+        dataclasses.replace(
+            cell,
+            identity=identity,
+            chance=identity == 403,
+            seen=tuple(
+                dataclasses.replace(seen, seconds=i + 0.005, level=level(i), place=tuple(place))
+                for i, place in enumerate(places[:-1])
+            ),
+        )
+        for identity, level in levels.items()
+    )
+    found = {**dataclasses.replace(survey, every=1, seconds=count, windows=count, cells=cells).to_json()}
+    for one, own in zip(found["cells"], cells):
+        for window, seen in zip(one["seen"], own.seen):
+            window["place"] = list(seen.place)
+    found["track"] = {"first": "", "last": "", "places": count, "windows": [[i, *p] for i, p in enumerate(places)]}
+    return Survey.from_json(found)
+
+
+@pytest.fixture
+def walk(survey):
+    return survey_of_places(survey, [[(179.999 + 0.0002 * i + 180) % 360 - 180, 60 + 0.0001 * i] for i in range(12)])
+
+
+def test_map_has_the_strongest_cells(walk):
+    drawn = picture_map.Map(walk, 6)
+    strongest = [None if spot.cell is None else walk.cells[spot.cell].identity for spot in drawn.spots]
+    assert strongest == [401] * 7 + [402] * 4 + [None]
+    assert [drawn.signs[i][0] for i in sorted(drawn.signs)] == ["A", "B"]
+    assert len({sign[1:] for sign in picture_map.signs_of(range(36)).values()}) == 36
+    first, last = drawn.spots[0], drawn.spots[-1]
+    assert last.east - first.east == pytest.approx(0.0022 * 111_320 / 2, abs=1)
+    assert last.north - first.north == pytest.approx(0.0011 * 111_320, abs=1)
+    (left, right), (low, high) = drawn.limits
+    assert all(left < spot.east < right and low < spot.north < high for spot in drawn.spots)
+    assert (right - left) / drawn.width == pytest.approx((high - low) / drawn.height)
+
+
+def test_scale_and_map_of_one_place(survey):
+    assert [picture_map.round_below(metres) for metres in (999, 1000, 4, 0.7, 74)] == [500, 1000, 2, 0.5, 50]
+    still = picture_map.Map(survey_of_places(survey, [[13.4, 52.5]] * 12), 6)
+    assert still.metres * still.width == pytest.approx(picture_map.LEAST)
+
+
+@pytest.mark.parametrize("form, options", [("png", []), ("svg", []), ("html", []), ("svg", ["--time"])])
+def test_picture_of_a_walk(tool, tmp_path, walk, form, options):
+    (tmp_path / "walk.json").write_text(json.dumps(walk.to_json()))
+    out = tmp_path / f"map.{form}"
+    run = tool("picture", tmp_path / "walk.json", "-o", out, *options)
+    assert run.status == 0 and run.err == ""
+    begin = {"png": b"\x89PNG", "svg": b"<?xml", "html": b"<!doctype html>"}[form]
+    assert out.read_bytes().startswith(begin)
+    if form == "html":
+        assert out.read_text().count("<h2>Map</h2>") == 1
+
+
+def test_picture_of_a_scan(survey):
+    cell = dataclasses.replace(survey.cells[0], shift=1e5, frequency=2140.1e6, earfcns=((1, 301), (4, 2151)))
+    other = dataclasses.replace(
+        cell, identity=3, sib1=None, no_sib1="no-control", chance=True, echoes=(Echo(1.0, -3.0, 1),)
+    )
+    found = dataclasses.replace(survey, cells=(cell, other), scan=Scan(2139.9e6, 2140.3e6, 5), carrier=2140.1e6)
+    assert page.saved(picture_map.time_sheet(found, "x"), "png").startswith(b"\x89PNG")
+
+
+def test_walks_sheet_is_of_the_shipped_survey():
+    text = (EXAMPLES / "outputs/survey.json").read_text()
+    assert (
+        json.dumps(Survey.from_json(json.loads(text)).to_json(), sort_keys=True, separators=(",", ":")) == text.strip()
+    )
+    assert np.isfinite(Survey.from_json(json.loads(text)).cells[0].level)
