@@ -303,7 +303,7 @@ def test_array_at_another_rate(sent, drive):
 
 def test_offset_from_python():
     tuning = lte_tools.tell(SHIPPED)
-    assert tuning.told.hertz == tuning.told.turn * 117.1875 and tuning.candidates[1].hertz != 0
+    assert tuning.offset.hertz == tuning.offset.turn * 117.1875 and tuning.candidates[1].hertz != 0
 
 
 def test_transmission_from_python(tmp_path):
