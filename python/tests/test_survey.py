@@ -316,9 +316,9 @@ def test_transmission_from_python(tmp_path):
 def test_survey_from_python(recording):
     found = lte_tools.survey(recording, offset=0, every=0.05, jobs=1)
     assert found.cells[0].identity == 217 and found.to_rows()[0]["tac"] == 1
-    import lte_tools.survey as module
+    from lte_tools import survey as module
 
-    assert module.main and lte_tools.survey(recording, offset=0, every=0.05, jobs=1) == found
+    assert module.main and module.parser and lte_tools.survey(recording, offset=0, every=0.05, jobs=1) == found
 
 
 def test_refusals_from_python(recording, tmp_path):
