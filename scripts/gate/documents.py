@@ -44,7 +44,7 @@ BUDGETS = {
     "docs/PERFORMANCE.md": 900,
     "docs/PROOF_NOTES.md": 4400,
     "docs/RECORDINGS.md": 3700,
-    "scripts/README.md": 240,
+    "scripts/README.md": 300,
     "python/lte_reference/README.md": 450,
 }
 EXAMPLES = TOP / "scripts/examples/outputs"
