@@ -35,7 +35,7 @@ HISTORY = ("CHANGELOG.md",)
 BUDGETS = {
     "README.md": 900,
     "CONTRIBUTING.md": 1600,
-    "CHANGELOG.md": 1100,
+    "CHANGELOG.md": 1300,
     "docs/ARCHITECTURE.md": 2400,
     "docs/CLAIMS.md": 3000,
     "docs/DECISIONS.md": 3600,
