@@ -30,7 +30,7 @@ HISTORY = ("CHANGELOG.md",)
 BUDGETS = {
     "README.md": 1700,
     "CONTRIBUTING.md": 2000,
-    "CHANGELOG.md": 1600,
+    "CHANGELOG.md": 1700,
     "docs/ARCHITECTURE.md": 2900,
     "docs/CLAIMS.md": 4300,
     "docs/DECISIONS.md": 4200,
@@ -39,7 +39,7 @@ BUDGETS = {
     "docs/PERFORMANCE.md": 1250,
     "docs/PROOF_NOTES.md": 5400,
     "docs/RECORDINGS.md": 4100,
-    "scripts/README.md": 240,
+    "scripts/README.md": 300,
     "python/lte_reference/README.md": 450,
 }
 EXAMPLES = TOP / "scripts/examples/outputs"

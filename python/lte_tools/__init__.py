@@ -3,11 +3,17 @@
 From Python, `lte_tools.search`, `hits`, `ids`, `evidence`, `tell`, `transmit` and `survey` run the programs and return
 frozen dataclasses (docs/NOTEBOOKS.md).
 """
+import importlib
+from typing import TYPE_CHECKING, Any
+
 from .answers import Cell, Evidence, Hit, Identity, Sib1, Tuning
 from .machine import ProgramRefused, Refused
 from .options import SurveyOptions
-from .programs import Answers, Transmission, evidence, hits, ids, search, survey, tell, transmit
+from .programs import Answers, Transmission, evidence, hits, ids, search, tell, transmit
 from .survey_data import Seen, Survey, SurveyCell
+
+if TYPE_CHECKING:
+    from .programs import survey
 
 __all__ = [
     "Answers",
@@ -32,3 +38,10 @@ __all__ = [
     "tell",
     "transmit",
 ]
+
+
+def __getattr__(name: str) -> Any:
+    """Returns the module `survey`, which is also a function."""
+    if name == "survey":
+        return importlib.import_module("lte_tools.survey")
+    raise AttributeError(f"module {__name__!r} has no attribute {name!r}")

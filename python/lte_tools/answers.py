@@ -6,7 +6,7 @@ of a table. Samples are those of the recording, 1,920,000 per second, from 0.
 from __future__ import annotations
 
 from dataclasses import dataclass
-from typing import Any
+from typing import Any, Optional
 
 from . import records
 
@@ -249,4 +249,14 @@ class Tuning(Answer):
     """The answer of `lte_tune tell`: the candidates that were tried, and the offset, or None without a detection."""
 
     candidates: tuple[Candidate, ...]
-    told: Offset | None
+    offset: Offset | None
+
+    @classmethod
+    def from_json(cls, value: dict[str, Any]) -> Tuning:
+        """Returns the answer of the program's JSON, whose key of the offset is `told`."""
+        candidates, offset = value["candidates"], value["told"]
+        return cls(records.typed(tuple[Candidate, ...], candidates), records.typed(Optional[Offset], offset))
+
+    def to_json(self) -> dict[str, Any]:
+        """Returns the JSON object that the program wrote."""
+        return {"candidates": records.plain(self.candidates), "told": records.plain(self.offset)}

@@ -2,7 +2,6 @@
 from __future__ import annotations
 
 import argparse
-import pathlib
 import re
 from typing import Any, NoReturn
 
@@ -77,10 +76,3 @@ def at_least_one(text: str) -> int:
     if value < 1:
         raise argparse.ArgumentTypeError(f"{text} is not above 0")
     return value
-
-
-def path(text: str) -> pathlib.Path:
-    """Returns a path; a file's name has no byte 0."""
-    if "\0" in text or not text:
-        raise argparse.ArgumentTypeError("a file's name is missing")
-    return pathlib.Path(text)

@@ -16,7 +16,7 @@ from typing import Any, BinaryIO, NoReturn
 
 from .machine import Refused
 
-MOST_JSON = 256_000_000  # bytes of what lte_cli or lte_survey wrote
+MOST_JSON = 128_000_000  # bytes of what lte_cli or lte_survey wrote
 LARGEST = 1e18  # absolute value of a number that has no bound of its own
 SHOWN = 60  # characters of a value in a refusal
 TYPES: dict[str, tuple[type, ...]] = {
@@ -96,10 +96,17 @@ def check(value: object, definition: str, name: str) -> None:
 def resolved(form: dict[str, Any]) -> dict[str, Any]:
     """Returns a form with its reference followed."""
     while "$ref" in form:
-        found: Any = schema()
-        for part in form["$ref"].removeprefix("#/").split("/"):
-            found = found[part]
-        form = found
+        form = referred(form["$ref"])
+    return form
+
+
+@functools.cache
+def referred(reference: str) -> dict[str, Any]:
+    """Returns the form that a reference names."""
+    found: Any = schema()
+    for part in reference.removeprefix("#/").split("/"):
+        found = found[part]
+    form: dict[str, Any] = found
     return form
 
 
@@ -148,9 +155,13 @@ def fault_of_number(value: float, form: dict[str, Any], where: str) -> str | Non
 def fault_of_list(value: list[object], form: dict[str, Any], place: str) -> str | None:
     if not form.get("minItems", 0) <= len(value) <= form.get("maxItems", len(value)):
         return f"{place or 'the whole'}: {len(value)} items"
-    first = form.get("prefixItems", [])
+    first, items = form.get("prefixItems", []), resolved(form.get("items", {}))
+    if items.get("type") == "integer" and not first:  # as most numbers of evidence
+        low, high = items.get("minimum", -LARGEST), items.get("maximum", LARGEST)
+        if all(type(item) is int and low <= item <= high for item in value):
+            return None
     for i, item in enumerate(value):
-        inner = first[i] if i < len(first) else form.get("items", {})
+        inner = first[i] if i < len(first) else items
         if fault := fault_of(item, inner, f"{place}[{i}]"):
             return fault
     return None

@@ -13,7 +13,7 @@ from dataclasses import dataclass
 from typing import Any, TypeVar
 
 from . import bands, machine, track
-from .arguments import Parser, apart, at_least_one, decibels, not_negative, number, path, rate
+from .arguments import Parser, apart, at_least_one, decibels, not_negative, number, rate
 from .machine import Refused
 
 WINDOW = 0.17  # seconds of a window: the 17 frames that a list depends on
@@ -89,7 +89,7 @@ def options_of(kind: type[T], args: argparse.Namespace) -> T:
 
 def add_file_arguments(parser: argparse.ArgumentParser) -> None:
     """Adds what a tool asks of a file."""
-    parser.add_argument("file", metavar="FILE", type=path)
+    parser.add_argument("file", metavar="FILE", type=pathlib.Path)
     parser.add_argument("--form", choices=FORMS, help="by the file's name where it is left out, else s16")
     parser.add_argument("--rate", type=rate, help="samples per second; of SigMF what it says, else 1.92e6")
     parser.add_argument("--shift", type=number, help="hertz above the file's centre at which the cell stands (0)")
@@ -120,11 +120,11 @@ def survey_parser(text: str | None) -> argparse.ArgumentParser:
     add("--earfcn", type=int, metavar="N", help="the cell's carrier by its number, for --carrier")
     add("--follow", action="store_true", help="of -: a line a window and cell as it is found")
     add("--wait", action="store_true", help="of -: a pipe from a file, which waits: nothing is skipped")
-    add("--track", type=path, help="places by time: a .gpx, .nmea or .csv file")
+    add("--track", type=pathlib.Path, help="places by time: a .gpx, .nmea or .csv file")
     add("--start", type=time_of, help="when the first sample was, as 2026-05-01T09:30:00+02:00")
-    add("--geojson", type=path, metavar="OUT", help="a file for the cells and their places")
-    add("--pcap", type=path, metavar="OUT", help="a file for Wireshark with MIB and SIB1")
-    add("--html", type=path, metavar="OUT", help="a page with the table, a map and pictures")
+    add("--geojson", type=pathlib.Path, metavar="OUT", help="a file for the cells and their places")
+    add("--pcap", type=pathlib.Path, metavar="OUT", help="a file for Wireshark with MIB and SIB1")
+    add("--html", type=pathlib.Path, metavar="OUT", help="a page with the table, a map and pictures")
     form = parser.add_mutually_exclusive_group()
     form.add_argument("--csv", action="store_true", help="the table for other programs, with the file's name")
     form.add_argument("--json", action="store_true", help="all that is known of each cell and window (docs/FORMATS.md)")
@@ -136,7 +136,7 @@ def picture_parser(text: str | None) -> argparse.ArgumentParser:
     parser = Parser(text)
     add_file_arguments(parser)
     add: Any = parser.add_argument
-    add("-o", dest="out", metavar="OUT", type=path, required=True)
+    add("-o", dest="out", metavar="OUT", type=pathlib.Path, required=True)
     add("--tune", action="store_true", help="take off the offset that lte_tune tells")
     add("--offset", type=number, help="hertz to take off")
     add("--cells", type=int, default=4, help="how many cells are drawn (4)")

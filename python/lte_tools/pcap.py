@@ -25,7 +25,7 @@ from typing import Iterator, NamedTuple, Sequence
 
 from . import bands, foreign, machine, records
 from .answers import Evidence
-from .arguments import Parser, path
+from .arguments import Parser
 from .survey_data import Seen, Survey, SurveyCell
 
 PORT = 4729  # of GSMTAP
@@ -167,8 +167,8 @@ def earfcn(text: str) -> int:
 def parser() -> argparse.ArgumentParser:
     """Returns the parser of the arguments."""
     parser = Parser(__doc__)
-    parser.add_argument("file", metavar="FILE", nargs="?", type=path)
-    parser.add_argument("-o", dest="out", metavar="OUT", type=path, required=True)
+    parser.add_argument("file", metavar="FILE", nargs="?", type=pathlib.Path)
+    parser.add_argument("-o", dest="out", metavar="OUT", type=pathlib.Path, required=True)
     parser.add_argument("--earfcn", type=earfcn, metavar="N", help="the carrier's number")
     return parser
 

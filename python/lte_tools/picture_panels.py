@@ -31,7 +31,7 @@ LABELS = 16  # hits that are named
 LAST = 19_346  # the place behind the last one whose metric is compared
 SCALE = (-120, 0)  # dBFS of every spectrum
 FIELD = 38  # characters of a line of fields
-MHZ = 4e6  # samples per second from which on a frequency beside the file's centre is told in MHz
+MHZ = 4e6  # samples per second from which on a frequency relative to the file's centre is shown in MHz
 
 
 # ---- the file as recorded
@@ -55,7 +55,7 @@ def draw_file(figure: Any, view: View) -> None:
 
 
 def frequency_unit(view: View) -> tuple[str, float, float]:
-    """Returns what frequencies are told in: the words, hertz of a step, and steps at the file's centre."""
+    """Returns the unit of frequencies: its text, hertz of a step, and steps at the file's centre."""
     if view.centre:
         return "MHz", 1e6, view.centre / 1e6
     if view.seen.rate > MHZ:

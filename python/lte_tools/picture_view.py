@@ -54,7 +54,7 @@ class View:
     @property
     def tuned(self) -> Offset | None:
         """The offset by lte_tune, or None."""
-        return self.tuning.told
+        return self.tuning.offset
 
     @property
     def cells(self) -> list[Cell]:
@@ -173,10 +173,10 @@ def view_of(options: PictureOptions, file: RadioFile) -> View:
     offset = options.offset or 0
     data, full = recording_of(file, start, seconds, offset, seen)
     tuning, is_guess = programs.tell(data), False
-    if options.tune and tuning.told and tuning.told.turn:
-        tuned = offset + tuning.told.hertz
+    if options.tune and tuning.offset and tuning.offset.turn:
+        tuned = offset + tuning.offset.hertz
         data_then, full_then = recording_of(file, start, seconds, tuned, seen)
-        is_guess = not tuning.told.cells and not programs.search(data_then, all=True)
+        is_guess = not tuning.offset.cells and not programs.search(data_then, all=True)
         if not is_guess:
             data, full, offset = data_then, full_then, tuned
     recording = programs.Recording(data)

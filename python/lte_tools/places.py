@@ -17,7 +17,7 @@ from .machine import Refused, note
 from .options import SurveyOptions
 from .radio_file import RadioFile, Stretch
 from .survey_data import Seen, Survey, SurveyCell, Track, timestamp
-from .track import Track as Way
+from .track import Track as Places
 
 DIGITS = 7  # of a degree: a centimetre
 
@@ -48,26 +48,26 @@ def time_at(file: RadioFile, second: float) -> float | None:
     return None if text is None else timestamp(text)
 
 
-def track_of(options: SurveyOptions, file: RadioFile) -> Way | None:
+def track_of(options: SurveyOptions, file: RadioFile) -> Places | None:
     """Returns the track that options name; notes where it does not have all of the file's time, and refuses one that has
     none of it."""
     if not options.track:
         return None
-    way = track.read(options.track)
-    if way.wrong:
-        note(f"{options.track}: {way.wrong} lines with a wrong checksum or none were not read")
+    places = track.read(options.track)
+    if places.wrong:
+        note(f"{options.track}: {places.wrong} lines with a wrong checksum or none were not read")
     ends = [time_at(file, sample / file.rate) for one in file.stretches for sample in (one.first, one.end - 1)]
     times = sorted(time for time in ends if time is not None)
     if not times:
         raise Refused(
             f"{options.file}: no time in it: --start 2026-05-01T09:30:00+02:00 says when its first sample was"
         )
-    between = f"is from {span(times[0], times[-1])}, and {options.track} from {span(way.first, way.last)}"
-    if times[0] > way.last or times[-1] < way.first:
+    between = f"is from {span(times[0], times[-1])}, and {options.track} from {span(places.first, places.last)}"
+    if times[0] > places.last or times[-1] < places.first:
         raise Refused(f"{options.file}: {between}: no place for any of it")
-    if times[0] < way.first or times[-1] > way.last:
+    if times[0] < places.first or times[-1] > places.last:
         note(f"{options.file}: {between}: no places before and after that")
-    return way
+    return places
 
 
 def span(first: float, last: float) -> str:
@@ -77,28 +77,28 @@ def span(first: float, last: float) -> str:
 # ---- places
 
 
-def with_places(survey: Survey, file: RadioFile, way: Way, starts: Sequence[float]) -> Survey:
+def with_places(survey: Survey, file: RadioFile, places: Places, starts: Sequence[float]) -> Survey:
     """Returns a survey whose windows have their places, longitude first, or None; notes how many have none. `starts` are
     the seconds at which all windows begin, whose places the survey's track has."""
-    cells = tuple(placed(cell, file, way) for cell in survey.cells)
-    windows = [(round(start, 6), place_at(file, way, start)) for start in starts]
+    cells = tuple(placed(cell, file, places) for cell in survey.cells)
+    windows = [(round(start, 6), place_at(file, places, start)) for start in starts]
     every = [one for cell in cells for one in cell.seen]
     if without := sum(one.place is None for one in every):
         note(f"{without} of {len(every)} windows of cells have no place: the track has none within {track.NEAR} s")
     found = tuple((start, *place) for start, place in windows if place)
-    where = Track(track.iso(way.first), track.iso(way.last), len(way.places), found)
+    where = Track(track.iso(places.first), track.iso(places.last), len(places.places), found)
     return dataclasses.replace(survey, cells=cells, track=where)
 
 
-def placed(cell: SurveyCell, file: RadioFile, way: Way) -> SurveyCell:
-    seen = (dataclasses.replace(one, place=place_at(file, way, one.seconds)) for one in cell.seen)
+def placed(cell: SurveyCell, file: RadioFile, places: Places) -> SurveyCell:
+    seen = (dataclasses.replace(one, place=place_at(file, places, one.seconds)) for one in cell.seen)
     return dataclasses.replace(cell, seen=tuple(seen))
 
 
-def place_at(file: RadioFile, way: Way, second: float) -> tuple[float, float] | None:
+def place_at(file: RadioFile, places: Places, second: float) -> tuple[float, float] | None:
     """Returns the place at a second of a file, longitude first, or None."""
     time = time_at(file, second)
-    place = None if time is None else way.at(time)
+    place = None if time is None else places.at(time)
     return (round(place.lon, DIGITS), round(place.lat, DIGITS)) if place else None
 
 

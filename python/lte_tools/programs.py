@@ -200,7 +200,7 @@ def tell(samples: Samples, *, rate: float = RATE, format: str | None = None, shi
     """Returns the frequency offset of a recording (`lte_tune tell`); parameters as in `hits`."""
     recording = recording_of(samples, rate, format, shift, at)
     found = answer("lte_tune", ("tell", "--json", *recording.arguments), recording.data, "tell")
-    return records.from_json(Tuning, found)
+    return Tuning.from_json(found)
 
 
 def transmit(

@@ -87,7 +87,7 @@ class RadioFile:
         parts = parts[: len(parts) // (2 * self.channels) * 2 * self.channels].reshape(-1, self.channels, 2)
         parts = parts[:, self.channel]
         if self.form == "f32" and not np.all(is_number(parts)):
-            raise Spoiled(f"{self.path}: no numbers of f32 near sample {first}")
+            raise Spoiled(f"{self.path}: not numbers of f32 near sample {first}")
         parts = (parts.astype(float) - form.middle) / form.full
         i, q = (parts[:, 1], parts[:, 0]) if self.is_exchanged else (parts[:, 0], parts[:, 1])
         found: radio.Complex = i + 1j * q
@@ -238,7 +238,7 @@ def size_of(path: pathlib.Path) -> int:
         raise Refused(f"{path}: empty")
     with path.open("rb") as file:
         if not file.read(65_536).translate(None, TEXT):
-            raise Refused(f"{path}: a text, no samples")
+            raise Refused(f"{path}: a text, not samples")
     return status.st_size
 
 

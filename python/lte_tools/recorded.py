@@ -15,7 +15,7 @@ from .radio_file import RadioFile
 
 SPACING = 15_000  # hertz from a subcarrier to the next
 COLUMNS, ROWS = 225, 512  # of a spectrum over time, at most
-STILL = 1e-3  # seconds of one value from which on a stretch is told
+STILL = 1e-3  # seconds of one value from which on a stretch counts
 # what a component of full scale is at least, above 0, by the form of a file's numbers; below 0 it is -1
 TOPS = {"u8": 1, "s8": 127 / 128, "s16": 32_767 / 32_768, "f32": 1}
 

@@ -8,6 +8,7 @@ import typing
 from typing import Any, TypeVar
 
 T = TypeVar("T")
+PLAIN = {int, float, str, bool}
 
 
 def from_json(kind: type[T], value: dict[str, Any]) -> T:
@@ -31,6 +32,8 @@ def typed(hint: Any, value: Any) -> Any:
             return None
         return typed(next(one for one in inner if one is not type(None)), value)
     if origin is tuple:
+        if PLAIN.issuperset(one for one in inner if one is not Ellipsis):
+            return tuple(value)
         hints = [inner[0]] * len(value) if inner[-1] is Ellipsis else inner
         return tuple(typed(one, part) for one, part in zip(hints, value))
     if dataclasses.is_dataclass(hint):

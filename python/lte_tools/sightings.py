@@ -192,8 +192,8 @@ def offset_in(task: Task) -> float | None:
     except Spoiled:
         return None
     answer = programs.tell(window.data)
-    if answer.told and answer.told.cells:
-        return offset_of(*settled(turned_by(window, answer.told.turn)))
+    if answer.offset and answer.offset.cells:
+        return offset_of(*settled(turned_by(window, answer.offset.turn)))
     for one in answer.candidates:
         turned, found = settled(turned_by(window, one.turn))
         if any(detection.share < DEAR for detection in found):

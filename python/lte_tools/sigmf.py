@@ -65,11 +65,11 @@ def of_archive(path: pathlib.Path) -> Meta:
                 raise Refused(f"{path}: {len(metas)} files .sigmf-meta and {len(data)} .sigmf-data, not one of each")
             file = archive.extractfile(metas[0])
             if file is None or data[0].sparse is not None:
-                raise Refused(f"{path}: no archive of SigMF: a file in it is not stored whole")
+                raise Refused(f"{path}: not a SigMF archive: a file in it is not stored whole")
             with file:
                 text = file.read(MOST_BYTES + 1)
     except (tarfile.TarError, ValueError, OverflowError, EOFError, RecursionError):
-        raise Refused(f"{path}: no archive of SigMF") from None
+        raise Refused(f"{path}: not a SigMF archive") from None
     if len(text) > MOST_BYTES:
         raise Refused(f"{path}: a .sigmf-meta of more than {MOST_BYTES:,} bytes")
     if data[0].offset_data + data[0].size > path.stat().st_size:

@@ -68,7 +68,7 @@ def command() -> None:
     if len(numbers) == 0:
         raise machine.Refused("no samples")
     if args.form == "f32" and not np.all(is_number(numbers)):
-        raise machine.Refused("no numbers of f32 in it: is it another TYPE?")
+        raise machine.Refused("not numbers of f32: is it another TYPE?")
     parts = numbers.astype(float) - form.middle
     x = converted(parts[0::2] + 1j * parts[1::2], rate, args.shift)
     sys.stdout.buffer.write(radio.to_bytes(x * (radio.FULL / 2 / (radio.peak(x) or 1))))

@@ -22,8 +22,8 @@ NEAR = 10  # seconds between two places, above which no place between them is kn
 UTC = datetime.timezone.utc
 DAY = 86_400
 CENTURY = 80  # years of two digits from here on are of the last century
-MOST_BYTES = 256_000_000  # of a track
-MOST_PLACES = 5_000_000
+MOST_BYTES = 128_000_000  # of a track
+MOST_PLACES = 2_000_000
 DEEPEST = 100  # elements of GPX within one another
 FIRST, LAST = -62_000_000_000, 253_370_000_000  # seconds since 1970 of times that have four digits of a year
 
@@ -125,16 +125,16 @@ def seconds_of(text: str) -> float:
         time = datetime.datetime.fromisoformat(text.strip())
         seconds = time.timestamp() if time.tzinfo else None
     except (ValueError, OverflowError):
-        raise BadTrack(f"{foreign.shown(text)} is no time") from None
+        raise BadTrack(f"{foreign.shown(text)} is not a time") from None
     if seconds is None:
-        raise BadTrack(f"{foreign.shown(text)} has no zone: Z, or +01:00, behind it says which")
+        raise BadTrack(f"{foreign.shown(text)} has no zone: Z, or +01:00, after it says which")
     return in_calendar(seconds, text)
 
 
 def in_calendar(time: float, text: str) -> float:
     """Returns a time; refuses one of a year that does not have four digits."""
     if not FIRST <= time <= LAST:
-        raise BadTrack(f"{foreign.shown(text)} is no time of the years 6 to 9998")
+        raise BadTrack(f"{foreign.shown(text)} is not a time of the years 6 to 9998")
     return time
 
 
@@ -143,7 +143,7 @@ def place_of(time: float, lat: str | None, lon: str | None) -> Place:
     try:
         place = Place(time, float(lat or ""), float(lon or ""))
     except ValueError:
-        raise BadTrack(f"{foreign.shown(lat)}, {foreign.shown(lon)} is no place") from None
+        raise BadTrack(f"{foreign.shown(lat)}, {foreign.shown(lon)} is not a place") from None
     if not abs(place.lat) <= 90 or not abs(place.lon) <= 180:
         raise BadTrack(f"latitude {place.lat:g}, longitude {place.lon:g}: no place on earth")
     return place
@@ -211,7 +211,7 @@ def of_gpx(text: str) -> tuple[list[Place], int]:
     try:
         gpx.parser.Parse(text.encode(errors="replace"), True)
     except xml.parsers.expat.ExpatError as fault:
-        raise BadTrack(f"no XML: {fault}") from None
+        raise BadTrack(f"not XML: {fault}") from None
     if not gpx.points:
         raise BadTrack("no trkpt in it")
     return gpx.places, 0
@@ -233,7 +233,7 @@ def of_csv(text: str) -> tuple[list[Place], int]:
             places.append(place_of(seconds_of(row[time] or ""), row[lat], row[lon]))
             check_count(places)
     except csv.Error as fault:
-        raise BadTrack(f"line {rows.line_num + 1}: no CSV: {fault}") from None
+        raise BadTrack(f"line {rows.line_num + 1}: not CSV: {fault}") from None
     return places, 0
 
 
@@ -279,19 +279,19 @@ def is_next_day(places: list[Place], time: float) -> bool:
 def midnight(text: str) -> float:
     """Returns the seconds since 1970 of a date ddmmyy."""
     if not re.fullmatch(r"[0-9]{6}", text):
-        raise BadTrack(f"{foreign.shown(text)} is no date ddmmyy")
+        raise BadTrack(f"{foreign.shown(text)} is not a date ddmmyy")
     try:
         day, month, year = (int(text[i : i + 2]) for i in (0, 2, 4))
         year += 1900 if year >= CENTURY else 2000
         return datetime.datetime(year, month, day, tzinfo=UTC).timestamp()
     except ValueError:
-        raise BadTrack(f"{foreign.shown(text)} is no date ddmmyy") from None
+        raise BadTrack(f"{foreign.shown(text)} is not a date ddmmyy") from None
 
 
 def clock(text: str) -> float:
     """Returns the seconds of a day of a time hhmmss.ss."""
     if not re.fullmatch(r"[0-2][0-9][0-5][0-9][0-6][0-9](\.[0-9]{0,20})?", text):
-        raise BadTrack(f"{foreign.shown(text)} is no time hhmmss")
+        raise BadTrack(f"{foreign.shown(text)} is not a time hhmmss")
     return 3600 * int(text[:2]) + 60 * int(text[2:4]) + float(text[4:])
 
 
@@ -303,6 +303,6 @@ def nmea_place(time: float, lat: str, north: str, lon: str, east: str) -> Place:
 def degrees(text: str, digits: int, is_negative: bool) -> float:
     """Returns degrees of ddmm.mmm or dddmm.mmm."""
     if not re.fullmatch(rf"[0-9]{{{digits + 2}}}(\.[0-9]{{0,20}})?", text):
-        raise BadTrack(f"{foreign.shown(text)} is no place")
+        raise BadTrack(f"{foreign.shown(text)} is not a place")
     value = int(text[:digits]) + float(text[digits:]) / 60
     return -value if is_negative else value

@@ -14,12 +14,16 @@ import sys
 import tarfile
 import tempfile
 
+import numpy as np
+
 from lte_tools import foreign, machine, options, pcap, radio_file, survey_page, track
 from lte_tools.survey_data import Survey
 
 TOP = pathlib.Path(__file__).resolve().parents[2]
 OUTPUTS = TOP / "scripts/examples/outputs"
 MEMORY = 2 << 30
+FULL = {"u8": (127.5, 127.5, "u1"), "s8": (0, 128, "i1"), "s16": (0, 32_768, "<i2"), "f32": (0, 1, "<f4")}
+LIMITS = {"u8": (0, 255), "s8": (-128, 127), "s16": (-32_768, 32_767)}
 GPX = "<?xml version='1.0'?><gpx><trk><trkseg>{}</trkseg></trk></gpx>".format(
     "".join(f"<trkpt lat='{i}' lon='2'><time>2026-05-01T10:00:0{i}Z</time></trkpt>" for i in range(4))
 )
@@ -49,7 +53,7 @@ VALUES = [0, -1, 1e300, 10**400, True, None, "", "x", [], {}, [[[]]], 0.5, "9" *
 def mutated(draw, data):
     """Returns bytes with some of them changed, cut out, doubled, or replaced by a token."""
     data = bytearray(data)
-    for _ in range(draw.randint(1, 4)):
+    for _ in range(draw.choice((0, 1, 1, 1, 2, 4))):
         if not data:
             break
         at, size = draw.randrange(len(data)), draw.randint(1, 20)
@@ -77,10 +81,24 @@ def mutated_json(draw, value):
             if draw.random() < 0.1:
                 del place[key]
             else:
-                place[key] = draw.choice(VALUES)
+                place[key] = another(draw, place[key])
             break
         place = place[key]
     return json.dumps(value).encode()
+
+
+def another(draw, value):
+    """Returns a value of any type, or one that is near."""
+    if isinstance(value, (int, float)) and not isinstance(value, bool) and draw.random() < 0.6:
+        return value * draw.choice((-1, 0.5, 2, 1e6)) + draw.choice((0, 0, 1, -1))
+    return draw.choice(VALUES)
+
+
+def received(draw, form, count):
+    """Returns noise as a radio of this form writes it."""
+    middle, full, kind = FULL[form]
+    numbers = np.random.default_rng(draw.randrange(100)).standard_normal(count) * full / 8 + middle
+    return (numbers if form == "f32" else np.clip(np.round(numbers), *LIMITS[form])).astype(kind).tobytes()
 
 
 def either(draw, value):
@@ -100,28 +118,30 @@ def try_track(draw, folder):
 
 def try_sigmf(draw, folder):
     (folder / "a.sigmf-meta").write_bytes(either(draw, META))
-    (folder / "a.sigmf-data").write_bytes(draw.randbytes(draw.choice((0, 1, 999, 300_000))))
+    sizes = (0, 1, 999, 200_001, 300_000, 300_000, 300_000)
+    (folder / "a.sigmf-data").write_bytes(received(draw, "u8", draw.choice(sizes)))
     read_file(folder / "a.sigmf-meta")
 
 
 def try_archive(draw, folder):
     out = io.BytesIO()
     with tarfile.open(fileobj=out, mode="w", format=draw.choice((tarfile.PAX_FORMAT, tarfile.GNU_FORMAT))) as archive:
-        for name, data in (("a.sigmf-meta", either(draw, META)), ("a.sigmf-data", draw.randbytes(300_000))):
+        for name, data in (("a.sigmf-meta", either(draw, META)), ("a.sigmf-data", received(draw, "u8", 300_000))):
             info = tarfile.TarInfo(name)
             info.size = len(data)
             archive.addfile(info, io.BytesIO(data))
     data = bytearray(out.getvalue())
-    for _ in range(draw.randint(0, 6)):
+    for _ in range(draw.choice((0, 0, 0, 1, 6))):
         data[draw.randrange(1_536)] = draw.randrange(256)
-    (folder / "a.sigmf").write_bytes(data[: draw.choice((len(data), draw.randrange(len(data))))])
+    (folder / "a.sigmf").write_bytes(data[: draw.choice((len(data), len(data), len(data), draw.randrange(len(data))))])
     read_file(folder / "a.sigmf")
 
 
 def try_samples(draw, folder):
     form = draw.choice(("u8", "s8", "s16", "f32"))
-    size = draw.choice((0, 1, 3, 7, 8, 100, 70_000, 300_000))
-    data = draw.choice((draw.randbytes(size), bytes(size), b"text " * (size // 5), b"\xff" * size))
+    size = draw.choice((0, 1, 7, 8, 100, 300_000, 300_000, 300_001))
+    other = draw.randbytes(size), bytes(size), b"text " * (size // 5), b"\xff" * size
+    data = draw.choice((*other, *[received(draw, form, size)] * 4))
     (folder / "a.bin").write_bytes(data)
     read_file(
         folder / "a.bin", form=form, rate=draw.choice((None, 1.92e6, 2.4e6, 1e10)), shift=draw.choice((None, -1e5))

@@ -100,7 +100,7 @@ def test_survey_and_answers_return(survey_json):
         foreign.check(found, name, name)
         assert [one.to_json() for one in records.typed(tuple[kind, ...], found)] == found
     tell = json.loads((EXAMPLES / "outputs/tell.json").read_text())
-    assert records.from_json(answers.Tuning, tell).to_json() == tell
+    assert answers.Tuning.from_json(tell).to_json() == tell
 
 
 def test_networks_without_a_country():

@@ -70,7 +70,7 @@ def hit(t, identity, at):
     return answers.Identity(at, 1, identity, identity % 3, 1, 1, answers.Secondary(scored, scored), 0, t)
 
 
-def view_of(seen=None, hits=(), lines=(), supports=(), carrier=0, told=None):
+def view_of(seen=None, hits=(), lines=(), supports=(), carrier=0, offset=None):
     every = {rule.name: programs.Answers(()) for rule in RULES}
     every["long-prefix"] = programs.Answers(tuple(supports))
     return picture_view.View(
@@ -84,7 +84,7 @@ def view_of(seen=None, hits=(), lines=(), supports=(), carrier=0, told=None):
         samples=None,
         full=32_768,
         hits=programs.Answers(tuple(hits)),
-        tuning=answers.Tuning((), told),
+        tuning=answers.Tuning((), offset),
         lines=programs.Answers(tuple(lines)),
         supports=every,
     )
@@ -113,16 +113,16 @@ def test_summary_of_a_cell_beside_the_file(tmp_path, carrier, is_beyond):
 
 
 @pytest.mark.parametrize(
-    "told, hits, text",
+    "offset, hits, text",
     [
         (None, (), "Noise only"),
         (answers.Offset(1, 2, 183), (hit(1_000, 5, 0),), "frequency offset hides"),
         (answers.Offset(0, 2, 0), (hit(1_000, 5, 0),), "Signal, but no master block"),
     ],
 )
-def test_why_no_cell_is_listed(tmp_path, told, hits, text):
+def test_why_no_cell_is_listed(tmp_path, offset, hits, text):
     seen = looked_at(tmp_path / "file", noise(120_000, 0.1, np.random.default_rng(4)), "s16", 2_400_000)
-    assert text in "\n".join(view_of(seen=seen, hits=hits, told=told).summary())
+    assert text in "\n".join(view_of(seen=seen, hits=hits, offset=offset).summary())
 
 
 def test_why_nothing_was_received(tmp_path):

@@ -45,7 +45,7 @@ def test_archive_that_was_cut(tmp_path):
     text = json.dumps({"global": WHOLE, "captures": []}).encode()
     path = archive_of(tmp_path / "x.sigmf", [("x.sigmf-meta", text), ("x.sigmf-data", bytes(50_000))])
     path.write_bytes(path.read_bytes()[:20_000])
-    with pytest.raises(machine.Refused, match="cut|no archive"):
+    with pytest.raises(machine.Refused, match="cut|not a SigMF"):
         sigmf.read(path)
 
 
@@ -53,7 +53,7 @@ def test_archive_of_other_files(tmp_path):
     with pytest.raises(machine.Refused, match="0 files .sigmf-meta"):
         sigmf.read(archive_of(tmp_path / "x.sigmf", [("a", b"b")]))
     (tmp_path / "y.sigmf").write_bytes(b"no archive")
-    with pytest.raises(machine.Refused, match="no archive of SigMF"):
+    with pytest.raises(machine.Refused, match="not a SigMF archive"):
         sigmf.read(tmp_path / "y.sigmf")
 
 

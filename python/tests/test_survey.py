@@ -303,7 +303,7 @@ def test_array_at_another_rate(sent, drive):
 
 def test_offset_from_python():
     tuning = lte_tools.tell(SHIPPED)
-    assert tuning.told.hertz == tuning.told.turn * 117.1875 and tuning.candidates[1].hertz != 0
+    assert tuning.offset.hertz == tuning.offset.turn * 117.1875 and tuning.candidates[1].hertz != 0
 
 
 def test_transmission_from_python(tmp_path):
@@ -316,9 +316,9 @@ def test_transmission_from_python(tmp_path):
 def test_survey_from_python(recording):
     found = lte_tools.survey(recording, offset=0, every=0.05, jobs=1)
     assert found.cells[0].identity == 217 and found.to_rows()[0]["tac"] == 1
-    import lte_tools.survey as module
+    from lte_tools import survey as module
 
-    assert module.main and lte_tools.survey(recording, offset=0, every=0.05, jobs=1) == found
+    assert module.main and module.parser and lte_tools.survey(recording, offset=0, every=0.05, jobs=1) == found
 
 
 def test_refusals_from_python(recording, tmp_path):

@@ -25,7 +25,8 @@ one_head() { # the line of names once
 if [ -z "${MACHINES:-}" ]; then
     export LTE_CLI=$cli LTE_TUNE=$tune
     export PYTHONPATH=$python
-    parallel --will-cite --keep-order "/usr/bin/python3 -m lte_tools.survey {} --csv --jobs 1 ${SURVEY:-}" ::: "$@" | one_head
+    survey="/usr/bin/python3 -m lte_tools.survey {} --csv --jobs 1 ${SURVEY:-}"
+    parallel --will-cite --keep-order "$survey" ::: "$@" | one_head
     exit "${PIPESTATUS[0]}"
 fi
 copy=.many.$$                                    # carried to each machine, beside the files
@@ -36,6 +37,7 @@ cp "$tune" "$copy/lte_tune"
 mkdir "$copy/lte_tools"
 cp "$python"/lte_tools/*.* "$copy/lte_tools"
 mapfile -t carried < <(printf -- '--basefile\n%s\n' "$copy"/lte_{cli,tune} "$copy"/lte_tools/*)
+names="LTE_CLI=$copy/lte_cli LTE_TUNE=$copy/lte_tune PYTHONPATH=$copy"
 parallel --will-cite --keep-order --sshlogin "$MACHINES" "${carried[@]}" --transferfile {} --cleanup \
-    "LTE_CLI=$copy/lte_cli LTE_TUNE=$copy/lte_tune PYTHONPATH=$copy /usr/bin/python3 -m lte_tools.survey {} --csv --jobs 1 ${SURVEY:-}" ::: "$@" | one_head
+    "$names /usr/bin/python3 -m lte_tools.survey {} --csv --jobs 1 ${SURVEY:-}" ::: "$@" | one_head
 exit "${PIPESTATUS[0]}"

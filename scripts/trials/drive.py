@@ -24,6 +24,7 @@ packages.add()
 from lte_tools import machine
 from lte_tools import picture_map
 from lte_tools import radio
+from lte_tools.survey_data import Survey
 from long_file import CYCLE, DRIFT, ELEMENT, OFF, RATE, RATIO, at_rate
 
 BEGIN = datetime.datetime(2026, 5, 1, 7, 30, tzinfo=datetime.timezone.utc)
@@ -136,7 +137,7 @@ def faults(found, points):
     sure = sorted(cell["identity"] for cell in found["cells"] if not cell["chance"])
     if sure != sorted(SITES):
         yield f"cells {sure}"
-    best, leads = picture_map.strongest_of(found), 0
+    best, leads = picture_map.strongest_of(Survey.from_json(found)), 0
     for i, (second, lon, lat) in enumerate(found["track"]["windows"]):
         first, other = sorted(((decibels(identity, second), identity) for identity in SITES), reverse=True)[:2]
         told = found["cells"][best[i][0]]["identity"] if i in best else None

@@ -83,7 +83,7 @@ def told_by_survey(sent, put):
     data = radio.to_bytes(put.samples)
     file = radio_file.RadioFile(pathlib.Path("-"), "s16", radio.RATE, len(put.samples), 0, 0, held=data)
     for one in sightings.sightings(sightings.Task(file, 0, file.seconds)):
-        if str(one.line["identity"]) == sent.line.split()[0]:
+        if str(one.line.identity) == sent.line.split()[0]:
             return one.ratio, one.level
     return None
 

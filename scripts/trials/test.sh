@@ -108,8 +108,6 @@ head -c 400000 /dev/zero | cat - sent.ci16 > long
 '100000 cell 217 at 14200 sfn 101 ports 1 n6 phich normal two br 0 spare 5
 150000 cell 217 at 2600 sfn 103 ports 1 n6 phich normal two br 0 spare 5'
 
-"$here/tracks.py" | says 'track.py reads GPX, NMEA and CSV, and refuses others' 'tracks: 0 faults'
-
 head -c 384000 sent.ci16 > five
 tool add_recordings sent.ci16 five 3 | head -c 12 | cmp - <(head -c 12 sent.ci16) > same
 says 'add_recordings.py adds the second later' '' < same
@@ -211,7 +209,6 @@ os._exit(0)' 2> notes | says 'QGIS opens the places' 'True 2 EPSG:4326 Real Date
         else
             echo 'left out the page in a browser: no chromium'
         fi
-        "$here/picture_facts.py" | says 'a picture tells what was put into a file' ''
     else
         echo 'left out picture.py: no matplotlib'
     fi

@@ -27,6 +27,7 @@ packages.add()
 from lte_tools import machine
 from lte_tools import radio
 from lte_tools import survey_table
+from lte_tools.survey_data import Survey
 
 RATE, CENTRE = 30_720_000, 806_000_000
 OFFSET, DC, NOISE = 2_300, 0.02, 20  # hertz; of full scale; dB by which noise is below an element of the strongest cell
@@ -109,7 +110,7 @@ def main(folder, offset=str(OFFSET)):
     before, start = resource.getrusage(resource.RUSAGE_CHILDREN), time.monotonic()
     found = json.loads(subprocess.run(words, stdout=subprocess.PIPE, check=True).stdout)
     seconds, used = time.monotonic() - start, resource.getrusage(resource.RUSAGE_CHILDREN)
-    print(*survey_table.table_of(found), *(faults := list(faults_of(found, offset))), sep="\n")
+    print(*survey_table.table_of(Survey.from_json(found)), *(faults := list(faults_of(found, offset))), sep="\n")
     busy = used.ru_utime + used.ru_stime - before.ru_utime - before.ru_stime
     print(f"scan: {seconds:.0f} s, {busy:.0f} s of processor time")
     sys.exit(bool(faults))

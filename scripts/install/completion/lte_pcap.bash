@@ -4,7 +4,7 @@ _lte_pcap() {
     local current=${COMP_WORDS[COMP_CWORD]} choices=''
     COMPREPLY=()
     case ${COMP_WORDS[COMP_CWORD - 1]} in
-        -o) compopt +o default 2> /dev/null; return ;;
+        -o) return ;;
         --earfcn) compopt +o default 2> /dev/null; return ;;
         *) if [[ $current == -* ]]; then choices='-h --help -o --earfcn'; else return; fi ;;
     esac

@@ -10,7 +10,7 @@ _lte_picture() {
         --carrier) compopt +o default 2> /dev/null; return ;;
         --at) compopt +o default 2> /dev/null; return ;;
         --channel) compopt +o default 2> /dev/null; return ;;
-        -o) compopt +o default 2> /dev/null; return ;;
+        -o) return ;;
         --offset) compopt +o default 2> /dev/null; return ;;
         --cells) compopt +o default 2> /dev/null; return ;;
         --title) compopt +o default 2> /dev/null; return ;;

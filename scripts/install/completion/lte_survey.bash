@@ -15,11 +15,11 @@ _lte_survey() {
         --gain) compopt +o default 2> /dev/null; return ;;
         --jobs) compopt +o default 2> /dev/null; return ;;
         --earfcn) compopt +o default 2> /dev/null; return ;;
-        --track) compopt +o default 2> /dev/null; return ;;
+        --track) return ;;
         --start) compopt +o default 2> /dev/null; return ;;
-        --geojson) compopt +o default 2> /dev/null; return ;;
-        --pcap) compopt +o default 2> /dev/null; return ;;
-        --html) compopt +o default 2> /dev/null; return ;;
+        --geojson) return ;;
+        --pcap) return ;;
+        --html) return ;;
         *) if [[ $current == -* ]]; then choices='-h --help --form --rate --shift --carrier --at --exchanged --channel --every --offset --gain --jobs --scan --earfcn --follow --wait --track --start --geojson --pcap --html --csv --json'; else return; fi ;;
     esac
     mapfile -t COMPREPLY < <(compgen -W "$choices" -- "$current")
