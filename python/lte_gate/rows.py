@@ -264,7 +264,7 @@ def of_forms(recording, files, by_name=lines_together):
 
 
 TESTS = "crates/top_tests/src/"
-NAMED = TESTS + "evidence_of_cells.rt"  # looks numbers up by their names, but for the plain cell
+NAMED = TESTS + "evidence_of_cells.rt"  # looks most numbers up by their names
 PLAIN_FORMS = (
     ("hits --json", TESTS + "hits.rt"),
     ("ids --json", TESTS + "ids.rt"),
@@ -351,7 +351,7 @@ def numpy_looks():
         Look(
             "crates/top_tests/src/make.rt", "$PY -m lte_reference.make 0 | $PY -m lte_reference.search", lines_together
         ),
-        Look(NAMED, CHANCE, named_numbers),
+        Look(NAMED, CHANCE, lines_together),
         Look(
             NAMED,
             "$PY -m lte_reference.cell | $PY -m lte_reference.evidence",

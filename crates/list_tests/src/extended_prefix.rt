@@ -260,14 +260,14 @@ fn is_told_alone(alloc: Global, most: u16, frame: u8) -> Result<bool, Fail> {
     })
 }
 
-// By `lte_reference/long_prefix.py --spoiled 700 1` and `lte_reference/search.py --prefix long why`: frame 0 tells no block.
+// By `lte_reference/long_prefix.py --spoiled 700 1` and `lte_reference/search.py --prefix long why`: frame 0 has no MIB.
 #[test]
 fn the_second_frame_tells_alone(rt: HostRuntime) -> Result<(), Fail> {
     assert!(rt; is_told_alone(rt.alloc(), 700, 1)?);
     Ok(())
 }
 
-// By `lte_reference/long_prefix.py --spoiled 1000 1` and `900 1`: no frame alone tells a block, though two frames, or four,
+// By `lte_reference/long_prefix.py --spoiled 1000 1` and `900 1`: no frame alone has a MIB, though two frames, or four,
 // would together.
 #[test]
 fn no_frames_are_added(rt: HostRuntime) -> Result<(), Fail> {

@@ -1,6 +1,6 @@
-//! Published conditions in numbers, and the published order of variants. A published call may state its condition by a
-//! definition of its crate; here each is called under numbers of its own, so a call that asks for more is not proved,
-//! even where its definition has changed.
+//! Published conditions in numbers, and the published order of variants. Some published calls state their condition by a
+//! definition of their crate; the calls here are made under numbers of their own, so one that asks for more is not
+//! proved, even where its definition has changed.
 #![tactic(auto)]
 
 mod conditions;

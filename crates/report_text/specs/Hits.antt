@@ -6,9 +6,13 @@ use Rattle.lte_types.specs.declared.hit.Hit.{Hit}
 use Rattle.lte_types.specs.Numerology.{subframe_of}
 use Rattle.hit_details.specs.declared.hits.IdentifiedHit.{IdentifiedHit}
 
--- the line of a hit: its place and its identity within the group
+-- a line of a sample and an identity within the group
+abbrev pub root_line : ℕ → ℕ → List ℕ
+root_line t n2 = decimal t ++ codes " " ++ decimal n2 ++ codes "\n"
+
+-- the line of a hit
 abbrev pub hit_line : Hit → List ℕ
-hit_line hit = decimal hit.t ++ codes " " ++ decimal hit.n2 ++ codes "\n"
+hit_line hit = root_line hit.t hit.n2
 
 -- the first line, which tells how many hits there are
 abbrev pub hits_head : ℕ → List ℕ

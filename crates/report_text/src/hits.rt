@@ -1,7 +1,7 @@
 //! The texts of hits.
 
 ghost use Rattle.std.specs.Prelude.{◌≡◌, ℕ, List, IfOk, string_bytes};
-ghost use Rattle.report_text.specs.Hits.{hits_text, hit_line, place_line, id_line, ids_text};
+ghost use Rattle.report_text.specs.Hits.{hits_text, hit_line, root_line, place_line, id_line, ids_text};
 
 use crate::each::{ToLines, add_lines};
 use hit_details::IdentifiedHit;
@@ -35,7 +35,7 @@ impl ToLines for Hit {
     ghost lines_of = { hit_line };
 
     fn to_lines(&self, alloc: Global) -> Result<String, AllocError> {
-        format!(in alloc; "{} {}\n", self.t, self.n2)
+        line_of_root(alloc, self.t, self.n2)
     }
 }
 
@@ -48,6 +48,13 @@ impl ToLines for IdentifiedHit {
         let subframe = self.half.subframe();
         line_of_place(alloc, self.hit.t, id, subframe, self.start)
     }
+}
+
+// A line of two numbers.
+fn line_of_root(alloc: Global, t: u32, n2: u8) -> Result<String, AllocError>
+    ensures { IfOk result (λ line. string_bytes line ≡ root_line t n2) }
+{
+    format!(in alloc; "{t} {n2}\n")
 }
 
 // A line of four numbers.

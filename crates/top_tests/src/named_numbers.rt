@@ -23,7 +23,7 @@ fn has_each(
     Ok(all)
 }
 
-/// Returns whether the line of entry `entry`, counted from 0, has each of `numbers`, which are names and values by turns.
+/// Returns whether line `entry`, counted from 0, has each of `numbers`, which are names and values by turns.
 pub(crate) fn line_has(
     alloc: Global,
     text: &str,
