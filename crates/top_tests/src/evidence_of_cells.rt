@@ -226,7 +226,7 @@ fn is_entry(
     place: &str,
     numbers: &str,
 ) -> Result<bool, AllocError> {
-    let line = text.split('\n').nth(entry + 1).unwrap_or("");
+    let line = text.split('\n').skip(1).nth(entry).unwrap_or("");
     Ok(line.starts_with(place) && line_has(alloc, text, entry, numbers)?)
 }
 

@@ -2,22 +2,31 @@
 
 use std::alloc::{AllocError, Global};
 
-// Whether a text has each of these numbers, with marks before the name, between name and value, and after the value.
+// Whether a text has a number, with marks before the name, between name and value, and after the value.
+fn has_number(
+    alloc: Global,
+    text: &str,
+    name: &str,
+    value: &str,
+    marks: (&str, &str, &str),
+) -> Result<bool, AllocError> {
+    let (before, between, after) = marks;
+    let piece = format!(in alloc; "{before}{name}{between}{value}{after}")?;
+    Ok(text.contains(piece.as_str()))
+}
+
+// Whether a text has each of these numbers.
 fn has_each(
     alloc: Global,
     text: &str,
     numbers: &str,
     marks: (&str, &str, &str),
 ) -> Result<bool, AllocError> {
-    let (before, between, after) = marks;
-    let mut name = "";
     let mut all = true;
-    for (i, word) in numbers.split(' ').enumerate() {
+    for (i, name) in numbers.split(' ').enumerate() {
         if i % 2 == 0 {
-            name = word;
-        } else {
-            let piece = format!(in alloc; "{before}{name}{between}{word}{after}")?;
-            all = all && text.contains(piece.as_str());
+            let value = numbers.split(' ').skip(i).nth(1).unwrap_or("");
+            all = all && has_number(alloc, text, name, value, marks)?;
         }
     }
     Ok(all)
@@ -30,7 +39,7 @@ pub(crate) fn line_has(
     entry: usize,
     numbers: &str,
 ) -> Result<bool, AllocError> {
-    let line = text.split('\n').nth(entry + 1).unwrap_or("");
+    let line = text.split('\n').skip(1).nth(entry).unwrap_or("");
     let padded = format!(in alloc; "{line} ")?;
     has_each(alloc, padded.as_str(), numbers, (" ", " ", " "))
 }
