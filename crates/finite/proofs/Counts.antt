@@ -27,7 +27,7 @@ with_one sum z false count bound before here =
     let product : (count + 0) * bound ≡ count * bound = grind arith in
     omega (arith, before, whole, product)
 
--- a sum over those that pass is no greater than their count allows
+-- a sum over the passing numbers, bounded by their count
 pub sum_of_passing-within : (n bound : ℕ) (p : ℕ → Bool) (v : ℕ → ℤ) → ((k : ℕ) → k < n → nat_abs (v k) ≤ bound) →
     nat_abs (sum_below n (λ k. cond (p k) (v k) (pos 0))) ≤ count_below n p * bound
 unfolding sum_below count_below
@@ -58,7 +58,7 @@ last_or_before : (n : ℕ) (p : ℕ → Bool) (b : Bool) → p n ≡ b → count
 last_or_before n p true is before none = let none = none is in rw is (omega (arith, none))
 last_or_before n p false is before none = rw is (omega (arith, before))
 
--- at most one passes
+-- at most one number passes
 pub count_once : (n : ℕ) (p : ℕ → Bool) → ((i j : ℕ) → i < n → j < n → p i ≡ true → p j ≡ true → i ≡ j) → count_below n p ≤ 1
 unfolding count_below
 count_once zero p once = omega arith

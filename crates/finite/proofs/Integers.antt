@@ -1,4 +1,4 @@
--- Sizes of whole numbers, and the ring laws of ℤ.
+-- Bounds on magnitudes, and the ring laws of ℤ.
 use Rattle.std.proofs.Common.{◌≡◌, ℕ, ◌+◌, ◌*◌, ◌≤◌, min, arith, ℤ, pos, negsuc, ◌+ℤ◌, ◌-ℤ◌, ◌*ℤ◌, ◌<ℤ◌, ◌≤ℤ◌}
 use Rattle.std.proofs.Math.Nat.{mul-le-mul}
 use Rattle.std.proofs.lemmas.Int.{ints, unsigned_abs-mul}
@@ -24,7 +24,7 @@ lt-le a b h = omega (arith, ints)
 pub lt-not_le : (a b : ℤ) → a <ℤ b → b ≤ℤ a → ⊥
 lt-not_le a b h k = absurd (omega (arith, ints))
 
--- one of the two parts that `omega` reads a number by is 0, which it is not told
+-- `omega` splits an integer into `up` and `down` without knowing that one of the two is 0
 pub one_part : (x : ℤ) → min (up x) (down x) ≡ 0
 one_part (pos n) = omega arith
 one_part (negsuc n) = omega arith

@@ -1,4 +1,4 @@
--- Items of lists of numbers of a bounded size; past the end of a list stands 0.
+-- Items in lists of bounded integers. Past its end, a list reads as 0.
 use Rattle.std.proofs.Common.{ℕ, ◌≤◌, List, [], length, get_or, ℤ, pos, nat_abs, inl, inr, arith}
 use Rattle.std.proofs.lemmas.Bool.{cases_lt}
 use Rattle.std.proofs.lemmas.List.{get_or_past}
@@ -23,6 +23,6 @@ pub item_of_row-within : (n : ℕ) (rows : List (List ℤ)) (k t : ℕ) → Rows
     nat_abs (get_or (get_or rows k []) t (pos 0)) ≤ n
 item_of_row-within n rows k t small = item-within n (get_or rows k []) t (row-within n rows k small)
 
--- a greater bound is one too
+-- a bound may be raised
 pub All-wider : (m n : ℕ) (zs : List ℤ) → m ≤ n → AllWithin m zs → AllWithin n zs
 All-wider m n zs order small k d inside = let h = small k d inside in omega (arith, h, order)

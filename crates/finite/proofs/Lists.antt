@@ -1,4 +1,4 @@
--- Lists over the numbers below n.
+-- Lists indexed by the numbers below n.
 use Rattle.std.proofs.Common.{◌≡◌, ℕ, zero, suc, ◌+◌, ◌-◌, ◌<◌, ◌≤◌, ◌++◌, ◌∷◌, ◌⊎◌, inl, inr, List, [], Bool, true, false, nat_lt, arith, refl, ap, sym, subst, ◌∙◌, length, length-append, get_or, set, take, find, Some, None, add-one, get_or-set_same, get_or-set_other}
 use Rattle.std.proofs.lemmas.List.FromFn.{get_or-map-range_with_len, map-range_with_len_more, length-map-range_with_len}
 use Rattle.std.specs.List.{Contains, AllPairs}
@@ -16,17 +16,17 @@ use Rattle.finite.specs.Lists.{values_below, joined_below}
 pub values_below-length : {A : Type 0} (n : ℕ) (f : ℕ → A) → length (values_below n f) ≡ n
 values_below-length n f = length-map-range_with_len f 0 n
 
--- the list, read at a place
+-- item k is f k
 pub values_below_at : {A : Type 0} (f : ℕ → A) (n k : ℕ) (d : A) → k < n → get_or (values_below n f) k d ≡ f k
 values_below_at f n k d l = get_or-map-range_with_len f 0 n k k d l (omega arith)
 
--- a list whose items are those of f is the list of f
+-- a list whose items are f 0, .., f (n - 1) is `values_below n f`
 pub values_below_is : {A : Type 0} (d : A) (n : ℕ) (f : ℕ → A) (xs : List A) → length xs ≡ n → ((k : ℕ) → k < n → get_or xs k d ≡ f k) → xs ≡ values_below n f
 values_below_is d n f xs size h =
     ext_get_or d xs (values_below n f) (size ∙ sym (values_below-length n f)) (λ k below.
     let inside : k < n = omega (arith, size, below) in h k inside ∙ sym (values_below_at f n k d inside))
 
--- what holds of each value holds of the list
+-- a property that holds for each value holds for all items
 pub values_below-All : {A : Type 0} (P : A → Type 0) (n : ℕ) (f : ℕ → A) (d : A) → ((k : ℕ) → k < n → P (f k)) → All P (values_below n f)
 values_below-All P n f d each =
     All-from_get_or P (values_below n f) d (λ k below.
@@ -36,7 +36,7 @@ values_below-All P n f d each =
 pub values_below_more : {A : Type 0} (n : ℕ) (f : ℕ → A) → values_below (n + 1) f ≡ values_below n f ++ (f n ∷ [])
 values_below_more n f = map-range_with_len_more f 0 n n (omega arith)
 
--- two functions that agree make the same list
+-- functions that agree below n give the same list
 pub values_below_same : {A : Type 0} (n : ℕ) (f g : ℕ → A) → ((k : ℕ) → k < n → f k ≡ g k) → values_below n f ≡ values_below n g
 values_below_same zero f g h = refl
 values_below_same (suc n) f g h =
@@ -61,7 +61,7 @@ joined_below_same (suc n) f g h =
     let here = h n (omega arith) in
     rw (before, here) refl
 
--- ---- what joined lists contain
+-- ---- items in joined lists
 
 pub Contains-in_joined : {A : Type 0} (n : ℕ) (f : ℕ → List A) (x : A) → Contains (joined_below n f) x → (k : ℕ) × (k < n) × Contains (f k) x
 unfolding joined_below
@@ -104,7 +104,7 @@ AllPairs-append R xs ys p q across i j d below inside = place (cases_lt i (lengt
         rw (get_or-append_right xs ys (length xs) i d refl a, get_or-append_right xs ys (length xs) j d refl b)
         (q (i - length xs) (j - length xs) d (omega (arith, a, b, below)) (omega (arith, long, inside)))
 
--- each list is in order, and what stands in one comes before what stands in a later one
+-- a joined list is in order if each part is, and if items of earlier parts precede those of later parts
 pub joined_below-pairs : {A : Type 0} (R : A → A → Type 0) (n : ℕ) (f : ℕ → List A) → ((k : ℕ) → k < n → AllPairs R (f k)) →
     ((i j : ℕ) (x y : A) → i < j → j < n → Contains (f i) x → Contains (f j) y → R x y) → AllPairs R (joined_below n f)
 unfolding joined_below
@@ -114,12 +114,12 @@ joined_below-pairs R (suc n) f each across =
     AllPairs-append R (joined_below n f) (f n) before (each n (omega arith))
     (λ x y a b. let (k, l, c) = Contains-in_joined n f x a in across k n x y l (omega arith) c b)
 
--- the first items of a list, which are those of f
+-- the first k items, if item j is f j for each j < k
 pub front_is : {A : Type 0} (d : A) (k : ℕ) (f : ℕ → A) (xs : List A) → k ≤ length xs → ((j : ℕ) → j < k → get_or xs j d ≡ f j) → take k xs ≡ values_below k f
 front_is d k f xs long h =
     values_below_is d k f (take k xs) (length-take-le k xs long) (λ j below. get_or-take k xs j d below ∙ h j below)
 
--- one more item is set
+-- setting item k extends the agreement with f by one
 pub set_more : {A : Type 0} (d : A) (k : ℕ) (f : ℕ → A) (xs : List A) (x : A) → k < length xs → x ≡ f k → ((j : ℕ) → j < k → get_or xs j d ≡ f j) →
     (j : ℕ) → j < k + 1 → get_or (set xs k x) j d ≡ f j
 set_more d k f xs x inside is h j below = settle (cases_lt j k)
@@ -128,7 +128,7 @@ set_more d k f xs x inside is h j below = settle (cases_lt j k)
     settle (inl l) = get_or-set_other xs k j x d (λ e. absurd (omega (arith, e, l))) ∙ h j l
     settle (inr m) = let e : j ≡ k = omega (arith, m, below) in rw e (get_or-set_same xs k x d inside ∙ is)
 
--- the first of the items f 0, f 1, .. that passes
+-- `find` returns f n if it is the first to pass
 pub find_below_first : {A : Type 0} (p : A → Bool) (f : ℕ → A) (m n : ℕ) → n < m → ((k : ℕ) → k < n → p (f k) ≡ false) → p (f n) ≡ true →
     find p (values_below m f) ≡ Some (f n)
 find_below_first p f m n below before here =
@@ -140,7 +140,7 @@ find_below_first p f m n below before here =
     (λ k l. ap p (at k (omega (arith, l, below))) ∙ before k l) (λ l. ap p (at n below) ∙ here) in
     find_at p (values_below m f) ∙ ap (slice_get (values_below m f)) place ∙ slice_get-get_or (values_below m f) n d inside ∙ ap Some (at n below)
 
--- and where none passes
+-- `find` returns nothing if none passes
 pub find_below_none : {A : Type 0} (p : A → Bool) (f : ℕ → A) (m : ℕ) → ((k : ℕ) → k < m → p (f k) ≡ false) → find p (values_below m f) ≡ None
 find_below_none p f zero none = refl
 find_below_none p f (suc m) none =

@@ -1,4 +1,4 @@
--- Lists of pieces of one size, one after the other.
+-- Concatenated pieces of equal length.
 use Rattle.std.proofs.Common.{◌≡◌, ℕ, zero, suc, ◌+◌, ◌-◌, ◌*◌, ◌/◌, ◌%◌, ◌<◌, List, [], ◌∷◌, length, get_or, arith, length-append, ◌∙◌, subst}
 use Rattle.std.specs.Prelude.{All}
 use Rattle.std.specs.List.{flat_map}
@@ -7,14 +7,14 @@ use Rattle.std.proofs.Math.ListN.{get_or-append}
 use Rattle.std.proofs.Math.Nat.{div-add-mod', mod-lt}
 use Rattle.std.proofs.lemmas.List.Elements.{All-head, All-tail}
 
--- each piece has this size
+-- each piece has this length
 abbrev pub HaveSize : {X A : Type 0} → ℕ → (X → List A) → List X → Type 0
 HaveSize size f xs = All (λ x. length (f x) ≡ size) xs
 
 one_more : (n size : ℕ) → suc n * size ≡ n * size + size
 one_more n size = grind arith
 
--- they have as many items as there are pieces, times the size
+-- the total length is the number of pieces times their length
 pub length-pieces : {X A : Type 0} (size : ℕ) (f : X → List A) (xs : List X) → HaveSize size f xs → length (flat_map f xs) ≡ length xs * size
 length-pieces size f [] each = omega arith
 length-pieces size f (x ∷ xs) each =
@@ -40,7 +40,7 @@ get_or-piece size f (x ∷ xs) (suc i) j e d each inside small =
     let rest = get_or-piece size f xs i j e d (All-tail (λ y. length (f y) ≡ size) x xs each) (omega (arith, inside)) small in
     rw at (get_or-append_right (f x) (flat_map f xs) size (size + (i * size + j)) d here (omega arith) ∙ rw back rest)
 
--- item k of all: of the piece that it stands in
+-- item k of the concatenation, found by quotient and remainder
 pub get_or-pieces : {X A : Type 0} (size : ℕ) (f : X → List A) (xs : List X) (k : ℕ) (e : X) (d : A) → 0 < size → HaveSize size f xs → k / size < length xs →
     get_or (flat_map f xs) k d ≡ get_or (f (get_or xs (k / size) e)) (k % size) d
 get_or-pieces size f xs k e d some each inside =

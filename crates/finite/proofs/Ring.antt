@@ -1,5 +1,5 @@
--- Equations between polynomials over ℤ, by way of naturals: z is u less d. Both sides are built of `var`, `lit`, `plus`,
--- `minus` and `times`, and `same` asks `omega` for the equation of naturals.
+-- Polynomial identities over ℤ, reduced to ℕ: an integer z is written as u - d. Both sides are built from `var`,
+-- `lit`, `plus`, `minus` and `times`; `same` then leaves an identity in ℕ for `omega`.
 use Rattle.std.proofs.Common.{ℕ, ◌+◌, ◌*◌, ◌≡◌, ℤ, pos, ◌+ℤ◌, ◌-ℤ◌, ◌*ℤ◌, neg_ℤ, refl, ap, arith}
 use borrow.Author.Differences.{up, down, same_in, sum_is_lem, neg_is, product_is}
 

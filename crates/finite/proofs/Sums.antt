@@ -1,4 +1,4 @@
--- Steps, bounds and laws of finite sums.
+-- Steps, bounds and laws for finite sums.
 use Rattle.std.proofs.Common.{◌≡◌, ◌≢◌, ℕ, zero, suc, ◌+◌, ◌-◌, ◌*◌, ◌<◌, ◌≤◌, Bool, true, false, arith, refl, ap, ap₂, ◌∙◌, sym, subst, add-one, ℤ, pos, ◌+ℤ◌, ◌-ℤ◌, ◌*ℤ◌, inl, inr}
 use Rattle.std.proofs.lemmas.Bool.{cases_lt, false≢true}
 use Rattle.std.proofs.lemmas.Int.{ints}
@@ -7,7 +7,7 @@ use Rattle.finite.specs.Sums.{sum_below, total_below}
 use Rattle.finite.specs.Tests.{any_below}
 use Rattle.finite.proofs.Integers.{abs-sum, mul-distributes}
 
--- ---- whole numbers
+-- ---- integers
 
 pub sum_below_none : (f : ℕ → ℤ) → sum_below 0 f ≡ pos 0
 unfolding sum_below
@@ -75,7 +75,7 @@ sum_below_one f = from_nothing (f 0)
     from_nothing : (a : ℤ) → pos 0 +ℤ a ≡ a
     from_nothing a = omega (arith, ints)
 
--- the terms in the other order
+-- reversing the terms does not change the sum
 pub sum_below_backward : (n : ℕ) (f : ℕ → ℤ) → sum_below n (λ k. f (n - 1 - k)) ≡ sum_below n f
 unfolding sum_below
 sum_below_backward zero f = refl
@@ -114,7 +114,7 @@ total_below-within (suc n) bound f h =
     let before = total_below-within n bound f (λ k l. h k (omega arith)) in
     omega (arith, before, h n (omega arith))
 
--- terms that are at least so great
+-- a sum whose terms are at least `bound`
 pub total_below-least : (n bound : ℕ) (f : ℕ → ℕ) → ((k : ℕ) → k < n → bound ≤ f k) → n * bound ≤ total_below n f
 unfolding total_below
 total_below-least zero bound f h = omega arith
@@ -130,7 +130,7 @@ total_below_split n (suc m) f =
     let h = total_below_split n m f in
     subst (λ l. total_below l f ≡ total_below n f + (total_below m (λ k. f (n + k)) + f (n + m))) (sym e) (omega (arith, h))
 
--- the next n terms: without the first of these, and with the one behind them
+-- moving a window of n terms by one: it loses its first term and gains the next
 pub total_below_slides : (n t : ℕ) (f : ℕ → ℕ) → total_below n (λ k. f (t + 1 + k)) + f t ≡ total_below n (λ k. f (t + k)) + f (t + n)
 unfolding total_below
 total_below_slides zero t f = let e : t + 0 ≡ t = omega arith in rw e refl
@@ -141,13 +141,13 @@ total_below_slides (suc n) t f =
     more : (a b x y z w : ℕ) → a + x ≡ b + y → z ≡ w → a + z + x ≡ b + y + w
     more a b x y z w h e = omega (arith, h, e)
 
--- as whole numbers
+-- a sum of naturals, taken in ℤ
 pub sum_below_pos : (n : ℕ) (f : ℕ → ℕ) → sum_below n (λ k. pos (f k)) ≡ pos (total_below n f)
 unfolding sum_below total_below
 sum_below_pos zero f = refl
 sum_below_pos (suc n) f = let before = sum_below_pos n f in omega (arith, ints, before)
 
--- one term is greater by c, and all others are the same
+-- one term is greater by c, and the others are equal
 pub total_below_changed : (n k c : ℕ) (f g : ℕ → ℕ) → k < n → f k ≡ g k + c → ((j : ℕ) → j ≢ k → f j ≡ g j) →
     total_below n f ≡ total_below n g + c
 unfolding total_below
@@ -164,7 +164,7 @@ total_below_changed (suc n) k c f g inside here others = elim (cases_lt k n) [
       omega (arith, before, last)
 ]
 
--- a sum is 0 exactly where all of it is
+-- a sum of zeros is 0
 pub total_zero : (n : ℕ) (f : ℕ → ℕ) → ((k : ℕ) → k < n → f k ≡ 0) → total_below n f ≡ 0
 unfolding total_below
 total_zero zero f h = refl
@@ -187,7 +187,7 @@ terms_zero (suc n) f h k l = elim (cases_lt k n) [
     last : (a b : ℕ) → a + b ≡ 0 → b ≡ 0
     last a b e = omega (arith, e)
 
--- a sum of one term that is not 0
+-- a sum with a positive term is positive
 pub total_some : (n k : ℕ) (f : ℕ → ℕ) → k < n → 1 ≤ f k → 1 ≤ total_below n f
 unfolding total_below
 total_some zero k f l h = absurd (omega arith)
@@ -202,7 +202,7 @@ total_some (suc n) k f l h = elim (cases_lt k n) [
     last : (a b : ℕ) → 1 ≤ b → 1 ≤ a + b
     last a b h = omega (arith, h)
 
--- a term is at most the sum
+-- a single term is at most the sum
 pub total_below-term : (n k : ℕ) (f : ℕ → ℕ) → k < n → f k ≤ total_below n f
 unfolding total_below
 total_below-term zero k f l = absurd (omega arith)
@@ -217,9 +217,9 @@ total_below-term (suc n) k f l = elim (cases_lt k n) [
     last : (a b : ℕ) → b ≤ a + b
     last a b = omega arith
 
--- ---- numbers that are not 0
+-- ---- positive numbers
 
--- whether a number is not 0
+-- whether a number is positive
 abbrev pub positive : ℕ → Bool
 positive zero = false
 positive (suc n) = true
@@ -236,7 +236,7 @@ pub positive-sum : (a b : ℕ) → positive (a + b) ≡ (positive a || positive 
 positive-sum zero b = ap positive (omega arith)
 positive-sum (suc a) b = let e : suc a + b ≡ suc (a + b) = omega arith in ap positive e
 
--- a sum is not 0 exactly where one of its terms is not
+-- a sum is positive if and only if one of its terms is
 pub total_below-positive : (n : ℕ) (f : ℕ → ℕ) (p : ℕ → Bool) → ((k : ℕ) → k < n → positive (f k) ≡ p k) →
     positive (total_below n f) ≡ any_below n p
 unfolding total_below any_below

@@ -20,7 +20,7 @@ no_larger false v bound h = omega arith
 
 -- ---- one value
 
--- what stands at column c of row r after v was added at column q of row p
+-- an entry after v was added at row p, column q
 pub added_at : (table : List (List ℤ)) (p q r c : ℕ) (v : ℤ) → p < length table → q < length (get_or table p []) →
     sum_at (sums_with table p q v) r c ≡ sum_at table r c +ℤ cond (nat_eq p r && nat_eq q c) v (pos 0)
 added_at table p q r c v inside inside' = elim (eqb_tells p r) [
@@ -31,27 +31,27 @@ added_at table p q r c v inside inside' = elim (eqb_tells p r) [
   | inr (b, ne) ↦ rw b (rw (get_or-set_other table p r _ [] (λ h. ne (sym h))) (plus_zero _))
 ]
 
--- the rows keep their lengths
+-- the row lengths do not change
 pub added_length : (table : List (List ℤ)) (p q r : ℕ) (v : ℤ) → p < length table → length (get_or (sums_with table p q v) r []) ≡ length (get_or table r [])
 added_length table p q r v inside = elim (eqb_tells p r) [
   | inl (b, e) ↦ rw (← e) (rw (get_or-set_same table p _ [] inside) (length-set (get_or table p []) q _))
   | inr (b, ne) ↦ rw (get_or-set_other table p r _ [] (λ h. ne (sym h))) refl
 ]
 
--- ---- a list of values
+-- ---- sums over a list
 
--- value i if its place is column c of row r, and nothing otherwise
+-- the contribution of value i to the entry at row r, column c
 abbrev pub share : (ℕ → ℕ) → (ℕ → ℕ) → List ℤ → ℕ → ℕ → ℕ → ℤ
 share row_of column_of values r c i = cond (nat_eq (row_of i) r && nat_eq (column_of i) c) (get_or values i (pos 0)) (pos 0)
 
--- the table has the sums of the first m values by place, and they are not large
+-- the table holds the sums of the first m values, each added at its row and column, and each entry is bounded
 pub record AreSums (rows columns bound : ℕ) (row_of column_of : ℕ → ℕ) (values : List ℤ) (m : ℕ) (sums : List (List ℤ)) : Type 0 where
   pub size : length sums ≡ rows
   pub row : (r : ℕ) → r < rows → length (get_or sums r []) ≡ columns
   pub at : (r c : ℕ) → r < rows → c < columns → sum_at sums r c ≡ sum_below m (share row_of column_of values r c)
   pub small : (r c : ℕ) → r < rows → c < columns → nat_abs (sum_at sums r c) ≤ m * bound
 
--- before the first value
+-- the table at the start is all zeros
 pub sums_none : (rows columns bound : ℕ) (row_of column_of : ℕ → ℕ) (values : List ℤ) →
     AreSums rows columns bound row_of column_of values 0 (replicate rows (replicate columns (pos 0)))
 sums_none rows columns bound row_of column_of values = record {
@@ -67,7 +67,7 @@ sums_none rows columns bound row_of column_of values = record {
     zero_at : (r c : ℕ) → r < rows → c < columns → sum_at (replicate rows (replicate columns (pos 0))) r c ≡ pos 0
     zero_at r c h below = ap (λ xs. get_or xs c (pos 0)) (row r h) ∙ get_or-replicate columns c (pos 0) (pos 0) below
 
--- one more value, at column q of row p
+-- after one more value, added at row p and column q
 pub sums_more : (rows columns bound : ℕ) (row_of column_of : ℕ → ℕ) (values : List ℤ) (m : ℕ) (sums : List (List ℤ)) (p q : ℕ) (v : ℤ) → p ≡ row_of m → q ≡ column_of m →
     p < rows → q < columns → v ≡ get_or values m (pos 0) → nat_abs v ≤ bound →
     AreSums rows columns bound row_of column_of values m sums → AreSums rows columns bound row_of column_of values (m + 1) (sums_with sums p q v)
@@ -90,7 +90,7 @@ sums_more rows columns bound row_of column_of values m sums p q v here there ins
           rw (e, more) (omega (arith, old, new, both));
     }
 
--- the whole table
+-- the finished table
 pub sums_all : (rows columns bound : ℕ) (row_of column_of : ℕ → ℕ) (values : List ℤ) (m : ℕ) (sums : List (List ℤ)) → AreSums rows columns bound row_of column_of values m sums →
     sums ≡ values_below rows (λ r. values_below columns (λ c. sum_below m (share row_of column_of values r c)))
 sums_all rows columns bound row_of column_of values m sums known =

@@ -1,4 +1,4 @@
--- What tests of the numbers below n tell.
+-- Laws for tests on the numbers below n.
 use Rattle.std.proofs.Common.{◌≡◌, ℕ, zero, suc, ◌+◌, ◌<◌, arith, refl, ap, ap₂, ◌∙◌, sym, subst, inl, inr, Bool, true, false, nat_lt, add-one}
 use Rattle.std.specs.Prelude.{◌&&◌, ◌||◌}
 use Rattle.std.proofs.lemmas.Bool.{cases_lt, ltb-true, ltb-false, and_parts, and_from, or_cases, or_left, or_right}
@@ -11,7 +11,7 @@ pub any_below_more : (n : ℕ) (p : ℕ → Bool) → any_below (n + 1) p ≡ (a
 unfolding any_below
 any_below_more n p = rw add-one refl
 
--- one that passes settles it
+-- a passing number decides
 pub any_below_at : (n k : ℕ) (p : ℕ → Bool) → k < n → p k ≡ true → any_below n p ≡ true
 unfolding any_below
 any_below_at zero k p l e = absurd (omega arith)
@@ -21,7 +21,7 @@ any_below_at (suc n) k p l e = settle (nat_lt k n) refl (λ below. any_below_at 
     settle true h before = or_left (any_below n p) (p n) (before (ltb-true k n h))
     settle false h before = let s : k ≡ n = omega (arith, ltb-false k n h) in or_right (any_below n p) (p n) (ap p (sym s) ∙ e)
 
--- where none passes, each fails
+-- if none passes, each fails
 pub any_below_none : (n k : ℕ) (p : ℕ → Bool) → any_below n p ≡ false → k < n → p k ≡ false
 any_below_none n k p none l = fails (p k) refl
   where
@@ -29,7 +29,7 @@ any_below_none n k p none l = fails (p k) refl
     fails true e = absurd (true≢false (sym (any_below_at n k p l e) ∙ none))
     fails false e = e
 
--- where each fails, none passes
+-- if each fails, none passes
 pub any_below_all : (n : ℕ) (p : ℕ → Bool) → ((k : ℕ) → k < n → p k ≡ false) → any_below n p ≡ false
 unfolding any_below
 any_below_all zero p h = refl
@@ -38,7 +38,7 @@ any_below_all (suc n) p h =
     let here = h n (omega arith) in
     rw (before, here) refl
 
--- one that passes, where some number does
+-- a witness, if some number passes
 pub any_below_some : (n : ℕ) (p : ℕ → Bool) → any_below n p ≡ true → (k : ℕ) × (k < n) × (p k ≡ true)
 unfolding any_below
 any_below_some zero p h = absurd (true≢false (sym h))
@@ -47,7 +47,7 @@ any_below_some (suc n) p h = elim (or_cases (any_below n p) (p n) h) [
   | inr here ↦ (n, omega arith, here)
 ]
 
--- tests that agree
+-- tests that agree below n have the same outcome
 pub any_below_same : (n : ℕ) (p q : ℕ → Bool) → ((k : ℕ) → k < n → p k ≡ q k) → any_below n p ≡ any_below n q
 unfolding any_below
 any_below_same zero p q h = refl
@@ -55,7 +55,7 @@ any_below_same (suc n) p q h = ap₂ ◌||◌ (any_below_same n p q (λ k l. h k
 
 -- ---- every number passes
 
--- what was computed for each number below n, read at one of them
+-- reads a computed test at one number
 pub every_below_at : (n : ℕ) (p : ℕ → Bool) → every_below n p ≡ true → (k : ℕ) → k < n → p k ≡ true
 unfolding every_below
 every_below_at zero p e k l = absurd (omega arith)
@@ -68,20 +68,20 @@ every_below_at (suc n) p e k l = settle (nat_lt k n) refl (λ below. every_below
     settle true h before = before (ltb-true k n h)
     settle false h before = let s : n ≡ k = omega (arith, ltb-false k n h) in subst (λ i. p i ≡ true) s parts.1
 
--- where each passes, every number does
+-- if each number passes, all do
 pub every_below_all : (n : ℕ) (p : ℕ → Bool) → ((k : ℕ) → k < n → p k ≡ true) → every_below n p ≡ true
 unfolding every_below
 every_below_all zero p h = refl
 every_below_all (suc n) p h =
     and_from (every_below n p) (p n) (every_below_all n p (λ k l. h k (omega (arith, l)))) (h n (omega arith))
 
--- tests that agree
+-- tests that agree below n have the same outcome
 pub every_below_same : (n : ℕ) (p q : ℕ → Bool) → ((k : ℕ) → k < n → p k ≡ q k) → every_below n p ≡ every_below n q
 unfolding every_below
 every_below_same zero p q h = refl
 every_below_same (suc n) p q h = ap₂ ◌&&◌ (every_below_same n p q (λ k l. h k (omega (arith, l)))) (h n (omega arith))
 
--- what holds of each number below n, and of n, holds of each below n + 1
+-- extends a property from the numbers below n to those below n + 1
 pub each_below_more : (P : ℕ → Type 0) (n : ℕ) → ((k : ℕ) → k < n → P k) → P n → (k : ℕ) → k < n + 1 → P k
 each_below_more P n before here k below = elim (cases_lt k n) [
   | inl lower ↦ before k lower

@@ -1,8 +1,8 @@
--- Bits: their sum modulo 2, and the lowest bit of a number.
+-- Bits: the sum modulo 2, and the lowest bit of a number.
 use Rattle.std.specs.Prelude.{ℕ, ◌%◌, Bool, not, nat_eq}
 use Rattle.std.specs.Bool.{beq}
 
--- the sum modulo 2: whether the two bits differ
+-- the sum modulo 2 (exclusive or)
 abbrev pub xor : Bool → Bool → Bool
 xor a b = not (beq a b)
 

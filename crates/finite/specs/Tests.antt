@@ -1,4 +1,4 @@
--- Tests of the numbers below n.
+-- Tests on the numbers below n.
 use Rattle.std.specs.Prelude.{ℕ, zero, suc, Bool, true, false, ◌&&◌, ◌||◌}
 
 -- some number below n passes

@@ -1,4 +1,5 @@
-//! Bits, finite sums, tests and lists over the numbers below n, sizes of whole numbers, counts, tables
-//! of sums, and the ring laws of ℤ. Definitions that crates above cite stand in `specs/`, and their laws
-//! in `proofs/`. There is no code.
+//! Finite sums, lists and tests indexed by the natural numbers below n; with them bits, bounds on magnitudes, counts,
+//! tables of sums, and the ring laws of ℤ. The definitions are in `specs/`, their laws in `proofs/`; there is no
+//! code.
+//! Tests: the crate `low_tests`, through the crates that use the definitions.
 #![tactic(auto)]
