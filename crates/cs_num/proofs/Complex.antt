@@ -1,4 +1,4 @@
--- Sizes of complex numbers, and the laws of their ring.
+-- Component bounds of complex integers, and their ring laws.
 use Rattle.std.proofs.Common.{◌≡◌, ℕ, ◌+◌, ◌*◌, ◌≤◌, arith, ℤ, pos, ◌+ℤ◌, ◌-ℤ◌, ◌*ℤ◌, ap₂, ◌∙◌}
 use Rattle.std.proofs.lemmas.Int.{ints}
 use Rattle.std.proofs.lemmas.Nat.{mul-le}
@@ -13,7 +13,7 @@ use Rattle.cs_num.specs.Complex.{IsWithin, size, nothing, plus, minus, multiple,
 pub pair : {x y u v : ℤ} → x ≡ y → u ≡ v → ◌≡◌ {A = Cpx} (record { re = x; im = u }) (record { re = y; im = v })
 pair e f = cc
 
--- ---- sizes
+-- ---- bounds on components
 
 pub size-le : (a : Cpx) (bound : ℕ) → IsWithin bound a → size a ≤ bound
 size-le a bound h = omega arith
@@ -59,7 +59,7 @@ times-within a b m n bound p q e =
 pub square-within : (a : Cpx) (m : ℕ) → IsWithin m a → square a ≤ 2 * (m * m)
 square-within a m p = omega (arith, mul-le (nat_abs a.re) (nat_abs a.re) m m p.re p.re, mul-le (nat_abs a.im) (nat_abs a.im) m m p.im p.im)
 
--- ---- the ring
+-- ---- ring laws
 
 pub plus-nothing : (a : Cpx) → plus nothing a ≡ a
 plus-nothing a =

@@ -1,4 +1,4 @@
--- Gains, and their parts in 16 bits.
+-- Gains stored as 16-bit components.
 use Rattle.std.proofs.Common.{rules, ◌≡◌, ◌≤◌, ℤ, to_z, of_z, w16, w64, arith}
 use Rattle.std.proofs.lemmas.Int.{ints}
 use Rattle.std.specs.Prelude.{nat_abs}

@@ -1,4 +1,4 @@
--- What rounding leaves of a size, and what it takes off a number.
+-- Bounds on rounded numbers, and on the rounding error.
 use Rattle.std.proofs.Common.{ℕ, ◌+◌, ◌*◌, ◌/◌, ◌≤◌, ◌<◌, arith, ℤ, pos, negsuc, ◌+ℤ◌, ◌-ℤ◌, ◌*ℤ◌, ◌≤ℤ◌, ◌<ℤ◌}
 use Rattle.std.proofs.Math.Nat.{div-lt_iff_lt-mul}
 use borrow.Author.Differences.{up, down}
@@ -16,7 +16,8 @@ floor_within (negsuc n) d bound p u l =
     let h : n / d < bound = (div-lt_iff_lt-mul p).1 m in
     omega (arith, h)
 
--- a number of size below bound * d + half, rounded to a multiple of d = 2 * half, has at most bound multiples
+-- bounds the quotient: if |x| < bound * d + half, with d = 2 * half, then x / d rounds to at most `bound` in
+-- magnitude
 pub rounds_within : (x : ℤ) (half bound : ℕ) → 0 < half → nat_abs x < bound * (2 * half) + half →
     nat_abs (floor_div (x +ℤ pos half) (2 * half)) ≤ bound
 rounds_within x half bound p h =
@@ -32,14 +33,14 @@ floor_high : (x : ℤ) (d : ℕ) → 0 < d → x <ℤ (floor_div x d *ℤ pos d 
 floor_high (pos n) d p = omega (arith, ints)
 floor_high (negsuc n) d p = omega (arith, ints)
 
--- rounded to a multiple of d = 2 * half it is off by at most half
+-- the rounding error is at most half the divisor d = 2 * half
 pub rounds_near : (x : ℤ) (half : ℕ) → 0 < half → nat_abs (pos (2 * half) *ℤ floor_div (x +ℤ pos half) (2 * half) -ℤ x) ≤ half
 rounds_near x half p =
     let low = floor_low (x +ℤ pos half) (2 * half) (omega arith) in
     let high = floor_high (x +ℤ pos half) (2 * half) (omega arith) in
     omega (arith, ints)
 
--- a number of size at most d * bound, divided by d, has at most bound
+-- if |x| ≤ d * bound, the rounded quotient x / d has magnitude at most `bound`
 quotient_part-within : (x : ℤ) (d bound : ℕ) → 0 < d → nat_abs x ≤ d * bound → nat_abs (rounded_quotient x d) ≤ bound
 quotient_part-within x d bound p h = rounds_within (pos 2 *ℤ x) d bound p (omega (arith, ints, h))
 
@@ -49,7 +50,7 @@ quotient-within a d bound p h = record {
   im = quotient_part-within a.im d bound p h.im;
 }
 
--- 2d times the quotient is off 2a by at most d
+-- 2d times the rounded quotient is within d of 2x
 quotient_part-near : (x : ℤ) (d : ℕ) → 0 < d → nat_abs (pos 2 *ℤ x -ℤ pos (2 * d) *ℤ rounded_quotient x d) ≤ d
 quotient_part-near x d p = let h = rounds_near (pos 2 *ℤ x) d p in omega (arith, ints, h)
 

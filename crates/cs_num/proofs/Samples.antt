@@ -1,4 +1,4 @@
--- Numbers of 16 bits, and the samples that they make.
+-- Signed 16-bit numbers, and samples made from them.
 use Rattle.std.proofs.Common.{◌≡◌, ◌≤◌, arith, ap, ℤ, pos, negsuc, FitsSigned}
 use Rattle.std.specs.Prelude.{nat_abs}
 use Rattle.std.specs.Int.{w16}
@@ -8,12 +8,12 @@ use Rattle.cs_num.specs.Complex.{IsWithin, value_of}
 use Rattle.cs_num.specs.Rounding.{in_16_bits, nearest_sample}
 use Rattle.cs_num.proofs.Complex.{pair}
 
--- the nearest number of 16 bits is one
+-- the nearest 16-bit number fits 16 bits
 pub in_16_bits-fits : (x : ℤ) → FitsSigned w16 (in_16_bits x)
 in_16_bits-fits (pos n) = record { sfits = omega arith }
 in_16_bits-fits (negsuc n) = record { sfits = omega arith }
 
--- a number of 16 bits is its own nearest one
+-- a number that fits 16 bits is kept
 pub in_16_bits-kept : (x : ℤ) → FitsSigned w16 x → in_16_bits x ≡ x
 in_16_bits-kept (pos n) f = let h = f.sfits in ap pos (omega (arith, h))
 in_16_bits-kept (negsuc n) f = let h = f.sfits in ap negsuc (omega (arith, h))

@@ -1,4 +1,4 @@
--- The machine's signed numbers under the arithmetic of this crate.
+-- Signed machine arithmetic used in this crate.
 use Rattle.std.proofs.Common.{◌≡◌, ℕ, ◌+◌, ◌*◌, ◌-◌, ◌^◌, ◌%◌, ◌<◌, ◌≤◌, min, arith, refl, ◌∙◌, to_z, of_z, ℤ, pos, negsuc, ◌+ℤ◌, ◌-ℤ◌, ◌*ℤ◌, ◌≤ℤ◌, FitsSigned, w64}
 use Rattle.cs_num.specs.declared.Cpx.{Cpx}
 use Rattle.cs_num.specs.Complex.{size}
@@ -12,7 +12,7 @@ use Rattle.std.specs.Int.Signed.{shr_z}
 use Rattle.std.proofs.lemmas.Int.{to_z-of_z, clamps, ints, fits_signed_from_abs}
 use Rattle.std.specs.Prelude.{nat_abs}
 
--- the products and sums of a complex product fit 64 bits
+-- the products and sums in a complex product fit 64 bits
 pub record Products (a b : Cpx) : Type 0 where
   pub re_re : FitsSigned w64 (a.re *ℤ b.re)
   pub im_im : FitsSigned w64 (a.im *ℤ b.im)
@@ -62,7 +62,7 @@ pub shift_is : (x : ℤ) (d : ℕ) → shr_z x d ≡ floor_div x d
 shift_is (pos n) d = refl
 shift_is (negsuc n) d = refl
 
--- in both readings, so that one lemma serves
+-- clamping in the positive and the negative part at once, so that one lemma serves
 clamp_up : (x : ℤ) (l : ℕ) → (up (clamped x l) ≡ min (up x) l) × (down (clamped x l) ≡ min (down x) l)
 clamp_up (pos n) l = (refl, omega arith)
 clamp_up (negsuc n) l = ((neg_is (pos (min (n + 1) l))).0 ∙ omega arith, (neg_is (pos (min (n + 1) l))).1 ∙ omega arith)

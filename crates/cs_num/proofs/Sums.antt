@@ -1,4 +1,4 @@
--- Steps, bounds and laws of finite sums of complex numbers.
+-- Steps, bounds and laws for finite sums of complex integers.
 use Rattle.std.proofs.Common.{◌≡◌, ℕ, ◌+◌, ◌-◌, ◌*◌, ◌<◌, arith, ap, ap₂, sym, ◌∙◌, ℤ, ◌+ℤ◌}
 use Rattle.std.proofs.lemmas.Int.{ints}
 use Rattle.finite.proofs.Sums.{sum_below_none, sum_below_more, sum_below_same, sum_below-within, sum_below_plus, sum_below_split, sum_below_swap, sum_below_one, sum_below_backward}
@@ -43,7 +43,7 @@ complex_sum_below_swap n m f = pair
 pub complex_sum_below_one : (f : ℕ → Cpx) → complex_sum_below 1 f ≡ f 0
 complex_sum_below_one f = pair (sum_below_one (λ k. (f k).re)) (sum_below_one (λ k. (f k).im))
 
--- the terms in the other order
+-- reversing the terms does not change the sum
 pub complex_sum_below_backward : (n : ℕ) (f : ℕ → Cpx) → complex_sum_below n (λ k. f (n - 1 - k)) ≡ complex_sum_below n f
 complex_sum_below_backward n f = pair (sum_below_backward n (λ k. (f k).re)) (sum_below_backward n (λ k. (f k).im))
 
@@ -53,7 +53,7 @@ regrouped_part a b c d = omega (arith, ints)
 regrouped : (a b c d : Cpx) → plus a (plus b (plus c d)) ≡ plus a (plus (plus b d) c)
 regrouped a b c d = pair (regrouped_part a.re b.re c.re d.re) (regrouped_part a.im b.im c.im d.im)
 
--- a sum folded in the middle: the first term, h times two terms at the same distance from the middle, and the middle one
+-- folds a sum of 2h + 2 terms: the first term, h pairs at equal distance from the middle, and the middle term
 pub complex_sum_below_folded : (h : ℕ) (f : ℕ → Cpx) → complex_sum_below (1 + (h + (1 + h))) f
     ≡ plus (f 0) (plus (complex_sum_below h (λ k. plus (f (1 + k)) (f (1 + (h + (1 + (h - 1 - k))))))) (f (1 + h)))
 complex_sum_below_folded h f =

@@ -1,4 +1,4 @@
--- Equality of complex numbers as a test, for what is computed.
+-- Equality of complex integers as a Boolean test, for proofs by computation.
 use Rattle.std.proofs.Common.{◌≡◌, Bool, true, int_eq}
 use Rattle.std.proofs.lemmas.Bool.Decides.{Decides-int_eq}
 use Rattle.std.specs.Prelude.{◌&&◌}

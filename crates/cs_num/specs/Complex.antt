@@ -1,4 +1,4 @@
--- Whole complex numbers: pairs of whole numbers, with the ring's operations.
+-- Complex integers with the ring operations.
 use Rattle.std.specs.Prelude.{List, slice_index_or, ℕ, ◌+◌, ◌*◌, ◌≤◌, pos, ◌+ℤ◌, ◌-ℤ◌, ◌*ℤ◌, neg_ℤ, nat_abs, max}
 use Rattle.cs_num.specs.declared.Cpx.{Cpx}
 use Rattle.cs_num.specs.declared.Sample.{Sample}
@@ -30,7 +30,7 @@ times_j a = record { re = neg_ℤ a.im; im = a.re }
 abbrev pub times_minus_j : Cpx → Cpx
 times_minus_j a = record { re = a.im; im = neg_ℤ a.re }
 
--- the negative
+-- the negation
 abbrev pub negated : Cpx → Cpx
 negated a = record { re = neg_ℤ a.re; im = neg_ℤ a.im }
 
@@ -38,34 +38,34 @@ negated a = record { re = neg_ℤ a.re; im = neg_ℤ a.im }
 abbrev pub conjugate : Cpx → Cpx
 conjugate a = record { re = a.re; im = neg_ℤ a.im }
 
--- the square of the size
+-- the squared magnitude
 abbrev pub square : Cpx → ℕ
 square a = nat_abs a.re * nat_abs a.re + nat_abs a.im * nat_abs a.im
 
--- the greatest size of a component
+-- the maximum of the components' magnitudes
 abbrev pub size : Cpx → ℕ
 size a = max (nat_abs a.re) (nat_abs a.im)
 
--- the real and the imaginary part of a number have at most this size
+-- both components have at most this magnitude
 pub record IsWithin (bound : ℕ) (a : Cpx) : Type 0 where
   pub re : nat_abs a.re ≤ bound
   pub im : nat_abs a.im ≤ bound
 
--- the number that a sample is
+-- a sample as a complex integer
 abbrev pub value_of : Sample → Cpx
 value_of s = record { re = s.re; im = s.im }
 
--- the sample that is a number
+-- a complex integer as a sample
 abbrev pub sample_of : Cpx → Sample
 sample_of z = record { re = z.re; im = z.im }
 
 abbrev pub silence : Sample
 silence = record { re = pos 0; im = pos 0 }
 
--- the number that sample i of a list is, and nothing past its end
+-- sample i of a list, and 0 past its end
 abbrev pub sample_at : List Sample → ℕ → Cpx
 sample_at samples i = value_of (slice_index_or samples i silence)
 
--- the value at a place of a list, and nothing past its end
+-- the value at index k of a list, and 0 past its end
 abbrev pub value_at : List Cpx → ℕ → Cpx
 value_at values k = slice_index_or values k nothing

@@ -1,13 +1,13 @@
--- Gains: whole numbers with which what is sent is received. (own)
+-- Gains: the complex integers by which a channel multiplies. (own)
 use Rattle.std.specs.Prelude.{◌≤◌, ℤ}
 use Rattle.cs_num.specs.declared.Cpx.{Cpx}
 use Rattle.cs_num.specs.Complex.{square}
 
--- the number with these parts
+-- the number with these components
 abbrev pub with_parts : ℤ → ℤ → Cpx
 with_parts re im = record { re = re; im = im }
 
--- the square of a gain's size is 1 to 784
+-- the squared magnitude of a gain is 1 to 784
 pub record IsGain (gain : Cpx) : Type 0 where
   pub least : 1 ≤ square gain
   pub most : square gain ≤ 784

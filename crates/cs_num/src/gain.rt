@@ -1,4 +1,4 @@
-//! Gains.
+//! Gains: small complex integers by which a channel multiplies.
 
 ghost use Rattle.std.specs.Prelude.{◌≡◌, IsSome, IfSome, ◌↔◌};
 ghost use Rattle.cs_num.specs.Complex.{IsWithin};
@@ -7,8 +7,8 @@ ghost use Rattle.cs_num.specs.Gain.{IsGain, with_parts};
 use crate::Cpx;
 use std::marker::Model;
 
-/// A whole complex number of size 1 to 28: the square of its size is 1 to 784. Contracts see it as
-/// that number.
+/// A complex integer of magnitude 1 to 28: the square of its magnitude is 1 to 784. In contracts a gain is that
+/// number.
 #[derive(Clone, Copy, Debug, PartialEq, Eq)]
 pub struct Gain {
     re: i16,
@@ -29,7 +29,7 @@ impl Model for Gain {
 }
 
 impl Gain {
-    /// The gain that a number is; `None` exactly where the square of its size is not 1 to 784.
+    /// Returns `number` as a gain, or `None` if the square of its magnitude is not 1 to 784.
     pub fn of(number: Cpx) -> Option<Gain>
         ensures valid { IsSome result ↔ IsGain number }
         ensures value { IfSome result (λ gain. gain ≡ number) }
@@ -45,7 +45,7 @@ impl Gain {
         }
     }
 
-    /// The gain with these parts; `None` exactly where the square of its size is not 1 to 784.
+    /// Returns the gain `re + j im`, or `None` if the square of its magnitude is not 1 to 784.
     pub fn new(re: i16, im: i16) -> Option<Gain>
         ensures valid { IsSome result ↔ IsGain (with_parts re im) }
         ensures value { IfSome result (λ gain. gain ≡ with_parts re im) }
@@ -56,7 +56,7 @@ impl Gain {
         })
     }
 
-    /// The number. Its components have size at most 28.
+    /// Returns the gain as a complex integer, with components of magnitude at most 28.
     pub fn value(self) -> Cpx
         ensures value { result ≡ self }
         ensures valid { IsGain self }
@@ -68,14 +68,14 @@ impl Gain {
         }
     }
 
-    /// The real part.
+    /// Returns the real part.
     pub fn re(self) -> i16
         ensures { result ≡ self.re }
     {
         self.re
     }
 
-    /// The imaginary part.
+    /// Returns the imaginary part.
     pub fn im(self) -> i16
         ensures { result ≡ self.im }
     {

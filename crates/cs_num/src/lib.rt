@@ -1,5 +1,6 @@
-//! Whole complex numbers: samples as radios write them, exact products and sums, and the
-//! rounding that the receiver rests on. Each call gives its exact value under its condition.
+//! Complex integers: 16-bit IQ samples, exact sums and products in `i64`, and the receiver's rounding. The result of
+//! every call is exact under the condition in its comment.
+//! Tests: the crate `low_tests`.
 #![tactic(auto)]
 
 ghost use Rattle.std.specs.Prelude.{◌≡◌, ◌+◌, ◌*◌, ◌^◌, ◌<◌, ◌≤◌, pos, ◌≤ℤ◌, ◌<ℤ◌, nat_abs, int_div};
@@ -11,21 +12,21 @@ mod gain;
 pub use gain::Gain;
 use std::ops::{Add, Neg, Sub};
 
-/// A sample of a recording: a pair of 16-bit numbers.
+/// A sample of a recording: in-phase and quadrature components of 16 bits.
 #[derive(Clone, Copy, Debug, PartialEq, Eq)]
 pub struct Sample {
     pub re: i16,
     pub im: i16,
 }
 
-/// A whole complex number.
+/// A complex integer.
 #[derive(Clone, Copy, Debug, PartialEq, Eq)]
 pub struct Cpx {
     pub re: i64,
     pub im: i64,
 }
 
-/// The number that a sample is. Its components have size at most 32,768.
+/// The sample as a complex integer, with components of magnitude at most 32,768.
 impl From<Sample> for Cpx {
     ghost from_gives = { λ s z. (z ≡ value_of s) × IsWithin 32768 z };
 
@@ -37,7 +38,7 @@ impl From<Sample> for Cpx {
     }
 }
 
-/// The sum. The two greatest component sizes together are below 2^63.
+/// Addition. The maximum component magnitudes of the two numbers add up to less than 2^63.
 impl Add for Cpx {
     type Output = Cpx;
 
@@ -53,7 +54,7 @@ impl Add for Cpx {
     }
 }
 
-/// The difference. The two greatest component sizes together are below 2^63.
+/// Subtraction. The maximum component magnitudes of the two numbers add up to less than 2^63.
 impl Sub for Cpx {
     type Output = Cpx;
 
@@ -69,7 +70,7 @@ impl Sub for Cpx {
     }
 }
 
-/// The negative. No component is the least `i64`.
+/// Negation. Neither component may be `i64::MIN`.
 impl Neg for Cpx {
     type Output = Cpx;
 
@@ -87,8 +88,7 @@ impl Cpx {
     /// Zero.
     pub const ZERO: Cpx = Cpx { re: 0, im: 0 };
 
-    /// The product. The greatest component size of the one number times that of the other is
-    /// at most 2^61.
+    /// Multiplies two numbers. The product of their maximum component magnitudes is at most 2^61.
     pub fn mul(self, other: Cpx) -> Cpx
         requires { size self * size other ≤ 2 ^ 61 }
         ensures { result ≡ times self other }
@@ -99,7 +99,7 @@ impl Cpx {
         }
     }
 
-    /// The conjugate. The imaginary part is not the least `i64`.
+    /// Returns the complex conjugate. The imaginary part may not be `i64::MIN`.
     pub fn conj(self) -> Cpx
         requires { nat_abs self.im < 2 ^ 63 }
         ensures { result ≡ conjugate self }
@@ -110,7 +110,7 @@ impl Cpx {
         }
     }
 
-    /// `j` times the number. The imaginary part is not the least `i64`.
+    /// Multiplies by `j`. The imaginary part may not be `i64::MIN`.
     pub fn times_j(self) -> Cpx
         requires { nat_abs self.im < 2 ^ 63 }
         ensures { result ≡ times_j_of self }
@@ -121,7 +121,7 @@ impl Cpx {
         }
     }
 
-    /// `-j` times the number. The real part is not the least `i64`.
+    /// Multiplies by `-j`. The real part may not be `i64::MIN`.
     pub fn times_minus_j(self) -> Cpx
         requires { nat_abs self.re < 2 ^ 63 }
         ensures { result ≡ times_minus_j_of self }
@@ -132,7 +132,7 @@ impl Cpx {
         }
     }
 
-    /// `n` times the number. `n` times the greatest component size is below 2^63.
+    /// Multiplies by `n`. The maximum component magnitude times `n` is below 2^63.
     pub fn scaled(self, n: u8) -> Cpx
         requires { n * size self < 2 ^ 63 }
         ensures { result ≡ multiple n self }
@@ -143,7 +143,7 @@ impl Cpx {
         }
     }
 
-    /// The square of the size, `re^2 + im^2`, which always fits.
+    /// Returns the squared magnitude, `re^2 + im^2`, which always fits.
     pub fn norm(self) -> u128
         ensures { result ≡ square self }
     {
@@ -152,8 +152,8 @@ impl Cpx {
         re * re + im * im
     }
 
-    /// Both components divided by `2^bits` and rounded to the nearest whole number, halves up.
-    /// `bits` is 1 to 40, and components have size at most 2^62.
+    /// Divides both components by `2^bits` and rounds to nearest, ties up. `bits` is 1 to 40, and components have
+    /// magnitude at most 2^62.
     pub fn round_shift(self, bits: u32) -> Cpx
         requires bits { (1 ≤ bits) × (bits ≤ 40) }
         requires size { size self ≤ 2 ^ 62 }
@@ -165,8 +165,8 @@ impl Cpx {
         }
     }
 
-    /// Both components divided by `divisor` and rounded to the nearest whole number, halves up.
-    /// `divisor` is 1 to 2^61, and components have size at most 2^61.
+    /// Divides both components by `divisor` and rounds to nearest, ties up. `divisor` is 1 to 2^61, and components
+    /// have magnitude at most 2^61.
     pub fn quotient(self, divisor: u64) -> Cpx
         requires some { 0 < divisor }
         requires few { divisor ≤ 2 ^ 61 }
@@ -179,7 +179,7 @@ impl Cpx {
         }
     }
 
-    /// The sample that the number is. Components have size at most 32,767.
+    /// Converts to a sample without loss. Components have magnitude at most 32,767.
     pub fn exact_sample(self) -> Sample
         requires { IsWithin 32767 self }
         ensures { result ≡ sample_of self }
@@ -190,7 +190,7 @@ impl Cpx {
         }
     }
 
-    /// The sample that is nearest to the number: each component is clamped to 16 bits, -32,768 to 32,767.
+    /// Converts to the nearest sample by clamping each component to -32,768 to 32,767.
     pub fn nearest_sample(self) -> Sample
         ensures { result ≡ nearest_sample_of self }
     {
@@ -227,8 +227,8 @@ fn in_16_bits(x: i64) -> i16
     x.clamp(-32_768, 32_767) as i16
 }
 
-/// The quotient rounded toward zero, then clamped to `-limit` to `limit`. `bottom` is above 0
-/// and `limit` is at least 0.
+/// Divides `top` by `bottom`, rounding toward zero, and clamps the quotient to `-limit` to `limit`. `bottom` is
+/// positive and `limit` is not negative.
 pub fn clamp_div(top: i64, bottom: i64, limit: i16) -> i16
     requires bottom { pos 0 <ℤ bottom }
     requires limit { pos 0 ≤ℤ limit }
