@@ -1,4 +1,4 @@
--- More laws of complex numbers and of their sums.
+-- More laws for complex integers and their sums.
 use Rattle.std.proofs.Common.{◌+◌, ◌≡◌, ◌≢◌, ℕ, zero, suc, ◌*◌, ◌<◌, inl, inr, ℤ, pos, ◌+ℤ◌, ◌-ℤ◌, ◌*ℤ◌, neg_ℤ, refl, ap, ap₂, sym, ◌∙◌, arith}
 use Rattle.std.proofs.lemmas.Int.{ints}
 use Rattle.std.proofs.lemmas.Bool.{cases_lt}
@@ -28,7 +28,7 @@ plus-exchanges a b c d = pair (parts a.re b.re c.re d.re) (parts a.im b.im c.im 
 back_part : (a b : ℤ) → b +ℤ (a -ℤ b) ≡ a
 back_part a b = omega (arith, ints)
 
--- what was taken off is put back
+-- subtracting b from a and adding it again gives a
 pub plus-minus : (a b : Cpx) → plus b (minus a b) ≡ a
 plus-minus a b = pair (back_part a.re b.re) (back_part a.im b.im)
 
@@ -202,7 +202,7 @@ unfolding sum_below
 sum_zero zero f h = refl
 sum_zero (suc n) f h = ap₂ plus (sum_zero n f (λ k l. h k (omega arith))) (h n (omega arith)) ∙ plus-nothing nothing
 
--- a sum of which only one term is not 0
+-- a sum with a single nonzero term
 pub sum_of_one : (n i : ℕ) (f : ℕ → Cpx) → i < n → ((k : ℕ) → k < n → k ≢ i → f k ≡ nothing) → complex_sum_below n f ≡ f i
 unfolding sum_below
 sum_of_one zero i f l h = absurd (omega arith)

@@ -1,4 +1,4 @@
--- Cauchy's inequality over finite sums, and weighted bounds of energies.
+-- The Cauchy–Schwarz inequality for finite sums, and weighted bounds on energies.
 use Rattle.std.proofs.Common.{sym, ◌≡◌, ℕ, zero, suc, ◌+◌, ◌*◌, ◌<◌, ◌≤◌, ◌⊎◌, inl, inr, refl, ap, ap₂, ◌∙◌, arith}
 use Rattle.finite.specs.Sums.{sum_below, total_below}
 use Rattle.finite.proofs.Sums.{total_below_same, total_below_split}
@@ -53,14 +53,14 @@ energy_weighted_term m (suc n) f g =
 factors : (g e : ℕ) (s : ℕ) → s ≡ g * e → (x y : ℕ) → x ≡ g * y → s + x ≡ g * (e + y)
 factors g e s h x y k = omega (arith, h, k)
 
--- a gain's energy comes out
+-- a gain scales an energy by its squared magnitude
 pub energy_gain : (n : ℕ) (g : Cpx) (f : ℕ → Cpx) → energy_below n (λ k. times g (f k)) ≡ square g * energy_below n f
 unfolding total_below
 energy_gain zero g f = omega arith
 energy_gain (suc n) g f =
     factors (square g) (energy_below n f) (energy_below n (λ k. times g (f k))) (energy_gain n g f) (square (times g (f n))) (square (f n)) (square-times g (f n))
 
--- an energy of a part is at most that of the whole
+-- the energy of the first n terms is at most that of the first m, for n ≤ m
 pub energy_part : (n m : ℕ) (f : ℕ → Cpx) → n ≤ m → energy_below n f ≤ energy_below m f
 unfolding total_below
 energy_part n zero f l = let e : n ≡ 0 = omega arith in rw e (omega arith)
@@ -84,26 +84,26 @@ correlation_same n f g p q h j =
 pub correlation_split : (n m : ℕ) (f p : ℕ → Cpx) → correlation_below (n + m) f p ≡ plus (correlation_below n f p) (correlation_below m (λ k. f (n + k)) (λ k. p (n + k)))
 correlation_split n m f p = complex_sum_below_split n m (λ k. times (f k) (conjugate (p k)))
 
--- a sum's correlation is that of its parts
+-- correlation is additive in its first argument
 pub correlation_plus : (n : ℕ) (f e p : ℕ → Cpx) → correlation_below n (λ k. plus (f k) (e k)) p ≡ plus (correlation_below n f p) (correlation_below n e p)
 correlation_plus n f e p =
     complex_sum_below_same n (λ k. times (plus (f k) (e k)) (conjugate (p k))) (λ k. plus (times (f k) (conjugate (p k))) (times (e k) (conjugate (p k))))
     (λ k l. times-plus_left (f k) (e k) (conjugate (p k)))
     ∙ complex_sum_below_plus n (λ k. times (f k) (conjugate (p k))) (λ k. times (e k) (conjugate (p k)))
 
--- a gain comes out
+-- a gain factors out of a correlation
 pub correlation_times : (n : ℕ) (g : Cpx) (f p : ℕ → Cpx) → correlation_below n (λ k. times g (f k)) p ≡ times g (correlation_below n f p)
 correlation_times n g f p =
     complex_sum_below_same n (λ k. times (times g (f k)) (conjugate (p k))) (λ k. times g (times (f k) (conjugate (p k)))) (λ k l. times-associates g (f k) (conjugate (p k)))
     ∙ sum-times n g (λ k. times (f k) (conjugate (p k)))
 
--- and so does a number
+-- an integer factors out of a correlation
 pub correlation_multiple : (n m : ℕ) (f p : ℕ → Cpx) → correlation_below n (λ k. multiple m (f k)) p ≡ multiple m (correlation_below n f p)
 correlation_multiple n m f p =
     complex_sum_below_same n (λ k. times (multiple m (f k)) (conjugate (p k))) (λ k. multiple m (times (f k) (conjugate (p k)))) (λ k l. multiple-times m (f k) (conjugate (p k)))
     ∙ sum-multiple n m (λ k. times (f k) (conjugate (p k)))
 
--- the correlation of a gain times a signal with errors
+-- the correlation of a scaled signal with added errors
 pub correlation_gain : (n : ℕ) (g : Cpx) (f e p : ℕ → Cpx) →
     correlation_below n (λ k. plus (times g (f k)) (e k)) p ≡ plus (times g (correlation_below n f p)) (correlation_below n e p)
 correlation_gain n g f e p = correlation_plus n (λ k. times g (f k)) e p ∙ ap (λ (z : Cpx). plus z (correlation_below n e p)) (correlation_times n g f p)
@@ -111,7 +111,7 @@ correlation_gain n g f e p = correlation_plus n (λ k. times g (f k)) e p ∙ ap
 back_and_forth : (f p : Cpx) → conjugate (times p (conjugate f)) ≡ times f (conjugate p)
 back_and_forth f p = conjugate-times p (conjugate f) ∙ ap (times (conjugate p)) (conjugate_twice f) ∙ times-commutes (conjugate p) f
 
--- the correlation the other way round is the conjugate
+-- exchanging the arguments conjugates a correlation
 pub correlation_swap : (n : ℕ) (f p : ℕ → Cpx) → correlation_below n f p ≡ conjugate (correlation_below n p f)
 unfolding sum_below
 correlation_swap zero f p = refl

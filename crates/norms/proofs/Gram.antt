@@ -1,4 +1,4 @@
--- How far a correlation is from the product of the energies: Gram's determinant, for a gain times a signal with errors.
+-- The Gram determinant of a scaled signal with errors: the gap in the Cauchy–Schwarz inequality.
 use Rattle.std.proofs.Common.{◌≡◌, ℕ, zero, suc, ◌+◌, ◌*◌, ◌≤◌, ℤ, pos, ◌+ℤ◌, ◌*ℤ◌, refl, ap, ap₂, ◌∙◌, arith}
 use Rattle.std.proofs.lemmas.Int.{ints}
 use borrow.Author.Differences.{up, down}
@@ -11,7 +11,7 @@ use Rattle.norms.specs.Sizes.{inner, real, energy_below, correlation_below}
 use Rattle.norms.proofs.Squares.{times_conjugate, square-times, square-plus}
 use Rattle.norms.proofs.Cauchy.{correlation_gain}
 
--- a signal's correlation with itself is its energy
+-- the correlation of a signal with itself is its energy
 pub correlation_self : (n : ℕ) (p : ℕ → Cpx) → correlation_below n p p ≡ real (energy_below n p)
 unfolding sum_below total_below
 correlation_self zero p = refl
@@ -61,7 +61,7 @@ one_more : (s p q x y z g : ℕ) (i j k m : ℤ) → pos s ≡ pos (g * p) +ℤ 
     k ≡ j → m ≡ i +ℤ j → pos (s + x) ≡ pos (g * (p + t)) +ℤ pos (q + z) +ℤ pos 2 *ℤ m
 one_more s p q x y z g i j k m h l t e f o = omega (arith, ints)
 
--- the energy of a gain times a signal with errors
+-- the energy of a scaled signal with added errors
 pub energy_with_errors : (n : ℕ) (g : Cpx) (p e : ℕ → Cpx) →
     pos (energy_below n (λ k. plus (times g (p k)) (e k))) ≡ pos (square g * energy_below n p) +ℤ pos (energy_below n e) +ℤ pos 2 *ℤ inner g (correlation_below n e p)
 unfolding sum_below total_below
@@ -82,7 +82,7 @@ determinant x w k c e g i h l =
 square_real : (m : ℕ) → square (real m) ≡ m * m
 square_real m = omega arith
 
--- E(f) E(p) less the correlation's square is the same of the errors
+-- E(f) E(p) - |<f, p>|^2 is the same for the errors alone
 pub gram : (n : ℕ) (g : Cpx) (p e : ℕ → Cpx) →
     energy_below n (λ k. plus (times g (p k)) (e k)) * energy_below n p + square (correlation_below n e p)
     ≡ square (correlation_below n (λ k. plus (times g (p k)) (e k)) p) + energy_below n p * energy_below n e
@@ -100,7 +100,7 @@ gram n g p e =
 less : (a b c d : ℕ) → a + b ≡ c + d → a ≤ c + d
 less a b c d e = omega (arith, e)
 
--- so the correlation's square lacks at most E(p) E(e) of the product of the energies
+-- |<f, p>|^2 is at least E(f) E(p) - E(p) E(e)
 pub gram_le : (n : ℕ) (g : Cpx) (p e : ℕ → Cpx) →
     energy_below n (λ k. plus (times g (p k)) (e k)) * energy_below n p
     ≤ square (correlation_below n (λ k. plus (times g (p k)) (e k)) p) + energy_below n p * energy_below n e

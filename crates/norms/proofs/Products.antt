@@ -1,5 +1,5 @@
--- What the product of two received numbers is off by, in units of the gain: one is the gain times a number, the other a multiple of
--- the gain, and each has an error.
+-- The error in the product of two received numbers, in units of the gain: one is the gain times a number, the other a
+-- multiple of the gain, and each has an error.
 use Rattle.std.proofs.Common.{◌≡◌, ℕ, ◌+◌, ◌*◌, ◌≤◌, ℤ, pos, ◌-ℤ◌, ◌*ℤ◌, ap, ap₂, sym, ◌∙◌, subst, arith, mul-le-mul_left}
 use Rattle.std.proofs.lemmas.Int.{unsigned_abs-mul}
 use Rattle.std.specs.Prelude.{nat_abs}
@@ -35,7 +35,8 @@ opened x d y h =
     ∙ ap (λ (z : Cpx). plus z (times d (conjugate (plus y h)))) (ap (times x) (conjugate-plus y h) ∙ times-plus x (conjugate y) (conjugate h))
     ∙ plus-associates (times x (conjugate y)) (times x (conjugate h)) (times d (conjugate (plus y h)))
 
--- (g a + d) conj (c g + h) is c |g|^2 a up to (m t + s (c + t)) |g|^2 in each component, where |a| ≤ m, |d| ≤ s |g| and |h| ≤ t |g|
+-- (g a + d) conj (c g + h) is within (m t + s (c + t)) |g|^2 of c |g|^2 a in each component, if |a| ≤ m, |d| ≤ s |g|
+-- and |h| ≤ t |g|
 pub product_near : (g a d h : Cpx) (c m s t : ℕ) → square a ≤ m * m → IsSized s (square g) d → IsSized t (square g) h →
     IsWithin ((m * t + s * (c + t)) * square g) (minus (times (plus (times g a) d) (conjugate (plus (multiple c g) h))) (multiple (c * square g) a))
 product_near g a d h c m s t small p q =
@@ -88,7 +89,7 @@ spread s z x =
 pub one-times : (x : ℤ) → pos 1 *ℤ x ≡ x
 one-times x = same (ring.times (lit 1) (var x)) (var x) (omega arith)
 
--- where z is near x times a sign, the sign times z is near x
+-- if z is near x times a sign, the sign times z is near x
 pub sign-turns : (s z x : ℤ) (k : ℕ) → nat_abs s ≡ 1 → nat_abs (z -ℤ x *ℤ s) ≤ k → nat_abs (s *ℤ z -ℤ x) ≤ k
 sign-turns s z x k unit h =
     let e : s *ℤ (z -ℤ x *ℤ s) ≡ s *ℤ z -ℤ x = spread s z x ∙ ap (λ y. s *ℤ z -ℤ y) (ap (λ y. y *ℤ x) (square_of_sign s unit) ∙ one-times x) in

@@ -1,4 +1,4 @@
--- Sizes in units of a gain.
+-- Magnitudes in units of a gain.
 use Rattle.std.proofs.Common.{◌≡◌, ℕ, zero, suc, ◌+◌, ◌*◌, ◌<◌, ◌≤◌, arith, mul-le-mul, mul-le-mul_left, mul-le-mul_right}
 use Rattle.std.specs.Prelude.{nat_abs}
 use Rattle.finite.specs.Sums.{sum_below, total_below}
@@ -30,14 +30,14 @@ sized-times x y a b m n p q = record { sized = product a b m n (square (times x 
 pub sized-conjugate : (x : Cpx) (a n : ℕ) → IsSized a n x → IsSized a n (conjugate x)
 sized-conjugate x a n p = record { sized = rw (square-conjugate x) p.sized }
 
--- a gain has size 1 in its own unit
+-- a gain has magnitude 1 in its own unit
 pub sized_gain : (g : Cpx) → IsSized 1 (square g) g
 sized_gain g = record { sized = once (square g) }
   where
     once : (n : ℕ) → n ≤ 1 * 1 * n
     once n = omega arith
 
--- a number by itself, in units of 1
+-- a number whose magnitude is at most a, in units of 1
 pub sized_plain : (x : Cpx) (a : ℕ) → square x ≤ a * a → IsSized a 1 x
 sized_plain x a h = record { sized = once (square x) a h }
   where
@@ -52,7 +52,7 @@ more a b n s l h =
 pub sized_more : (x : Cpx) (a b n : ℕ) → a ≤ b → IsSized a n x → IsSized b n x
 sized_more x a b n l p = record { sized = more a b n (square x) l p.sized }
 
--- the unit of a number that is sized in a unit of 1 is any gain of size 1 and more
+-- a bound in units of 1 is also one in units of any nonzero gain
 pub sized_any : (x : Cpx) (a n : ℕ) → 1 ≤ n → IsSized a 1 x → IsSized a n x
 sized_any x a n l p = record { sized = wider a n (square x) l p.sized }
   where
@@ -61,7 +61,7 @@ sized_any x a n l p = record { sized = wider a n (square x) l p.sized }
         let k : a * a * 1 ≤ a * a * n = mul-le-mul_left (a * a) l in
         omega (arith, h, k)
 
--- a sum of terms with a bound each
+-- a sum whose terms are bounded one by one
 pub sized-sum_by : (n : ℕ) (f : ℕ → Cpx) (a : ℕ → ℕ) (m : ℕ) → ((k : ℕ) → k < n → IsSized (a k) m (f k)) → IsSized (total_below n a) m (complex_sum_below n f)
 unfolding sum_below total_below
 sized-sum_by zero f a m h = record { sized = omega arith }
@@ -75,7 +75,7 @@ sized-sum n f a m h =
 rooted : (a n s : ℕ) → s ≤ a * a * (n * n) → s ≤ (a * n) * (a * n)
 rooted a n s h = omega (arith, h)
 
--- where the unit is itself a square, the components have a bound
+-- if the unit is n, the components are at most a * n
 pub sized_re : (z : Cpx) (a n : ℕ) → IsSized a (n * n) z → nat_abs z.re ≤ a * n
 sized_re z a n p = re-le z (a * n) (rooted a n (square z) p.sized)
 

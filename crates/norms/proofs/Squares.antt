@@ -1,4 +1,4 @@
--- Squares of sums and products of complex numbers.
+-- Squared magnitudes of sums and products.
 use Rattle.std.proofs.Common.{◌≡◌, ℕ, ◌+◌, ◌*◌, ◌≤◌, ℤ, pos, negsuc, ◌+ℤ◌, ◌-ℤ◌, ◌*ℤ◌, neg_ℤ, refl, sym, ◌∙◌, arith}
 use Rattle.std.proofs.lemmas.Int.{ints, unsigned_abs-mul}
 use Rattle.std.specs.Prelude.{nat_abs}
@@ -15,11 +15,11 @@ pub abs_square : (a : ℤ) → a *ℤ a ≡ pos (nat_abs a * nat_abs a)
 abs_square (pos n) = refl
 abs_square (negsuc n) = refl
 
--- the square of the size, as a whole number
+-- the squared magnitude, taken in ℤ
 pub square_is : (z : Cpx) → z.re *ℤ z.re +ℤ z.im *ℤ z.im ≡ pos (square z)
 square_is z = rw (abs_square z.re, abs_square z.im) refl
 
--- a number times its conjugate is the square of its size
+-- a number times its conjugate
 pub times_conjugate : (x : Cpx) → times x (conjugate x) ≡ real (square x)
 times_conjugate x =
     let a = var x.re in
@@ -49,7 +49,7 @@ abs-negative a = omega (arith, ints)
 pub square-conjugate : (y : Cpx) → square (conjugate y) ≡ square y
 square-conjugate y = rw (abs-negative y.im) refl
 
--- a component is at most what bounds the size
+-- a bound on the magnitude bounds the components
 pub re-le : (z : Cpx) (m : ℕ) → square z ≤ m * m → nat_abs z.re ≤ m
 re-le z m h = root-le (nat_abs z.re) m (sums (nat_abs z.re * nat_abs z.re) (nat_abs z.im * nat_abs z.im) (m * m) h)
   where
@@ -81,7 +81,7 @@ at_most s x y i e = omega (arith, ints)
 pub square-plus_le : (x y : Cpx) → square (plus x y) ≤ square x + square y + 2 * nat_abs (inner x y)
 square-plus_le x y = at_most (square (plus x y)) (square x) (square y) (inner x y) (square-plus x y)
 
--- the product of the squares, less that of the inner product, is a square
+-- Lagrange's identity in two dimensions
 lagrange : (a b c d : ℤ) → (a *ℤ c +ℤ b *ℤ d) *ℤ (a *ℤ c +ℤ b *ℤ d) +ℤ (a *ℤ d -ℤ b *ℤ c) *ℤ (a *ℤ d -ℤ b *ℤ c) ≡ (a *ℤ a +ℤ b *ℤ b) *ℤ (c *ℤ c +ℤ d *ℤ d)
 lagrange a b c d =
     let p = var a in
@@ -95,13 +95,13 @@ lagrange a b c d =
 first_square : (u w : ℤ) (n : ℕ) → u *ℤ u +ℤ w *ℤ w ≡ pos n → nat_abs u * nat_abs u ≤ n
 first_square u w n e = omega (arith, same_out _ _ e, same_out _ _ (abs_square u), same_out _ _ (abs_square w), sum_is_lem (u *ℤ u) (w *ℤ w))
 
--- the inner product is at most the product of the sizes
+-- the inner product is at most the product of the magnitudes
 pub inner-le : (x y : Cpx) → nat_abs (inner x y) * nat_abs (inner x y) ≤ square x * square y
 inner-le x y = first_square (inner x y) (x.re *ℤ y.im -ℤ x.im *ℤ y.re) (square x * square y) (lagrange x.re x.im y.re y.im ∙ rw (square_is x, square_is y) refl)
 
 times_squared : (m a b : ℕ) → m * a * (m * a) + m * b * (m * b) ≡ m * m * (a * a + b * b)
 times_squared m a b = omega arith
 
--- n times a number has n^2 times the square
+-- a factor n multiplies the square by n^2
 pub square-multiple : (n : ℕ) (z : Cpx) → square (multiple n z) ≡ n * n * square z
 square-multiple n z = rw (unsigned_abs-mul (pos n) z.re, unsigned_abs-mul (pos n) z.im) (times_squared n (nat_abs z.re) (nat_abs z.im))

@@ -18,7 +18,7 @@ first_part a b x y p q r = omega (arith, ints)
 last_part : (a b x y : ℤ) → a ≤ℤ b → x ≤ℤ y → (b +ℤ y) ≤ℤ (a +ℤ x) → x ≡ y
 last_part a b x y p q r = omega (arith, ints)
 
--- where no term is greater and the sum is no less, each term is the same
+-- if no term of f exceeds that of g and the sum of f is no less, the terms are equal
 pub terms_same : (n : ℕ) (f g : ℕ → ℤ) → ((k : ℕ) → k < n → f k ≤ℤ g k) → sum_below n g ≤ℤ sum_below n f → (k : ℕ) → k < n → f k ≡ g k
 unfolding sum_below
 terms_same zero f g h all k l = absurd (omega arith)

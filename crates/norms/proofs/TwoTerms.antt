@@ -1,4 +1,4 @@
--- The size of a sum of two terms.
+-- The magnitude of a sum of two terms.
 use Rattle.std.proofs.Common.{◌≡◌, ℕ, ◌+◌, ◌*◌, ◌≤◌, ℤ, pos, ◌+ℤ◌, ◌*ℤ◌, arith, mul-le-mul, mul-le-mul_left}
 use Rattle.std.proofs.lemmas.Int.{ints}
 use Rattle.std.specs.Prelude.{nat_abs}
@@ -13,7 +13,7 @@ two_terms s x y i a b c d h k p q =
     let m : x * y ≤ (a * b) * (c * d) = mul-le-mul p q in
     omega (arith, h, cross-le i a b c d (omega (arith, k, m)))
 
--- Cauchy's inequality for two terms: |x|^2 ≤ a b and |y|^2 ≤ c d, so |x + y|^2 ≤ (a + c) (b + d)
+-- Cauchy–Schwarz for two terms: |x|^2 ≤ a b and |y|^2 ≤ c d imply |x + y|^2 ≤ (a + c) (b + d)
 pub two_term_cauchy : (x y : Cpx) (a b c d : ℕ) → square x ≤ a * b → square y ≤ c * d → square (plus x y) ≤ (a + c) * (b + d)
 two_term_cauchy x y a b c d p q = two_terms (square (plus x y)) (square x) (square y) (nat_abs (inner x y)) a b c d (square-plus_le x y) (inner-le x y) p q
 
@@ -28,7 +28,7 @@ weighted_sum m s x y i h k =
     let t : m * s ≤ m * (x + y + 2 * i) = mul-le-mul_left m h in
     omega (arith, t, weights m x y i k)
 
--- m |x + y|^2 ≤ (m + 1) |x|^2 + m (m + 1) |y|^2, since the difference is |x - m y|^2
+-- m |x + y|^2 ≤ (m + 1) |x|^2 + m (m + 1) |y|^2; the difference is |x - m y|^2
 pub weighted : (m : ℕ) (x y : Cpx) → m * square (plus x y) ≤ (m + 1) * square x + m * (m + 1) * square y
 weighted m x y = weighted_sum m (square (plus x y)) (square x) (square y) (nat_abs (inner x y)) (square-plus_le x y) (inner-le x y)
 
@@ -39,6 +39,6 @@ weighted_less m s x y i e k =
     let w : 2 * ((m + 1) * nat_abs i) ≤ x + (m + 1) * (m + 1) * y = weights (m + 1) x y (nat_abs i) k in
     omega (arith, t, w)
 
--- the same for a term of the sum: m |x|^2 ≤ (m + 1) |x + y|^2 + m (m + 1) |y|^2
+-- the inequality rearranged for one term: m |x|^2 ≤ (m + 1) |x + y|^2 + m (m + 1) |y|^2
 pub weighted_term : (m : ℕ) (x y : Cpx) → m * square x ≤ (m + 1) * square (plus x y) + m * (m + 1) * square y
 weighted_term m x y = weighted_less m (square (plus x y)) (square x) (square y) (inner x y) (square-plus x y) (inner-le x y)

@@ -1,19 +1,20 @@
--- Sizes of whole complex numbers, by their squares. (own)
+-- Magnitudes of complex integers, by their squares. (own)
 use Rattle.std.specs.Prelude.{ℕ, ◌+◌, ◌*◌, ◌≤◌, ℤ, pos, ◌+ℤ◌, ◌*ℤ◌}
 use Rattle.finite.specs.Sums.{total_below}
 use Rattle.cs_num.specs.declared.Cpx.{Cpx}
 use Rattle.cs_num.specs.Complex.{times, conjugate, square}
 use Rattle.cs_num.specs.Sums.{complex_sum_below}
 
--- the size of z is at most c times that of a gain whose square is n: sizes in units of a gain, and no root is taken
+-- |z| is at most c times the magnitude of a gain whose square is n. Magnitudes in units of a gain need no square
+-- root.
 pub record IsSized (c n : ℕ) (z : Cpx) : Type 0 where
   pub sized : square z ≤ c * c * n
 
--- the number n, with no imaginary part
+-- the real number n as a complex integer
 abbrev pub real : ℕ → Cpx
 real n = record { re = pos n; im = pos 0 }
 
--- the real part of x times the conjugate of y
+-- the real part, re (x conj y)
 abbrev pub inner : Cpx → Cpx → ℤ
 inner x y = x.re *ℤ y.re +ℤ x.im *ℤ y.im
 
@@ -25,14 +26,14 @@ energy_below n f = total_below n (λ k. square (f k))
 abbrev pub correlation_below : ℕ → (ℕ → Cpx) → (ℕ → Cpx) → Cpx
 correlation_below n f g = complex_sum_below n (λ k. times (f k) (conjugate (g k)))
 
--- ---- four numbers, as the gains of four antenna ports
+-- ---- the gains of four antenna ports
 
--- the sum of the squares of four numbers
+-- the sum of the squared magnitudes
 abbrev pub squares_of_four : (ℕ → Cpx) → ℕ
 squares_of_four numbers = square (numbers 0) + square (numbers 1) + square (numbers 2) + square (numbers 3)
 
--- the first and the third of four numbers have at least three eighths of the sum of squares, and so have the second
--- and the fourth
+-- the first and third gains together have at least three eighths of the sum of squares, and so do the second and
+-- fourth
 pub record ArePaired (numbers : ℕ → Cpx) : Type 0 where
   pub even : 3 * squares_of_four numbers ≤ 8 * (square (numbers 0) + square (numbers 2))
   pub odd : 3 * squares_of_four numbers ≤ 8 * (square (numbers 1) + square (numbers 3))

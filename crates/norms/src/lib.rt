@@ -1,4 +1,5 @@
-//! General inequalities for whole complex numbers, without roots: sizes of sums and products,
-//! the inequality of Cauchy for two terms and for finite sums, and weighted bounds of a sum.
-//! What they speak of stands in `specs/`, and they themselves in `proofs/`. There is no code.
+//! Inequalities for complex integers, without square roots: magnitudes of sums and products, the Cauchy–Schwarz
+//! inequality for two terms and for finite sums, and weighted bounds on a sum. The definitions are in `specs/`, the
+//! inequalities in `proofs/`; there is no code.
+//! Tests: the crate `list_tests`, through `clean_air`.
 #![tactic(auto)]
