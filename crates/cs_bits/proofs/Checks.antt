@@ -1,4 +1,4 @@
--- A check fits its bits, and a message followed by its check has it.
+-- A CRC fits its width, and a message followed by its CRC passes.
 use Rattle.std.proofs.Common.{◌≡◌, ℕ, zero, suc, ◌+◌, ◌-◌, ◌^◌, ◌<◌, ◌≤◌, Bool, true, false, cond, List, [], ◌∷◌, ◌++◌, length, take, drop, replicate, refl, ap, ap₂, sym, subst, ◌∙◌, arith, bit_xor}
 use Rattle.std.proofs.lemmas.List.{length-append, length-replicate}
 use Rattle.std.proofs.Math.Seq.{take-append_seam, drop-append_seam}
@@ -41,7 +41,7 @@ unfolding crc24a_of
 crc24a-fits message =
     subst (λ n. number (remainder 24 generator_24a message) < 2 ^ n) (length-remainder 24 generator_24a message) (number_below (remainder 24 generator_24a message))
 
--- ---- the message and the check, of both
+-- ---- splitting a codeword into message and CRC
 
 pub message_is : (width : ℕ) (message check : List Bool) → length check ≡ width → message_of width (message ++ check) ≡ message
 message_is width message check size =

@@ -1,4 +1,4 @@
--- A register of w bits as a list, and one step of the division.
+-- A w-bit register as a list, and one step of the long division.
 use Rattle.std.proofs.Common.{ℕ, zero, suc, ◌+◌, ◌-◌, ◌*◌, ◌/◌, ◌%◌, ◌^◌, ◌<◌, ◌≤◌, ◌≡◌, Bool, true, false, cond, eqb, List, [], ◌∷◌, ◌++◌, length, get_or, drop, replicate, refl, ap, sym, ◌∙◌, arith, bit_xor, div-add-mod', length-append, mod-lt, mul-le-mul_right, pow_pos, pow-suc, drop-cons, drop_of_length-le, ap₂, mod-eq_of_lt}
 use Rattle.std.specs.Int.{bit_at}
 use Rattle.std.proofs.lemmas.Nat.Bits.{bit_at_xor, bit_at-lt, bit_at-suc, bit_at_lowest, bit_at_cat_low, bit_at-zero}
@@ -20,7 +20,7 @@ bits_of-xor zero a b = refl
 bits_of-xor (suc w) a b =
     rw (bit_at_xor a b w, xor_bits (bit_at a w) (bit_at b w) (bit_at-lt a w) (bit_at-lt b w), bits_of-xor w a b) refl
 
--- a shift by one, within h bits
+-- the bits below h are kept modulo 2 ^ h
 bit_at_below : (h m i : ℕ) → i < h → bit_at (m % 2 ^ h) i ≡ bit_at m i
 bit_at_below h m i l = sym (bit_at_cat_low (m / 2 ^ h) h (m % 2 ^ h) i l) ∙ ap (λ n. bit_at n i) (div-add-mod' m (2 ^ h))
 
@@ -37,7 +37,7 @@ pub bits_of-double : (h w r : ℕ) → suc w ≤ h → bits_of (suc w) ((r * 2) 
 bits_of-double h zero r l = rw (bit_at_double_lowest h r l) refl
 bits_of-double h (suc w) r l = rw (bit_at_double h r w l, bits_of-double h w r (omega arith)) refl
 
--- ---- lists alone
+-- ---- lists
 
 pub xor_onto-none : (xs : List Bool) → xor_onto xs [] ≡ xs
 unfolding xor_onto
@@ -58,14 +58,14 @@ xor_onto-twice (x ∷ xs) [] (g ∷ gs) e = absurd (omega arith)
 xor_onto-twice (x ∷ xs) (u ∷ us) [] e = absurd (omega arith)
 xor_onto-twice (x ∷ xs) (u ∷ us) (g ∷ gs) e = rw (xor_assoc x u g, xor_onto-twice xs us gs (omega arith)) refl
 
--- what the register ts, shifted, is after a step
+-- the effect of one step on the shifted register ts
 fold_in : (g xs ts : List Bool) (b : Bool) → length g ≡ suc (length ts) →
     cond b (xor_onto (xor_onto xs ts) g) (xor_onto xs ts) ≡ xor_onto xs (cond b (xor_onto (ts ++ (false ∷ [])) g) (ts ++ (false ∷ [])))
 fold_in g xs ts true e =
     ap (λ zs. xor_onto zs g) (sym (xor_onto-false xs ts)) ∙ xor_onto-twice xs (ts ++ (false ∷ [])) g (omega (arith, length-append ts (false ∷ [])))
 fold_in g xs ts false e = sym (xor_onto-false xs ts)
 
--- one step: the register t ∷ ts takes in the bit x
+-- one step: the register t ∷ ts takes the input bit x
 pub divide_step : (n : ℕ) (g xs ts : List Bool) (x t : Bool) → length g ≡ suc (length ts) →
     divide (suc n) g (xor_onto (x ∷ xs) (t ∷ ts)) ≡ divide n g (xor_onto xs (cond (xor x t) (xor_onto (ts ++ (false ∷ [])) g) (ts ++ (false ∷ []))))
 unfolding divide xor_onto
@@ -86,7 +86,7 @@ divide_next k g r n xs x =
     ∙ divide_step n (bits_of (suc k) g) xs (bits_of k r) x (eqb (bit_at r k) 1) (length-bits_of (suc k) g ∙ ap suc (sym (length-bits_of k r)))
     ∙ ap (λ ts. divide n (bits_of (suc k) g) (xor_onto xs ts)) (bits_of-next k g r (xor x (eqb (bit_at r k) 1)))
 
--- what a loop over the bits keeps, after i of them
+-- the loop invariant after i bits
 pub record Kept (k g : ℕ) (bits : List Bool) (i r : ℕ) : Type 0 where
   pub rest : divide (length bits - i) (bits_of (suc k) g) (xor_onto (drop i bits ++ replicate (suc k) false) (bits_of (suc k) r)) ≡ remainder (suc k) (bits_of (suc k) g) bits
 

@@ -1,4 +1,4 @@
--- The number of a word's bits, and the bits of a number.
+-- Words of bits and their numbers.
 use Rattle.std.proofs.Common.{◌≡◌, ℕ, zero, suc, ◌+◌, ◌-◌, ◌*◌, ◌/◌, ◌%◌, ◌^◌, ◌<◌, ◌≤◌, Bool, true, false, cond, eqb, List, [], ◌∷◌, ◌++◌, length, get_or, take, drop, refl, ap, sym, subst, ◌∙◌, arith, add-one, length-drop, div-add-mod', mod-lt, mul-le-mul_right, pow_pos, mod-eq_of_lt, pow-add}
 use Rattle.std.specs.Prelude.{slice_range, nat_eq}
 use Rattle.std.specs.Int.{bit_at}
@@ -14,7 +14,7 @@ use Rattle.finite.specs.Lists.{values_below}
 use Rattle.finite.proofs.Lists.{values_below-length, values_below_at, values_below_is}
 use Rattle.cs_bits.specs.Numbers.{number, bits_of, part, field}
 
--- ---- the number of bits
+-- ---- from bits to a number
 
 pub number_below : (bits : List Bool) → number bits < 2 ^ length bits
 number_below [] = omega arith
@@ -31,11 +31,11 @@ number-append (true ∷ bits) b =
     let e = pow-suc 2 (length bits) in
     rw size (omega (arith, before, e))
 
--- one bit more
+-- appending one bit
 pub number_more : (bits : List Bool) (i : ℕ) → i < length bits → number (take (i + 1) bits) ≡ 2 * number (take i bits) + cond (get_or bits i false) 1 0
 number_more bits i inside = rw (add-one, take-suc bits i false inside) (number-append (take i bits) (get_or bits i false))
 
--- of 64 bits at most, those before one more have a number below 2 ^ 63
+-- the bits before the last of at most 64 have a number below 2 ^ 63, so it can be doubled
 pub number_before : (bits : List Bool) (i : ℕ) → i < length bits → length bits ≤ 64 → number (take i bits) < 2 ^ 63
 number_before bits i inside few =
     let below = number_below (take i bits) in
@@ -43,7 +43,7 @@ number_before bits i inside few =
     let power = pow_mono size in
     omega (arith, below, power)
 
--- words of one length with one number are the same
+-- words with the same length and number are equal
 pub number_same : (xs ys : List Bool) → length xs ≡ length ys → number xs ≡ number ys → xs ≡ ys
 number_same [] [] l e = refl
 number_same [] (y ∷ ys) l e = absurd (omega (arith, l))
@@ -66,7 +66,7 @@ number_same (false ∷ xs) (true ∷ ys) l e =
     let below = number_below xs in
     absurd (omega (arith, e, power, below))
 
--- ---- the bits of a number
+-- ---- from a number to bits
 
 pub length-bits_of : (width n : ℕ) → length (bits_of width n) ≡ width
 length-bits_of zero n = refl
@@ -87,14 +87,14 @@ weighed zero w h = omega arith
 weighed (suc zero) w h = omega arith
 weighed (suc (suc b)) w h = absurd (omega arith)
 
--- the number of the low bits
+-- the low bits have the number n modulo 2 ^ width
 pub number-bits_of : (width n : ℕ) → number (bits_of width n) ≡ n % 2 ^ width
 number-bits_of zero n = omega arith
 number-bits_of (suc width) n =
     rw (weighed (n / 2 ^ width % 2) (2 ^ length (bits_of width n)) (omega arith), length-bits_of width n, number-bits_of width n)
     (split_mod (2 ^ width) n (pow_pos width) ∙ ap (λ (m : ℕ). n % m) (sym (pow-suc 2 width)))
 
--- and back, for a number that fits
+-- a number that fits is restored from its bits
 pub number_of_bits : (width n : ℕ) → n < 2 ^ width → number (bits_of width n) ≡ n
 number_of_bits width n small = number-bits_of width n ∙ mod-eq_of_lt small
 
@@ -103,11 +103,11 @@ bits_of_number bits =
     number_same (bits_of (length bits) (number bits)) bits (length-bits_of (length bits) (number bits))
     (number_of_bits (length bits) (number bits) (number_below bits))
 
--- a word with this number and length
+-- a word is determined by its length and number
 pub bits_of_is : (width n : ℕ) (bits : List Bool) → length bits ≡ width → number bits ≡ n → bits ≡ bits_of width n
 bits_of_is width n bits size is = sym (bits_of_number bits) ∙ rw (size, is) refl
 
--- each bit
+-- bit i of a number's bits
 pub get_or-bits_of : (width n i : ℕ) → i < width → get_or (bits_of width n) i false ≡ odd (n / 2 ^ (width - 1 - i))
 get_or-bits_of zero n i h = absurd (omega arith)
 get_or-bits_of (suc width) n zero h = let e : suc width - 1 - 0 ≡ width = omega arith in rw e refl
@@ -117,7 +117,7 @@ pub bits_of-values : (width n : ℕ) → bits_of width n ≡ values_below width 
 bits_of-values width n =
     values_below_is false width (λ i. odd (n / 2 ^ (width - 1 - i))) (bits_of width n) (length-bits_of width n) (get_or-bits_of width n)
 
--- each bit of a word, from its number
+-- bit k of a word, from its number
 pub word_bit : (bits : List Bool) (k : ℕ) → k < length bits → get_or bits k false ≡ odd (number bits / 2 ^ (length bits - 1 - k))
 word_bit bits k h = ap (λ (bs : List Bool). get_or bs k false) (sym (bits_of_number bits)) ∙ get_or-bits_of (length bits) (number bits) k h
 
@@ -138,6 +138,6 @@ part_is_range bits first width inside =
 pub field_below : (bits : List Bool) (first width : ℕ) → field bits first width < 2 ^ width
 field_below bits first width = subst (λ n. field bits first width < 2 ^ n) (length-part bits first width) (number_below (part bits first width))
 
--- the whole word
+-- a word is its own part of full length
 pub whole_part : (bits : List Bool) (n : ℕ) → length bits ≡ n → bits ≡ part bits 0 n
 whole_part bits n size = values_below_is false n (λ i. get_or bits (0 + i) false) bits size (λ k h. ap (λ j. get_or bits j false) (omega arith))

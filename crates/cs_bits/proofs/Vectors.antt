@@ -1,4 +1,4 @@
--- The definitions at messages whose remainders are known.
+-- The CRC definitions evaluated for messages with known remainders.
 use Rattle.std.proofs.Common.{◌≡◌, refl, true, [], ◌∷◌}
 use Rattle.cs_bits.specs.Polynomial.{xor_onto, divide, remainder, has_power, powers_below, generator_16, generator_24a}
 use Rattle.cs_bits.specs.Checks.{crc16_of, crc24a_of}

@@ -1,22 +1,22 @@
--- Words of bits and their numbers, the first bit the highest.
+-- Bits and numbers, the most significant bit first.
 use Rattle.std.specs.Prelude.{ℕ, zero, suc, ◌+◌, ◌/◌, ◌^◌, Bool, false, cond, List, [], ◌∷◌, length, slice_index_or}
 use Rattle.finite.specs.Bits.{odd}
 use Rattle.finite.specs.Lists.{values_below}
 
--- the number with these bits: a bit 1 weighs 2 to the count of the bits after it
+-- the number with these bits: a bit has the weight 2 ^ n, where n bits follow it
 abbrev pub number : List Bool → ℕ
 number [] = 0
 number (b ∷ bs) = cond b (2 ^ length bs) 0 + number bs
 
--- the lowest bits of a number, as many as the width says
+-- the `width` low bits of a number
 abbrev pub bits_of : ℕ → ℕ → List Bool
 bits_of zero n = []
 bits_of (suc width) n = odd (n / 2 ^ width) ∷ bits_of width n
 
--- the bits of a word from a first one on, as many as the width says; past its end are zeros
+-- `width` bits from index `first`; past the end of the list, bits are 0
 abbrev pub part : List Bool → ℕ → ℕ → List Bool
 part bits first width = values_below width (λ i. slice_index_or bits (first + i) false)
 
--- the number of the bits of a word from a first one on, as many as the width says
+-- the number in `width` bits from index `first`
 abbrev pub field : List Bool → ℕ → ℕ → ℕ
 field bits first width = number (part bits first width)

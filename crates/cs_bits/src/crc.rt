@@ -1,4 +1,4 @@
-//! The cyclic redundancy checks of LTE, one bit at a time.
+//! The CRCs of LTE, computed one bit at a time.
 
 ghost use Rattle.std.specs.Prelude.{◌≡◌, ◌<◌, ◌≤◌, ◌^◌, length};
 ghost use Rattle.cs_bits.specs.Checks.{crc16_of, crc24a_of, has_check_24};
@@ -6,14 +6,13 @@ ghost use Rattle.cs_bits.specs.Register.{next};
 
 use crate::number_of;
 
-/// D^16 + D^12 + D^5 + 1, without its first term.
+/// D^16 + D^12 + D^5 + 1, without its leading term.
 const GENERATOR_16: u16 = 0x1021;
 
-/// D^24 + D^23 + D^18 + D^17 + D^14 + D^11 + D^10 + D^7 + D^6 + D^5 + D^4 + D^3 + D + 1, without
-/// its first term.
+/// D^24 + D^23 + D^18 + D^17 + D^14 + D^11 + D^10 + D^7 + D^6 + D^5 + D^4 + D^3 + D + 1, without its leading term.
 const GENERATOR_24A: u32 = 0x86_4cfb;
 
-/// The register after one more bit.
+/// Returns the CRC16 register after one more bit.
 fn take_in_16(register: u16, bit: bool) -> u16
     ensures { result ≡ next 15 4129 register bit }
 {
@@ -25,7 +24,7 @@ fn take_in_16(register: u16, bit: bool) -> u16
     }
 }
 
-/// The register of 24 bits after one more bit.
+/// Returns the CRC24A register after one more bit.
 fn take_in_24(register: u32, bit: bool) -> u32
     requires { register < 2 ^ 24 }
     ensures value { result ≡ next 23 8801531 register bit }
@@ -39,7 +38,7 @@ fn take_in_24(register: u32, bit: bool) -> u32
     }
 }
 
-/// CRC16 of the bits, the first of the highest power (TS 36.212 section 5.1.1).
+/// Returns the CRC16 of a message; the first bit is the highest coefficient (TS 36.212 section 5.1.1).
 pub fn crc16(bits: &[bool]) -> u16
     ensures { result ≡ crc16_of bits.now }
 {
@@ -50,7 +49,7 @@ pub fn crc16(bits: &[bool]) -> u16
     register
 }
 
-/// CRC24A of the bits, the first of the highest power (TS 36.212 section 5.1.1).
+/// Returns the CRC24A of a message; the first bit is the highest coefficient (TS 36.212 section 5.1.1).
 pub fn crc24a(bits: &[bool]) -> u32
     ensures value { result ≡ crc24a_of bits.now }
     ensures fits { result < 2 ^ 24 }
@@ -62,7 +61,7 @@ pub fn crc24a(bits: &[bool]) -> u32
     register
 }
 
-/// Whether the last 24 bits are CRC24A of those before (TS 36.212 section 5.1.1).
+/// Returns whether the last 24 bits are the CRC24A of the bits before them (TS 36.212 section 5.1.1).
 pub fn has_check_24(word: &[bool]) -> bool
     requires { 24 ≤ length word.now }
     ensures { result ≡ has_check_24 word.now }

@@ -1,5 +1,6 @@
-//! Words of a fixed number of bits, bits and numbers, the cyclic redundancy checks of LTE, and what a
-//! received value says of a bit.
+//! Bits: fixed-length bit words, conversion between bits and numbers, the CRCs of LTE (TS 36.212 section 5.1.1), and
+//! the cost of a hard decision against a soft value.
+//! Tests: the crates `low_tests` and `code_tests`.
 #![tactic(auto)]
 
 mod crc;

@@ -1,9 +1,9 @@
-//! Words of bits and their numbers.
+//! Conversion between bits and numbers.
 
 ghost use Rattle.std.specs.Prelude.{◌≡◌, ◌^◌, ◌<◌, ◌≤◌, length};
 ghost use Rattle.cs_bits.specs.Numbers.{number, bits_of};
 
-/// The number of at most 64 bits, the first of the highest power.
+/// Returns the number with these bits, the most significant first. There are at most 64.
 pub fn number_of(bits: &[bool]) -> u64
     requires { length bits.now ≤ 64 }
     ensures value { result ≡ number bits.now }
@@ -16,8 +16,7 @@ pub fn number_of(bits: &[bool]) -> u64
     number
 }
 
-/// Writes the low bits of a number over the whole of `out`, which has at most 64 places: the last bit is
-/// the lowest.
+/// Writes the low bits of `number` to all of `out`, the most significant first. `out` has at most 64 elements.
 pub fn put_number(number: u64, out: &mut [bool])
     requires { length out.old ≤ 64 }
     ensures { out.new ≡ bits_of (length out.old) number }

@@ -1,10 +1,10 @@
-//! What a received value says of a bit.
+//! Agreement between a soft value and a bit.
 
 ghost use Rattle.std.specs.Prelude.{◌≡◌};
 ghost use Rattle.cs_bits.specs.Signs.{disagreement};
 
-/// The size of a value where it speaks against the bit, and 0 elsewhere: a value above 0 speaks for 0, one
-/// below 0 for 1 (own).
+/// Returns the magnitude of a soft value if its sign contradicts `bit`, otherwise 0. A positive value means 0, a
+/// negative one 1 (own).
 pub fn disagreement_of(value: i32, bit: bool) -> u32
     ensures { result ≡ disagreement value bit }
 {

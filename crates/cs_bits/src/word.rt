@@ -1,4 +1,4 @@
-//! A word of a fixed number of bits.
+//! A fixed-length bit word.
 
 ghost use Rattle.std.specs.Prelude.{◌≡◌, ◌+◌, ◌^◌, ◌<◌, ◌≤◌, length, false, slice_index_or};
 ghost use Rattle.cs_bits.specs.Numbers.{bits_of, field};
@@ -6,7 +6,7 @@ ghost use Rattle.cs_bits.specs.Numbers.{bits_of, field};
 use crate::{number_of, put_number};
 use std::marker::Model;
 
-/// A word of N bits, N at most 64. Contracts see it as the list of its bits.
+/// A word of `N` bits, at most 64. In contracts it is the list of its bits.
 #[derive(Clone, Copy, Debug, Drop, PartialEq, Eq)]
 pub struct Bits<const N: usize> {
     bits: [bool; N],
@@ -23,7 +23,7 @@ impl<const N: usize> Model for Bits<N> {
 }
 
 impl<const N: usize> Bits<N> {
-    /// The word of these bits.
+    /// Creates a word from its bits.
     pub fn new(bits: [bool; N]) -> Bits<N>
         requires { N ≤ 64 }
         ensures { result ≡ bits.entry }
@@ -31,7 +31,7 @@ impl<const N: usize> Bits<N> {
         Bits { bits }
     }
 
-    /// The word of the N low bits of a number, the last bit the lowest.
+    /// Creates a word from the `N` low bits of `number`, the most significant first.
     pub fn of_number(number: u64) -> Bits<N>
         requires { N ≤ 64 }
         ensures word { result ≡ bits_of N number }
@@ -42,7 +42,7 @@ impl<const N: usize> Bits<N> {
         Bits { bits }
     }
 
-    /// The bits, in order.
+    /// Returns the bits in order.
     pub fn slice(&self) -> &[bool]
         requires { N ≤ 64 }
         ensures bits { result.now ≡ self.now }
@@ -51,7 +51,7 @@ impl<const N: usize> Bits<N> {
         &self.bits
     }
 
-    /// The bit at place i.
+    /// Returns the bit at index `i`.
     pub fn get(&self, i: usize) -> bool
         requires size { N ≤ 64 }
         requires inside { i < N }
@@ -60,7 +60,7 @@ impl<const N: usize> Bits<N> {
         self.bits[i]
     }
 
-    /// The number of `width` bits from the bit at place `first` on.
+    /// Returns the number in the `width` bits from index `first`, the most significant first.
     pub fn field(&self, first: usize, width: usize) -> u64
         requires size { N ≤ 64 }
         requires inside { first + width ≤ N }
