@@ -1,4 +1,4 @@
--- What holds of all words of n bits.
+-- Laws for tests and maxima over all words of n bits.
 use Rattle.std.proofs.Common.{◌≡◌, ℕ, zero, suc, ◌⊎◌, inl, inr, Bool, true, false, cond, List, [], ◌∷◌, length, ℤ, refl, ap, sym, ◌∙◌, arith}
 use Rattle.std.specs.Prelude.{◌≤ℤ◌, int_lt}
 use Rattle.std.specs.Int.{int_max}
@@ -23,7 +23,7 @@ every_word_all (suc n) p h =
     and_from _ _ (every_word_all n (λ w. p (false ∷ w)) (λ w size. h (false ∷ w) (omega (arith, size))))
     (every_word_all n (λ w. p (true ∷ w)) (λ w size. h (true ∷ w) (omega (arith, size))))
 
--- ---- the greatest of a function
+-- ---- the maximum of a function
 
 max_cases : (x y : ℤ) → (int_max x y ≡ x) ⊎ (int_max x y ≡ y)
 max_cases x y = elim (int_lt y x) as (λ t. (cond t x y ≡ x) ⊎ (cond t x y ≡ y)) [ true ↦ inl refl | false ↦ inr refl ]

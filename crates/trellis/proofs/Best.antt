@@ -1,4 +1,4 @@
--- The recursion from the end gives the least cost from a state on.
+-- The backward recursion gives the minimum cost from a state.
 use Rattle.std.proofs.Common.{◌≡◌, ℕ, zero, suc, ◌+◌, ◌≤◌, Bool, true, false, List, [], ◌∷◌, length, refl, ap, inl, inr, ◌⊎◌, arith}
 use Rattle.std.specs.Prelude.{min}
 use Rattle.std.proofs.lemmas.Bool.{cases_lt}
@@ -15,7 +15,7 @@ best-le next c ends k x [] = omega arith
 best-le next c ends k x (false ∷ bs) = let ih = best-le next c ends (suc k) (next x false) bs in omega (arith, ih)
 best-le next c ends k x (true ∷ bs) = let ih = best-le next c ends (suc k) (next x true) bs in omega (arith, ih)
 
--- some path costs as much
+-- some path attains the minimum
 pub best_reached : (next : ℕ → Bool → ℕ) (c : ℕ → ℕ → Bool → ℕ) (ends : ℕ → ℕ) (k n x : ℕ) →
     (bs : List Bool) × (length bs ≡ n) × (path_cost next c k x bs + ends (end_of next x bs) ≡ best next c ends k n x)
 best_reached next c ends k zero x = ([], refl, omega arith)

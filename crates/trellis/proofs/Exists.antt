@@ -1,9 +1,9 @@
--- Of the words of n bits one costs least, and of those that do it stands first, whatever the cost is.
+-- For every cost function, the words of n bits have a lexicographically first minimum.
 use Rattle.std.proofs.Common.{◌≡◌, ℕ, zero, suc, ◌<◌, ◌≤◌, inl, inr, Bool, true, false, List, [], ◌∷◌, length, refl, arith}
 use Rattle.std.proofs.lemmas.Bool.{cases_lt}
 use Rattle.trellis.specs.Words.{IsBefore, IsFirstLeast}
 
--- the first least word begins with 0, where that of the words that do costs no more than that of those with 1
+-- the first of the cheapest words begins with 0 if the best word with 0 costs no more than the best with 1
 pub begins_with_0 : (n : ℕ) (cost : List Bool → ℕ) (u w : List Bool) → IsFirstLeast n (λ v. cost (false ∷ v)) u → IsFirstLeast n (λ v. cost (true ∷ v)) w →
     cost (false ∷ u) ≤ cost (true ∷ w) → IsFirstLeast (suc n) cost (false ∷ u)
 begins_with_0 n cost u w a b lower = record { size = let s = a.size in omega (arith, s); least = least; first = first }
@@ -32,7 +32,7 @@ begins_with_1 n cost u w a b lower = record { size = let s = b.size in omega (ar
     first (false ∷ v) size before = let h = a.least v (omega (arith, size)) in omega (arith, lower, h)
     first (true ∷ v) size before = b.first v (omega (arith, size)) before
 
--- of the words of no bits it is the only one
+-- the empty word, for n = 0
 pub first_of_none : (cost : List Bool → ℕ) → IsFirstLeast 0 cost []
 first_of_none cost = record { size = refl; least = least; first = first }
   where

@@ -1,4 +1,4 @@
--- Least costs up to a state, step by step.
+-- Minimum costs up to a state, step by step.
 use Rattle.std.proofs.Common.{◌≡◌, ℕ, suc, ◌+◌, ◌<◌, ◌≤◌, Bool, List, [], ◌∷◌, ◌++◌, length, refl, ap, sym, ◌∙◌, inl, inr, ◌⊎◌, arith, length-append}
 use Rattle.std.specs.Prelude.{min}
 use Rattle.std.proofs.Math.Nat.{min-le_left, min-le_right}
@@ -7,7 +7,7 @@ use Rattle.trellis.specs.Least.{IsLeastTo}
 use Rattle.trellis.proofs.Paths.{end_of-append, path_cost-last, all_but_last, end_below}
 use Rattle.trellis.proofs.Best.{min_cases}
 
--- after no step
+-- before any step
 pub least_to_none : (next : ℕ → Bool → ℕ) (c : ℕ → ℕ → Bool → ℕ) (starts : ℕ → ℕ) (limit x : ℕ) → x < limit → IsLeastTo next c starts limit 0 x (starts x)
 least_to_none next c starts limit x below = record {
   reached = (x, [], below, refl, refl, omega arith);
@@ -18,7 +18,7 @@ least_to_none next c starts limit x below = record {
     first y [] h size e = let e' = ap starts e in omega (arith, e')
     first y (b ∷ bs) h size e = absurd (omega arith)
 
--- x has the two edges in, from p by b and from q by d
+-- state x is entered by two edges: from p by b, and from q by d
 pub record HasEdges (next : ℕ → Bool → ℕ) (limit x p : ℕ) (b : Bool) (q : ℕ) (d : Bool) : Type 0 where
   pub first_below : p < limit
   pub second_below : q < limit
@@ -26,7 +26,7 @@ pub record HasEdges (next : ℕ → Bool → ℕ) (limit x p : ℕ) (b : Bool) (
   pub second : next q d ≡ x
   pub only : (y : ℕ) (a : Bool) → y < limit → next y a ≡ x → ((y ≡ p) × (a ≡ b)) ⊎ ((y ≡ q) × (a ≡ d))
 
--- one step more
+-- one more step
 pub least_to_more : (next : ℕ → Bool → ℕ) (c : ℕ → ℕ → Bool → ℕ) (starts : ℕ → ℕ) (limit k x p : ℕ) (b : Bool) (q : ℕ) (d : Bool) (m n : ℕ) →
     ((y : ℕ) (a : Bool) → y < limit → next y a < limit) →
     HasEdges next limit x p b q d → IsLeastTo next c starts limit k p m → IsLeastTo next c starts limit k q n →
@@ -76,7 +76,7 @@ least_to_more next c starts limit k x p b q d m n closed edges to_p to_q = recor
       ]);
 }
 
--- the least cost one step on is no more than that of an edge to there
+-- the minimum cost one step later is at most the cost over any single edge
 pub least_to-le : (next : ℕ → Bool → ℕ) (c : ℕ → ℕ → Bool → ℕ) (starts : ℕ → ℕ) (limit k x : ℕ) (b : Bool) (m m' : ℕ) →
     IsLeastTo next c starts limit k x m → IsLeastTo next c starts limit (suc k) (next x b) m' → m' ≤ m + c k x b
 least_to-le next c starts limit k x b m m' to further =

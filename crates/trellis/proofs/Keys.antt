@@ -1,4 +1,4 @@
--- The least key is that of the first of the words that cost least.
+-- The smallest key belongs to the first of the cheapest words.
 use Rattle.std.proofs.Common.{◌≡◌, ℕ, suc, ◌+◌, ◌*◌, ◌^◌, ◌<◌, ◌≤◌, inl, inr, Bool, List, length, ap, sym, ◌∙◌, arith, mul-le-mul_right}
 use Rattle.std.proofs.lemmas.Bool.{cases_lt}
 use Rattle.cs_bits.specs.Numbers.{number}
@@ -6,7 +6,7 @@ use Rattle.cs_bits.proofs.Numbers.{number_below}
 use Rattle.trellis.specs.Words.{IsFirstLeast, key}
 use Rattle.trellis.proofs.Words.{number-before, either_before}
 
--- one unit of cost is a whole scale
+-- a cost greater by 1 outweighs a full scale
 unit_more : (scale a b : ℕ) → a < b → a * scale + scale ≤ b * scale
 unit_more scale a b less =
     let h : suc a * scale ≤ b * scale = mul-le-mul_right scale (omega (arith, less)) in

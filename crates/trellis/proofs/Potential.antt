@@ -1,4 +1,4 @@
--- Bounds that rise by no more than the cost of each step stay below the cost of each path.
+-- A potential that rises by at most the cost of each step bounds the cost of each path from below.
 use Rattle.std.proofs.Common.{◌≡◌, ℕ, suc, ◌+◌, ◌<◌, ◌≤◌, Bool, List, [], ◌∷◌, length, arith}
 use Rattle.trellis.specs.Paths.{end_of, path_cost}
 

@@ -1,4 +1,4 @@
--- What an end costs, where one state alone is free.
+-- End costs when one state alone is free.
 use Rattle.std.proofs.Common.{◌≡◌, ℕ, ◌≤◌, true, false, cond, refl, arith}
 use Rattle.std.specs.Prelude.{nat_eq}
 use Rattle.std.proofs.lemmas.Bool.{eq-eqb}

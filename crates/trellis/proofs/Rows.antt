@@ -1,4 +1,4 @@
--- A row that is written at one place after another, and rows of least costs.
+-- A row written state by state, and rows of path metrics.
 use Rattle.std.proofs.Common.{◌≡◌, ◌≢◌, ℕ, suc, ◌+◌, ◌*◌, ◌<◌, ◌≤◌, Bool, cond, List, length, get_or, set, inl, inr, refl, arith, get_or-set_other, get_or-set_same, below_more}
 use Rattle.std.specs.Prelude.{replicate, count_by, nat_lt}
 use Rattle.std.proofs.lemmas.Bool.{lt-ltb, le-ltb}
@@ -16,7 +16,7 @@ row_more P row x v inside below here = below_more _ _
     (λ k h. let ne : k ≢ x = omega arith in rw get_or-set_other (below k h))
     (rw get_or-set_same here)
 
--- the row of one number, with a 0 at a place
+-- a constant row with a 0 at state s
 pub one_zero : (n far s x : ℕ) → s < n → x < n → get_or (set (replicate n far) s 0) x 0 ≡ ends_in far s x
 one_zero n far s x start inside = elim (eqb_tells x s) [
   | inl (t, same) ↦
@@ -34,7 +34,7 @@ row_first next c starts limit first most row is small = record {
   room = λ x below. let r = small x below in omega (arith, r);
 }
 
--- after one step more: into x lead an edge from p x by b x, and one from q x by d x
+-- after one more step: edges from p x by b x and from q x by d x enter x
 pub row_later : (next : ℕ → Bool → ℕ) (c : ℕ → ℕ → Bool → ℕ) (starts : ℕ → ℕ) (limit first most k : ℕ) (p : ℕ → ℕ) (b : ℕ → Bool) (q : ℕ → ℕ) (d : ℕ → Bool)
     (row later : List ℕ) → ((y : ℕ) (a : Bool) → y < limit → next y a < limit) →
     ((x : ℕ) → x < limit → HasEdges next limit x (p x) (b x) (q x) (d x)) → IsLeastRow next c starts limit first most k row →
@@ -53,9 +53,9 @@ row_later next c starts limit first most k p b q d row later closed edges known 
       omega (arith, g, r, more);
 }
 
--- ---- how many of a row are below a number
+-- ---- the number of entries below a threshold
 
--- one that was is no longer, and the number is no greater
+-- an entry below the threshold is replaced by one that is not, and the threshold does not rise
 pub fewer_below : (row : List ℕ) (i v m m' : ℕ) → i < length row → get_or row i 0 < m → m' ≤ m → m' ≤ v →
     count_by (λ n. nat_lt n m') (set row i v) < count_by (λ n. nat_lt n m) row
 fewer_below row i v m m' inside was no_more now =

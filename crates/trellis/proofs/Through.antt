@@ -1,4 +1,4 @@
--- Least costs through an edge, from what leads there and what leads on.
+-- Minimum costs over an edge, from the costs up to it and the costs after it.
 use Rattle.std.proofs.Common.{◌≡◌, ℕ, suc, ◌+◌, ◌<◌, Bool, ◌∷◌, ◌++◌, refl, ap, sym, ◌∙◌, inl, inr, arith}
 use Rattle.std.specs.Prelude.{min}
 use Rattle.std.proofs.lemmas.Bool.{cases_lt}
@@ -8,7 +8,7 @@ use Rattle.trellis.specs.Least.{IsLeastTo, IsLeastVia, IsLeastWith}
 use Rattle.trellis.proofs.Paths.{end_of-append, path_cost-split, end_below}
 use Rattle.trellis.proofs.Best.{min_cases, best-le, best_reached}
 
--- the split: least to a state, an edge, least from the next
+-- a minimum split at one edge: the minimum up to its state, the edge, and the minimum from the next state
 pub least_split : (next : ℕ → Bool → ℕ) (c : ℕ → ℕ → Bool → ℕ) (starts ends before : ℕ → ℕ) (limit k n : ℕ) (b : Bool) (m : ℕ) →
     ((y : ℕ) (a : Bool) → y < limit → next y a < limit) →
     ((x : ℕ) → x < limit → IsLeastTo next c starts limit k x (before x)) →
@@ -34,7 +34,7 @@ least_split next c starts ends before limit k n b m closed to via = record {
       omega (arith, h, h_to, h_from, split, ends_is);
 }
 
--- over one more state
+-- the minimum over one more state
 pub via_more : (next : ℕ → Bool → ℕ) (edge : ℕ → Bool → ℕ) (before after : ℕ → ℕ) (b : Bool) (x m v : ℕ) → IsLeastVia next edge before after b x m →
     v ≡ before x + edge x b + after (next x b) → IsLeastVia next edge before after b (x + 1) (min m v)
 via_more next edge before after b x m v known is = record {

@@ -1,4 +1,4 @@
--- A walk by the bits with which least costs begin.
+-- The path that follows, in each state, the first bit on a cheapest path.
 use Rattle.std.proofs.Common.{◌≡◌, ℕ, zero, suc, ◌+◌, ◌<◌, inl, inr, Bool, true, false, List, ◌∷◌, length, refl, ap, ◌∙◌, arith}
 use Rattle.std.proofs.lemmas.Bool.{cases_lt, lt-ltb, le-ltb}
 use Rattle.trellis.specs.Paths.{end_of, path_cost, best, best_bit, walked}
@@ -10,11 +10,11 @@ pub length-walked : (next : ℕ → Bool → ℕ) (choice : ℕ → ℕ → Bool
 length-walked next choice k zero x = refl
 length-walked next choice k (suc n) x = ap suc (length-walked next choice (suc k) n (next x (choice k x)))
 
--- what a path costs, its end included
+-- the cost of a path, end cost included
 abbrev whole_cost : (ℕ → Bool → ℕ) → (ℕ → ℕ → Bool → ℕ) → (ℕ → ℕ) → ℕ → ℕ → List Bool → ℕ
 whole_cost next c ends k x bs = path_cost next c k x bs + ends (end_of next x bs)
 
--- the first of the words that cost least costs what is best
+-- the lexicographically first of the cheapest words costs `best`
 pub first_least_is_best : (next : ℕ → Bool → ℕ) (c : ℕ → ℕ → Bool → ℕ) (ends : ℕ → ℕ) (k n x : ℕ) (word : List Bool) →
     IsFirstLeast n (λ bs. path_cost next c k x bs + ends (end_of next x bs)) word →
     path_cost next c k x word + ends (end_of next x word) ≡ best next c ends k n x
@@ -25,7 +25,7 @@ first_least_is_best next c ends k n x word is =
     let high = is.least bs size in
     omega (arith, low, e, reached, high)
 
--- costs that are greater by one number
+-- adding a constant to all costs keeps the minimum
 more_for_all : (n d : ℕ) (f g : List Bool → ℕ) (word : List Bool) → ((v : List Bool) → g v ≡ d + f v) → IsFirstLeast n f word → IsFirstLeast n g word
 more_for_all n d f g word is known = record {
   size = known.size;
@@ -33,13 +33,13 @@ more_for_all n d f g word is known = record {
   first = λ other size before. let h = known.first other size before in let e = is word in let e' = is other in omega (arith, h, e, e');
 }
 
--- the words that begin with a bit
+-- words that begin with the bit b
 with_first : (next : ℕ → Bool → ℕ) (c : ℕ → ℕ → Bool → ℕ) (ends : ℕ → ℕ) (k m x : ℕ) (b : Bool) (word : List Bool) →
     IsFirstLeast m (whole_cost next c ends (suc k) (next x b)) word → IsFirstLeast m (λ v. whole_cost next c ends k x (b ∷ v)) word
 with_first next c ends k m x b word known =
     more_for_all m (c k x b) (whole_cost next c ends (suc k) (next x b)) (λ v. whole_cost next c ends k x (b ∷ v)) word (λ v. omega arith) known
 
--- each bit is that with which the least cost begins: the walk's word costs least, and those before it cost more
+-- a walk that takes `best_bit` at each step is the lexicographically first of the cheapest words
 pub walked_first : (next : ℕ → Bool → ℕ) (c : ℕ → ℕ → Bool → ℕ) (ends : ℕ → ℕ) (choice : ℕ → ℕ → Bool) (limit n : ℕ) →
     ((x : ℕ) (b : Bool) → x < limit → next x b < limit) →
     ((k m x : ℕ) → k + suc m ≡ n → x < limit → choice k x ≡ best_bit next c ends k m x) →

@@ -1,11 +1,11 @@
--- A word's number, its parts, and the order of words.
+-- Word numbers, splitting of words, and lexicographic order.
 use Rattle.std.proofs.Common.{◌≡◌, ℕ, suc, ◌+◌, ◌^◌, ◌<◌, ◌⊎◌, inl, inr, ◌++◌, take, drop, subst, length-drop, length-take-le, Bool, true, false, List, [], ◌∷◌, length, get_or, refl, ap, ◌∙◌, arith}
 use Rattle.std.proofs.Math.Seq.{split_at, get_or-append_seam}
 use Rattle.cs_bits.specs.Numbers.{number}
 use Rattle.cs_bits.proofs.Numbers.{number_below}
 use Rattle.trellis.specs.Words.{IsBefore}
 
--- a word before another has the smaller number
+-- a word that precedes another has the smaller number
 pub number-before : (u w : List Bool) → length u ≡ length w → IsBefore u w → number u < number w
 number-before [] w e h = absurd h
 number-before (x ∷ u) [] e h = absurd (omega arith)
@@ -21,7 +21,7 @@ number-before (true ∷ u) (true ∷ w) e h =
     let e' : length u ≡ length w = omega arith in
     rw e' (omega (arith, ih))
 
--- of two words of one length that are not the same, one stands before the other
+-- two different words of equal length: one precedes the other
 pub either_before : (u w : List Bool) → length u ≡ length w → (u ≡ w) ⊎ (IsBefore u w ⊎ IsBefore w u)
 either_before [] [] size = inl refl
 either_before [] (x ∷ w) size = absurd (omega (arith, size))
@@ -41,7 +41,7 @@ either_before (true ∷ u) (true ∷ w) size = elim (either_before u w (omega (a
 pub bit_between : (us ws : List Bool) (b : Bool) (k : ℕ) → length us ≡ k → get_or (us ++ b ∷ ws) k false ≡ b
 bit_between us ws b k size = subst (λ i. get_or (us ++ b ∷ ws) i false ≡ b) size (get_or-append_seam us b ws false)
 
--- a word is the bits before place k, the bit there, and those after it
+-- a word split at index k into the bits before, the bit there, and the bits after
 pub with_bit : (word : List Bool) (k n : ℕ) (b : Bool) → k + suc n ≡ length word → get_or word k false ≡ b →
     (us : List Bool) × (ws : List Bool) × (length us ≡ k) × (length ws ≡ n) × (word ≡ us ++ b ∷ ws)
 with_bit word k n b size bit = (

@@ -1,4 +1,5 @@
-//! Paths through a trellis of numbered states, their costs and the least of them, and words in
-//! lexicographic order. A step reads a bit, and its cost is a function of its place, the state and the bit.
-//! Definitions that crates above cite stand in `specs/`, and their laws in `proofs/`. There is no code.
+//! Paths through a trellis with numbered states, their minimum costs (Viterbi), and bit words in lexicographic order.
+//! A step consumes one bit; its cost depends on its index, the state and the bit. The definitions are in `specs/`,
+//! their laws in `proofs/`; there is no code.
+//! Tests: the crate `code_tests`, through `tailbite` and `turbo_dec`.
 #![tactic(auto)]
