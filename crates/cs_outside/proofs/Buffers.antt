@@ -1,4 +1,4 @@
--- Bytes that are read to a place of a buffer.
+-- Bytes read into the middle of a buffer.
 use Rattle.std.proofs.Common.{◌≡◌, ℕ, ◌+◌, ◌≤◌, ◌↔◌, List, [], ◌∷◌, ◌++◌, length, take, Option, Some, None, refl, length-append, ap, subst, ◌∙◌, arith, length-take-le, take_all}
 use Rattle.std.specs.Prelude.{IfSome, IfOk, Result, Ok, Err}
 use Rattle.std.specs.Option.{option_map}
@@ -8,20 +8,20 @@ use Rattle.cs_outside.specs.declared.Failed.{Failed}
 use Rattle.cs_outside.specs.Outside.{SourceTold}
 use Rattle.cs_outside.specs.Streams.{HasRead, HasReadOn, IsAtEnd}
 
--- the front of a buffer with new bytes from a place on
+-- the first a + n bytes, after n new bytes were put at index a
 take_put : (a n : ℕ) (buffer into rest : List ℕ) → a ≤ length buffer → n ≤ length into → take (a + n) (take a buffer ++ (into ++ rest)) ≡ take a buffer ++ take n into
 take_put a n buffer into rest inside few =
     let front : length (take a buffer) ≡ a = length-take-le a buffer inside in
     let seam = take-append-add (take a buffer) (into ++ rest) n in
     subst (λ m. take (m + n) (take a buffer ++ (into ++ rest)) ≡ take a buffer ++ take n into) front (seam ∙ ap (λ l. take a buffer ++ l) (take-append-le n into rest few))
 
--- the front stays
+-- the first a bytes are kept
 pub front_stays : (a : ℕ) (buffer more : List ℕ) → a ≤ length buffer → take a (take a buffer ++ more) ≡ take a buffer
 front_stays a buffer more inside =
     let size : length (take a buffer) ≡ a = length-take-le a buffer inside in
     take-append-le a (take a buffer) more (omega (arith, size)) ∙ take_all a (take a buffer) (omega (arith, size))
 
--- a read of no byte is the end
+-- a read that returns no bytes is at the end of the input
 at_end : (n : ℕ) (piece : List ℕ) (before now : SourceTold) → length piece ≡ n → HasRead piece before now → IfSome before.left (λ input. (n ≡ 0) ↔ (input ≡ [])) → n ≡ 0 → IsAtEnd now
 at_end n piece before now size read end zero = by_left before.left now.left read.in_order end
   where

@@ -1,10 +1,10 @@
--- Bytes that are read in turn.
+-- Consecutive reads.
 use Rattle.std.proofs.Common.{◌≡◌, ℕ, refl, ap, sym, ◌∙◌, List, [], ◌++◌, append_assoc, append-nil, Option, Some, None}
 use Rattle.std.specs.Option.{option_map}
 use Rattle.cs_outside.specs.Outside.{SourceTold}
 use Rattle.cs_outside.specs.Streams.{HasRead, IsAtEnd}
 
--- at first nothing is read
+-- before the first read
 pub read_nothing : (before : SourceTold) → HasRead [] before before
 read_nothing before = record { in_order = same before.left; unfailed = refl }
   where
@@ -12,7 +12,7 @@ read_nothing before = record { in_order = same before.left; unfailed = refl }
     same None = refl
     same (Some input) = refl
 
--- two reads in turn
+-- two consecutive reads
 pub read_then : (first second : List ℕ) (before between now : SourceTold) →
     HasRead first before between → HasRead second between now → HasRead (first ++ second) before now
 read_then first second before between now a b = record {
@@ -25,7 +25,7 @@ read_then first second before between now a b = record {
     joined None = refl
     joined (Some rest) = ap Some (sym (append_assoc first second rest))
 
--- what was read is a front of the input, and what is left comes after it
+-- the bytes read are a prefix of the input, and the rest remains
 pub read_front : (bytes input : List ℕ) (before now : SourceTold) → before.left ≡ Some input → HasRead bytes before now →
     (rest : List ℕ) × (input ≡ bytes ++ rest) × (now.left ≡ Some rest)
 read_front bytes input before now told a = by_left now.left refl
@@ -34,7 +34,7 @@ read_front bytes input before now told a = by_left now.left refl
     by_left None e = absurd (cc (sym told ∙ a.in_order ∙ ap (option_map (λ rest. bytes ++ rest)) e))
     by_left (Some rest) e = (rest, cc (sym told ∙ a.in_order ∙ ap (option_map (λ rest. bytes ++ rest)) e), e)
 
--- where nothing is left, the whole input was read
+-- if nothing remains, the complete input was read
 pub read_whole : (bytes input : List ℕ) (before now : SourceTold) → before.left ≡ Some input → HasRead bytes before now → IsAtEnd now → input ≡ bytes
 read_whole bytes input before now told a ended =
     let (rest, split, last) = read_front bytes input before now told a in

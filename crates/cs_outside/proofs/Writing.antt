@@ -1,4 +1,4 @@
--- Bytes that are written in turn.
+-- Consecutive writes.
 use Rattle.std.proofs.Common.{◌≡◌, ℕ, ◌+◌, ◌-◌, ◌<◌, ◌≤◌, arith, refl, ap, sym, subst, ◌∙◌, List, [], ◌++◌, length, take, drop, length-append, length-drop, take_all, append_assoc, append-nil, Option, Some, None}
 use Rattle.std.specs.Prelude.{IfSome}
 use Rattle.std.specs.Option.{option_map}
@@ -6,7 +6,7 @@ use Rattle.std.proofs.lemmas.List.{take-append-drop}
 use Rattle.cs_outside.specs.Outside.{SinkTold}
 use Rattle.cs_outside.specs.Streams.{AreTaken, HasWritten, HasWrittenFront, IsShortOf}
 
--- at first nothing is written
+-- before the first write
 pub write_nothing : (before : SinkTold) → HasWritten [] before before
 write_nothing before = record { taken = record { appended = same before.taken; filled = full before.room }; unfailed = refl }
   where
@@ -18,7 +18,7 @@ write_nothing before = record { taken = record { appended = same before.taken; f
     full None = refl
     full (Some room) = ap Some (omega arith)
 
--- what was taken in turn
+-- appending twice
 pub taken_then : (first second : List ℕ) (before between now : SinkTold) →
     AreTaken first before between → AreTaken second between now → AreTaken (first ++ second) before now
 taken_then first second before between now a b = record {
@@ -36,7 +36,7 @@ taken_then first second before between now a b = record {
     both None = refl
     both (Some room) = ap Some (omega (arith, length-append first second))
 
--- two writes in turn
+-- two consecutive writes
 pub write_then : (first second : List ℕ) (before between now : SinkTold) →
     HasWritten first before between → HasWritten second between now → HasWritten (first ++ second) before now
 write_then first second before between now a b = record {
@@ -44,17 +44,17 @@ write_then first second before between now a b = record {
   unfailed = b.unfailed ∙ a.unfailed;
 }
 
--- of a piece all but the rest is written
+-- loop invariant: the piece is written except for `rest`
 pub record WrittenSoFar (piece rest : List ℕ) (before now : SinkTold) : Type 0 where
   pub done : List ℕ
   pub split : piece ≡ done ++ rest
   pub written : HasWritten done before now
 
--- at first all of the piece is the rest
+-- initially the rest is the complete piece
 pub written_none : (piece : List ℕ) (before : SinkTold) → WrittenSoFar piece piece before before
 written_none piece before = record { done = []; split = refl; written = write_nothing before }
 
--- the front of the rest is written too
+-- the next part of the rest is written
 pub written_on : (piece rest next left : List ℕ) (before between now : SinkTold) → WrittenSoFar piece rest before between → rest ≡ next ++ left →
     HasWritten next between now → WrittenSoFar piece left before now
 written_on piece rest next left before between now s split written = record {
@@ -63,7 +63,7 @@ written_on piece rest next left before between now s split written = record {
   written = write_then s.done next before between now s.written written;
 }
 
--- the first n bytes of the rest are written too: the new rest is `&rest[n..]`
+-- the next n bytes of the rest are written, and the new rest is `&rest[n..]`
 pub written_more : (piece rest : List ℕ) (n : ℕ) (before between now : SinkTold) → WrittenSoFar piece rest before between → n ≤ length rest →
     HasWritten (take n rest) between now → WrittenSoFar piece (take (length rest - n) (drop n rest)) before now
 written_more piece rest n before between now s fits written =
@@ -71,15 +71,15 @@ written_more piece rest n before between now s fits written =
     written_on piece rest (take n rest) (take (length rest - n) (drop n rest)) before between now s
     (sym (ap (λ l. take n rest ++ l) slice ∙ take-append-drop n rest)) written
 
--- where the rest is empty, the whole piece is written
+-- if the rest is empty, the piece is written completely
 pub written_whole : (piece : List ℕ) (before now : SinkTold) → WrittenSoFar piece [] before now → HasWritten piece before now
 written_whole piece before now s = subst (λ l. HasWritten l before now) (sym (s.split ∙ append-nil s.done)) s.written
 
--- a front of the piece is written
+-- the part written so far is a prefix of the piece
 pub written_front : (piece rest : List ℕ) (before now : SinkTold) → WrittenSoFar piece rest before now → HasWrittenFront piece before now
 written_front piece rest before now s = record { front = s.done; rest = rest; split = s.split; taken = s.written.taken }
 
--- where room was filled and what is left is too little for m more bytes, it was too little for all of them
+-- if m more bytes do not fit after a write, the free space was less than both together
 pub short_after : (bytes : List ℕ) (m : ℕ) (before now : SinkTold) → HasWritten bytes before now → IsShortOf m now → IsShortOf (length bytes + m) before
 short_after bytes m before now a short = by_rooms before.room now.room a.taken.filled short
   where
@@ -88,7 +88,7 @@ short_after bytes m before now a short = by_rooms before.room now.room a.taken.f
     by_rooms (Some room) None e few = absurd (cc e)
     by_rooms (Some room) (Some left) e few = let same : room ≡ left + length bytes = cc e in omega (arith, same, few)
 
--- where no room is left and a rest is, the room was too little for the piece
+-- if no space is left but a rest is, the piece did not fit
 pub written_full : (piece rest : List ℕ) (before now : SinkTold) → WrittenSoFar piece rest before now → 0 < length rest → IfSome now.room (λ left. left ≡ 0) →
     IsShortOf (length piece) before
 written_full piece rest before now s some full =
@@ -98,7 +98,7 @@ written_full piece rest before now s some full =
     none None e = tt
     none (Some left) e = omega (arith, e, some)
 
--- a front of what comes after a first piece is a front of both
+-- a prefix of the second piece, written after the first, gives a prefix of both
 pub front_after : (first piece : List ℕ) (before between now : SinkTold) →
     HasWritten first before between → HasWrittenFront piece between now → HasWrittenFront (first ++ piece) before now
 front_after first piece before between now a b = record {
@@ -108,7 +108,7 @@ front_after first piece before between now a b = record {
   taken = taken_then first b.front before between now a.taken b.taken;
 }
 
--- a front of a piece is a front of any longer one
+-- a prefix of a piece is a prefix of any longer one
 pub front_of_longer : (piece more : List ℕ) (before now : SinkTold) →
     HasWrittenFront piece before now → HasWrittenFront (piece ++ more) before now
 front_of_longer piece more before now a = record {
@@ -118,14 +118,14 @@ front_of_longer piece more before now a = record {
   taken = a.taken;
 }
 
--- where a front of the rest's front is written, a front of the piece is
+-- a prefix of the next part, written after the part so far, gives a prefix of the piece
 pub front_on : (piece rest next left : List ℕ) (before between now : SinkTold) → WrittenSoFar piece rest before between → rest ≡ next ++ left →
     HasWrittenFront next between now → HasWrittenFront piece before now
 front_on piece rest next left before between now s split front =
     subst (λ l. HasWrittenFront l before now) (sym (s.split ∙ ap (λ l. s.done ++ l) split ∙ sym (append_assoc s.done next left)))
     (front_of_longer (s.done ++ next) left before now (front_after s.done next before between now s.written front))
 
--- where the room is too little for fewer bytes, it is too little for more
+-- if a piece does not fit, neither does a longer one
 pub short_of_more : (n m : ℕ) (before : SinkTold) → n ≤ m → IsShortOf n before → IsShortOf m before
 short_of_more n m before few short = by_room before.room short
   where
@@ -133,7 +133,7 @@ short_of_more n m before few short = by_room before.room short
     by_room None short = tt
     by_room (Some left) short = omega (arith, short, few)
 
--- where what is left of the room is too little for the rest's front, the room was too little for the piece
+-- if the next part does not fit, the piece did not fit
 pub short_on : (piece rest next left : List ℕ) (before between : SinkTold) → WrittenSoFar piece rest before between → rest ≡ next ++ left →
     IsShortOf (length next) between → IsShortOf (length piece) before
 short_on piece rest next left before between s split short =

@@ -1,18 +1,18 @@
--- What a source and a sink tell at a moment, and what a run between two moments left as it was (own).
+-- The known state of a source and a sink, and runs that leave it unchanged (own).
 use Rattle.std.specs.Prelude.{◌≡◌, ℕ, Option, List}
 
--- a source tells the bytes that are left, or nothing of them, and how many of its calls failed
+-- a source's known state: the remaining bytes, or nothing about them, and the number of failed calls
 pub record SourceTold : Type 0 where
   pub left : Option (List ℕ)
   pub faults : ℕ
 
--- a sink tells the bytes that it took and the room that is left, or nothing of them, and how many of its calls failed
+-- a sink's known state: the bytes written and the free space, or nothing about them, and the number of failed calls
 pub record SinkTold : Type 0 where
   pub taken : Option (List ℕ)
   pub room : Option ℕ
   pub faults : ℕ
 
--- what the source and the sink of a run tell
+-- the known state of a run's source and sink
 abbrev pub Outside : Type 0
 Outside = SourceTold × SinkTold
 

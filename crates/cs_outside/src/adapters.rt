@@ -1,4 +1,4 @@
-// A reader and a writer of std as a source and a sink.
+// Adapters that make a source from a std reader and a sink from a std writer.
 ghost use Rattle.std.specs.Prelude.{◌≡◌, ◌<◌, ◌≤◌, None, length, IfOk, OnOk, OnErr};
 ghost use Rattle.std.specs.Io.KnownBytes.{ReadConsumes, WriteAppends};
 ghost use Rattle.cs_outside.specs.Counts.{next_count, last_count};
@@ -9,8 +9,8 @@ use crate::{Failed, Sink, Source};
 use std::io::{Read, Write};
 use std::marker::Model;
 
-/// A reader of std as a source. It tells a generic caller nothing of what is left.
-/// It is seen as the reader and the number of its calls that failed.
+/// A std reader as a source. A generic caller learns nothing about the remaining bytes. In contracts it is the reader
+/// and the number of failed calls.
 #[derive(Drop)]
 pub struct StdSource<R: Read> {
     inner: R,
@@ -26,7 +26,7 @@ impl<R: Read> Model for StdSource<R> {
 }
 
 impl<R: Read> StdSource<R> {
-    /// The reader as a source, with no fault yet.
+    /// Wraps a reader, with a fault count of 0.
     pub fn new(inner: R) -> Self
         ensures { result ≡ record { inner = inner; faults = 0 } }
     {
@@ -37,12 +37,12 @@ impl<R: Read> StdSource<R> {
 impl<R: Read> Source for StdSource<R> {
     ghost told = { λ s. record { left = None; faults = s.faults } };
 
-    /// Gives what the reader gives. Each `Err` of the reader is a fault.
+    /// Reads from the inner reader, and counts each `Err` as a fault.
     fn read(&mut self, into: &mut [u8]) -> Result<usize, Failed>
         requires { 0 < length into.old }
         ensures same_length { length into.new ≡ length into.old }
         ensures fits { IfOk result (λ n. n ≤ length into.new) }
-        // What the reader tells of its bytes holds of this call too.
+        // The reader's own contract about its bytes also holds for this call.
         ensures inner { ReadConsumes (R.remaining self.old.inner) (R.remaining self.new.inner)
             result into.new }
         ensures ok { OnOk result (self.new.faults ≡ self.old.faults) }
@@ -59,8 +59,8 @@ impl<R: Read> Source for StdSource<R> {
     }
 }
 
-/// A writer of std as a sink. It tells a generic caller nothing of what it took.
-/// It is seen as the writer and the number of its calls that failed.
+/// A std writer as a sink. A generic caller learns nothing about the written bytes. In contracts it is the writer and
+/// the number of failed calls.
 #[derive(Drop)]
 pub struct StdSink<W: Write> {
     inner: W,
@@ -76,7 +76,7 @@ impl<W: Write> Model for StdSink<W> {
 }
 
 impl<W: Write> StdSink<W> {
-    /// The writer as a sink, with no fault yet.
+    /// Wraps a writer, with a fault count of 0.
     pub fn new(inner: W) -> Self
         ensures { result ≡ record { inner = inner; faults = 0 } }
     {
@@ -87,12 +87,12 @@ impl<W: Write> StdSink<W> {
 impl<W: Write> Sink for StdSink<W> {
     ghost told = { λ s. record { taken = None; room = None; faults = s.faults } };
 
-    /// Takes what the writer takes. Each `Err` and each `Ok(0)` of the writer is a fault.
+    /// Writes to the inner writer, and counts each `Err` and each `Ok(0)` as a fault.
     fn write(&mut self, piece: &[u8]) -> Result<usize, Failed>
         requires { 0 < length piece.now }
         ensures some { IfOk result (λ n. 0 < n) }
         ensures fits { IfOk result (λ n. n ≤ length piece.now) }
-        // What the writer tells of its bytes holds of this call too.
+        // The writer's own contract about its bytes also holds for this call.
         ensures inner { WriteAppends (W.contents self.old.inner) (W.contents self.new.inner)
             result piece.now }
         ensures ok { OnOk result (self.new.faults ≡ self.old.faults) }

@@ -1,4 +1,4 @@
-// A source and a sink in memory that fail on purpose.
+// An in-memory source and sink with scripted faults.
 ghost use Rattle.std.specs.Prelude.{◌≡◌, ◌↔◌, ◌⊎◌, ◌<◌, ◌≤◌, ◌-◌, ◌++◌, Some, None, [], length, take, drop, min, Contains, IfOk, IsErr, IsTrue, OnErr};
 ghost use Rattle.cs_outside.specs.Counts.{next_count, last_count};
 ghost use Rattle.cs_outside.specs.States.{FailSourceState, FailSinkState};
@@ -8,7 +8,7 @@ use crate::{Failed, MemSink, MemSource, Sink, Source};
 use std::alloc::{AllocError, Global};
 use std::marker::Model;
 
-// Which calls fail. Calls are numbered from 0, and the number stays once it is 2^64 - 1.
+// The calls that fail. Calls are numbered from 0; the number saturates at 2^64 - 1.
 #[derive(Drop)]
 struct Script {
     fails: Vec<u64>,
@@ -16,7 +16,7 @@ struct Script {
 }
 
 impl Script {
-    // Whether this call fails.
+    // Returns whether the current call fails, and moves on to the next.
     fn fails_now(&mut self) -> bool
         ensures listed { IsTrue result ↔ Contains self.old.fails.items self.old.call }
         ensures next { self.new ≡ record self.old { call = next_count self.old.call } }
@@ -27,8 +27,8 @@ impl Script {
     }
 }
 
-/// A source over bytes in memory that fails in listed calls and gives at most `most` bytes a call.
-/// Calls are numbered from 0, and the number stays once it is 2^64 - 1.
+/// An in-memory source that fails in the listed calls and returns at most `most` bytes per call. Calls are numbered
+/// from 0; the number saturates at 2^64 - 1.
 #[derive(Drop)]
 pub struct FailSource {
     source: MemSource,
@@ -52,7 +52,8 @@ impl Model for FailSource {
 }
 
 impl FailSource {
-    /// A source of these bytes, none of which is read yet, with the numbers of the calls that fail.
+    /// Creates a source of `bytes` that fails in the calls numbered in `fails` and returns at most `most` bytes per
+    /// call.
     pub fn new(bytes: Vec<u8>, fails: Vec<u64>, most: usize) -> Self
         requires { 0 < most }
         ensures { result ≡ record {
@@ -75,7 +76,8 @@ impl FailSource {
 impl Source for FailSource {
     ghost told = { λ s. record { left = Some s.left; faults = s.faults } };
 
-    /// Fails exactly in the listed calls. Each other gives as many bytes as `most`, `into` and what is left allow.
+    /// Fails in the listed calls only. Any other call returns as many bytes as `most`, `into` and the rest of the
+    /// input allow.
     fn read(&mut self, into: &mut [u8]) -> Result<usize, Failed>
         requires { 0 < length into.old }
         ensures same_length { length into.new ≡ length into.old }
@@ -103,8 +105,9 @@ impl Source for FailSource {
     }
 }
 
-/// A sink in memory that fails in listed calls and takes at most `most` bytes a call. Its writes take no memory.
-/// Calls are numbered from 0, and the number stays once it is 2^64 - 1. It does not tell its room.
+/// An in-memory sink that fails in the listed calls and takes at most `most` bytes per call. Writing does not
+/// allocate. Calls are numbered from 0; the number saturates at 2^64 - 1. A generic caller does not learn the free
+/// space.
 #[derive(Drop)]
 pub struct FailSink {
     sink: MemSink,
@@ -128,7 +131,7 @@ impl Model for FailSink {
 }
 
 impl FailSink {
-    /// Takes the memory for `room` bytes. Where it is refused, `fails` is dropped.
+    /// Allocates space for `room` bytes. If the allocation fails, `fails` is dropped.
     pub fn new(alloc: Global, fails: Vec<u64>, most: usize, room: usize) -> Result<Self, AllocError>
         requires { 0 < most }
         ensures { IfOk result (λ sink. sink ≡ record {
@@ -147,7 +150,7 @@ impl FailSink {
         })
     }
 
-    /// The bytes that it took.
+    /// Returns the bytes written so far.
     pub fn taken(&self) -> &[u8]
         ensures { result.now ≡ self.now.taken }
     {
@@ -158,8 +161,8 @@ impl FailSink {
 impl Sink for FailSink {
     ghost told = { λ s. record { taken = Some s.taken; room = None; faults = s.faults } };
 
-    /// Fails exactly in the listed calls and where no room is left.
-    /// Each other takes as many bytes as the piece, `most` and the room that is left allow.
+    /// Fails in the listed calls and when no space is left. Any other call takes as many bytes as `piece`, `most` and
+    /// the free space allow.
     fn write(&mut self, piece: &[u8]) -> Result<usize, Failed>
         requires { 0 < length piece.now }
         ensures listed_or_full { IsErr result ↔ (Contains self.old.fails self.old.call ⊎ (self.old.room ≡ 0)) }

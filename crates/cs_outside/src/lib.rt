@@ -1,5 +1,6 @@
-//! Where bytes come from and where they go: sources and sinks, each with a count of its faults.
-//! Those in memory serve tests, some of them fail on purpose, and two wrap a reader and a writer of std.
+//! Byte input and output: sources and sinks that count their faults. There are in-memory ones for tests, some with
+//! scripted faults, and adapters for std readers and writers.
+//! Tests: the crates `low_tests` and `fault_tests`.
 #![tactic(auto)]
 
 ghost use Rattle.std.specs.Prelude.{◌≡◌, ◌↔◌, ◌<◌, ◌≤◌, [], length, take, IfOk, IfSome, OnErr};
@@ -19,19 +20,18 @@ pub use memory::{MemSink, MemSource};
 pub use streams::{ReadError, read_at, read_to_end, write_whole};
 use thiserror::Error;
 
-/// A call of a source or of a sink failed.
+/// A call to a source or a sink failed.
 #[derive(Clone, Copy, Debug, PartialEq, Eq, Error)]
 #[error("the call failed")]
 pub struct Failed;
 
 /// A source of bytes.
 pub trait Source {
-    /// What the source tells: the bytes that are left, or nothing of them, and its count of faults, from 0 to
-    /// 2^64 - 1, where it stays.
+    /// The known state: the remaining bytes, or `None`, and the fault count, which saturates at 2^64 - 1.
     ghost told: { Self → SourceTold };
 
-    /// Puts the next bytes first into `into`, which is not empty, and gives their number: 0 at the end of the input.
-    /// What `into` holds past them is not said. `Failed` is a fault that was counted.
+    /// Reads the next bytes into the start of `into`, which is not empty, and returns their number: 0 at the end of
+    /// the input. The rest of `into` is unspecified. Each `Failed` is counted as a fault.
     fn read(&mut self, into: &mut [u8]) -> Result<usize, Failed>
         requires { 0 < length into.old }
         ensures same_length { length into.new ≡ length into.old }
@@ -46,12 +46,12 @@ pub trait Source {
 
 /// A sink of bytes.
 pub trait Sink {
-    /// What the sink tells: the bytes that it took and the room that is left, or nothing of them, and its count of
-    /// faults, from 0 to 2^64 - 1, where it stays.
+    /// The known state: the bytes written and the free space, or `None`, and the fault count, which saturates at 2^64
+    /// - 1.
     ghost told: { Self → SinkTold };
 
-    /// Takes one or more of the first bytes of `piece`, which is not empty, and gives their number.
-    /// `Failed` is a fault that was counted; where the room is told, it is then 0.
+    /// Writes at least one byte from the start of `piece`, which is not empty, and returns their number. Each
+    /// `Failed` is counted as a fault; if the free space is known, it is then 0.
     fn write(&mut self, piece: &[u8]) -> Result<usize, Failed>
         requires { 0 < length piece.now }
         ensures some { IfOk result (λ n. 0 < n) }

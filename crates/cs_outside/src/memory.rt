@@ -1,4 +1,4 @@
-// A source and a sink in memory.
+// An in-memory source and sink.
 ghost use Rattle.std.specs.Prelude.{◌≡◌, ◌↔◌, ◌<◌, ◌≤◌, ◌-◌, ◌+◌, ◌++◌, ℕ, Some, List, [], length, take, drop, min, Ok, IfOk, IsErr, OnErr};
 ghost use Rattle.std.specs.Vec.{vec_len, vec_capacity};
 ghost use Rattle.cs_outside.specs.Counts.{next_count, last_count};
@@ -9,7 +9,7 @@ use crate::{Failed, Sink, Source};
 use std::alloc::{AllocError, Global};
 use std::marker::Model;
 
-/// A source over bytes in memory, which never fails. It is seen as the bytes that are left.
+/// An in-memory source, which never fails. In contracts it is the remaining bytes.
 #[derive(Drop)]
 pub struct MemSource {
     bytes: Vec<u8>,
@@ -25,7 +25,7 @@ impl Model for MemSource {
 }
 
 impl MemSource {
-    /// A source of these bytes, none of which is read yet.
+    /// Creates a source of `bytes`.
     pub fn new(bytes: Vec<u8>) -> Self
         ensures { result ≡ bytes.items }
     {
@@ -36,7 +36,7 @@ impl MemSource {
 impl Source for MemSource {
     ghost told = { λ s. record { left = Some s; faults = 0 } };
 
-    /// Gives as many bytes as `into` and what is left allow.
+    /// Reads as many bytes as `into` and the rest of the input allow.
     fn read(&mut self, into: &mut [u8]) -> Result<usize, Failed>
         requires { 0 < length into.old }
         ensures same_length { length into.new ≡ length into.old }
@@ -51,8 +51,8 @@ impl Source for MemSource {
     }
 }
 
-/// A sink in memory, with room for a fixed number of bytes. Its writes take no memory.
-/// It is seen as the bytes that it took, the room that is left and the number of its calls that failed.
+/// An in-memory sink with a fixed capacity. Writing does not allocate. In contracts it is the bytes written, the free
+/// space and the number of failed calls.
 #[derive(Drop)]
 pub struct MemSink {
     bytes: Vec<u8>,
@@ -70,7 +70,7 @@ impl Model for MemSink {
 }
 
 impl MemSink {
-    /// Takes the memory for `room` bytes.
+    /// Allocates space for `room` bytes.
     pub fn new(alloc: Global, room: usize) -> Result<Self, AllocError>
         ensures { IfOk result (λ sink. sink ≡ record { taken = []; room = room; faults = 0 }) }
     {
@@ -81,14 +81,14 @@ impl MemSink {
         })
     }
 
-    /// The bytes that it took.
+    /// Returns the bytes written so far.
     pub fn taken(&self) -> &[u8]
         ensures { result.now ≡ self.now.taken }
     {
         &self.bytes
     }
 
-    // Counts a call that failed.
+    // Counts a failed call.
     pub(crate) fn fail(&mut self)
         ensures next { self.new ≡ record self.old { faults = next_count self.old.faults } }
         ensures counted { self.old.faults ≤ last_count }
@@ -100,7 +100,7 @@ impl MemSink {
 impl Sink for MemSink {
     ghost told = { λ s. record { taken = Some s.taken; room = Some s.room; faults = s.faults } };
 
-    /// Takes as many bytes as the piece and the room that is left allow. It fails exactly where no room is left.
+    /// Writes as many bytes as `piece` and the free space allow. Fails if and only if no space is left.
     fn write(&mut self, piece: &[u8]) -> Result<usize, Failed>
         requires { 0 < length piece.now }
         ensures full { IsErr result ↔ (self.old.room ≡ 0) }

@@ -1,4 +1,4 @@
-//! A source read to its end, and a piece written whole.
+//! Reading a source to its end, and writing a piece completely.
 ghost use Rattle.std.specs.Prelude.{◌≡◌, ◌+◌, ◌<◌, ◌≤◌, length, take, IfOk, IsErrOf, OnOk, OnErr};
 ghost use Rattle.cs_outside.specs.Counts.{Rose};
 ghost use Rattle.cs_outside.specs.Streams.{HasReadAll, HasReadPart, HasReadOn, HasReadPast, HasReadFault, HasWritten, HasWrittenFront, IsShortOf};
@@ -7,25 +7,25 @@ use crate::{Failed, Sink, Source};
 use std::alloc::Global;
 use thiserror::Error;
 
-/// Why an input was not read whole.
+/// The reason why an input was not read completely.
 #[derive(Clone, Copy, Debug, PartialEq, Eq, Error)]
 pub enum ReadError {
-    /// The input is longer than the limit.
+    /// The input exceeds the limit.
     #[error("too long")]
     TooLong,
-    /// A call of the source failed.
+    /// A call to the source failed.
     #[error("read fault")]
     ReadFault,
-    /// Memory was refused.
+    /// An allocation failed.
     #[error("out of memory")]
     OutOfMemory,
 }
 
-// The most bytes that one call of a source is asked for.
+// The maximum number of bytes requested per call to a source.
 const PIECE: usize = 4_096;
 
-/// Reads a source to its end, which has to come within `limit` bytes. Reads `limit + 1` bytes of a longer input and
-/// nothing after them. After an error the bytes that were read are dropped.
+/// Reads a source to its end, which must come within `limit` bytes. From a longer input, `limit + 1` bytes are read
+/// and no more. After an error the bytes read are lost.
 pub fn read_to_end<S: Source>(
     alloc: Global,
     source: &mut S,
@@ -61,8 +61,8 @@ pub fn read_to_end<S: Source>(
     }
 }
 
-/// Reads the next bytes of a source to the places `at` to `end - 1` of a buffer, and gives their number: 0 at the end
-/// of the input. The first `at` bytes of the buffer stay; after a failed call nothing is said of the others.
+/// Reads the next bytes into `buffer[at..end]` and returns their number, 0 at the end of the input. `buffer[..at]` is
+/// kept; the rest is unspecified after a failed call.
 pub fn read_at<S: Source>(
     source: &mut S,
     buffer: &mut [u8],
@@ -83,7 +83,7 @@ pub fn read_at<S: Source>(
     source.read(&mut buffer[at..end])
 }
 
-/// Writes a piece to its end. Each call of the sink is given all that is left of it.
+/// Writes all of `piece`, and offers everything that is still unwritten in each call to the sink.
 pub fn write_whole<K: Sink>(sink: &mut K, piece: &[u8]) -> Result<(), Failed>
     ensures ok { OnOk result (HasWritten piece.now (K.told sink.old) (K.told sink.new)) }
     ensures front { OnErr result (HasWrittenFront piece.now (K.told sink.old) (K.told sink.new)) }

@@ -6,7 +6,7 @@ use Rattle.std.specs.declared.alloc.AllocError.{AllocError}
 use Rattle.cs_outside.proofs.Reading.{read_then}
 use Rattle.cs_outside.proofs.streams.read_to_end.Goals as goal
 
--- what an extension that did not fail gives
+-- the buffer after a successful `extend`
 extended : (r : Result (Unit {0}) AllocError) (new old more : List ℕ) → false ≡ is_err r → new ≡ (if is_ok r then old ++ more else old) → new ≡ old ++ more
 extended (Ok done) new old more fine items = items
 extended (Err e) new old more fine items = absurd (cc fine)
