@@ -1,4 +1,4 @@
--- The carriers, each in their list.
+-- Every transmission scheme is in the list.
 use Rattle.std.proofs.Common.{arith, refl}
 use Rattle.std.specs.List.{Contains}
 use Rattle.lte_types.specs.declared.carrier.Carrier.{Carrier}

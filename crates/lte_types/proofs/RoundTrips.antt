@@ -1,4 +1,4 @@
--- The codes and the values of the fields of a master block, there and back.
+-- Round trips between codes, names and values of MIB fields.
 use Rattle.std.proofs.Common.{◌≡◌, ◌≤◌, refl, arith}
 use Rattle.lte_types.specs.declared.bandwidth.Bandwidth.{Bandwidth}
 use Rattle.lte_types.specs.declared.bandwidth.Bandwidth.TheVariants.{N6, N15, N25, N50, N75, N100}

@@ -1,4 +1,4 @@
--- What `==` computes decides equality.
+-- `==` decides equality.
 use Rattle.std.proofs.Common.{◌≡◌, ℕ, Bool, true, false, ◌&&◌, nat_eq, Option, Some, None, Result, Ok, Err, refl, ap, rules, tests}
 use Rattle.std.specs.Bool.{Decides}
 use Rattle.std.specs.Ordering.{int_eq}
@@ -121,7 +121,7 @@ fields_decide a b =
     (Decides-and _ _ (unsigned_Decides a.tag b.tag)
     (booleans_Decides a.extended b.extended))))))))))))))))
 
--- two answers
+-- SIB1, or the reason why it was not decoded
 abbrev Answer : Type 0
 Answer = Result Sib1 Sib1Reason
 

@@ -1,4 +1,4 @@
--- From where a recording begins to its first start and back.
+-- Round trips between a recording's position and its first frame start.
 use Rattle.std.proofs.Common.{◌≡◌, ℕ, ◌<◌, ◌≤◌, arith}
 use Rattle.std.proofs.lemmas.Bool.Decides.{nat_tests}
 use Rattle.lte_types.specs.Timing.{start_of, number_at_start, offset_of, number_before, TimingsComeBack, StartsComeBack}

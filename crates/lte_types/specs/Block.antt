@@ -1,11 +1,11 @@
--- The fields of a master information block (TS 36.331 section 6.2.2).
+-- The fields of the MIB (TS 36.331 section 6.2.2).
 use Rattle.std.specs.Prelude.{◌≡◌, ℕ, ◌/◌, ◌%◌}
 use Rattle.lte_types.specs.declared.bandwidth.Bandwidth.{Bandwidth}
 use Rattle.lte_types.specs.declared.duration.Duration.{Duration}
 use Rattle.lte_types.specs.declared.resource.Resource.{Resource}
 use Rattle.lte_types.specs.declared.mib.Mib.{Mib}
 
--- the block has these fields
+-- the MIB has these fields
 pub record HasFields (mib : Mib) (width : Bandwidth) (length : Duration) (share : Resource)
     (frame bits : ℕ) : Type 0 where
   pub bandwidth : mib.bandwidth ≡ width
@@ -18,6 +18,6 @@ pub record HasFields (mib : Mib) (width : Bandwidth) (length : Duration) (share 
 abbrev pub br : Mib → ℕ
 br mib = mib.spare / 32
 
--- the five bits that are spare in Release 13
+-- the five bits that are still spare in Release 13
 abbrev pub rest : Mib → ℕ
 rest mib = mib.spare % 32

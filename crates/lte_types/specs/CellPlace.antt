@@ -1,4 +1,4 @@
--- Where a cell stands in a recording. (own)
+-- The position of a cell in a recording. (own)
 use Rattle.std.specs.Prelude.{ℕ}
 
 -- a cell's identity, and the sample at which its first frame starts

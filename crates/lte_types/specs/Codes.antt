@@ -1,5 +1,4 @@
--- The codes and the names of the fields of a master information block and of SystemInformationBlockType1 (TS 36.331
--- sections 6.2.2 and 6.3.2).
+-- Codes and names of the fields in MIB and SIB1 (TS 36.331 sections 6.2.2 and 6.3.2).
 use Rattle.std.specs.Prelude.{ℕ, nat_eq, if◌then◌else◌, Option, Some, None, List, [], ◌∷◌, codes}
 use Rattle.std.specs.Prelude.{bytes_eq, slice_index_or}
 use Rattle.std.specs.List.{position}
@@ -12,11 +11,11 @@ use Rattle.lte_types.specs.declared.resource.Resource.TheVariants.{OneSixth, Hal
 
 -- ---- dl-Bandwidth (section 6.2.2)
 
--- the width with a code, which is at most 5
+-- the bandwidth with this code, at most 5
 abbrev pub bandwidth : ℕ → Bandwidth
 bandwidth code = slice_index_or (N6 ∷ N15 ∷ N25 ∷ N50 ∷ N75 ∷ N100 ∷ []) code N6
 
--- the code of a width
+-- a bandwidth's code
 abbrev pub bandwidth_code : Bandwidth → ℕ
 bandwidth_code N6 = 0
 bandwidth_code N15 = 1
@@ -25,7 +24,7 @@ bandwidth_code N50 = 3
 bandwidth_code N75 = 4
 bandwidth_code N100 = 5
 
--- the name of a width
+-- a bandwidth's name
 abbrev pub bandwidth_word : Bandwidth → List ℕ
 bandwidth_word N6 = codes "n6"
 bandwidth_word N15 = codes "n15"
@@ -36,21 +35,21 @@ bandwidth_word N100 = codes "n100"
 
 -- ---- phich-Duration (section 6.3.2, PHICH-Config)
 
--- the duration with a code, which is at most 1
+-- the duration with this code, at most 1
 abbrev pub duration : ℕ → Duration
 duration code = slice_index_or (Normal ∷ Extended ∷ []) code Normal
 
--- the code of a duration
+-- a duration's code
 abbrev pub duration_code : Duration → ℕ
 duration_code Normal = 0
 duration_code Extended = 1
 
--- the name of a duration
+-- a duration's name
 abbrev pub duration_word : Duration → List ℕ
 duration_word Normal = codes "normal"
 duration_word Extended = codes "extended"
 
--- the duration with a name
+-- the duration with this name
 abbrev pub duration_named : List ℕ → Option Duration
 duration_named name =
     if bytes_eq name (duration_word Normal) then Some Normal
@@ -59,25 +58,25 @@ duration_named name =
 
 -- ---- phich-Resource, Ng (section 6.3.2, PHICH-Config)
 
--- the resource with a code, which is at most 3
+-- the resource with this code, at most 3
 abbrev pub resource : ℕ → Resource
 resource code = slice_index_or (OneSixth ∷ Half ∷ One ∷ Two ∷ []) code OneSixth
 
--- the code of a resource
+-- a resource's code
 abbrev pub resource_code : Resource → ℕ
 resource_code OneSixth = 0
 resource_code Half = 1
 resource_code One = 2
 resource_code Two = 3
 
--- the name of a resource
+-- a resource's name
 abbrev pub resource_word : Resource → List ℕ
 resource_word OneSixth = codes "oneSixth"
 resource_word Half = codes "half"
 resource_word One = codes "one"
 resource_word Two = codes "two"
 
--- the resource with a name
+-- the resource with this name
 abbrev pub resource_named : List ℕ → Option Resource
 resource_named name =
     if bytes_eq name (resource_word OneSixth) then Some OneSixth
@@ -88,40 +87,40 @@ resource_named name =
 
 -- ---- si-WindowLength (section 6.2.2)
 
--- the milliseconds of the windows, in the order of their codes
+-- the windows in milliseconds, in the order of their codes
 abbrev pub windows : List ℕ
 windows = 1 ∷ 2 ∷ 5 ∷ 10 ∷ 15 ∷ 20 ∷ 40 ∷ []
 
--- the milliseconds of the window with a code, which is at most 6
+-- the window with this code, at most 6, in milliseconds
 abbrev pub window_length : ℕ → ℕ
 window_length code = slice_index_or windows code 1
 
--- the name of the window with a code
+-- the name of the window with this code
 abbrev pub window_word : ℕ → List ℕ
 window_word code =
     slice_index_or (codes "ms1" ∷ codes "ms2" ∷ codes "ms5" ∷ codes "ms10" ∷ codes "ms15" ∷ codes "ms20"
     ∷ codes "ms40" ∷ []) code (codes "ms1")
 
--- the code of the window of so many milliseconds
+-- the code of a window in milliseconds
 abbrev pub window_of : ℕ → Option ℕ
 window_of milliseconds = position (nat_eq milliseconds) windows
 
 -- ---- si-Periodicity (section 6.2.2)
 
--- the frames of the periods, in the order of their codes
+-- the periods in frames, in the order of their codes
 abbrev pub periods : List ℕ
 periods = 8 ∷ 16 ∷ 32 ∷ 64 ∷ 128 ∷ 256 ∷ 512 ∷ []
 
--- the frames of the period with a code, which is at most 6
+-- the period with this code, at most 6, in frames
 abbrev pub period_frames : ℕ → ℕ
 period_frames code = slice_index_or periods code 8
 
--- the name of the period with a code
+-- the name of the period with this code
 abbrev pub period_word : ℕ → List ℕ
 period_word code =
     slice_index_or (codes "rf8" ∷ codes "rf16" ∷ codes "rf32" ∷ codes "rf64" ∷ codes "rf128" ∷ codes "rf256"
     ∷ codes "rf512" ∷ []) code (codes "rf8")
 
--- the code of the period of so many frames
+-- the code of a period in frames
 abbrev pub period_of : ℕ → Option ℕ
 period_of frames = position (nat_eq frames) periods

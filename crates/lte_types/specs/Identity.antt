@@ -1,6 +1,6 @@
--- The physical-layer identity of a cell.
+-- Physical-layer cell identities.
 use Rattle.std.specs.Prelude.{ℕ, ◌+◌, ◌*◌}
 
--- the identity of a cell from its group and its identity within the group (TS 36.211 section 6.11)
+-- the identity from its group and the identity within the group (TS 36.211 section 6.11)
 abbrev pub cell_of : ℕ → ℕ → ℕ
 cell_of n1 n2 = 3 * n1 + n2

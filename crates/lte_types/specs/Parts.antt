@@ -1,11 +1,11 @@
--- The parts of SystemInformationBlockType1 (TS 36.331 section 6.2.2).
+-- The parts of SIB1 (TS 36.331 section 6.2.2).
 use Rattle.std.specs.Prelude.{ℕ, ℤ, Bool, List, Option}
 use Rattle.lte_types.specs.declared.cell_access_related_info.CellAccessRelatedInfo.{CellAccessRelatedInfo}
 use Rattle.lte_types.specs.declared.cell_selection_info.CellSelectionInfo.{CellSelectionInfo}
 use Rattle.lte_types.specs.declared.si_message.SiMessage.{SiMessage}
 use Rattle.lte_types.specs.declared.sib1.Sib1.{Sib1}
 
--- the part that says who may use the cell
+-- cellAccessRelatedInfo
 abbrev pub access_of : Sib1 → CellAccessRelatedInfo
 access_of sib1 = record {
   plmns = sib1.plmns;
@@ -17,12 +17,12 @@ access_of sib1 = record {
   csg_identity = sib1.csg_identity;
 }
 
--- the part with the least levels at which a mobile may choose the cell
+-- cellSelectionInfo
 abbrev pub selection_of : Sib1 → CellSelectionInfo
 selection_of sib1 = record { q_rx = sib1.q_rx; q_offset = sib1.q_offset }
 
--- the block of its parts in their order: who may use the cell, the levels to choose it, p-Max, freqBandIndicator, the
--- schedule, TDD-Config, the window, systemInfoValueTag, and whether there is an extension
+-- SIB1 from its parts in order: cellAccessRelatedInfo, cellSelectionInfo, p-Max, freqBandIndicator, the schedule,
+-- TDD-Config, the window, systemInfoValueTag, and whether an extension is present
 abbrev pub sib1_of :
     CellAccessRelatedInfo → CellSelectionInfo → Option ℤ → ℕ → List SiMessage → Option (ℕ × ℕ) → ℕ → ℕ → Bool →
     Sib1

@@ -1,4 +1,4 @@
--- The ranges of the fields of SystemInformationBlockType1 (TS 36.331 section 6.2.2).
+-- The ranges of the fields in SIB1 (TS 36.331 section 6.2.2).
 use Rattle.std.specs.Prelude.{ℕ, ℤ, ◌^◌, ◌<◌, ◌≤◌, List, [], ◌∷◌, All, length, negsuc, pos, ◌≤ℤ◌, IsSome, IfSome}
 use Rattle.lte_types.specs.declared.cell_access_related_info.CellAccessRelatedInfo.{CellAccessRelatedInfo}
 use Rattle.lte_types.specs.declared.cell_selection_info.CellSelectionInfo.{CellSelectionInfo}
@@ -13,12 +13,12 @@ use Rattle.lte_types.specs.Parts.{access_of, selection_of}
 abbrev pub AreDigits : List ℕ → Type 0
 AreDigits digits = All (λ digit. digit ≤ 9) digits
 
--- a network code has digits
+-- a network code consists of decimal digits
 abbrev pub HasDigits : Mnc → Type 0
 HasDigits (Two digits) = AreDigits digits
 HasDigits (Three digits) = AreDigits digits
 
--- an identity of a network
+-- a valid PLMN identity
 pub record IsValidPlmn (plmn : Plmn) : Type 0 where
   pub mcc : IfSome plmn.mcc AreDigits
   pub mnc : HasDigits plmn.mnc
@@ -34,11 +34,11 @@ pub record ArePlmns (plmns : List Plmn) : Type 0 where
   pub valid : All IsValidPlmn plmns
   pub first_mcc : FirstHasMcc plmns
 
--- si-Periodicity, by its code
+-- a valid si-Periodicity code
 abbrev pub IsPeriod : ℕ → Type 0
 IsPeriod code = code ≤ 6
 
--- an entry of the schedule has a valid period and blocks with valid codes
+-- a schedule entry with a valid period and valid SIB codes
 pub record IsValidMessage (message : SiMessage) : Type 0 where
   pub period : IsPeriod message.period
   pub sibs : All (λ code. code ≤ 79) message.sibs
@@ -48,41 +48,41 @@ pub record AreMessages (messages : List SiMessage) : Type 0 where
   pub count : (1 ≤ length messages) × (length messages ≤ 32)
   pub valid : All IsValidMessage messages
 
--- csg-Identity
+-- a valid csg-Identity, 27 bits
 abbrev pub IsGroup : ℕ → Type 0
 IsGroup identity = identity < 2 ^ 27
 
--- q-RxLevMin
+-- a valid q-RxLevMin
 abbrev pub IsLevel : ℤ → Type 0
 IsLevel level = (negsuc 69 ≤ℤ level) × (level ≤ℤ negsuc 21)
 
--- q-RxLevMinOffset
+-- a valid q-RxLevMinOffset
 abbrev pub IsLevelOffset : ℕ → Type 0
 IsLevelOffset offset = (1 ≤ offset) × (offset ≤ 8)
 
--- p-Max
+-- a valid p-Max
 abbrev pub IsPower : ℤ → Type 0
 IsPower power = (negsuc 29 ≤ℤ power) × (power ≤ℤ pos 33)
 
--- freqBandIndicator
+-- a valid freqBandIndicator
 abbrev pub IsBand : ℕ → Type 0
 IsBand band = (1 ≤ band) × (band ≤ 64)
 
--- subframeAssignment and specialSubframePatterns
+-- valid subframeAssignment and specialSubframePatterns
 abbrev pub IsTddConfig : ℕ × ℕ → Type 0
 IsTddConfig config = (config.0 ≤ 6) × (config.1 ≤ 8)
 
--- si-WindowLength, by its code
+-- a valid si-WindowLength code
 abbrev pub IsWindow : ℕ → Type 0
 IsWindow code = code ≤ 6
 
--- the fields that say who may use the cell are in their ranges
+-- the fields of cellAccessRelatedInfo are in their ranges
 pub record IsAccess (access : CellAccessRelatedInfo) : Type 0 where
   pub plmns : ArePlmns access.plmns
   pub cell : access.cell < 2 ^ 28
   pub csg_identity : IfSome access.csg_identity IsGroup
 
--- the levels at which a mobile may choose the cell are in their ranges
+-- the fields of cellSelectionInfo are in their ranges
 pub record IsSelection (selection : CellSelectionInfo) : Type 0 where
   pub q_rx : IsLevel selection.q_rx
   pub q_offset : IfSome selection.q_offset IsLevelOffset

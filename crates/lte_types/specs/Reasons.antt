@@ -1,4 +1,4 @@
--- Why a cell has no system information, in words. (own)
+-- The text for each reason why SIB1 was not decoded. (own)
 use Rattle.std.specs.Prelude.{ℕ, List, ◌++◌, codes}
 use Rattle.std.specs.Fmt.{decimal}
 use Rattle.lte_types.specs.declared.sib1_reason.Sib1Reason.{Sib1Reason}
@@ -25,7 +25,7 @@ reason_words NotSib1 = codes "not-sib1"
 reason_words (BadFields bit) = codes "bad-fields " ++ decimal bit
 reason_words LongPrefix = codes "long-prefix"
 
--- The text of a reason's words, which the code chooses first.
+-- the text of a reason, from its parts in the code
 abbrev pub words_text : Words → List ℕ
 words_text (Plain word) = word.now
 words_text (WithNumber word number) = word.now ++ decimal number

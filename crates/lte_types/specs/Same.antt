@@ -1,4 +1,4 @@
--- What `==` computes: true exactly where all fields are the same.
+-- The functions computed by `==`, which are true if and only if all fields are equal.
 use Rattle.std.specs.Prelude.{Bool}
 use Rattle.lte_types.specs.declared.plmn.Plmn.{Plmn}
 use Rattle.lte_types.specs.declared.si_message.SiMessage.{SiMessage}

@@ -1,4 +1,4 @@
-//! The resource blocks of SystemInformationBlockType1.
+//! The resource allocation of SIB1.
 
 ghost use Rattle.std.specs.Prelude.{◌≡◌, IsSome, IfSome, ◌↔◌};
 ghost use Rattle.lte_types.specs.Assignment.{IsAssignment};
@@ -6,9 +6,9 @@ ghost use Rattle.lte_types.specs.Assignment.{IsAssignment};
 use crate::Cfi;
 use std::marker::Model;
 
-/// Where the shared channel stands that carries SystemInformationBlockType1: after a control region with an
-/// indicator of 2 or 3 (TS 36.212 section 5.3.4), on some of the six resource blocks, one after the other
-/// (TS 36.213 section 7.1.6.3). Contracts see it as the three numbers.
+/// The allocation of the PDSCH that carries SIB1: contiguous resource blocks, at most six (TS 36.213 section
+/// 7.1.6.3), after a control region whose control format indicator is 2 or 3 (TS 36.212 section 5.3.4). In contracts
+/// it is these three numbers.
 #[derive(Debug, Drop)]
 pub struct Assignment {
     cfi: Cfi,
@@ -27,8 +27,8 @@ impl Model for Assignment {
 }
 
 impl Assignment {
-    /// `blocks` resource blocks from `start` on; `None` exactly where the indicator is 1, `blocks` is 0 or
-    /// `start` + `blocks` is above 6.
+    /// Allocates `blocks` resource blocks from `start`. Returns `None` if the indicator is 1, `blocks` is 0, or
+    /// `start` + `blocks` exceeds 6.
     pub fn new(cfi: Cfi, start: u8, blocks: u8) -> Option<Self>
         ensures valid { IsSome result ↔ IsAssignment (record { cfi = cfi; start = start; blocks = blocks }) }
         ensures value { IfSome result (λ a. a ≡ record { cfi = cfi; start = start; blocks = blocks }) }
@@ -40,7 +40,7 @@ impl Assignment {
         }
     }
 
-    /// The control format indicator, 2 or 3.
+    /// Returns the control format indicator, 2 or 3.
     pub fn cfi(&self) -> Cfi
         ensures value { result ≡ self.now.cfi }
         ensures valid { IsAssignment self.now }
@@ -48,7 +48,7 @@ impl Assignment {
         self.cfi
     }
 
-    /// The first resource block, 0 to 5.
+    /// Returns the first resource block, 0 to 5.
     pub fn start(&self) -> u8
         ensures value { result ≡ self.now.start }
         ensures valid { IsAssignment self.now }
@@ -56,7 +56,7 @@ impl Assignment {
         self.start
     }
 
-    /// How many resource blocks there are, 1 to 6.
+    /// Returns the number of resource blocks, 1 to 6.
     pub fn blocks(&self) -> u8
         ensures value { result ≡ self.now.blocks }
         ensures valid { IsAssignment self.now }

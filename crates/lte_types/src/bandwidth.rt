@@ -1,4 +1,4 @@
-//! The width of a carrier.
+//! Downlink bandwidth.
 
 ghost use Rattle.std.specs.Prelude.{◌≡◌, ◌≤◌, ◌<◌, Some, IfSome, MatchOption};
 
@@ -18,7 +18,7 @@ pub enum Bandwidth {
 impl Bandwidth {
     ghost use Rattle.lte_types.specs.Codes.{bandwidth, bandwidth_code, bandwidth_word};
 
-    /// The width with this code of dl-Bandwidth; `None` exactly where the code is above 5.
+    /// Returns the bandwidth with this dl-Bandwidth code, or `None` if the code is above 5.
     pub fn from_code(code: u8) -> Option<Self>
         ensures value { MatchOption result (5 < code) (λ width. (code ≤ 5) × (width ≡ bandwidth code)) }
         ensures back { IfSome result (λ width. bandwidth_code width ≡ code) }
@@ -34,7 +34,7 @@ impl Bandwidth {
         }
     }
 
-    /// The code of a width in dl-Bandwidth, 0 to 5.
+    /// Returns the dl-Bandwidth code, 0 to 5.
     pub fn code(self) -> u8
         ensures value { result ≡ bandwidth_code self }
         ensures bound { result ≤ 5 }
@@ -50,7 +50,7 @@ impl Bandwidth {
         }
     }
 
-    /// The name of a width in the standard.
+    /// Returns the bandwidth's name in the standard.
     pub fn name(self) -> &'static str
         ensures { result.now ≡ bandwidth_word self }
     {

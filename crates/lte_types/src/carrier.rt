@@ -1,4 +1,4 @@
-//! How a cell sends its broadcast channel.
+//! Transmission schemes.
 
 ghost use Rattle.std.specs.Prelude.{◌≡◌};
 ghost use Rattle.std.specs.List.{Contains};
@@ -6,22 +6,21 @@ ghost use Rattle.lte_types.specs.Carrier.{prefix_of, ports_of, has_control_by, c
 
 use crate::Prefix;
 
-/// How a cell sends its broadcast channel: a pair of a cyclic prefix and a count of antenna ports, of those pairs that
-/// are read and sent.
+/// A supported transmission scheme: a cyclic prefix and the number of antenna ports that send the PBCH.
 #[derive(Clone, Copy, Debug, PartialEq, Eq)]
 pub enum Carrier {
-    /// One antenna port, and the normal cyclic prefix.
+    /// One antenna port, normal cyclic prefix.
     OnePort,
-    /// Two antenna ports with transmit diversity (TS 36.211 section 6.3.4.3), and the normal cyclic prefix.
+    /// Two antenna ports with transmit diversity (TS 36.211 section 6.3.4.3), normal cyclic prefix.
     TwoPorts,
-    /// One antenna port, and the extended cyclic prefix (TS 36.211 section 6.12).
+    /// One antenna port, extended cyclic prefix (TS 36.211 section 6.12).
     LongPrefix,
-    /// Four antenna ports with transmit diversity (TS 36.211 section 6.3.4.3), and the normal cyclic prefix.
+    /// Four antenna ports with transmit diversity (TS 36.211 section 6.3.4.3), normal cyclic prefix.
     FourPorts,
 }
 
 impl Carrier {
-    /// All carriers, in the order in which their lists are written.
+    /// All transmission schemes, in the order in which their cells are listed.
     pub const ALL: [Carrier; 4] = [
         Carrier::OnePort,
         Carrier::TwoPorts,
@@ -29,7 +28,7 @@ impl Carrier {
         Carrier::FourPorts,
     ];
 
-    /// The cyclic prefix.
+    /// Returns the cyclic prefix.
     pub fn prefix(self) -> Prefix
         ensures { result ≡ prefix_of self }
     {
@@ -39,7 +38,7 @@ impl Carrier {
         }
     }
 
-    /// The count of antenna ports, 1, 2 or 4.
+    /// Returns the number of antenna ports, 1, 2 or 4.
     pub fn ports(self) -> u8
         ensures { result ≡ ports_of self }
     {
@@ -50,8 +49,7 @@ impl Carrier {
         }
     }
 
-    /// Whether the control region and system information are sent: not with the extended prefix, and not of four
-    /// ports. (own)
+    /// Returns whether the control region and SIB1 are supported: with the normal prefix and at most two ports. (own)
     pub fn has_control(self) -> bool
         ensures { result ≡ has_control_by self }
     {
@@ -59,7 +57,7 @@ impl Carrier {
     }
 }
 
-/// Law: each carrier is one of `Carrier::ALL`, and its prefix and count of ports tell which.
+/// A law: `Carrier::ALL` is complete, and prefix and port count identify a transmission scheme.
 pub fn carriers_are()
     ensures all { Carrier.ALL ≡ carriers }
     ensures each { (carrier : Carrier) → Contains carriers carrier }

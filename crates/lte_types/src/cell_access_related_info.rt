@@ -1,8 +1,9 @@
-//! Who may use a cell.
+//! Access to a cell.
 
 use crate::Plmns;
 
-/// cellAccessRelatedInfo of SystemInformationBlockType1 (TS 36.331 section 6.2.2); its fields are those of `Sib1`.
+/// cellAccessRelatedInfo of SystemInformationBlockType1 (TS 36.331 section 6.2.2). The fields are described in
+/// `Sib1`.
 #[derive(Debug, Drop)]
 pub struct CellAccessRelatedInfo {
     pub plmns: Plmns,

@@ -1,12 +1,11 @@
-//! The identity of a cell.
+//! Physical-layer cell identities.
 
 ghost use Rattle.std.specs.Prelude.{◌≡◌, ℕ, ◌/◌, ◌%◌, ◌<◌, ◌≤◌, IsSome, IfSome, ◌↔◌};
 ghost use Rattle.lte_types.specs.Identity.{cell_of};
 
 use std::marker::Model;
 
-/// A physical-layer cell identity, 0 to 503 (TS 36.211 section 6.11). Contracts see it as that
-/// number.
+/// A physical-layer cell identity, 0 to 503 (TS 36.211 section 6.11). In contracts it is that number.
 #[derive(Clone, Copy, Debug, PartialEq, Eq)]
 pub struct CellId {
     value: u16,
@@ -23,7 +22,7 @@ impl Model for CellId {
 }
 
 impl CellId {
-    /// The identity with this number; `None` exactly where the number is above 503.
+    /// Returns the identity with this number, or `None` if `value` is above 503.
     pub fn new(value: u16) -> Option<Self>
         ensures valid { IsSome result ↔ (value ≤ 503) }
         ensures value { IfSome result (λ id. id ≡ value) }
@@ -35,8 +34,7 @@ impl CellId {
         }
     }
 
-    /// The identity of a group, 0 to 167, and an identity within it, 0 to 2: three times the group
-    /// and the identity within it.
+    /// Returns the identity `3 * n1 + n2` from its group, 0 to 167, and its identity within the group, 0 to 2.
     pub fn of(n1: u16, n2: u8) -> Self
         requires group { n1 ≤ 167 }
         requires member { n2 ≤ 2 }
@@ -47,7 +45,7 @@ impl CellId {
         }
     }
 
-    /// The number, 0 to 503.
+    /// Returns the number, 0 to 503.
     pub fn value(self) -> u16
         ensures value { result ≡ self }
         ensures valid { self ≤ 503 }
@@ -55,7 +53,7 @@ impl CellId {
         self.value
     }
 
-    /// The identity group, 0 to 167: the number divided by 3, rounded down.
+    /// Returns the identity group, 0 to 167: the number divided by 3, rounded down.
     pub fn n1(self) -> u16
         ensures value { result ≡ self / 3 }
         ensures valid { result ≤ 167 }
@@ -63,7 +61,7 @@ impl CellId {
         self.value / 3
     }
 
-    /// The identity within the group, 0 to 2: the number modulo 3.
+    /// Returns the identity within the group, 0 to 2: the number modulo 3.
     pub fn n2(self) -> u16
         ensures value { result ≡ self % 3 }
         ensures valid { result ≤ 2 }

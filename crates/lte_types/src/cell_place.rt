@@ -1,4 +1,4 @@
-//! Where a cell stands in a recording.
+//! The position of a cell in a recording.
 
 ghost use Rattle.std.specs.Prelude.{◌≡◌, ◌<◌, IsSome, IfSome, ◌↔◌};
 ghost use Rattle.lte_types.specs.CellPlace.{Place};
@@ -7,8 +7,8 @@ ghost use Rattle.lte_types.specs.Numerology.{frame_length};
 use crate::{CellId, FRAME_LENGTH};
 use std::marker::Model;
 
-/// The place of a cell in a recording: its identity, and the sample at which its first frame starts, 0 to 19,199.
-/// Contracts see it as these two. (own)
+/// The identity of a cell, and the sample at which its first frame starts, 0 to 19,199. In contracts it is this pair.
+/// (own)
 #[derive(Clone, Copy, Debug, PartialEq, Eq)]
 pub struct CellPlace {
     id: CellId,
@@ -26,7 +26,7 @@ impl Model for CellPlace {
 }
 
 impl CellPlace {
-    /// The place with this identity and start; `None` exactly where the start is above 19,199.
+    /// Creates the place from `id` and `start`, or returns `None` if `start` is above 19,199.
     pub fn new(id: CellId, start: u32) -> Option<Self>
         ensures valid { IsSome result ↔ (start < frame_length) }
         ensures value { IfSome result (λ place. place ≡ record { id = id; start = start }) }
@@ -38,14 +38,14 @@ impl CellPlace {
         }
     }
 
-    /// The identity of the cell.
+    /// Returns the cell identity.
     pub fn id(self) -> CellId
         ensures { result ≡ self.id }
     {
         self.id
     }
 
-    /// The sample at which its first frame starts, 0 to 19,199.
+    /// Returns the sample at which the first frame starts, 0 to 19,199.
     pub fn start(self) -> u32
         ensures value { result ≡ self.start }
         ensures early { self.start < frame_length }

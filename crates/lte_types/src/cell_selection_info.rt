@@ -1,6 +1,6 @@
-//! The levels of a cell.
+//! Cell selection.
 
-/// cellSelectionInfo of SystemInformationBlockType1 (TS 36.331 section 6.2.2); its fields are those of `Sib1`.
+/// cellSelectionInfo of SystemInformationBlockType1 (TS 36.331 section 6.2.2). The fields are described in `Sib1`.
 #[derive(Clone, Copy, Debug)]
 pub struct CellSelectionInfo {
     pub q_rx: i8,

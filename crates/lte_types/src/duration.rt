@@ -1,4 +1,4 @@
-//! The duration of the PHICH.
+//! PHICH duration.
 
 ghost use Rattle.std.specs.Prelude.{◌≡◌, ◌≤◌, ◌<◌, Some, IfSome, MatchOption};
 
@@ -14,7 +14,7 @@ pub enum Duration {
 impl Duration {
     ghost use Rattle.lte_types.specs.Codes.{duration, duration_code, duration_word, duration_named};
 
-    /// The duration with this code of phich-Duration; `None` exactly where the code is above 1.
+    /// Returns the duration with this phich-Duration code, or `None` if the code is above 1.
     pub fn from_code(code: u8) -> Option<Self>
         ensures value { MatchOption result (1 < code) (λ d. (code ≤ 1) × (d ≡ duration code)) }
         ensures back { IfSome result (λ d. duration_code d ≡ code) }
@@ -26,7 +26,7 @@ impl Duration {
         }
     }
 
-    /// The code of a duration in phich-Duration, 0 or 1.
+    /// Returns the phich-Duration code, 0 or 1.
     pub fn code(self) -> u8
         ensures value { result ≡ duration_code self }
         ensures bound { result ≤ 1 }
@@ -38,7 +38,7 @@ impl Duration {
         }
     }
 
-    /// The duration with this name in the standard; `None` exactly where none has it.
+    /// Returns the duration with this name in the standard, if there is one.
     pub fn from_name(name: &str) -> Option<Self>
         ensures value { result ≡ duration_named name.now }
         ensures back { IfSome result (λ d. duration_word d ≡ name.now) }
@@ -50,7 +50,7 @@ impl Duration {
         }
     }
 
-    /// The name of a duration in the standard.
+    /// Returns the duration's name in the standard.
     pub fn name(self) -> &'static str
         ensures value { result.now ≡ duration_word self }
         ensures back { duration_named result.now ≡ Some self }

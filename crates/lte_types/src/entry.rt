@@ -1,28 +1,28 @@
-//! A cell as the receiver found it.
+//! Entries of the cell list.
 
 use crate::{CellId, Mib, Sfn, Sib1, Sib1Reason};
 
-/// A cell as it was found, with its master block and system information. (own)
+/// A detected cell (an entry of the cell list), with its MIB and SIB1. (own)
 #[derive(Debug, Drop)]
 pub struct Entry {
-    /// The identity of the cell.
+    /// The cell identity.
     pub id: CellId,
     /// The sample at which the first frame starts.
     pub start: u32,
     /// The frame number of the first frame.
     pub sfn: Sfn,
-    /// The count of antenna ports: 1, 2 or 4.
+    /// The number of antenna ports: 1, 2 or 4.
     pub ports: u8,
-    /// The master block.
+    /// The MIB.
     pub mib: Mib,
-    /// The count of frames, 1 to 4, whose values were summed for the master block.
+    /// The number of frames, 1 to 4, whose soft values were added to decode the MIB.
     pub frames: u8,
-    /// The number of the first of the frames, from the cell's first frame on.
+    /// The first of these frames, counted from the cell's first frame.
     pub frame: u8,
-    /// The frame number of the first of the frames, modulo 4.
+    /// The frame number of the first of these frames, modulo 4.
     pub phase: u8,
-    /// The cost of the master block's word.
+    /// The cost of the MIB's codeword.
     pub cost: u32,
-    /// The system information, or why there is none.
+    /// SIB1, or the reason why it was not decoded.
     pub sib1: Result<Sib1, Sib1Reason>,
 }

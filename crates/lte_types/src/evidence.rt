@@ -1,35 +1,35 @@
-//! The numbers that support an entry.
+//! The measurements behind an entry of the cell list.
 
 use crate::{CellId, Sfn};
 
-/// What supports an entry of a list: which entry it is, and the numbers. (own)
+/// The measurements behind an entry of the cell list; the first three fields identify the entry. (own)
 #[derive(Clone, Copy, Debug, PartialEq, Eq)]
 pub struct Evidence {
-    /// The identity of the entry's cell.
+    /// The cell identity.
     pub id: CellId,
     /// The sample at which the cell's first frame starts.
     pub start: u32,
     /// The frame number of the cell's first frame.
     pub sfn: Sfn,
-    /// The least place of a hit that tells the identity and the start of the entry: 137 to 19,336.
+    /// The sample of the earliest PSS detection that gives the entry's identity and start: 137 to 19,336.
     pub t: u32,
-    /// How much of the energy at the hit the primary signal explains, in thousandths: 250 to 1,000.
+    /// The part of the energy at that sample that the PSS explains, in thousandths: 250 to 1,000.
     pub peak: u16,
-    /// The cost of the master block's word.
+    /// The cost of the MIB's codeword.
     pub cost: u32,
-    /// The sum of the sizes of the values that the word was read from: not 0, and at least four times the cost.
+    /// The sum of the magnitudes of the soft values that the codeword was decoded from: positive, and at least four
+    /// times the cost.
     pub total: u32,
-    /// The count of frames whose values were summed.
+    /// The number of frames whose soft values were added.
     pub frames: u8,
-    /// The number of the first of the frames, from the cell's first frame on.
+    /// The first of these frames, counted from the cell's first frame.
     pub frame: u8,
-    /// The frame number of the first of the frames, modulo 4.
+    /// The frame number of the first of these frames, modulo 4.
     pub phase: u8,
-    /// The sum of the squares of the sizes of what was seen at the 24 reference places of the slot with the broadcast
-    /// channel in the first of the frames.
+    /// The energy of the 24 pilots in the PBCH slot of the first of these frames: the sum of their squared
+    /// magnitudes.
     pub power: u64,
-    /// How much the 24 pilots of the slot with the broadcast channel differ within a symbol: the sum of the squares of
-    /// the sizes of their 20 second differences, each from three pilots of one symbol, divided by six times the square
-    /// of a reference value's size, 16,200, and rounded down.
+    /// A noise estimate from the same 24 pilots: the sum of the squared magnitudes of their 20 second differences,
+    /// each over three pilots of one symbol, divided by six times a pilot's sent energy, 16,200, and rounded down.
     pub noise: u64,
 }

@@ -6,7 +6,7 @@ ghost use Rattle.lte_types.specs.Numerology.{frame_length, subframe_of, primary_
 use crate::Prefix;
 use std::marker::Model;
 
-/// A system frame number, 0 to 1023 (TS 36.331 section 6.2.2). Contracts see it as that number.
+/// A system frame number, 0 to 1023 (TS 36.331 section 6.2.2). In contracts it is that number.
 #[derive(Clone, Copy, Debug, PartialEq, Eq)]
 pub struct Sfn {
     value: u16,
@@ -23,7 +23,7 @@ impl Model for Sfn {
 }
 
 impl Sfn {
-    /// The frame number with this value; `None` exactly where the value is above 1023.
+    /// Returns the frame number with this value, or `None` if `value` is above 1023.
     pub fn new(value: u16) -> Option<Self>
         ensures valid { IsSome result ↔ (value ≤ 1023) }
         ensures value { IfSome result (λ sfn. sfn ≡ value) }
@@ -35,7 +35,7 @@ impl Sfn {
         }
     }
 
-    /// The number of the frame that is `count` frames after one numbered 0: the count modulo 1,024.
+    /// Returns the frame number `count` frames after frame 0: `count` modulo 1,024.
     pub fn modulo(count: u64) -> Self
         ensures { result ≡ count % 1024 }
     {
@@ -44,7 +44,7 @@ impl Sfn {
         }
     }
 
-    /// The number, 0 to 1023.
+    /// Returns the number, 0 to 1023.
     pub fn value(self) -> u16
         ensures value { result ≡ self }
         ensures valid { self ≤ 1023 }
@@ -53,8 +53,7 @@ impl Sfn {
     }
 }
 
-/// The half of a frame that holds a synchronisation signal: that of subframe 0 or of subframe 5
-/// (TS 36.211 section 6.11).
+/// A half frame, named after the subframe that carries its synchronisation signals: 0 or 5 (TS 36.211 section 6.11).
 #[derive(Clone, Copy, Debug, PartialEq, Eq)]
 pub enum Half {
     Zero,
@@ -62,7 +61,7 @@ pub enum Half {
 }
 
 impl Half {
-    /// The subframe that the half begins with, 0 or 5.
+    /// Returns the first subframe of the half frame, 0 or 5.
     pub fn subframe(self) -> u8
         ensures { result ≡ subframe_of self }
     {
@@ -72,8 +71,8 @@ impl Half {
         }
     }
 
-    /// From the start of a frame to the useful part of the primary synchronisation signal of this
-    /// half, in samples: 832 or 10,432 (TS 36.211 section 6.11.1.2).
+    /// Returns the offset, in samples, from the start of a frame to the useful part of this half's PSS: 832 or 10,432
+    /// (TS 36.211 section 6.11.1.2).
     pub fn primary_start(self) -> u32
         ensures value { result ≡ primary_start_of self }
         ensures inside { result < frame_length }

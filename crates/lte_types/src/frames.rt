@@ -1,4 +1,4 @@
-//! Frames of a cell that follow one another.
+//! Consecutive frames of a cell.
 
 ghost use Rattle.std.specs.Prelude.{◌≡◌, IsSome, IfSome, ◌↔◌};
 ghost use Rattle.lte_types.specs.Frames.{Frames as FramesValue, AreFrames, first_number};
@@ -6,9 +6,9 @@ ghost use Rattle.lte_types.specs.Frames.{Frames as FramesValue, AreFrames, first
 use crate::Sfn;
 use std::marker::Model;
 
-/// Frames of a cell that follow one another in one period of four, by which its master block is told (TS 36.331
-/// section 5.2.1.2): 1 to 4 of the cell's first eight. Contracts see them as their count, the number of the first of
-/// them, and its place in its period. (own)
+/// Consecutive frames of a cell in one period of four, in which the MIB does not change (TS 36.331 section 5.2.1.2):
+/// 1 to 4 of the cell's first eight. In contracts they are their count, the first frame, and its position in the
+/// period. (own)
 #[derive(Clone, Copy, Debug, PartialEq, Eq)]
 pub struct Frames {
     count: u8,
@@ -27,8 +27,8 @@ impl Model for Frames {
 }
 
 impl Frames {
-    /// A count of frames from one on, which is at this place of its period; `None` exactly where there are none, or
-    /// they are of two periods, or go beyond the first eight.
+    /// Selects `count` frames from frame `first`, whose position in the period is `phase`. Returns `None` for no
+    /// frames, frames of two periods, or frames beyond the first eight.
     pub fn new(count: u8, first: u8, phase: u8) -> Option<Self>
         ensures valid { IsSome result ↔ AreFrames (record { count = count; first = first; phase = phase }) }
         ensures value { IfSome result (λ frames. frames ≡ record { count = count; first = first; phase = phase }) }
@@ -44,7 +44,7 @@ impl Frames {
         }
     }
 
-    /// How many there are, 1 to 4.
+    /// Returns the number of frames, 1 to 4.
     pub fn count(self) -> u8
         ensures value { result ≡ self.count }
         ensures are { AreFrames self }
@@ -52,7 +52,7 @@ impl Frames {
         self.count
     }
 
-    /// The number of the first of them, from the cell's first frame on, 0 to 7.
+    /// Returns the first frame, 0 to 7, counted from the cell's first frame.
     pub fn first(self) -> u8
         ensures value { result ≡ self.first }
         ensures are { AreFrames self }
@@ -60,7 +60,7 @@ impl Frames {
         self.first
     }
 
-    /// The place of the first in its period, 0 to 3: its frame number modulo 4.
+    /// Returns the first frame's position in its period, 0 to 3: its frame number modulo 4.
     pub fn phase(self) -> u8
         ensures value { result ≡ self.phase }
         ensures are { AreFrames self }
@@ -68,7 +68,8 @@ impl Frames {
         self.phase
     }
 
-    /// The frame number of the cell's first frame, by the eight upper bits of the frame number in the master block.
+    /// Returns the frame number of the cell's first frame, given the upper eight bits of the frame number from the
+    /// MIB.
     pub fn first_number(self, upper: u8) -> Sfn
         ensures { result ≡ first_number upper self }
     {

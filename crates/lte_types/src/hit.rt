@@ -1,14 +1,14 @@
-//! A place where a primary synchronisation signal stands out.
+//! PSS detections.
 
-/// A place of a recording where the primary synchronisation signal of a root stands out. (own)
+/// A PSS detection (a hit): a sample at which the correlation with one of the three PSS roots is high. (own)
 #[derive(Clone, Copy, Debug, PartialEq, Eq)]
 pub struct Hit {
-    /// The sample at which the useful part of the signal begins.
+    /// The sample at which the useful part of the PSS symbol begins.
     pub t: u32,
-    /// The identity within its group, 0 to 2, which the root tells.
+    /// The identity within the group, 0 to 2, that belongs to the root.
     pub n2: u8,
-    /// The square of the size of the correlation with the signal.
+    /// The squared magnitude of the correlation with the PSS.
     pub peak: u128,
-    /// The energy of the 128 samples from `t` on.
+    /// The energy of the 128 samples from `t`.
     pub energy: u64,
 }

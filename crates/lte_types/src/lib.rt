@@ -1,5 +1,8 @@
-//! Plain values of the receiver. Each constructor answers `None` exactly where a value is out of
-//! its range.
+//! Plain LTE value types: cell identities, frame numbers, MIB and SIB1 fields, symbol timing, PSS detections and cell
+//! list entries. A constructor returns `None` if a value is out of range.
+//! Tests: the crates `low_tests` and `code_tests`.
+//! Size: over 100 functions, but nearly all are constructors, accessors, range checks and code tables with a few lines
+//! each, for small types that are used together.
 #![tactic(auto)]
 
 mod assignment;

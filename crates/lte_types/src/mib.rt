@@ -23,7 +23,7 @@ pub struct Mib {
 impl Mib {
     ghost use Rattle.lte_types.specs.Block.{HasFields, br as br_of, rest as rest_of};
 
-    /// The block with these fields; `None` exactly where `spare` is above 1023.
+    /// Creates a MIB from its fields, or returns `None` if `spare` is above 1023.
     pub fn new(
         bandwidth: Bandwidth,
         duration: Duration,
@@ -47,7 +47,8 @@ impl Mib {
         }
     }
 
-    /// schedulingInfoSIB1-BR, 0 to 31: the first five of the last ten bits, which were spare before Release 13.
+    /// Returns schedulingInfoSIB1-BR, 0 to 31: the first five of the last ten bits, which were spare before Release
+    /// 13.
     pub fn br(&self) -> u8
         ensures value { result ≡ br_of self.now }
         ensures small { result ≤ 31 }
@@ -55,7 +56,7 @@ impl Mib {
         (self.spare / 32) as u8
     }
 
-    /// The spare bits of Release 13, 0 to 31: the last five.
+    /// Returns the bits that are still spare in Release 13, 0 to 31: the last five.
     pub fn rest(&self) -> u8
         ensures value { result ≡ rest_of self.now }
         ensures small { result ≤ 31 }

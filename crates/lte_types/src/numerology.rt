@@ -1,5 +1,4 @@
-//! Frames, slots and symbols, in samples: 128 to the useful part of a symbol (TS 36.211 sections
-//! 4.1 and 6.12).
+//! Frames, slots and OFDM symbols in samples; the useful part of a symbol has 128 (TS 36.211 sections 4.1 and 6.12).
 
 ghost use Rattle.std.specs.Prelude.{◌≡◌, ◌^◌, ◌<◌};
 ghost use Rattle.lte_types.specs.Numerology.{frame_length, half_frame_length, slot_length, useful_length, cycle_length};
@@ -7,28 +6,28 @@ ghost use Rattle.lte_types.specs.Numerology.{least_samples, most_samples, normal
 ghost use Rattle.lte_types.specs.Numerology.{symbol_step, symbol_of as symbol_in, useful_start as useful_start_of};
 ghost use Rattle.lte_types.specs.Numerology.{symbols_of_slot, is_extended};
 
-/// The samples of a frame.
+/// The samples in a frame.
 pub const FRAME_LENGTH: usize = 19_200;
 
-/// The samples of half a frame.
+/// The samples in half a frame.
 pub const HALF_FRAME_LENGTH: usize = 9_600;
 
-/// The samples of a slot, of which a frame has 20.
+/// The samples in a slot. A frame has 20 slots.
 pub const SLOT_LENGTH: usize = 960;
 
-/// The samples of the useful part of a symbol.
+/// The samples in the useful part of a symbol.
 pub const USEFUL_LENGTH: usize = 128;
 
-/// The samples of 1,024 frames, after which the frame numbers begin again.
+/// The samples in 1,024 frames, after which frame numbers repeat.
 pub const CYCLE_LENGTH: usize = 19_660_800;
 
-/// The least samples of a recording: 30 ms. (own)
+/// The minimum length of a recording, in samples: 30 ms. (own)
 pub const LEAST_SAMPLES: usize = 57_600;
 
-/// The most samples of a recording: one second. (own)
+/// The maximum length of a recording, in samples: one second. (own)
 pub const MOST_SAMPLES: usize = 1_920_000;
 
-/// A cyclic prefix, in samples: before the first symbol of a slot, and before each later one.
+/// A cyclic prefix: its length in samples in the first symbol of a slot, and in each other symbol.
 #[derive(Clone, Copy, Debug, PartialEq, Eq)]
 pub struct Prefix {
     pub first: u16,
@@ -48,29 +47,28 @@ impl Prefix {
         other: 32,
     };
 
-    /// The samples from the useful part of a symbol to that of the next one in its slot.
+    /// Returns the distance, in samples, between the useful parts of consecutive symbols in a slot.
     pub fn step(self) -> usize
         ensures { result ≡ symbol_step self }
     {
         USEFUL_LENGTH + self.other as usize
     }
 
-    /// The symbols of a slot: 7 with the normal prefix, and 6 with the extended one.
+    /// Returns the number of symbols in a slot: 7 with the normal prefix, 6 with the extended one.
     pub fn symbols(self) -> usize
         ensures { result ≡ symbols_of_slot self }
     {
         SLOT_LENGTH / self.step()
     }
 
-    /// Whether this prefix is the extended one.
+    /// Returns whether this is the extended prefix.
     pub fn is_extended(self) -> bool
         ensures { result ≡ is_extended self }
     {
         self.first == 32 && self.other == 32
     }
 
-    /// Where the useful part of a symbol of a slot begins, in a frame that begins at the given
-    /// sample.
+    /// Returns the sample at which the useful part of a symbol begins, for a frame that begins at sample `frame`.
     pub fn useful_start(self, frame: usize, slot: usize, symbol: usize) -> usize
         requires { useful_start_of self frame slot symbol < 2 ^ 64 }
         ensures { result ≡ useful_start_of self frame slot symbol }
@@ -78,7 +76,7 @@ impl Prefix {
         frame + SLOT_LENGTH * slot + self.first as usize + self.step() * symbol
     }
 
-    /// The symbol of a slot that sample `i` of the slot is in.
+    /// Returns the symbol of a slot that contains the slot's sample `i`.
     pub fn symbol_of(self, i: usize) -> usize
         ensures { result ≡ symbol_in self i }
     {
@@ -86,7 +84,7 @@ impl Prefix {
     }
 }
 
-/// Law: the public lengths are these, and the two prefixes too.
+/// A law: the public constants equal the definitions in `specs/`.
 pub fn lengths_are()
     ensures frame { FRAME_LENGTH ≡ frame_length }
     ensures half_frame { HALF_FRAME_LENGTH ≡ half_frame_length }

@@ -1,9 +1,9 @@
-//! The periods of system information messages, by their codes in si-Periodicity (TS 36.331 section 6.2.2).
+//! Periods of SI messages, by their si-Periodicity codes (TS 36.331 section 6.2.2).
 
 ghost use Rattle.std.specs.Prelude.{◌≡◌, ◌≤◌, Some, IfSome};
 ghost use Rattle.lte_types.specs.Codes.{period_word, period_frames, period_of};
 
-/// The name in the standard of the period with a code, 0 to 6. A greater code, which no message has, has that of 0.
+/// Returns the standard's name for the period with this code, 0 to 6. Invalid codes give the name for 0.
 pub fn name(code: u8) -> &'static str
     ensures { result.now ≡ period_word code }
 {
@@ -18,7 +18,7 @@ pub fn name(code: u8) -> &'static str
     }
 }
 
-/// The frames of the period with a code, 0 to 6: 8 to 512. A greater code, which no message has, has those of 0.
+/// Returns the period with this code in frames: 8 to 512 for the codes 0 to 6. Invalid codes give 8.
 pub fn frames(code: u8) -> u16
     ensures value { result ≡ period_frames code }
     ensures back { code ≤ 6 → period_of result ≡ Some code }
@@ -34,7 +34,7 @@ pub fn frames(code: u8) -> u16
     }
 }
 
-/// The code of the period of so many frames; `None` exactly where none has so many.
+/// Returns the code of a period of `frames` frames, or `None` if there is none.
 pub fn code_of(frames: u16) -> Option<u8>
     ensures value { result ≡ period_of frames }
     ensures back { IfSome result (λ code. (code ≤ 6) × (period_frames code ≡ frames)) }

@@ -1,4 +1,4 @@
-//! Lists of network identities.
+//! Lists of PLMN identities.
 
 ghost use Rattle.std.specs.Prelude.{◌≡◌, List, [], ◌∷◌, ◌++◌, ◌<◌, ◌≤◌, ◌↔◌, IsTrue, length, if◌then◌else◌};
 ghost use Rattle.lte_types.specs.declared.plmn.Plmn.{Plmn as PlmnValue};
@@ -10,7 +10,7 @@ use crate::Plmn;
 use arrayvec::ArrayVec;
 use std::marker::Model;
 
-/// At most 6 network identities (TS 36.331 section 6.2.2). Contracts see it as the list of them.
+/// At most 6 PLMN identities (TS 36.331 section 6.2.2). In contracts they are a list.
 #[derive(Debug, Drop)]
 pub struct Plmns {
     items: ArrayVec<Plmn, 6>,
@@ -33,7 +33,7 @@ impl PartialEq for Plmns {
 }
 
 impl Plmns {
-    /// The empty list.
+    /// Returns an empty list.
     pub fn new() -> Plmns
         ensures { result ≡ [] }
     {
@@ -42,7 +42,7 @@ impl Plmns {
         }
     }
 
-    /// Appends the item; false exactly where the list is full, which is then unchanged.
+    /// Appends `item`. Returns false, and changes nothing, if the list is full.
     pub fn push(&mut self, item: Plmn) -> bool
         ensures room { IsTrue result ↔ (length self.old < 6) }
         ensures items { self.new ≡ (if result then self.old ++ item ∷ [] else self.old) }
@@ -50,7 +50,7 @@ impl Plmns {
         self.items.try_push(item).is_ok()
     }
 
-    /// The items.
+    /// Returns the items.
     pub fn slice(&self) -> &[Plmn]
         ensures items { result.now ≡ self.now }
         ensures count { length self.now ≤ 6 }
@@ -58,7 +58,7 @@ impl Plmns {
         self.items.as_slice()
     }
 
-    /// A copy of the list.
+    /// Returns a copy.
     pub fn copy(&self) -> Plmns
         ensures { result ≡ self.now }
     {

@@ -1,4 +1,4 @@
-//! The resource of the PHICH.
+//! PHICH resources.
 
 ghost use Rattle.std.specs.Prelude.{◌≡◌, ◌≤◌, ◌<◌, Some, IfSome, MatchOption};
 
@@ -16,7 +16,7 @@ pub enum Resource {
 impl Resource {
     ghost use Rattle.lte_types.specs.Codes.{resource, resource_code, resource_word, resource_named};
 
-    /// The resource with this code of phich-Resource; `None` exactly where the code is above 3.
+    /// Returns the resource with this phich-Resource code, or `None` if the code is above 3.
     pub fn from_code(code: u8) -> Option<Self>
         ensures value { MatchOption result (3 < code) (λ r. (code ≤ 3) × (r ≡ resource code)) }
         ensures back { IfSome result (λ r. resource_code r ≡ code) }
@@ -30,7 +30,7 @@ impl Resource {
         }
     }
 
-    /// The code of a resource in phich-Resource, 0 to 3.
+    /// Returns the phich-Resource code, 0 to 3.
     pub fn code(self) -> u8
         ensures value { result ≡ resource_code self }
         ensures bound { result ≤ 3 }
@@ -44,7 +44,7 @@ impl Resource {
         }
     }
 
-    /// The resource with this name in the standard; `None` exactly where none has it.
+    /// Returns the resource with this name in the standard, if there is one.
     pub fn from_name(name: &str) -> Option<Self>
         ensures value { result ≡ resource_named name.now }
         ensures back { IfSome result (λ r. resource_word r ≡ name.now) }
@@ -58,7 +58,7 @@ impl Resource {
         }
     }
 
-    /// The name of a resource in the standard.
+    /// Returns the resource's name in the standard.
     pub fn name(self) -> &'static str
         ensures value { result.now ≡ resource_word self }
         ensures back { resource_named result.now ≡ Some self }

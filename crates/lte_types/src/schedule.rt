@@ -1,4 +1,4 @@
-//! The schedule of system information messages.
+//! The schedule of SI messages.
 
 ghost use Rattle.std.specs.Prelude.{◌≡◌, List, [], ◌∷◌, ◌++◌, ◌<◌, ◌≤◌, ◌↔◌, IsTrue, length, if◌then◌else◌};
 ghost use Rattle.lte_types.specs.declared.si_message.SiMessage.{SiMessage as Message};
@@ -10,7 +10,7 @@ use crate::SiMessage;
 use arrayvec::ArrayVec;
 use std::marker::Model;
 
-/// At most 32 entries of schedulingInfoList (TS 36.331 section 6.2.2). Contracts see it as the list of them.
+/// At most 32 entries of schedulingInfoList (TS 36.331 section 6.2.2). In contracts they are a list.
 #[derive(Debug, Drop)]
 pub struct Schedule {
     items: ArrayVec<SiMessage, 32>,
@@ -33,7 +33,7 @@ impl PartialEq for Schedule {
 }
 
 impl Schedule {
-    /// The empty list.
+    /// Returns an empty schedule.
     pub fn new() -> Schedule
         ensures { result ≡ [] }
     {
@@ -42,7 +42,7 @@ impl Schedule {
         }
     }
 
-    /// Appends the item; false exactly where the list is full, which is then unchanged.
+    /// Appends `item`. Returns false, and changes nothing, if the schedule is full.
     pub fn push(&mut self, item: SiMessage) -> bool
         ensures room { IsTrue result ↔ (length self.old < 32) }
         ensures items { self.new ≡ (if result then self.old ++ item ∷ [] else self.old) }
@@ -50,7 +50,7 @@ impl Schedule {
         self.items.try_push(item).is_ok()
     }
 
-    /// The items.
+    /// Returns the items.
     pub fn slice(&self) -> &[SiMessage]
         ensures items { result.now ≡ self.now }
         ensures count { length self.now ≤ 32 }
@@ -58,7 +58,7 @@ impl Schedule {
         self.items.as_slice()
     }
 
-    /// A copy of the list.
+    /// Returns a copy.
     pub fn copy(&self) -> Schedule
         ensures { result ≡ self.now }
     {

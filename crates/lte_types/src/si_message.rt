@@ -1,4 +1,4 @@
-//! Entries of the schedule of system information.
+//! Entries of the SI schedule.
 
 ghost use Rattle.std.specs.Prelude.{◌≡◌, []};
 
@@ -7,14 +7,14 @@ use crate::Sibs;
 /// An entry of schedulingInfoList (TS 36.331 section 6.2.2).
 #[derive(Debug, PartialEq, Drop)]
 pub struct SiMessage {
-    /// The code of si-Periodicity: 0 to 6 for 8 to 512 frames.
+    /// The si-Periodicity code: 0 to 6 for 8 to 512 frames.
     pub period: u8,
-    /// The codes of the blocks: 0 to 15 within the first enumeration, 16 and more for an extension.
+    /// The codes of the SIBs in the message: 0 to 15 from the first enumeration, 16 and above from an extension.
     pub sibs: Sibs,
 }
 
 impl SiMessage {
-    /// A copy of the entry.
+    /// Returns a copy.
     pub fn copy(&self) -> SiMessage
         ensures { result ≡ self.now }
     {
@@ -25,7 +25,7 @@ impl SiMessage {
     }
 }
 
-// What fills the unused places of a list: a period of 8 frames without blocks.
+// Fills unused elements of a list: a period of 8 frames, no SIBs.
 impl Default for SiMessage {
     fn default() -> SiMessage
         ensures { result ≡ record { period = 0; sibs = [] } }

@@ -1,4 +1,4 @@
-//! The first block of system information.
+//! SIB1, the first system information block.
 
 ghost use Rattle.std.specs.Prelude.{◌≡◌, ◌↔◌, All, IsTrue, IfSome};
 ghost use Rattle.lte_types.specs.Ranges.{AreDigits, IsValidPlmn, ArePlmns, IsValidMessage, AreMessages, IsGroup};
@@ -8,10 +8,10 @@ ghost use Rattle.lte_types.specs.Parts.{access_of, selection_of};
 
 use crate::{Mnc, Plmn, Plmns, Schedule, SiMessage, Sib1Reason};
 
-/// SystemInformationBlockType1 (TS 36.331 section 6.2.2). Periods and windows are codes.
+/// SystemInformationBlockType1 (TS 36.331 section 6.2.2). Periods and windows are given by their codes.
 #[derive(Debug, PartialEq, Drop)]
 pub struct Sib1 {
-    /// 1 to 6 networks, the first with a country code.
+    /// 1 to 6 PLMN identities, the first with a country code.
     pub plmns: Plmns,
     /// trackingAreaCode.
     pub tac: u16,
@@ -19,7 +19,7 @@ pub struct Sib1 {
     pub cell: u32,
     /// cellBarred.
     pub barred: bool,
-    /// intraFreqReselection is allowed.
+    /// Whether intraFreqReselection is allowed.
     pub intra: bool,
     /// csg-Indication.
     pub csg: bool,
@@ -37,16 +37,16 @@ pub struct Sib1 {
     pub scheduling: Schedule,
     /// subframeAssignment, 0 to 6, and specialSubframePatterns, 0 to 8.
     pub tdd: Option<(u8, u8)>,
-    /// The code of si-WindowLength: 0 to 6 for 1 to 40 milliseconds.
+    /// The si-WindowLength code: 0 to 6 for 1 to 40 ms.
     pub window: u8,
     /// systemInfoValueTag, 0 to 31.
     pub tag: u8,
-    /// nonCriticalExtension is present.
+    /// Whether nonCriticalExtension is present.
     pub extended: bool,
 }
 
 impl Sib1 {
-    /// Whether every field is in its range.
+    /// Returns whether every field is in its range.
     pub fn valid(&self) -> bool
         ensures { IsTrue result ↔ IsValid self.now }
     {
@@ -60,7 +60,7 @@ impl Sib1 {
             && self.tag <= 31
     }
 
-    /// A copy of all fields.
+    /// Returns a copy.
     pub fn copy(&self) -> Sib1
         ensures { result ≡ self.now }
     {
@@ -199,7 +199,7 @@ fn tdd_fits(config: Option<(u8, u8)>) -> bool
     }
 }
 
-/// Whether two answers on system information are the same.
+/// Returns whether both results have the same SIB1 or the same reason.
 pub fn same_answers(answer: &Result<Sib1, Sib1Reason>, other: &Result<Sib1, Sib1Reason>) -> bool
     ensures { IsTrue result ↔ (answer.now ≡ other.now) }
 {

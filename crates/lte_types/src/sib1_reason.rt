@@ -1,4 +1,4 @@
-//! Why a cell has no system information.
+//! Reasons why SIB1 was not decoded.
 
 ghost use Rattle.std.specs.Prelude.{◌≡◌, Some};
 ghost use Rattle.lte_types.specs.Reasons.{reason_words, words_text};
@@ -6,34 +6,34 @@ ghost use Rattle.lte_types.specs.Reasons.{reason_words, words_text};
 use crate::Bandwidth;
 use std::fmt;
 
-/// Why SystemInformationBlockType1 of a cell was not read. (own)
+/// The reason why a cell's SIB1 was not decoded. (own)
 #[derive(Clone, Copy, Debug, PartialEq, Eq)]
 pub enum Sib1Reason {
-    /// The cell has this count of antenna ports: 2 or 4.
+    /// The cell has this many antenna ports, 2 or 4.
     NotOnePort(u8),
-    /// The carrier has another width than 6 resource blocks.
+    /// The carrier is not 6 resource blocks wide.
     Bandwidth(Bandwidth),
-    /// The control region has too few control channel elements for a candidate, and this is their count.
+    /// The control region has only this many control channel elements, too few for a PDCCH candidate.
     NoSearchSpace(u8),
-    /// No control information passed its check.
+    /// No DCI passed its CRC.
     NoControl,
-    /// The control information has another format.
+    /// The DCI is not format 1A.
     NotFormat1A,
-    /// The blocks are distributed.
+    /// The DCI allocates distributed virtual resource blocks.
     Distributed,
-    /// The value tells no range of resource blocks.
+    /// This resource indication value does not denote a range of resource blocks.
     BadRiv(u8),
-    /// The modulation and coding scheme is reserved.
+    /// This modulation and coding scheme is reserved.
     ReservedMcs(u8),
-    /// The modulation and coding scheme and the column have no size of at most 1,000 bits.
+    /// The transport block size for this modulation and coding scheme exceeds 1,000 bits, or there is none.
     BlockTooLarge,
-    /// No transport block passed its check.
+    /// No transport block passed its CRC.
     NotDecoded,
-    /// The message is another one.
+    /// The message is not a SIB1.
     NotSib1,
-    /// The field that begins at this bit is cut off or out of its range.
+    /// The field that begins at this bit is truncated or out of range.
     BadFields(u16),
-    /// The cell was found by the extended cyclic prefix, with which it is read to the master block.
+    /// The cell uses the extended cyclic prefix, for which only the MIB is decoded.
     LongPrefix,
 }
 
@@ -74,7 +74,7 @@ impl Sib1Reason {
     }
 }
 
-// The words of a reason: what it is called, and the number or the width behind it.
+// The text of a reason in parts: its name, and the number or bandwidth after it.
 enum Words {
     Plain(&'static str),
     WithNumber(&'static str, u16),

@@ -1,4 +1,4 @@
-//! Lists of system information blocks.
+//! Lists of SIBs.
 
 ghost use Rattle.std.specs.Prelude.{◌≡◌, ℕ, List, [], ◌∷◌, ◌++◌, ◌<◌, ◌≤◌, ◌↔◌, IsTrue, length, if◌then◌else◌, nat_eq};
 ghost use Rattle.std.proofs.Common.{rules};
@@ -8,7 +8,7 @@ ghost use Rattle.std.specs.Cmp.Lexicographic.{pointwise};
 use arrayvec::ArrayVec;
 use std::marker::Model;
 
-/// The codes of at most 31 system information blocks (TS 36.331 section 6.2.2). Contracts see it as the list of them.
+/// The codes of at most 31 SIBs (TS 36.331 section 6.2.2). In contracts they are a list.
 #[derive(Debug, Drop)]
 pub struct Sibs {
     items: ArrayVec<u8, 31>,
@@ -31,7 +31,7 @@ impl PartialEq for Sibs {
 }
 
 impl Sibs {
-    /// The empty list.
+    /// Returns an empty list.
     pub fn new() -> Sibs
         ensures { result ≡ [] }
     {
@@ -40,7 +40,7 @@ impl Sibs {
         }
     }
 
-    /// Appends the item; false exactly where the list is full, which is then unchanged.
+    /// Appends `item`. Returns false, and changes nothing, if the list is full.
     pub fn push(&mut self, item: u8) -> bool
         ensures room { IsTrue result ↔ (length self.old < 31) }
         ensures items { self.new ≡ (if result then self.old ++ item ∷ [] else self.old) }
@@ -48,7 +48,7 @@ impl Sibs {
         self.items.try_push(item).is_ok()
     }
 
-    /// The items.
+    /// Returns the items.
     pub fn slice(&self) -> &[u8]
         ensures items { result.now ≡ self.now }
         ensures count { length self.now ≤ 31 }
@@ -56,7 +56,7 @@ impl Sibs {
         self.items.as_slice()
     }
 
-    /// A copy of the list.
+    /// Returns a copy.
     pub fn copy(&self) -> Sibs
         ensures { result ≡ self.now }
     {

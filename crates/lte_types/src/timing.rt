@@ -1,4 +1,4 @@
-//! Where a recording begins.
+//! The start of a recording relative to the cell's frames.
 
 ghost use Rattle.std.specs.Prelude.{◌≡◌, ◌+◌, ◌^◌, ◌<◌, IsSome, IfSome, ◌↔◌};
 ghost use Rattle.lte_types.specs.Numerology.{frame_length};
@@ -7,21 +7,21 @@ ghost use Rattle.lte_types.specs.Timing.{number_at_start as number_at_start_of, 
 
 use crate::{FRAME_LENGTH, Sfn};
 
-// The samples of a frame.
+// The samples in a frame.
 const FRAME: u32 = FRAME_LENGTH as u32;
 
-/// Where in the endless sequence of a cell's frames a recording begins. (own)
+/// The position at which a recording begins in a cell's frame sequence. (own)
 #[derive(Clone, Copy, Debug, PartialEq, Eq)]
 pub struct Timing {
     /// The number of the frame in which the recording begins.
     pub sfn: Sfn,
-    /// The sample of its frame at which the recording begins, 0 to 19,199.
+    /// The sample within that frame at which the recording begins, 0 to 19,199.
     pub offset: u32,
     pub ghost offset_range: { IsOffset offset },
 }
 
 impl Timing {
-    /// The timing with this frame number and offset; `None` exactly where the offset is above 19,199.
+    /// Creates a timing, or returns `None` if `offset` is above 19,199.
     pub fn new(sfn: Sfn, offset: u32) -> Option<Timing>
         ensures valid { IsSome result ↔ IsOffset offset }
         ensures sfn { IfSome result (λ timing. timing.sfn ≡ sfn) }
@@ -34,7 +34,7 @@ impl Timing {
         }
     }
 
-    /// The timing of a recording in which a frame begins at sample `start`, below 19,200, with the number `sfn`.
+    /// Returns the timing of a recording in which frame `sfn` begins at sample `start`, below 19,200.
     pub fn before(start: u32, sfn: Sfn) -> Timing
         requires { start < frame_length }
         ensures sfn { result.sfn ≡ number_before start sfn }
@@ -49,7 +49,7 @@ impl Timing {
         }
     }
 
-    /// The first sample of the recording at which a frame begins, below 19,200.
+    /// Returns the first sample of the recording at which a frame begins, below 19,200.
     pub fn start(self) -> u32
         ensures value { result ≡ start_of self.offset }
         ensures inside { result < frame_length }
@@ -57,7 +57,7 @@ impl Timing {
         (FRAME - self.offset) % FRAME
     }
 
-    /// The number of the first frame that begins in the recording.
+    /// Returns the number of the first frame that begins in the recording.
     pub fn number_at_start(self) -> Sfn
         ensures { result ≡ number_at_start_of self.sfn self.offset }
     {
@@ -68,7 +68,7 @@ impl Timing {
         }
     }
 
-    /// The number of the frame that sample `i` of the recording is in. `i + offset` is below 2^64.
+    /// Returns the number of the frame that contains sample `i` of the recording. `i + offset` is below 2^64.
     pub fn number_at(self, i: u64) -> Sfn
         requires { i + self.offset < 2 ^ 64 }
         ensures { result ≡ number_of self.sfn (i + self.offset) }
@@ -77,8 +77,7 @@ impl Timing {
     }
 }
 
-/// Laws: `before` leads from the start and its number to the timing that has them, and from a timing to its start and
-/// its number and back.
+/// A law: `before` is the inverse of `start` and `number_at_start`.
 pub fn timings_come_back()
     ensures timings { TimingsComeBack }
     ensures starts { StartsComeBack }

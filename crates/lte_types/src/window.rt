@@ -1,9 +1,9 @@
-//! The windows of system information messages, by their codes in si-WindowLength (TS 36.331 section 6.2.2).
+//! SI windows, by their si-WindowLength codes (TS 36.331 section 6.2.2).
 
 ghost use Rattle.std.specs.Prelude.{◌≡◌, ◌≤◌, Some, IfSome};
 ghost use Rattle.lte_types.specs.Codes.{window_word, window_length, window_of};
 
-/// The name in the standard of the window with a code, 0 to 6. A greater code, which no block has, has that of 0.
+/// Returns the standard's name for the window with this code, 0 to 6. Invalid codes give the name for 0.
 pub fn name(code: u8) -> &'static str
     ensures { result.now ≡ window_word code }
 {
@@ -18,7 +18,7 @@ pub fn name(code: u8) -> &'static str
     }
 }
 
-/// The milliseconds of the window with a code, 0 to 6: 1 to 40. A greater code, which no block has, has those of 0.
+/// Returns the window with this code in milliseconds: 1 to 40 for the codes 0 to 6. Invalid codes give 1.
 pub fn milliseconds(code: u8) -> u8
     ensures value { result ≡ window_length code }
     ensures back { code ≤ 6 → window_of result ≡ Some code }
@@ -34,7 +34,7 @@ pub fn milliseconds(code: u8) -> u8
     }
 }
 
-/// The code of the window of so many milliseconds; `None` exactly where none has so many.
+/// Returns the code of a window of `milliseconds`, or `None` if there is none.
 pub fn code_of(milliseconds: u8) -> Option<u8>
     ensures value { result ≡ window_of milliseconds }
     ensures back { IfSome result (λ code. (code ≤ 6) × (window_length code ≡ milliseconds)) }
