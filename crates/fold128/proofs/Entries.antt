@@ -1,4 +1,4 @@
--- The tables' entries: sizes, and how an entry is found by symmetry.
+-- The tables' entries: bounds, and reading them by symmetry.
 use Rattle.std.proofs.Common.{◌≡◌, ℕ, ◌+◌, ◌-◌, ◌%◌, ◌<◌, ◌≤◌, List, length, Bool, true, false, arith, refl, ℤ, pos, nat_le, slice_index, slice_index_or, get_or, to_z, of_z, w8, w64}
 use Rattle.std.proofs.lemmas.Int.{ints}
 use Rattle.cs_num.specs.Complex.{IsWithin, conjugate}
@@ -10,7 +10,7 @@ use Rattle.std.proofs.lemmas.List.Elements.{All-get_or}
 use Rattle.std.proofs.lemmas.Bool.Decides.{nat_tests}
 use Rattle.fold128.specs.Tables.{quarter, half_turn, folded, cosine, w_at, z_at, z_half, z_real, z_imaginary}
 
--- each entry of a list that passes a test passes it
+-- reads one entry of a computed test over a list
 pub entry_passes : {X : Type 0} (p : X → Bool) (xs : List X) (i : ℕ) (d : X) → list_all p xs ≡ true → i < length xs → p (get_or xs i d) ≡ true
 entry_passes p xs i d all l = All-get_or (λ x. p x ≡ true) xs i d l (AllPass-from_list_all p xs all)
 
@@ -26,7 +26,7 @@ pub z_imaginary_small : (i : ℕ) → i < 32 → nat_abs (slice_index_or z_imagi
 unfolding z_imaginary
 z_imaginary_small i h = leb-true _ _ (entry_passes (λ x. nat_le (nat_abs x) 127) z_imaginary i (pos 0) refl h)
 
--- a small number, widened from 8 to 64 bits
+-- a small number survives widening from 8 to 64 bits
 pub widened : (x : ℤ) → nat_abs x ≤ 127 → to_z w64 (of_z w64 (to_z w8 (of_z w8 x))) ≡ x
 widened x h = omega (arith, ints)
 

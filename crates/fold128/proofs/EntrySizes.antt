@@ -1,4 +1,4 @@
--- The squared sizes of the tables' entries, computed over one period.
+-- The squared magnitudes of the tables' entries, computed over one period.
 use Rattle.std.proofs.Common.{◌≡◌, ℕ, ◌*◌, ◌%◌, ◌<◌, ◌≤◌, Bool, true, arith, refl, nat_le}
 use Rattle.std.proofs.lemmas.Bool.{leb-true}
 use Rattle.finite.specs.Tests.{every_below}

@@ -1,4 +1,4 @@
--- Quartets of folded samples: how butterflies make them, and the sizes of their sums.
+-- Quartets of folded samples: computing them with butterflies, and bounds on their sums.
 use Rattle.std.proofs.Common.{◌≡◌, ℕ, zero, suc, ◌+◌, ◌-◌, ◌*◌, ◌%◌, ◌^◌, ◌<◌, ◌≤◌, arith, refl, subst, Bool, true, false, List, length, ℤ, neg_ℤ, ◌+ℤ◌, ◌*ℤ◌, nat_eq, nat_le, slice_index_or, FitsSigned, w64}
 use Rattle.std.specs.Prelude.{All, nat_abs, if◌then◌else◌}
 use Rattle.std.proofs.lemmas.Bool.Decides.{nat_tests}
@@ -20,7 +20,7 @@ use Rattle.fold128.specs.Tables.{quarter, cosine, w_at}
 use Rattle.fold128.specs.Folding.{back_by, seen_of_four, quartet_of, taken, empty_quartet, folded_term, AreWithin, opposite, mirrored, IsSmallMirror, forward_by, given_at, unfolded, added}
 use Rattle.fold128.proofs.Entries.{w_period}
 
--- ---- the two components of an entry together
+-- ---- the sum of an entry's component magnitudes
 
 unfoldable pub entry_passes_at : ℕ → Bool
 entry_passes_at m = nat_le (nat_abs (w_at m).re + nat_abs (w_at m).im) 23170
@@ -35,7 +35,7 @@ entry-le m =
     let here = leb-true _ _ (every_below_at 128 entry_passes_at all_entries (m % 128) (omega arith)) in
     subst (λ (v : Cpx). nat_abs v.re + nat_abs v.im ≤ 23170) (w_period m) here
 
--- a product with a number whose two components together are small
+-- bounds a product by the sum of the second factor's component magnitudes
 product-within : (z v : Cpx) (m n : ℕ) → IsWithin m z → nat_abs v.re + nat_abs v.im ≤ n → IsWithin (m * n) (times z v)
 product-within z v m n p h =
     let rr = mul-le (nat_abs z.re) (nat_abs v.re) m (nat_abs v.re) p.re (omega arith) in
@@ -92,7 +92,7 @@ by_three : (a b c d : Cpx) → minus (minus a c) (times_minus_j (minus b d)) ≡
 unfolding seen_of_four back_by
 by_three a b c d = pair (omega (arith, ints)) (omega (arith, ints))
 
--- what the second two butterflies add and subtract
+-- the sums and differences in the second pair of butterflies fit
 pub sums-small : (n : ℕ) (a b c d : Cpx) → 4 * n < 2 ^ 63 → IsWithin n a → IsWithin n b → IsWithin n c → IsWithin n d → size (plus a c) + size (plus b d) < 2 ^ 63
 sums-small n a b c d few ha hb hc hd =
     let s = size-le _ _ (plus-within a c n n (n + n) ha hc (omega arith)) in
@@ -116,7 +116,7 @@ forward_differences-small n a b c d few ha hb hc hd =
     let t = size-le _ _ (times_j-within (minus b d) (n + n) (minus-within b d n n (n + n) hb hd (omega arith))) in
     omega (arith, few, s, t)
 
--- four butterflies make a quartet
+-- four butterflies compute a quartet
 pub by_butterflies : (a b c d : Cpx) →
     ◌≡◌ {A = Quartet}
     (record {
@@ -150,7 +150,7 @@ folded_term-within folded f m small l =
 pub folded_sum-within : (folded : List Quartet) (f m : ℕ) → All (AreWithin 131072) folded → m ≤ length folded → IsWithin (m * 3036938240) (complex_sum_below m (folded_term folded f))
 folded_sum-within folded f m small l = complex_sum_below-within m 3036938240 (folded_term folded f) (λ k below. folded_term-within folded f k small (omega arith))
 
--- ---- the places m and 32 - m together
+-- ---- the indices m and 32 - m combined
 
 pub opposite-within : (folded : List Quartet) (r m : ℕ) → All (AreWithin 131072) folded → length folded ≡ 32 → r < 4 → m ≤ 16 → IsWithin 131072 (opposite folded r m)
 opposite-within folded r m small long few inside = settle (nat_eq (m % 16) 0) refl
@@ -167,7 +167,7 @@ mirror-small here opposite p q = record {
   imaginary = back-within 262144 (minus here opposite) (minus-within here opposite 131072 131072 262144 p q (omega arith));
 }
 
--- one component of what both places give
+-- bounds one component of a combined term's contribution
 pub component-small : (a b c d : ℤ) → nat_abs a ≤ 262144 → nat_abs b ≤ 16384 → nat_abs c ≤ 262144 → nat_abs d ≤ 16384 → nat_abs (a *ℤ b +ℤ c *ℤ d) ≤ 8589934592
 component-small a b c d ha hb hc hd =
     let p = product_within a b 262144 16384 4294967296 ha hb (omega arith) in
@@ -197,7 +197,7 @@ mirrored-within p w small h = record {
   im = component-small p.real.im w.re p.imaginary.im w.im small.real.im h.re small.imaginary.im h.im;
 }
 
--- ---- the way back
+-- ---- synthesis
 
 forward_by-within : (q n : ℕ) (z : Cpx) → IsWithin n z → IsWithin n (forward_by q z)
 unfolding forward_by
@@ -235,7 +235,7 @@ gives_three : (a b c d : Cpx) → minus (minus a c) (times_j (minus b d)) ≡ gi
 unfolding given_at forward_by
 gives_three a b c d = pair (omega (arith, ints)) (omega (arith, ints))
 
--- four butterflies give four samples
+-- four butterflies compute four samples
 pub by_forward_butterflies : (a b c d : Cpx) →
     ◌≡◌ {A = Quartet}
     (record {

@@ -1,4 +1,4 @@
--- The fold: a sum over 128 samples is a sum over 32 places.
+-- Folding: a sum over 128 samples equals a sum over 32 quartets.
 use Rattle.std.proofs.Common.{◌≡◌, ℕ, zero, suc, ◌+◌, ◌-◌, ◌*◌, ◌%◌, ◌<◌, ◌≤◌, arith, refl, ap, sym, subst, ◌∙◌, true, false, nat_eq, List, ℤ, neg_ℤ, ◌+ℤ◌, ◌-ℤ◌, ◌*ℤ◌, slice_index_or}
 use Rattle.std.proofs.lemmas.Int.{ints}
 use Rattle.std.proofs.lemmas.Bool.Decides.{nat_tests}
@@ -21,7 +21,7 @@ use Rattle.fold128.specs.Folding.{back_by, seen_of_four, quartet_of, quartet_at,
 use Rattle.fold128.proofs.Tones.{times-nothing}
 use Rattle.fold128.proofs.Laws.{w_same, quarter_turn_is_j, backward_is_conjugate}
 
--- ---- a quarter turn of W turns the other factor back
+-- ---- adding a quarter period to W's argument multiplies the other factor by -j
 
 once_re : (a b c d : ℤ) → a *ℤ neg_ℤ d -ℤ b *ℤ neg_ℤ c ≡ b *ℤ c -ℤ neg_ℤ a *ℤ neg_ℤ d
 once_re a b c d =
@@ -47,13 +47,13 @@ back_turns (suc q) x z =
     let e : w_at (x + 32 * suc q) ≡ times_j (w_at (x + 32 * q)) = w_same (x + 32 * suc q) (x + 32 * q + 32) (omega arith) ∙ quarter_turn_is_j (x + 32 * q) in
     ap (λ v. times z (conjugate v)) e ∙ once z (w_at (x + 32 * q)) ∙ back_turns q x (times_minus_j z)
 
--- ---- four samples 32 apart
+-- ---- four samples at distance 32
 
--- what sample n gives to a frequency
+-- sample n's contribution to a frequency
 abbrev part : (ℕ → Cpx) → ℕ → ℕ → Cpx
 part samples f n = times (samples n) (conjugate (w_at (f * n)))
 
--- the sample q quarters on gives what it does at the place itself, turned back
+-- the sample q quarters later contributes like one at index m, multiplied by (-j) ^ (f q)
 later : (samples : ℕ → Cpx) (f m n q : ℕ) → f * n % 128 ≡ (f * m + 32 * q) % 128 → part samples f n ≡ times (back_by q (samples n)) (conjugate (w_at (f * m)))
 later samples f m n q e = ap (λ v. times (samples n) (conjugate v)) (w_same (f * n) (f * m + 32 * q) e) ∙ back_turns q (f * m) (samples n)
 
@@ -76,7 +76,7 @@ four_parts samples f m =
     ∙ ap (plus (part samples f m)) (sym (times-plus_left b (plus c d) v))
     ∙ sym (times-plus_left (samples m) (plus b (plus c d)) v)
 
--- ---- the whole sum
+-- ---- the complete sum
 
 quarters : (f : ℕ → Cpx) → complex_sum_below 128 f ≡ complex_sum_below 32 (λ m. plus (f m) (plus (f (32 + m)) (plus (f (32 + (32 + m))) (f (32 + (32 + (32 + m)))))))
 quarters f =
@@ -99,7 +99,7 @@ taken_is (suc (suc zero)) a b c d l = refl
 taken_is (suc (suc (suc zero))) a b c d l = refl
 taken_is (suc (suc (suc (suc r)))) a b c d l = absurd (omega arith)
 
--- the sum of a subcarrier over the 32 places
+-- the DFT at a subcarrier as a sum over the 32 quartets
 pub spectrum_folds : (samples : ℕ → Cpx) (k : ℕ) →
     complex_sum_below 32 (folded_term (folded_places samples) (frequency k)) ≡ spectrum_at samples k
 unfolding spectrum_at folded_places
@@ -121,7 +121,7 @@ spectrum_folds samples k = sym (quarters (spectrum_term samples k) ∙ complex_s
         ∙ ap (λ z. times z (conjugate (w_at (f * m)))) (sym (taken_is (f % 4) (samples m) (samples (m + 32)) (samples (m + 64)) (samples (m + 96)) (omega arith)))
         ∙ ap (λ q. times (taken q (f % 4)) (conjugate (w_at (f * m)))) (sym (values_below_at (quartet_at samples) 32 m empty_quartet l))
 
--- ---- the places m and 32 - m together
+-- ---- the indices m and 32 - m combined
 
 both_re : (a b c d v w : ℤ) → a *ℤ v -ℤ b *ℤ neg_ℤ w +ℤ (c *ℤ v -ℤ d *ℤ w) ≡ (a +ℤ c) *ℤ v +ℤ (b -ℤ d) *ℤ w
 both_re a b c d v w =
@@ -141,7 +141,7 @@ both_im a b c d v w =
     (ring.plus (ring.times (ring.plus (var b) (var d)) (var v)) (ring.times (ring.minus_one (ring.minus (var a) (var c))) (var w)))
     (omega arith)
 
--- a number that W turns back and one that it turns forward
+-- one number multiplied by W's conjugate, and one by W
 both : (q p v : Cpx) → plus (times q (conjugate v)) (times p v) ≡ mirrored (record { real = plus q p; imaginary = times_minus_j (minus q p) }) v
 both q p v = pair (both_re q.re q.im p.re p.im v.re v.im) (both_im q.re q.im p.re p.im v.re v.im)
 
@@ -151,7 +151,7 @@ twice v = pair refl (omega (arith, ints))
 spread : (f a b c : ℕ) → a + b ≡ c → f * a + f * b ≡ f * c
 spread f a b c e = subst (λ n. f * a + f * b ≡ f * n) e (omega arith)
 
--- W at place 32 - m
+-- W at index 32 - m
 opposite_turns : (f m : ℕ) (z : Cpx) → m ≤ 32 → times z (conjugate (w_at (f * (32 - m)))) ≡ times (back_by (f % 4) z) (w_at (f * m))
 opposite_turns f m z inside =
     let whole : f * (32 - m) + f * m ≡ f * 32 = spread f (32 - m) m 32 (omega (arith, inside)) in
@@ -188,7 +188,7 @@ module _ (folded : List Quartet) (f : ℕ) where
       ∙ sym (both here (back_by (f % 4) there) (w_at (f * m)))
       ∙ ap (plus (folded_term folded f m)) (sym (opposite_turns f m there (omega arith)))
 
--- 32 numbers, of which the first and the middle one stand alone and the others come in pairs
+-- a sum over 32 numbers, with all but the first and the middle one paired
 paired : (g h : ℕ → ℤ) → h 0 ≡ g 0 → h 16 ≡ g 16 → ((m : ℕ) → 0 < m → m < 16 → h m ≡ g m +ℤ g (32 - m)) → sum_below 17 h ≡ sum_below 32 g
 unfolding sum_below
 paired g h first middle pairs =

@@ -1,4 +1,4 @@
--- The laws of the tables: each is computed at the places of one period, and read at every place.
+-- Laws of the tables: computed over one period, then extended to all indices.
 use Rattle.std.proofs.Common.{◌≡◌, ℕ, ◌+◌, ◌-◌, ◌*◌, ◌%◌, arith, refl, ap, sym, subst, ◌∙◌, Bool, true}
 use Rattle.std.proofs.lemmas.Nat.{mul-mod_first}
 use Rattle.finite.specs.Sums.{sum_below}

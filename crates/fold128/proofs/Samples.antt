@@ -1,4 +1,4 @@
--- Bounds of a symbol's sums.
+-- Bounds on a symbol's sums.
 use Rattle.std.proofs.Common.{◌≡◌, ℕ, ◌*◌, ◌<◌, arith, refl, ap}
 use Rattle.cs_num.specs.declared.Cpx.{Cpx}
 use Rattle.cs_num.specs.Complex.{IsWithin, times}
@@ -15,7 +15,7 @@ pub useful_is : (grid : ℕ → Cpx) (n : ℕ) → useful_at grid n ≡ rounded 
 unfolding useful_at
 useful_is grid n = refl
 
--- samples of a useful part are small
+-- bounds a useful part's samples
 pub useful-within : (grid : ℕ → Cpx) (n : ℕ) → ((k : ℕ) → k < 72 → IsWithin 127 (grid k)) → IsWithin 2287 (useful_at grid n)
 unfolding useful_at
 useful-within grid n small =
@@ -26,7 +26,7 @@ useful-within grid n small =
       im = rounds_within (complex_sum_below 72 (useful_term grid n)).im 65536 2287 (omega arith) (omega (arith, s.im));
     }
 
--- two grids that agree give the same sample
+-- equal subcarrier values give equal samples
 pub useful_same : (f g : ℕ → Cpx) (n : ℕ) → ((k : ℕ) → k < 72 → f k ≡ g k) → useful_at f n ≡ useful_at g n
 unfolding useful_at
 useful_same f g n h =

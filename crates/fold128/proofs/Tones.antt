@@ -1,4 +1,4 @@
--- The way back: what values at their frequencies give to four samples 32 apart.
+-- Synthesis: what subcarrier values contribute to four samples at distance 32.
 use Rattle.std.proofs.Common.{◌≡◌, ℕ, zero, suc, ◌+◌, ◌*◌, ◌%◌, ◌<◌, ◌≤◌, arith, refl, ap, sym, ◌∙◌, Bool, true, false, nat_eq, ℤ, pos, neg_ℤ, ◌+ℤ◌, ◌-ℤ◌, ◌*ℤ◌, to_z, of_z, w64}
 use Rattle.std.specs.Prelude.{nat_abs, if◌then◌else◌}
 use Rattle.std.proofs.lemmas.Int.{ints, to_z-of_z, fits_signed_from_abs}
@@ -12,7 +12,7 @@ use Rattle.fold128.specs.Tables.{w_at}
 use Rattle.fold128.specs.Folding.{forward_by, given_at, unfolded, taken, added, empty_quartet}
 use Rattle.fold128.proofs.Laws.{w_same, quarter_turn_is_j}
 
--- ---- a quarter turn of W turns the product forward
+-- ---- adding a quarter period to W's argument multiplies the product by j
 
 across_re : (a b c d : ℤ) → a *ℤ neg_ℤ d -ℤ b *ℤ c ≡ neg_ℤ b *ℤ c -ℤ a *ℤ d
 across_re a b c d =
@@ -55,7 +55,7 @@ forward_turns (suc q) x z =
     let e : w_at (x + 32 * suc q) ≡ times_j (w_at (x + 32 * q)) = w_same (x + 32 * suc q) (x + 32 * q + 32) (omega arith) ∙ quarter_turn_is_j (x + 32 * q) in
     ap (times z) e ∙ across z (w_at (x + 32 * q)) ∙ forward_turns q x (times_j z) ∙ ap (forward_by q) (outward z (w_at x))
 
--- the sample q quarters on
+-- the sample q quarters later
 pub tone_later : (z : Cpx) (f m q : ℕ) → q < 4 → forward_by (f % 4 * q) (times z (w_at (f * m))) ≡ times z (w_at (f * (m + 32 * q)))
 tone_later z f m q few = sym (ap (times z) (w_same (f * (m + 32 * q)) (f * m + 32 * (f % 4 * q)) (places q few)) ∙ forward_turns (f % 4 * q) (f * m) z)
   where
@@ -66,7 +66,7 @@ tone_later z f m q few = sym (ap (times z) (w_same (f * (m + 32 * q)) (f * m + 3
     places (suc (suc (suc zero))) few = omega arith
     places (suc (suc (suc (suc q)))) few = absurd (omega (arith, few))
 
--- ---- a number more
+-- ---- adding to a quartet
 
 forward-plus : (q : ℕ) (a b : Cpx) → forward_by q (plus a b) ≡ plus (forward_by q a) (forward_by q b)
 unfolding forward_by
@@ -87,7 +87,7 @@ third_more a b c d t = pair (omega (arith, ints)) (omega (arith, ints))
 fourth_more : (a b c d t : Cpx) → plus a (plus b (plus c (plus d t))) ≡ plus (plus a (plus b (plus c d))) t
 fourth_more a b c d t = pair (omega (arith, ints)) (omega (arith, ints))
 
--- what is added to the number of a residue is turned by so many quarters
+-- a number added under residue r is multiplied by j ^ (r q) in the sample q quarters later
 pub given-added : (p : Quartet) (r q : ℕ) (t : Cpx) → r < 4 → given_at q (added p r t) ≡ plus (given_at q p) (forward_by (r * q) t)
 unfolding given_at forward_by
 given-added p zero q t few =
@@ -112,7 +112,7 @@ taken-unfolded p (suc (suc zero)) few = refl
 taken-unfolded p (suc (suc (suc zero))) few = refl
 taken-unfolded p (suc (suc (suc (suc q)))) few = absurd (omega (arith, few))
 
--- nothing more
+-- adding 0
 added_nothing : (t : Bool) (a : Cpx) → (if t then plus a nothing else a) ≡ a
 added_nothing true a = pair (omega (arith, ints)) (omega (arith, ints))
 added_nothing false a = refl

@@ -1,4 +1,4 @@
--- Laws of the tables, which are exact although the entries are rounded. (own)
+-- Exact laws of the tables, although their entries are rounded. (own)
 use Rattle.std.specs.Prelude.{◌≡◌, ℕ, ◌+◌, ◌*◌, ◌%◌, ◌≤◌}
 use Rattle.cs_num.specs.Complex.{nothing, times_j, negated, conjugate}
 use Rattle.cs_num.specs.Sums.{complex_sum_below}
@@ -10,7 +10,7 @@ WHasPeriod = (m : ℕ) → w_at (m + 128) ≡ w_at m
 abbrev pub HalfTurnNegates : Type 0
 HalfTurnNegates = (m : ℕ) → w_at (m + 64) ≡ negated (w_at m)
 
--- a quarter turn is a product with j
+-- a quarter period multiplies by j
 abbrev pub QuarterTurnIsJ : Type 0
 QuarterTurnIsJ = (m : ℕ) → w_at (m + 32) ≡ times_j (w_at m)
 
@@ -18,7 +18,7 @@ QuarterTurnIsJ = (m : ℕ) → w_at (m + 32) ≡ times_j (w_at m)
 abbrev pub BackwardIsConjugate : Type 0
 BackwardIsConjugate = (m : ℕ) → w_at (127 * m) ≡ conjugate (w_at m)
 
--- a tone that turns at all sums to zero over 128 samples
+-- a tone with a nonzero frequency modulo 128 sums to zero over 128 samples
 abbrev pub TonesCancel : Type 0
 TonesCancel = (d : ℕ) → 1 ≤ d % 128 → complex_sum_below 128 (λ n. w_at (d * n)) ≡ nothing
 

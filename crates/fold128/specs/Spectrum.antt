@@ -1,5 +1,5 @@
--- The 72 sums by which a symbol is seen: each sample turned back at the frequency of a subcarrier. (own; the useful part of
--- TS 36.211 section 6.12 read backward, in whole numbers)
+-- The unnormalised DFT of a symbol's useful part on the 72 subcarriers. (own; the inverse of TS 36.211 section 6.12,
+-- in integers)
 use Rattle.std.specs.Prelude.{ℕ, ◌*◌, List}
 use Rattle.cs_num.specs.declared.Cpx.{Cpx}
 use Rattle.cs_num.specs.Complex.{times, conjugate}
@@ -8,14 +8,14 @@ use Rattle.finite.specs.Lists.{values_below}
 use Rattle.fold128.specs.Tables.{w_at}
 use Rattle.fold128.specs.Symbol.{frequency}
 
--- what sample n gives to subcarrier k
+-- sample n's contribution to subcarrier k
 abbrev pub spectrum_term : (ℕ → Cpx) → ℕ → ℕ → Cpx
 spectrum_term samples k n = times (samples n) (conjugate (w_at (frequency k * n)))
 
--- the sum at subcarrier k
+-- the DFT at subcarrier k
 unfoldable pub spectrum_at : (ℕ → Cpx) → ℕ → Cpx
 spectrum_at samples k = complex_sum_below 128 (spectrum_term samples k)
 
--- the sums at all subcarriers
+-- the DFT at all subcarriers
 unfoldable pub spectrum : (ℕ → Cpx) → List Cpx
 spectrum samples = values_below 72 (spectrum_at samples)

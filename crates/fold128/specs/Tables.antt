@@ -1,4 +1,4 @@
--- The tables W and Z: whole numbers near 16384 and 127 times the 128th and the 63rd roots of unity. (own)
+-- The tables W and Z: integers near 16384 and 127 times the 128th and the 63rd roots of unity. (own)
 use Rattle.std.specs.Prelude.{ℕ, ◌+◌, ◌-◌, ◌%◌, List, [], ◌∷◌, ℤ, pos, negsuc, neg_ℤ, nat_le, if◌then◌else◌, slice_index, slice_index_or}
 use Rattle.cs_num.specs.declared.Cpx.{Cpx}
 use Rattle.cs_num.specs.Complex.{conjugate}
@@ -10,11 +10,11 @@ quarter =
     12665 ∷ 12140 ∷ 11585 ∷ 11003 ∷ 10394 ∷ 9760 ∷ 9102 ∷ 8423 ∷ 7723 ∷ 7005 ∷ 6270 ∷ 5520 ∷ 4756 ∷ 3981 ∷ 3196 ∷
     2404 ∷ 1606 ∷ 804 ∷ 0 ∷ []
 
--- C at a place of the half turn from 0 to 64: C(64 - m) = -C(m)
+-- C over half a period, 0 to 64: C(64 - m) = -C(m)
 abbrev pub half_turn : ℕ → ℤ
 half_turn m = if nat_le m 32 then pos (slice_index quarter m) else neg_ℤ (pos (slice_index quarter (64 - m)))
 
--- the place in the half turn that m has the same C as, by the period 128 and since C is even
+-- the index from 0 to 64 at which C has the same value: C has period 128 and is even
 abbrev pub folded : ℕ → ℕ
 folded m = if nat_le (m % 128) 64 then m % 128 else 128 - m % 128
 
@@ -40,10 +40,10 @@ z_imaginary =
     pos 118 ∷ pos 122 ∷ pos 125 ∷ pos 127 ∷ pos 127 ∷ pos 126 ∷ pos 124 ∷ pos 120 ∷ pos 116 ∷ pos 110 ∷ pos 103 ∷
     pos 95 ∷ pos 86 ∷ pos 77 ∷ pos 66 ∷ pos 55 ∷ pos 43 ∷ pos 31 ∷ pos 19 ∷ pos 6 ∷ []
 
--- Z at 0 to 31
+-- Z(0) to Z(31)
 abbrev pub z_half : ℕ → Cpx
 z_half m = record { re = slice_index_or z_real m (pos 0); im = slice_index_or z_imaginary m (pos 0) }
 
--- Z, of period 63: Z(63 - m) is the conjugate of Z(m)
+-- Z has period 63, and Z(63 - m) is the conjugate of Z(m)
 unfoldable pub z_at : ℕ → Cpx
 z_at m = if nat_le (m % 63) 31 then z_half (m % 63) else conjugate (z_half (63 - m % 63))

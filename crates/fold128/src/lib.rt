@@ -1,5 +1,6 @@
-//! The tables of the 128th and 63rd roots of unity, the useful part of a symbol, and the sums by
-//! which a symbol is seen. Each call equals its plain definition.
+//! A 128-point DFT in integers, between samples and the 72 subcarriers of an OFDM symbol, with the tables of the
+//! 128th and 63rd roots of unity. The transforms are folded by symmetry, and equal their plain definitions.
+//! Tests: the crate `low_tests`.
 #![tactic(auto)]
 
 mod quartet;
@@ -13,8 +14,8 @@ pub use spectrum::transform;
 pub use symbol::synth;
 pub use tables::{w, z63};
 
-/// The exact symmetries of W: its period is 128, half a turn negates, a quarter turn is a product
-/// with j, and backward is the conjugate.
+/// A law: the table W is exactly symmetric. It has period 128, half a period negates, a quarter multiplies by j, and
+/// reversal conjugates.
 pub fn table_is_symmetric()
     ensures period { WHasPeriod }
     ensures half_turn { HalfTurnNegates }
@@ -22,12 +23,12 @@ pub fn table_is_symmetric()
     ensures backward { BackwardIsConjugate }
 {}
 
-/// A tone of any frequency but 0 sums to zero over the 128 samples of a useful part.
+/// A law: a tone sums to zero over a symbol's 128 samples, unless its frequency is 0 modulo 128.
 pub fn tones_cancel()
     ensures { TonesCancel }
 {}
 
-/// Z has period 63, and backward is the conjugate.
+/// A law: the table Z has period 63, and reversal conjugates.
 pub fn short_table_is_symmetric()
     ensures period { ZHasPeriod }
     ensures backward { ZBackwardIsConjugate }

@@ -1,4 +1,4 @@
-//! Four numbers, one for each residue modulo 4.
+//! Four complex numbers, one per residue modulo 4.
 
 ghost use Rattle.std.specs.Prelude.{◌≡◌, ◌<◌};
 ghost use Rattle.cs_num.specs.Complex.{IsWithin};
@@ -6,7 +6,7 @@ ghost use Rattle.fold128.specs.Folding.{quartet_of, unfolded, taken, added, AreW
 
 use cs_num::Cpx;
 
-// The sum and the difference of two numbers.
+// Binds the sum and the difference of two numbers.
 macro_rules! butterfly {
     ($a:ident, $b:ident => $sum:ident, $difference:ident) => {
         let $sum = $a + $b;
@@ -14,7 +14,7 @@ macro_rules! butterfly {
     };
 }
 
-// A number for each of the residues 0, 1, 2 and 3 of a frequency, or of a quarter turn.
+// One number per residue modulo 4: the residue of a frequency, or of a sample's quarter.
 #[derive(Clone, Copy)]
 pub(crate) struct Quartet {
     pub zero: Cpx,
@@ -31,7 +31,7 @@ impl Quartet {
         three: Cpx::ZERO,
     };
 
-    // The number of a residue.
+    // Returns the number for a residue.
     pub(crate) fn of_residue(&self, residue: usize) -> Cpx
         ensures { result ≡ taken self.now residue }
     {
@@ -43,7 +43,7 @@ impl Quartet {
         }
     }
 
-    // Adds a number to that of a residue.
+    // Adds `number` to the number for a residue.
     pub(crate) fn add(&mut self, residue: usize, number: Cpx)
         requires residue { residue < 4 }
         requires small { AreWithin 1073741824 self.old }
@@ -59,8 +59,8 @@ impl Quartet {
     }
 }
 
-// What the frequencies of each residue see of four samples 32 apart: two butterflies on the samples half a
-// turn apart, and two on what they leave.
+// Folds four samples at distance 32 with four butterflies, and returns their contribution to the frequencies of each
+// residue.
 pub(crate) fn fold_four(a: Cpx, b: Cpx, c: Cpx, d: Cpx) -> Quartet
     requires a { IsWithin 32768 a }
     requires b { IsWithin 32768 b }
@@ -82,7 +82,7 @@ pub(crate) fn fold_four(a: Cpx, b: Cpx, c: Cpx, d: Cpx) -> Quartet
     }
 }
 
-// What the frequencies of each residue give to four samples 32 apart, which is the way back.
+// Unfolds the contributions of each residue to four samples at distance 32, in the direction opposite to `fold_four`.
 pub(crate) fn unfold_four(parts: Quartet) -> Quartet
     requires { AreWithin 1073741824 parts }
     ensures value { result ≡ unfolded parts }

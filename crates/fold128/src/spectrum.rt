@@ -1,4 +1,4 @@
-//! The 72 sums by which a symbol is seen, folded by the symmetries of W.
+//! The forward transform: 128 samples to 72 subcarriers, folded by W's symmetries.
 
 ghost use Rattle.std.specs.Prelude.{◌≡◌, ◌<◌, ◌≤◌, ◌+ℤ◌, ◌*ℤ◌, All, nat_abs};
 ghost use Rattle.cs_num.specs.Complex.{IsWithin, sample_at};
@@ -11,7 +11,7 @@ use crate::symbol::frequency_of;
 use crate::tables::w;
 use cs_num::{Cpx, Sample};
 
-// What a frequency sees of the places m and 32 - m: what the real part of W multiplies, and what its imaginary part.
+// The samples m and 32 - m combined: the factors that multiply W's real and imaginary part.
 #[derive(Clone, Copy)]
 struct Mirror {
     real: Cpx,
@@ -25,9 +25,8 @@ impl Mirror {
     };
 }
 
-/// The 72 plain sums of a symbol's 128 samples, each sample times the conjugate of W at the
-/// frequency of the subcarrier. They are not rounded, and components have size at most
-/// 97,182,023,680.
+/// Computes the unnormalised DFT of a symbol's 128 samples on the 72 subcarriers, without rounding. Components have
+/// magnitude at most 97,182,023,680.
 pub fn transform(samples: &[Sample; 128]) -> [Cpx; 72]
     ensures value { result ≡ spectrum (sample_at samples.now) }
     ensures small { All (IsWithin 97182023680) result }
@@ -47,7 +46,7 @@ pub fn transform(samples: &[Sample; 128]) -> [Cpx; 72]
     out
 }
 
-// The samples folded to 32 places.
+// Folds the samples to 32 quartets.
 fn fold(samples: &[Sample; 128]) -> [Quartet; 32]
     ensures value { result ≡ folded_places (sample_at samples.now) }
     ensures small { All (AreWithin 131072) result }
@@ -64,7 +63,7 @@ fn fold(samples: &[Sample; 128]) -> [Quartet; 32]
     folded
 }
 
-// A number times -j, as often as `turns` says.
+// Multiplies by -j, `turns` times.
 fn back(z: Cpx, turns: usize) -> Cpx
     requires small { IsWithin 131072 z }
     requires turns { turns < 4 }
@@ -78,7 +77,8 @@ fn back(z: Cpx, turns: usize) -> Cpx
     }
 }
 
-// What stands opposite place m for the frequencies of a residue: place 32 - m, turned back.
+// Returns the number opposite index `m` for a residue: index 32 - m with its phase corrected, and 0 opposite 0 and
+// 16.
 fn opposite_of(folded: &[Quartet; 32], residue: usize, m: usize) -> Cpx
     requires small { All (AreWithin 131072) folded.now }
     requires residue { residue < 4 }
@@ -92,7 +92,7 @@ fn opposite_of(folded: &[Quartet; 32], residue: usize, m: usize) -> Cpx
     back(folded[32 - m].of_residue(residue), residue)
 }
 
-// What the frequencies of a residue see of the places m and 32 - m together.
+// Combines index `m` with its opposite, for the frequencies of a residue.
 fn mirror_of(folded: &[Quartet; 32], residue: usize, m: usize) -> Mirror
     requires small { All (AreWithin 131072) folded.now }
     requires residue { residue < 4 }
@@ -110,7 +110,7 @@ fn mirror_of(folded: &[Quartet; 32], residue: usize, m: usize) -> Mirror
     }
 }
 
-// What the frequencies of a residue see of the places 0 to 16, each with the one opposite.
+// Combines the indices 0 to 16 with their opposites, for the frequencies of a residue.
 fn mirrors_of(folded: &[Quartet; 32], residue: usize) -> [Mirror; 17]
     requires small { All (AreWithin 131072) folded.now }
     requires residue { residue < 4 }
@@ -124,7 +124,7 @@ fn mirrors_of(folded: &[Quartet; 32], residue: usize) -> [Mirror; 17]
     row
 }
 
-// The sum at a frequency over the 17 places.
+// Returns the DFT at `frequency` as a sum of 17 combined terms.
 fn mirrored_sum(row: &[Mirror; 17], frequency: usize) -> Cpx
     requires small { All IsSmallMirror row.now }
     requires frequency { frequency < 128 }
@@ -137,7 +137,7 @@ fn mirrored_sum(row: &[Mirror; 17], frequency: usize) -> Cpx
     sum
 }
 
-// What the places m and 32 - m give together, with W at m.
+// Returns a combined term's contribution, where W is `w` at its index.
 fn product(mirror: Mirror, w: Cpx) -> Cpx
     requires mirror { IsSmallMirror mirror }
     requires w { IsWithin 16384 w }
@@ -150,7 +150,7 @@ fn product(mirror: Mirror, w: Cpx) -> Cpx
     }
 }
 
-// One component of what the places m and 32 - m give together.
+// Returns one component of a combined term's contribution.
 fn component(real: i64, cosine: i64, imaginary: i64, sine: i64) -> i64
     requires real { nat_abs real ≤ 262144 }
     requires cosine { nat_abs cosine ≤ 16384 }

@@ -1,4 +1,4 @@
-//! The useful part of a symbol from its grid values.
+//! The inverse transform: from 72 subcarriers to a symbol's useful part.
 
 ghost use Rattle.std.specs.Prelude.{◌≡◌, ℕ, ◌*◌, ◌%◌, ◌<◌, All, slice_index_or};
 ghost use Rattle.finite.specs.Lists.{values_below};
@@ -11,9 +11,8 @@ use crate::quartet::{Quartet, unfold_four};
 use crate::tables::w;
 use cs_num::Cpx;
 
-/// The 128 samples of the useful part of a symbol with these 72 grid values: sample n is the sum
-/// of the values times W at their frequencies, divided by 2^17 and rounded (TS 36.211 section
-/// 6.12, in whole numbers). Components of the values have size at most 127.
+/// Synthesises the 128 samples of a symbol's useful part from its 72 subcarrier values, scaled by 2^-17 and rounded
+/// (TS 36.211 section 6.12, in integers). Components of the values have magnitude at most 127.
 pub fn synth(grid: &[Cpx; 72]) -> [Cpx; 128]
     requires { All (IsWithin 127) grid.now }
     ensures { result ≡ useful_part (value_at grid.now) }
@@ -30,7 +29,7 @@ pub fn synth(grid: &[Cpx; 72]) -> [Cpx; 128]
     out
 }
 
-// Adds what a value at a frequency gives to the samples 0 to 31, to those of its residue.
+// Adds one subcarrier's contribution to the samples 0 to 31, under its frequency's residue.
 fn add_tone(parts: &mut [Quartet; 32], value: Cpx, frequency: usize)
     requires small { All (AreWithin 1073741824) parts.old }
     requires value { IsWithin 127 value }
@@ -46,7 +45,7 @@ fn add_tone(parts: &mut [Quartet; 32], value: Cpx, frequency: usize)
     }
 }
 
-// The 128 samples of such parts, each place's four 32 apart.
+// Unfolds the 32 quartets to 128 samples; each quartet gives four at distance 32.
 fn unfold(parts: &[Quartet; 32]) -> [Quartet; 32]
     requires { All (AreWithin 1073741824) parts.now }
     ensures value { result ≡ values_below 32 (λ m. unfolded (slice_index_or parts.now m empty_quartet)) }
@@ -59,7 +58,7 @@ fn unfold(parts: &[Quartet; 32]) -> [Quartet; 32]
     samples
 }
 
-// The frequency of subcarrier k, modulo 128.
+// Returns subcarrier `k`'s frequency, modulo 128.
 pub(crate) fn frequency_of(k: usize) -> usize
     requires { k < 72 }
     ensures value { result ≡ frequency k }

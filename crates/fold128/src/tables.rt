@@ -1,4 +1,4 @@
-//! The tables W and Z: W read at each place of its period, Z by half period.
+//! The tables W and Z. W is stored for a period, Z for half a period.
 
 ghost use Rattle.std.specs.Prelude.{◌≡◌, ◌<◌};
 ghost use Rattle.cs_num.specs.Complex.{IsWithin};
@@ -6,7 +6,7 @@ ghost use Rattle.fold128.specs.Tables.{z_half, cosine, w_at, z_at};
 
 use cs_num::Cpx;
 
-// C(0) to C(223): the real parts of W over its period, and on to those that are its imaginary parts.
+// C(0) to C(223): the real parts of W over one period, continued so that they contain the imaginary parts.
 const COSINES: [i64; 224] = [
     16384, 16364, 16305, 16207, 16069, 15893, 15679, 15426, 15137, 14811, 14449, 14053, 13623,
     13160, 12665, 12140, 11585, 11003, 10394, 9760, 9102, 8423, 7723, 7005, 6270, 5520, 4756, 3981,
@@ -39,14 +39,14 @@ const Z_IMAGINARY: [i8; 32] = [
     110, 103, 95, 86, 77, 66, 55, 43, 31, 19, 6,
 ];
 
-// How a place up to the last one of a part is read, and how a later one.
+// Selects between a table's stored part and the part that follows by symmetry.
 macro_rules! by_symmetry {
     ($place:ident <= $last:literal => $value:expr, else $later:expr) => {
         if $place <= $last { $value } else { $later }
     };
 }
 
-// C(m).
+// Returns C(m).
 fn cosine_of(m: usize) -> i64
     requires { m < 224 }
     ensures { result ≡ cosine m }
@@ -54,7 +54,7 @@ fn cosine_of(m: usize) -> i64
     COSINES[m]
 }
 
-/// W(m), near 16384 times the 128th root of unity to the power m, of period 128. (own)
+/// Returns W(`m`), an integer approximation to 16384 exp(2 pi j `m` / 128). (own)
 pub fn w(m: usize) -> Cpx
     ensures { result ≡ w_at m }
 {
@@ -65,7 +65,7 @@ pub fn w(m: usize) -> Cpx
     }
 }
 
-// Z at a place of the first half period.
+// Returns Z(m) in the first half of its period.
 fn z_half_of(m: usize) -> Cpx
     requires { m < 32 }
     ensures value { result ≡ z_half m }
@@ -77,7 +77,7 @@ fn z_half_of(m: usize) -> Cpx
     }
 }
 
-/// Z(m), near 127 times the 63rd root of unity to the power m, of period 63. (own)
+/// Returns Z(`m`), an integer approximation to 127 exp(2 pi j `m` / 63). (own)
 pub fn z63(m: usize) -> Cpx
     ensures { result ≡ z_at m }
 {

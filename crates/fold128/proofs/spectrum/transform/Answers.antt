@@ -14,7 +14,7 @@ use Rattle.fold128.proofs.FoldSizes.{folded_sum-within}
 use Rattle.fold128.proofs.Folds.{spectrum_folds, mirrors_fold}
 use Rattle.fold128.proofs.spectrum.transform.Goals as goal
 
--- the row of a residue
+-- the row for a residue
 row_is : (a b c d other : List Mirror) (folded : List Quartet) (r : ℕ) → r < 4 → a ≡ mirrors folded 0 → b ≡ mirrors folded 1 → c ≡ mirrors folded 2 → d ≡ mirrors folded 3
     → slice_index_or (a ∷ b ∷ c ∷ d ∷ []) r other ≡ mirrors folded r
 row_is a b c d other folded zero few e f g h = e

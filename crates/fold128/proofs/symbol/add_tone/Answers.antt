@@ -11,7 +11,7 @@ use Rattle.fold128.proofs.Entries.{w_small}
 use Rattle.fold128.proofs.Tones.{nothing_is, times-nothing, added-nothing}
 use Rattle.fold128.proofs.symbol.add_tone.Goals as goal
 
--- 0 gives nothing
+-- a value of 0 contributes nothing
 pub returns-then-value-eq0-2 : goal.returns-then-value-eq0-2
 returns-then-value-eq0-2 c m inside =
     let e : c.args.value ≡ nothing = nothing_is c.args.value c.requires.value c.if-value-eq0.true c.if-value-eq0-2.true in

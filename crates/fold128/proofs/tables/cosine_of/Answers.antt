@@ -9,7 +9,7 @@ use Rattle.fold128.proofs.tables.cosine_of.Goals as goal
 kept : (x : ℤ) → nat_abs x ≤ 16384 → to_z w64 (of_z w64 x) ≡ x
 kept x h = omega (arith, ints)
 
--- the table is the list of C below 224, by computation
+-- by computation: the table lists C below 224
 pub returns : goal.returns
 unfolding quarter cosine
 returns c =
