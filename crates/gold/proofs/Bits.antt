@@ -1,4 +1,4 @@
--- Readings of the first bits of the sequence.
+-- Reading the sequence's first bits.
 use Rattle.std.proofs.Common.{ℕ, ◌<◌, ◌≡◌, Bool, length, get_or, arith}
 use Rattle.std.proofs.lemmas.List.FromFn.{length-map-range_with_len, get_or-map-range_with_len}
 use Rattle.gold.specs.Gold.{gold_bit, gold_bits}

@@ -1,4 +1,4 @@
--- A register of 31 bits is a window of a sequence, the lowest bit first.
+-- A 31-bit register as a window on a sequence, the least significant bit first.
 use Rattle.std.proofs.Common.{ℕ, zero, suc, ◌+◌, ◌*◌, ◌/◌, ◌%◌, ◌^◌, ◌<◌, ◌≡◌, Bool, false, nat_eq, List, [], ◌∷◌, ◌++◌, length, get_or, refl, ap, ap₂, sym, ◌∙◌, arith, lit<, bit_xor, bit_and, pow-suc, drop, add-one}
 use Rattle.std.specs.Int.{bit_at}
 use Rattle.std.proofs.lemmas.Nat.{xor_mod, and_mask, xor_shr, shr-shr, mod-pow-add}
@@ -11,7 +11,7 @@ use Rattle.gold.specs.Gold.{gold_bit}
 use Rattle.gold.proofs.Windows.{get_or-window}
 use Rattle.std.proofs.Math.Nat.{div-one}
 
--- ---- the low bits of a number
+-- ---- a number's low bits
 
 pub length-low_bits : (count number : ℕ) → length (low_bits count number) ≡ count
 unfolding low_bits
@@ -33,11 +33,11 @@ low_bits-suc (suc n) r =
     ap (λ bits. odd r ∷ bits)
     (low_bits-suc n (r / 2) ∙ ap (λ (m : ℕ). low_bits n (r / 2) ++ (nat_eq (m % 2) 1 ∷ [])) (shr-shr r 1 n ∙ ap (λ (m : ℕ). r / 2 ^ m) e))
 
--- one bit more
+-- one more bit
 pub low_bits-more : (n r : ℕ) → low_bits (n + 1) r ≡ low_bits n r ++ (nat_eq (r / 2 ^ n % 2) 1 ∷ [])
 low_bits-more n r = rw add-one (low_bits-suc n r)
 
--- a number put above another of w bits
+-- two numbers packed into one
 low_bits-join : (w v n a b : ℕ) → n ≡ w + v → a < 2 ^ w → low_bits n (a + b * 2 ^ w) ≡ low_bits w a ++ low_bits v b
 unfolding low_bits
 low_bits-join zero v n a b size fits =
@@ -53,7 +53,7 @@ low_bits-join (suc w) v (suc n) a b size fits =
     let g : a / 2 < 2 ^ w = omega (arith, q, fits) in
     ap₂ (λ (x : ℕ) (ys : List Bool). nat_eq x 1 ∷ ys) e (ap (low_bits n) f ∙ low_bits-join w v n (a / 2) b (omega (arith, size)) g)
 
--- the bits of a number that is shifted by k places
+-- shifting a number right by k drops its k lowest bits
 low_bits-drop : (k w n r : ℕ) → n ≡ k + w → low_bits w (r / 2 ^ k) ≡ drop k (low_bits n r)
 unfolding low_bits
 low_bits-drop zero w n r size =
@@ -64,7 +64,7 @@ low_bits-drop (suc k) w (suc n) r size =
     let e : suc k ≡ 1 + k = omega arith in
     ap (λ (m : ℕ). low_bits w (r / 2 ^ m)) e ∙ ap (low_bits w) (sym (shr-shr r 1 k)) ∙ low_bits-drop k w n (r / 2) (omega (arith, size))
 
--- only the low w bits of a number matter
+-- the low w bits depend on the number modulo 2 ^ w
 low_bits-mod : (w r : ℕ) → low_bits w (r % 2 ^ w) ≡ low_bits w r
 unfolding low_bits
 low_bits-mod zero r = refl
@@ -75,7 +75,7 @@ low_bits-mod (suc w) r =
     let f : (r % 2 ^ suc w) / 2 ≡ r / 2 % 2 ^ w = omega (arith, m) in
     ap₂ (λ (x : ℕ) (ys : List Bool). nat_eq x 1 ∷ ys) e (ap (low_bits w) f ∙ low_bits-mod w (r / 2))
 
--- ---- the lowest bit of a sum without carry
+-- ---- the lowest bit of the XOR
 
 low_two : (a b : ℕ) → a < 2 → b < 2 → nat_eq (bit_xor a b) 1 ≡ xor (nat_eq a 1) (nat_eq b 1)
 low_two zero zero p q = refl
@@ -101,9 +101,9 @@ halves2 r = omega arith
 halves3 : (r : ℕ) → r / 4 / 2 ≡ r / 8
 halves3 r = omega arith
 
--- ---- the registers, a block of places on
+-- ---- the registers, a block of steps later
 
--- the sums of the bits at the taps, from each of the first places on
+-- the XOR at the taps, from each of the first positions
 unfoldable sums : List ℕ → ℕ → List Bool → List Bool
 sums taps zero bits = []
 sums taps (suc n) bits = sum_at taps bits ∷ sums taps n (drop 1 bits)
@@ -129,7 +129,7 @@ x1_window : (r : ℕ) → window x1_taps (low_bits 31 r) 25 ≡ drop 25 (low_bit
 unfolding window step sums sum_at low_bits x1_taps
 x1_window r = refl
 
--- a register into which a block of bits comes that are these sums goes a block on
+-- shifting in a block with these bits advances the register by a block
 block_on : (taps : List ℕ) (r bits : ℕ) → r < 2 ^ 31 → low_bits 25 bits ≡ sums taps 25 (low_bits 31 r) →
     low_bits 31 (r / 2 ^ 25 + bits * 2 ^ 6) ≡ drop 25 (low_bits 31 r) ++ sums taps 25 (low_bits 31 r)
 block_on taps r bits fits are = low_bits-join 6 25 31 (r / 2 ^ 25) bits refl (omega (arith, fits)) ∙ ap₂ ◌++◌ (low_bits-drop 25 6 31 r refl) are
@@ -152,7 +152,7 @@ x2_later r fits = block_on x2_taps r _ fits (low_bits-masked _ ∙ x2_sums 25 r)
 
 -- ---- both registers
 
--- the registers stand at place n of the two sequences
+-- both registers are at index n of their sequences
 pub record StandAt (c_init n first second : ℕ) : Type 0 where
   pub first_fits : first < 2 ^ 31
   pub second_fits : second < 2 ^ 31
@@ -204,7 +204,7 @@ pub x2_long : (c_init : ℕ) → length (x2_start c_init) ≡ 31
 unfolding x2_start
 x2_long c_init = length-low_bits 31 c_init
 
--- the sums of the bits of the registers are the bits of the sequence c, 1600 places before
+-- the registers XORed give bits of c, 1600 positions earlier
 pub sum-bits : (c_init n first second count j : ℕ) → StandAt c_init (n + 1600) first second → j < 31 → j < count →
     get_or (low_bits count (bit_xor first second)) j false ≡ gold_bit c_init (n + j)
 unfolding gold_bit x1 x2

@@ -1,4 +1,4 @@
--- The windows of a sequence: what each bit of them is, and the recurrence.
+-- Windows on a sequence: each bit, and the recurrence.
 use Rattle.std.proofs.Common.{ℕ, zero, suc, ◌+◌, ◌<◌, ◌≡◌, Bool, false, List, [], ◌∷◌, ◌++◌, length, get_or, refl, ap, sym, ◌∙◌, arith, length-append, add-zero}
 use Rattle.std.proofs.lemmas.List.{get_or_append_left}
 use Rattle.gold.specs.Register.{sum_at, step, window}
@@ -13,7 +13,7 @@ unfolding window
 length-window taps start zero = refl
 length-window taps start (suc n) = length-step taps (window taps start n) ∙ length-window taps start n
 
--- a step moves each bit one place to the front
+-- a step moves each bit forward by one position
 get_or-step : (taps : List ℕ) (bits : List Bool) (i : ℕ) → suc i < length bits → get_or (step taps bits) i false ≡ get_or bits (suc i) false
 unfolding step
 get_or-step taps [] i inside = absurd (omega arith)
@@ -39,7 +39,7 @@ step-last taps (bit ∷ bits) w long =
     let last : w ≡ length bits = omega arith in
     ap (λ (k : ℕ). get_or (bits ++ (sum_at taps (bit ∷ bits) ∷ [])) k false) last ∙ get_or-last bits (sum_at taps (bit ∷ bits))
 
--- where the start has w + 1 bits, bit n + w + 1 is the sum of the bits at the taps from n on
+-- for w + 1 register bits, bit n + w + 1 is the XOR at the taps from n
 pub recurrence : (taps : List ℕ) (start : List Bool) (w n : ℕ) → length start ≡ suc w → get_or (window taps start (n + suc w)) 0 false ≡ sum_at taps (window taps start n)
 unfolding window
 recurrence taps start w n long =

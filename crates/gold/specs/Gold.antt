@@ -1,5 +1,5 @@
--- The pseudo-random sequence c, a length-31 Gold sequence: the sum modulo 2 of two sequences x1 and x2 that registers
--- of 31 bits make, of which c_init starts the second (TS 36.211 section 7.2). Such sums are named after R. Gold.
+-- The pseudo-random sequence c, a length-31 Gold sequence: the XOR of two 31-bit LFSR sequences x1 and x2; c_init
+-- initialises the second (TS 36.211 section 7.2).
 use Rattle.std.specs.Prelude.{ℕ, ◌+◌, Bool, List, map}
 use Rattle.std.specs.List.{range_with_len}
 use Rattle.finite.specs.Bits.{xor}

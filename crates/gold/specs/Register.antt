@@ -1,23 +1,23 @@
--- A shift register: its bits are a window of the sequence that it makes, the bit that comes out first. (own)
+-- A linear feedback shift register. Its bits are a window on its sequence, the oldest bit first. (own)
 use Rattle.std.specs.Prelude.{ℕ, zero, suc, ◌/◌, Bool, false, List, [], ◌∷◌, ◌++◌, get_or}
 use Rattle.finite.specs.Bits.{xor, odd}
 
--- the sum modulo 2 of the bits at the taps
+-- the XOR at the taps
 unfoldable pub sum_at : List ℕ → List Bool → Bool
 sum_at [] bits = false
 sum_at (tap ∷ taps) bits = xor (get_or bits tap false) (sum_at taps bits)
 
--- one place on: the first bit goes, and the sum of the bits at the taps comes last
+-- one step: the oldest bit leaves, and the XOR at the taps enters
 unfoldable pub step : List ℕ → List Bool → List Bool
 step taps [] = []
 step taps (bit ∷ bits) = bits ++ sum_at taps (bit ∷ bits) ∷ []
 
--- the bits from place n on, as many as the start has
+-- the register after n steps
 unfoldable pub window : List ℕ → List Bool → ℕ → List Bool
 window taps start zero = start
 window taps start (suc n) = step taps (window taps start n)
 
--- the low bits of a number, the lowest first
+-- a number's low bits, the least significant first
 unfoldable pub low_bits : ℕ → ℕ → List Bool
 low_bits zero number = []
 low_bits (suc count) number = odd number ∷ low_bits count (number / 2)

@@ -1,6 +1,6 @@
-//! The pseudo-random sequence c, a length-31 Gold sequence (TS 36.211 section 7.2): the sum modulo 2
-//! of the sequences x1 and x2 of two shift registers of 31 bits, from place 1600 on. Sums of two such
-//! sequences are named after R. Gold. c scrambles the channels' bits and makes the reference signals.
+//! LTE's pseudo-random sequence c, a length-31 Gold sequence (TS 36.211 section 7.2): the XOR of two 31-bit LFSR
+//! sequences x1 and x2, from index 1600. It scrambles channels and generates reference signals.
+//! Tests: the crate `low_tests`.
 #![tactic(auto)]
 
 ghost use Rattle.std.specs.Prelude.{◌≡◌, ◌+◌, ◌*◌, ◌/◌, ◌^◌, ◌<◌, ◌↔◌, ℕ, true, false, IsTrue, IsBitSet, length};
@@ -9,14 +9,13 @@ ghost use Rattle.finite.specs.Bits.{xor};
 ghost use Rattle.gold.specs.Register.{low_bits, window};
 ghost use Rattle.gold.specs.Sequence.{x1, x2, x1_taps, x2_taps};
 
-// How many places the registers go on at a time: the first bits of a register tell up to 28 of those that follow it,
-// and 64 times 25 are the 1,600 places before the sequence c.
+// The bits per step. A 31-bit register determines its next 28 bits, and 64 steps of 25 skip the 1,600 bits before c.
 const BLOCK: usize = 25;
 
-// The low 25 bits of a number.
+// A mask for the low 25 bits.
 const LOW: u32 = 0x1ff_ffff;
 
-// The register 25 places on, where these bits come in.
+// Returns the register 25 steps later, where `bits` are the new bits.
 fn shift_in(register: u32, bits: u32) -> u32
     requires register { register < 2 ^ 31 }
     requires bits { bits < 2 ^ 25 }
@@ -44,7 +43,7 @@ fn later_x2(register: u32) -> u32
     )
 }
 
-// Writes the low bits of a number over the whole of `out`, the lowest first.
+// Writes the low bits of `number` to all of `out`, the least significant first.
 fn put_low_bits(number: u32, out: &mut [bool])
     ensures { out.new ≡ low_bits (length out.old) number }
 {
@@ -55,7 +54,7 @@ fn put_low_bits(number: u32, out: &mut [bool])
     }
 }
 
-/// Fills `out` with the first bits of the sequence c. `c_init` is below 2^31; its bit i is x2(i).
+/// Fills `out` with the first bits of c. `c_init` is below 2^31; its bit i is x2(i).
 pub fn fill(c_init: u32, out: &mut [bool])
     requires { c_init < 2 ^ 31 }
     ensures { out.new ≡ gold_bits c_init (length out.old) }
@@ -76,8 +75,8 @@ pub fn fill(c_init: u32, out: &mut [bool])
     }
 }
 
-/// States that the definitions are those of the standard: x1 and x2 have the stated first 31 bits and follow
-/// their recurrences, and c is their sum from bit 1600.
+/// A law: the definitions agree with the standard. x1 and x2 have the given first 31 bits and satisfy their
+/// recurrences, and c is their XOR from bit 1600.
 pub fn recurrences()
     ensures x1_first { x1 0 ≡ true }
     ensures x1_start { (n : ℕ) → 0 < n → n < 31 → x1 n ≡ false }
