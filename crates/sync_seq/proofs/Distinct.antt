@@ -1,5 +1,4 @@
--- The secondary sequences of one identity within its group differ: each is packed into one number, and the numbers are
--- compared.
+-- The SSS for one identity within the group differ: each is packed into a number, and the numbers are compared.
 use Rattle.std.proofs.Common.{◌≡◌, ◌≢◌, ℕ, zero, suc, ◌+◌, ◌*◌, ◌/◌, ◌%◌, ◌<◌, ◌≤◌, arith, refl, ap, sym, ◌∙◌, Bool, true, false, not, List, [], ◌∷◌, length, get_or, nat_eq, nat_lt, eq-eqb, ℤ, pos, negsuc}
 use Rattle.std.specs.Prelude.{◌&&◌}
 use Rattle.std.proofs.lemmas.Bool.{and_parts, false≢true, ltb-true, ltb-false}
@@ -12,7 +11,7 @@ use Rattle.sync_seq.specs.Laws.{SecondaryTells}
 
 -- ---- lists of distinct numbers
 
--- x is not among the numbers
+-- x is not in the list
 unfoldable apart : ℕ → List ℕ → Bool
 apart x [] = true
 apart x (y ∷ ys) = not (nat_eq x y) && apart x ys
@@ -43,7 +42,7 @@ minus_bit : ℤ → ℕ
 minus_bit (pos n) = 0
 minus_bit (negsuc n) = 1
 
--- the first n signs, one bit each
+-- the first n signs packed into a number, one bit each
 unfoldable packed : ℕ → (ℕ → ℤ) → ℕ
 packed zero f = 0
 packed (suc n) f = 2 * packed n f + minus_bit (f n)
@@ -56,7 +55,7 @@ packed_same (suc n) f g h =
     let here = ap minus_bit (h n (omega arith)) in
     cc
 
--- ---- all pairs of a group and a half, by number
+-- ---- all pairs (group, half frame), numbered
 
 abbrev half_by : ℕ → Half
 half_by zero = Zero
@@ -86,7 +85,7 @@ tell (suc zero) l = tell1
 tell (suc (suc zero)) l = tell2
 tell (suc (suc (suc n))) l = absurd (omega arith)
 
--- two numbers of pairs with the same code are the same
+-- pairs with equal codes have equal numbers
 codes_tell : (n2 i j : ℕ) → n2 ≤ 2 → i < 336 → j < 336 → code (period_bits S) (period_bits C) (period_bits Z) n2 i ≡ code (period_bits S) (period_bits C) (period_bits Z) n2 j → i ≡ j
 unfolding codes
 codes_tell n2 i j l p q e = settle (nat_lt i j) (nat_lt j i) refl refl
@@ -118,7 +117,7 @@ unfolding half_number
 half-le Zero = omega arith
 half-le Five = omega arith
 
--- the code of a pair is that of its values
+-- a pair's code packs its SSS signs
 code_is : (n2 n1 : ℕ) (half : Half) → code (period_bits S) (period_bits C) (period_bits Z) n2 (2 * n1 + half_number half) ≡ packed 62 (sss_at n1 n2 half)
 unfolding code sss_at
 code_is n2 n1 half =

@@ -1,4 +1,4 @@
--- The grid of a list of values is that of the values.
+-- Subcarriers from a list of values.
 use Rattle.std.proofs.Common.{◌≡◌, ℕ, ◌-◌, arith, Bool, true, false, nat_lt, refl, ltb-true}
 use Rattle.std.specs.Prelude.{if◌then◌else◌}
 use Rattle.finite.specs.Lists.{values_below}

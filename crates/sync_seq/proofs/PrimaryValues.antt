@@ -1,4 +1,4 @@
--- The values of the primary sequence: sizes, and reading them from the list.
+-- The PSS values: bounds, and reading them from the list.
 use Rattle.std.proofs.Common.{◌≡◌, ℕ, ◌-◌, ◌*◌, ◌<◌, refl}
 use Rattle.cs_num.specs.Complex.{IsWithin, nothing, value_at}
 use Rattle.finite.proofs.Lists.{values_below_at}

@@ -1,4 +1,4 @@
--- The secondary sequence: its bits as they grow, and its signs.
+-- The SSS: its m-sequences bit by bit, and its signs.
 use Rattle.std.proofs.Common.{◌≡◌, ℕ, ◌+◌, ◌/◌, ◌%◌, ◌<◌, ◌≢◌, ◌∙◌, ap, arith, refl, Bool, true, false, List, ℤ, pos, negsuc, ◌*ℤ◌, nat_eq, to_z, of_z, FitsSigned}
 use Rattle.std.specs.Prelude.{if◌then◌else◌, nat_abs}
 use Rattle.std.specs.Int.{w8}
@@ -18,7 +18,7 @@ product-size a b p q = rw (unsigned_abs-mul a b, p, q) refl
 pub product_same : (a b x y : ℤ) → a ≡ x → b ≡ y → a *ℤ b ≡ x *ℤ y
 product_same a b x y p q = cc
 
--- a product of signs in eight bits
+-- signs multiplied in 8-bit arithmetic
 pub kept_product : (a b : ℤ) → nat_abs a ≡ 1 → nat_abs b ≡ 1 → to_z w8 (of_z w8 (to_z w8 (of_z w8 a) *ℤ to_z w8 (of_z w8 b))) ≡ a *ℤ b
 kept_product a b p q =
     let fa : FitsSigned w8 a = fits_signed_from_abs w8 a (omega arith) in
@@ -40,7 +40,7 @@ kept_products a b d p q r =
 pub kept_sign : (a : ℤ) → nat_abs a ≡ 1 → to_z w8 (of_z w8 a) ≡ a
 kept_sign a p = let fa : FitsSigned w8 a = fits_signed_from_abs w8 a (omega arith) in simp to_z-of_z
 
--- ---- the values of even and of odd places
+-- ---- the values at even and odd positions
 
 pub shifted_even : (s c z : List Bool) (n2 even odd k : ℕ) → k % 2 ≡ 0 → shifted_value s c z n2 even odd k ≡ even_value s c n2 even (k / 2)
 unfolding shifted_value

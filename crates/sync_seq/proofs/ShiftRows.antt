@@ -1,4 +1,4 @@
--- The shifts of the first and the last identity groups.
+-- The shifts for the first and the last group.
 use Rattle.std.proofs.Common.{◌≡◌, refl}
 use Rattle.sync_seq.specs.Secondary.{shift_sum, m0_of, m1_of}
 

@@ -1,16 +1,17 @@
--- The middle 62 of 72 subcarriers, which hold the synchronisation signals. (TS 36.211 sections 6.11.1.2 and 6.11.2.2)
+-- The central 62 of 72 subcarriers, which carry the synchronisation signals. (TS 36.211 sections 6.11.1.2 and
+-- 6.11.2.2)
 use Rattle.std.specs.Prelude.{ℕ, ◌+◌, ◌-◌, Bool, nat_le, nat_lt, ◌&&◌, if◌then◌else◌}
 use Rattle.cs_num.specs.declared.Cpx.{Cpx}
 use Rattle.cs_num.specs.Complex.{nothing}
 
--- the subcarrier of value n
+-- the subcarrier for value n
 abbrev pub middle : ℕ → ℕ
 middle n = n + 5
 
--- a subcarrier is one of the middle 62
+-- whether a subcarrier is one of the central 62
 abbrev pub is_middle : ℕ → Bool
 is_middle k = nat_le 5 k && nat_lt k 67
 
--- the grid of a symbol that holds 62 values in the middle, and nothing elsewhere
+-- the subcarriers of a symbol with 62 values at the centre and 0 elsewhere
 abbrev pub in_middle : (ℕ → Cpx) → ℕ → Cpx
 in_middle values k = if nat_lt k 5 then nothing else if nat_lt k 67 then values (k - 5) else nothing

@@ -1,4 +1,4 @@
--- The secondary synchronisation sequence. (TS 36.211 section 6.11.2.1)
+-- The SSS. (TS 36.211 section 6.11.2.1)
 use Rattle.std.specs.Prelude.{ℕ, zero, suc, ◌+◌, ◌*◌, ◌/◌, ◌%◌, Bool, true, false, ◌==◌, List, [], ◌∷◌, ◌++◌, ℤ, pos, negsuc, ◌*ℤ◌, if◌then◌else◌, slice_index_or}
 use Rattle.finite.specs.Bits.{xor}
 use Rattle.finite.specs.Lists.{values_below}
@@ -6,7 +6,7 @@ use Rattle.cs_num.specs.declared.Cpx.{Cpx}
 use Rattle.lte_types.specs.declared.frame.Half.{Half}
 use Rattle.lte_types.specs.declared.frame.Half.TheVariants.{Zero, Five}
 
--- the three sequences, by their recurrences
+-- the three m-sequences, by their recurrences
 pub data Recurrence : Type 0 where
   S : Recurrence
   C : Recurrence
@@ -16,7 +16,8 @@ pub data Recurrence : Type 0 where
 abbrev pub bit_or_zero : List Bool → ℕ → Bool
 bit_or_zero bits i = slice_index_or bits i false
 
--- x(i + 5) from the bits before it: x(i + 2) + x(i) for s, x(i + 3) + x(i) for c, x(i + 4) + x(i + 2) + x(i + 1) + x(i) for z
+-- x(i + 5) from the bits before it: x(i + 2) + x(i) for s, x(i + 3) + x(i) for c, and x(i + 4) + x(i + 2) + x(i + 1)
+-- + x(i) for z
 abbrev pub next_bit : Recurrence → List Bool → ℕ → Bool
 next_bit S x i = xor (bit_or_zero x (i + 2)) (bit_or_zero x i)
 next_bit C x i = xor (bit_or_zero x (i + 3)) (bit_or_zero x i)
@@ -32,7 +33,7 @@ extended r (suc n) = extended r n ++ next_bit r (extended r n) n ∷ []
 unfoldable pub period_bits : Recurrence → List Bool
 period_bits r = extended r 26
 
--- 1 - 2 x(n), all places modulo 31
+-- 1 - 2 x(n), with n modulo 31
 abbrev pub sign_at : List Bool → ℕ → ℤ
 sign_at x n = if bit_or_zero x (n % 31) then negsuc 0 else pos 1
 
@@ -50,7 +51,7 @@ m0_of n1 = shift_sum n1 % 31
 abbrev pub m1_of : ℕ → ℕ
 m1_of n1 = (m0_of n1 + shift_sum n1 / 31 + 1) % 31
 
--- the shift of the even places and that of the odd ones: m0 and m1, exchanged in subframe 5
+-- the cyclic shifts of the even and odd positions: m0 and m1, exchanged in subframe 5
 abbrev pub even_shift : Half → ℕ → ℕ
 even_shift Zero n1 = m0_of n1
 even_shift Five n1 = m1_of n1
@@ -59,30 +60,30 @@ abbrev pub odd_shift : Half → ℕ → ℕ
 odd_shift Zero n1 = m1_of n1
 odd_shift Five n1 = m0_of n1
 
--- d(2n) and d(2n + 1) from the three sequences
+-- d(2n) and d(2n + 1) from the three m-sequences
 abbrev pub even_value : List Bool → List Bool → ℕ → ℕ → ℕ → ℤ
 even_value s c n2 even n = sign_at s (n + even) *ℤ sign_at c (n + n2)
 
 abbrev pub odd_value : List Bool → List Bool → List Bool → ℕ → ℕ → ℕ → ℕ → ℤ
 odd_value s c z n2 even odd n = sign_at s (n + odd) *ℤ sign_at c (n + n2 + 3) *ℤ sign_at z (n + even % 8)
 
--- value k of the sequence with these shifts
+-- SSS value k with these shifts
 unfoldable pub shifted_value : List Bool → List Bool → List Bool → ℕ → ℕ → ℕ → ℕ → ℤ
 shifted_value s c z n2 even odd k = if k % 2 == 0 then even_value s c n2 even (k / 2) else odd_value s c z n2 even odd (k / 2)
 
--- value k of the sequence of an identity and a half
+-- SSS value k for a group, an identity within it, and a half frame
 unfoldable pub sss_at : ℕ → ℕ → Half → ℕ → ℤ
 sss_at n1 n2 half k =
     shifted_value (period_bits S) (period_bits C) (period_bits Z) n2 (even_shift half n1) (odd_shift half n1) k
 
--- what is sent for a sign (the amplitude is own)
+-- the subcarrier value for a sign (the amplitude is own)
 abbrev pub amplitude : ℤ → Cpx
 amplitude sign = record { re = pos 127 *ℤ sign; im = pos 0 }
 
--- what is sent for value n of the sequence of an identity and a half
+-- the subcarrier value for sign n
 abbrev pub sss_amplitude : ℕ → ℕ → Half → ℕ → Cpx
 sss_amplitude n1 n2 half n = amplitude (sss_at n1 n2 half n)
 
--- the whole secondary synchronisation sequence of an identity and a half
+-- the complete SSS
 unfoldable pub sss_list : ℕ → ℕ → Half → List ℤ
 sss_list n1 n2 half = values_below 62 (sss_at n1 n2 half)

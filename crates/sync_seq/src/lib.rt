@@ -1,4 +1,5 @@
-//! The synchronisation sequences (TS 36.211 section 6.11).
+//! The synchronisation sequences PSS and SSS (TS 36.211 section 6.11).
+//! Tests: the crate `low_tests`.
 #![tactic(auto)]
 
 mod middle;
@@ -11,8 +12,7 @@ pub use middle::{MIDDLE, in_middle, is_middle};
 pub use primary::pss;
 pub use secondary::{amplitude, sss, sss_shifts, sss_sign};
 
-/// The secondary sequences of one identity within its group tell the group and the half: no two of
-/// the 336 are the same.
+/// A law: the 336 SSS for one identity within the group differ, so the SSS determines the group and the half frame.
 pub fn secondary_tells_group_and_half()
     ensures { SecondaryTells }
 {}

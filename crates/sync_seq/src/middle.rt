@@ -1,4 +1,4 @@
-//! The middle 62 of 72 subcarriers, which hold the synchronisation signals.
+//! The central 62 of 72 subcarriers, which carry the synchronisation signals.
 
 ghost use Rattle.std.specs.Prelude.{◌≡◌, ◌<◌};
 ghost use Rattle.finite.specs.Lists.{values_below};
@@ -7,18 +7,17 @@ ghost use Rattle.sync_seq.specs.Middle.{is_middle as is_in_middle, in_middle as 
 
 use cs_num::Cpx;
 
-/// The subcarrier of value 0. Those of the later values follow it (TS 36.211 sections 6.11.1.2 and
-/// 6.11.2.2).
+/// The subcarrier of the sequence's first value; the others follow (TS 36.211 sections 6.11.1.2 and 6.11.2.2).
 pub const MIDDLE: usize = 5;
 
-/// Whether a subcarrier is one of the middle 62.
+/// Returns whether subcarrier `k` is one of the central 62.
 pub fn is_middle(k: usize) -> bool
     ensures { result ≡ is_in_middle k }
 {
     MIDDLE <= k && k < MIDDLE + 62
 }
 
-/// The grid of a symbol that holds these values alone.
+/// Returns the 72 subcarriers of a symbol that carries only these central values.
 pub fn in_middle(values: &[Cpx; 62]) -> [Cpx; 72]
     ensures { result ≡ values_below 72 (middle_grid (value_at values.now)) }
 {
@@ -29,7 +28,7 @@ pub fn in_middle(values: &[Cpx; 62]) -> [Cpx; 72]
     grid
 }
 
-// The value of subcarrier k.
+// Returns the value on subcarrier `k`.
 #[tactic(auto, using(std::proofs::lemmas::Bool::Decides::nat_tests))]
 fn middle_value(values: &[Cpx; 62], k: usize) -> Cpx
     requires { k < 72 }

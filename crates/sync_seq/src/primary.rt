@@ -1,4 +1,4 @@
-//! The primary sequence.
+//! The PSS.
 
 ghost use Rattle.std.specs.Prelude.{◌≡◌, ◌<◌, ◌≤◌};
 ghost use Rattle.sync_seq.specs.Primary.{root_of, pss_at, pss_list};
@@ -6,8 +6,8 @@ ghost use Rattle.sync_seq.specs.Primary.{root_of, pss_at, pss_list};
 use cs_num::Cpx;
 use fold128::z63;
 
-/// The 62 values of the primary synchronisation sequence of an identity within its group
-/// (TS 36.211 section 6.11.1), from the table of 63rd roots of unity. `n2` is 0 to 2.
+/// Returns the 62 PSS values for the identity within the group, `n2`, 0 to 2 (TS 36.211 section 6.11.1). They are
+/// entries in the table of 63rd roots of unity.
 pub fn pss(n2: u8) -> [Cpx; 62]
     requires { n2 ≤ 2 }
     ensures { result ≡ pss_list n2 }
@@ -19,7 +19,7 @@ pub fn pss(n2: u8) -> [Cpx; 62]
     values
 }
 
-// Value n.
+// Returns value `n`.
 fn pss_value(n2: u8, n: usize) -> Cpx
     requires identity { n2 ≤ 2 }
     requires n { n < 62 }
@@ -33,7 +33,7 @@ fn pss_value(n2: u8, n: usize) -> Cpx
     z63((63 - root(n2)) * turns)
 }
 
-// The root index.
+// Returns the Zadoff-Chu root index.
 fn root(n2: u8) -> usize
     requires { n2 ≤ 2 }
     ensures value { result ≡ root_of n2 }

@@ -1,4 +1,4 @@
-//! The secondary sequence.
+//! The SSS.
 
 ghost use Rattle.std.specs.Prelude.{◌≡◌, ◌<◌, ◌≤◌, nat_abs};
 ghost use Rattle.sync_seq.specs.Secondary.{S, C, Z, period_bits, sign_at, shift_sum, even_shift, odd_shift, shifted_value, sss_list, amplitude as amplitude_of};
@@ -6,7 +6,7 @@ ghost use Rattle.sync_seq.specs.Secondary.{S, C, Z, period_bits, sign_at, shift_
 use cs_num::Cpx;
 use lte_types::Half;
 
-// The signs of the three sequences, over two periods of 31.
+// The signs of the three m-sequences, over two periods of 31.
 const S_SIGNS: [i8; 62] = [
     1, 1, 1, 1, -1, 1, 1, -1, 1, -1, -1, 1, 1, -1, -1, -1, -1, -1, 1, 1, 1, -1, -1, 1, -1, -1, -1,
     1, -1, 1, -1, 1, 1, 1, 1, -1, 1, 1, -1, 1, -1, -1, 1, 1, -1, -1, -1, -1, -1, 1, 1, 1, -1, -1,
@@ -25,9 +25,8 @@ const Z_SIGNS: [i8; 62] = [
     1, 1, -1, 1, -1, 1, -1, -1,
 ];
 
-/// The 62 signs of the secondary synchronisation sequence of an identity group and an identity
-/// within it (TS 36.211 section 6.11.2), in the half of a frame that begins with subframe 0 or 5.
-/// `n1` is 0 to 167 and `n2` is 0 to 2.
+/// Returns the 62 signs of the SSS for group `n1`, 0 to 167, and identity within the group `n2`, 0 to 2, in a half
+/// frame (TS 36.211 section 6.11.2).
 pub fn sss(n1: u16, n2: u8, half: Half) -> [i8; 62]
     requires group { n1 ≤ 167 }
     requires member { n2 ≤ 2 }
@@ -41,7 +40,7 @@ pub fn sss(n1: u16, n2: u8, half: Half) -> [i8; 62]
     values
 }
 
-/// What is sent for a sign, 1 or -1: 127 times the sign. (own)
+/// Returns the subcarrier value for a sign: 127 times the sign. (own)
 pub fn amplitude(sign: i8) -> Cpx
     requires { nat_abs sign ≤ 1 }
     ensures { result ≡ amplitude_of sign }
@@ -52,8 +51,8 @@ pub fn amplitude(sign: i8) -> Cpx
     }
 }
 
-/// The shift of the even places and that of the odd ones, both below 31, of an identity group and a half
-/// (m0 and m1 of TS 36.211 section 6.11.2.1, exchanged in subframe 5). `n1` is 0 to 167.
+/// Returns the cyclic shifts, below 31, of the even and odd positions for group `n1`, 0 to 167: m0 and m1 of TS
+/// 36.211 section 6.11.2.1, exchanged in subframe 5.
 pub fn sss_shifts(n1: u16, half: Half) -> (usize, usize)
     requires { n1 ≤ 167 }
     ensures even { result.0 ≡ even_shift half n1 }
@@ -70,7 +69,7 @@ pub fn sss_shifts(n1: u16, half: Half) -> (usize, usize)
     }
 }
 
-// m'.
+// Returns m'.
 fn shift_sum_of(n1: usize) -> usize
     requires { n1 ≤ 167 }
     ensures value { result ≡ shift_sum n1 }
@@ -81,9 +80,8 @@ fn shift_sum_of(n1: usize) -> usize
     n1 + q * (q + 1) / 2
 }
 
-/// Sign `k`, 0 to 61, of the sequence with these shifts (TS 36.211 section 6.11.2.1). That of an even place does
-/// not depend on the shift of the odd ones, nor that of an odd place on that of the even ones but modulo 8.
-/// `n2` is 0 to 2, and the shifts are below 31.
+/// Returns sign `k`, 0 to 61, of the SSS with these cyclic shifts, below 31 (TS 36.211 section 6.11.2.1). Even
+/// positions ignore `odd`; odd ones use `even` modulo 8. `n2` is 0 to 2.
 pub fn sss_sign(n2: u8, even: usize, odd: usize, k: usize) -> i8
     requires member { n2 ≤ 2 }
     requires even { even < 31 }
@@ -101,7 +99,7 @@ pub fn sss_sign(n2: u8, even: usize, odd: usize, k: usize) -> i8
     }
 }
 
-// Sign n of s.
+// Returns sign `n` of s.
 fn s_sign(n: usize) -> i8
     requires { n < 62 }
     ensures value { result ≡ sign_at (period_bits S) n }
@@ -110,7 +108,7 @@ fn s_sign(n: usize) -> i8
     S_SIGNS[n]
 }
 
-// Sign n of c.
+// Returns sign `n` of c.
 fn c_sign(n: usize) -> i8
     requires { n < 62 }
     ensures value { result ≡ sign_at (period_bits C) n }
@@ -119,7 +117,7 @@ fn c_sign(n: usize) -> i8
     C_SIGNS[n]
 }
 
-// Sign n of z.
+// Returns sign `n` of z.
 fn z_sign(n: usize) -> i8
     requires { n < 62 }
     ensures value { result ≡ sign_at (period_bits Z) n }

@@ -6,7 +6,7 @@ use Rattle.sync_seq.specs.Secondary.{C, extended, period_bits, sign_at}
 use Rattle.sync_seq.proofs.SecondaryValues.{kept_sign, sign-size}
 use Rattle.sync_seq.proofs.secondary.c_sign.Goals as goal
 
--- the table is the list of the signs below 62, by computation
+-- by computation: the table lists the signs below 62
 pub returns-clause-value : goal.returns-clause-value
 unfolding period_bits extended
 returns-clause-value c =
