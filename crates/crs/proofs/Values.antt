@@ -1,4 +1,4 @@
--- The reference values, by the bits of the sequence.
+-- Reference signal values from the bits of the sequence.
 use Rattle.std.proofs.Common.{subst, ap, ℕ, ◌+◌, ◌*◌, ◌<◌, ◌≡◌, Bool, false, ◌&&◌, ◌||◌, ◌%◌, nat_eq, get_or, arith, refl, inl, inr, true, All}
 use Rattle.std.proofs.lemmas.Bool.Decides.{nat_tests}
 use Rattle.cs_num.specs.declared.Cpx.{Cpx}
@@ -12,11 +12,11 @@ use Rattle.std.specs.List.{range_with_len}
 use Rattle.std.proofs.lemmas.List.FromFn.{get_or-map-range_with_len}
 use Rattle.std.proofs.lemmas.List.Elements.{All-map}
 
--- the pair that stands past the end of a list
+-- the default pair past the end of a list
 abbrev pub no_pair : ℕ × Cpx
 no_pair = (0, nothing)
 
--- the values take bits below 232
+-- values use bits below 232
 pub value_by-gold_bits : (pattern : Pattern) (identity slot symbol m : ℕ) → m < 12 →
     value_by (λ n. get_or (gold_bits (pattern_c_init pattern identity slot symbol) 232) n false) m ≡ pattern_reference pattern identity slot symbol m
 unfolding pattern_reference
@@ -30,7 +30,7 @@ pub component-IsFull : (bit : Bool) → IsFull (component bit)
 component-IsFull false = inl refl
 component-IsFull true = inr refl
 
--- both components have the full amplitude
+-- both components are 90 or -90
 pub pattern_reference-IsPoint : (pattern : Pattern) (identity slot symbol m : ℕ) → IsPoint (pattern_reference pattern identity slot symbol m)
 unfolding pattern_reference
 pattern_reference-IsPoint pattern identity slot symbol m = record { re = component-IsFull _; im = component-IsFull _ }
@@ -59,9 +59,9 @@ reference_list-of_port_0 identity slot symbol = refl
 pub reference-IsPoint : (identity slot symbol m : ℕ) → IsPoint (reference identity slot symbol m)
 reference-IsPoint identity slot symbol m = subst IsPoint (reference-of_port_0 identity slot symbol m) (pattern_reference-IsPoint port_0 identity slot symbol m)
 
--- ---- the places of two ports
+-- ---- the positions of two ports
 
--- together they are every third subcarrier of both symbols
+-- both ports together occupy every third subcarrier in both symbols
 pub both_ports : (identity symbol k : ℕ) → (is_reference identity symbol k || is_second_reference identity symbol k) ≡ (has_pilots port_0 symbol && nat_eq (k % 3) (identity % 3))
 unfolding first_subcarrier is_reference is_second_reference
 both_ports identity symbol k = cases (nat_eq symbol 0) (nat_eq symbol 4) refl refl
@@ -87,7 +87,7 @@ both_ports identity symbol k = cases (nat_eq symbol 0) (nat_eq symbol 4) refl re
 
 -- ---- ports 2 and 3 of four
 
--- the places of ports 2 and 3 are every third subcarrier of symbol 1
+-- ports 2 and 3 together occupy every third subcarrier in symbol 1
 pub both_upper : (identity slot symbol k : ℕ) → (is_upper_reference 2 identity slot symbol k || is_upper_reference 3 identity slot symbol k) ≡ (nat_eq symbol 1 && nat_eq (k % 3) (identity % 3))
 unfolding is_upper_reference
 both_upper identity slot symbol k = in_symbol (nat_eq symbol 1)
@@ -100,7 +100,7 @@ both_upper identity slot symbol k = in_symbol (nat_eq symbol 1)
     in_symbol true = every_third (nat_eq (k % 3) (identity % 3)) refl
     in_symbol false = refl
 
--- in the next slot port 2 has the places of port 3
+-- in the next slot port 2 takes the positions of port 3
 pub upper_turns : (identity slot symbol k : ℕ) → is_upper_reference 2 identity (slot + 1) symbol k ≡ is_upper_reference 3 identity slot symbol k
 unfolding is_upper_reference
 upper_turns identity slot symbol k = ap (λ first. nat_eq symbol 1 && nat_eq (k % 6) first) first

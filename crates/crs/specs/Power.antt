@@ -1,6 +1,6 @@
--- How great points of two bits are. (own)
+-- The power of QPSK symbols. (own)
 use Rattle.std.specs.Prelude.{ℕ}
 
--- the square of the size of a point of two bits: 90^2 + 90^2
+-- the squared magnitude of a QPSK symbol: 90^2 + 90^2
 abbrev pub point_power : ℕ
 point_power = 16200

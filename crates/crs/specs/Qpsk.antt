@@ -1,13 +1,13 @@
--- Points of two bits: QPSK (TS 36.211 section 7.1.2). The amplitude is own.
+-- QPSK modulation (TS 36.211 section 7.1.2). The amplitude is own.
 use Rattle.std.specs.Prelude.{◌≡◌, ◌⊎◌, Bool, true, false, ℤ, pos, negsuc}
 use Rattle.cs_num.specs.declared.Cpx.{Cpx}
 
--- a component: 90 for the bit 0 and -90 for the bit 1
+-- the component for a bit: 90 for 0 and -90 for 1
 abbrev pub component : Bool → ℤ
 component false = pos 90
 component true = negsuc 89
 
--- the point of two bits: the first in the real part, the second in the imaginary part
+-- the QPSK symbol for two bits: the first gives the real part, the second the imaginary part
 abbrev pub point : Bool → Bool → Cpx
 point first second = record { re = component first; im = component second }
 

@@ -1,6 +1,7 @@
-//! The cell-specific reference signals of an antenna port (TS 36.211 section 6.10.1): the subcarriers of a symbol
-//! that carry them, and their values, by antenna port and cyclic prefix; and QPSK points.
-//! Calls without a pattern are for port 0 with the normal prefix.
+//! Cell-specific reference signals (TS 36.211 section 6.10.1): the subcarriers that carry them and their values, by
+//! antenna port and cyclic prefix; and QPSK modulation. Functions without a pattern parameter are for port 0 with the
+//! normal prefix.
+//! Tests: the crate `low_tests`.
 #![tactic(auto)]
 
 ghost use Rattle.std.specs.Prelude.{◌≡◌, ◌⊎◌, ◌+◌, ◌-◌, ◌*◌, ◌%◌, ◌^◌, ◌<◌, ◌≤◌, ◌↔◌, ◌/◌, ◌&&◌, ◌||◌, nat_eq, ℕ, length, false, get_or};
@@ -21,8 +22,8 @@ pub use pattern::Pattern;
 pub use qpsk::{POINT_POWER, point};
 pub use upper::{first_of_upper, reference_places_of_upper};
 
-/// Returns `c_init` of the sequence of reference signals of a slot and a symbol of it, for a carrier of any width
-/// (TS 36.211 section 6.10.1.1). `slot` is 0 to 19 and `symbol` 0 to 6.
+/// Returns `c_init` of the reference signal sequence in a symbol, for every bandwidth (TS 36.211 section 6.10.1.1).
+/// `slot` is 0 to 19 and `symbol` 0 to 6.
 pub fn c_init(pattern: Pattern, id: CellId, slot: u8, symbol: u8) -> u32
     requires pattern { IsPattern pattern }
     requires slot { slot < 20 }
@@ -36,9 +37,9 @@ pub fn c_init(pattern: Pattern, id: CellId, slot: u8, symbol: u8) -> u32
         + u32::from(pattern.prefix)
 }
 
-/// Returns value `m` of a symbol by the first bits of its sequence, for a carrier of `blocks` resource blocks, at most
-/// 110 (TS 36.211 section 6.10.1.1). Each component is 90 or -90. A symbol has two values a block; `bits` are at least
-/// the first 2(m + 110 - `blocks`) + 2, and 440 serve every value of every width.
+/// Returns reference signal value `m` in a symbol for `blocks` resource blocks, at most 110 (TS 36.211 section
+/// 6.10.1.1). `bits` begin the sequence: 2(`m` + 110 - `blocks`) + 2 suffice, 440 always do. Components are
+/// 90 or -90.
 pub fn value_of_width(blocks: u8, bits: &[bool], m: u8) -> Cpx
     requires blocks { blocks ≤ 110 }
     requires bits { 2 * (m + (110 - blocks)) + 1 < length bits.now }
@@ -49,7 +50,7 @@ pub fn value_of_width(blocks: u8, bits: &[bool], m: u8) -> Cpx
     point(bits[first], bits[first + 1])
 }
 
-// The value of subcarrier number m of six resource blocks, by the bits of the symbol's sequence.
+// Returns reference signal value `m` for six resource blocks, from the bits of the symbol's sequence.
 fn value_of(bits: &[bool], m: u8) -> Cpx
     requires bits { length bits.now ≡ 232 }
     requires m { m < 12 }
@@ -58,8 +59,8 @@ fn value_of(bits: &[bool], m: u8) -> Cpx
     value_of_width(6, bits, m)
 }
 
-/// Returns the first subcarrier of a symbol that carries a reference signal of `pattern`; every sixth subcarrier from
-/// it carries one (TS 36.211 section 6.10.1.2). `symbol` is 0 or the pattern's later symbol; any other counts as that.
+/// Returns the first subcarrier with a reference signal of `pattern` in a symbol; every sixth from there has one (TS
+/// 36.211 section 6.10.1.2). `symbol` is 0 or the pattern's later symbol, for which any other value stands too.
 #[tactic(auto, using(std::proofs::lemmas::Bool::Decides::nat_tests))]
 pub fn first_of_pattern(pattern: Pattern, id: CellId, symbol: u8) -> u8
     requires { IsPattern pattern }
@@ -74,9 +75,8 @@ pub fn first_of_pattern(pattern: Pattern, id: CellId, symbol: u8) -> u8
     ((shift as u16 + id.value()) % 6) as u8
 }
 
-/// Returns the subcarriers and values of the reference signals of `pattern` in a symbol, in the order of subcarriers.
-/// `slot` is 0 to 19, and `symbol` 0 or the pattern's later symbol; any other has its own values on the subcarriers of
-/// the later one. Each component of a value is 90 or -90.
+/// Returns the pilots of `pattern` in a symbol as subcarriers and values, in order. `slot` is 0 to 19, and `symbol` 0
+/// or the pattern's later symbol. Components of the values are 90 or -90.
 pub fn pattern_pilots(pattern: Pattern, id: CellId, slot: u8, symbol: u8) -> [(u8, Cpx); 12]
     requires pattern { IsPattern pattern }
     requires slot { slot < 20 }
@@ -94,8 +94,8 @@ pub fn pattern_pilots(pattern: Pattern, id: CellId, slot: u8, symbol: u8) -> [(u
     pilots
 }
 
-/// Returns the subcarriers and values of the reference signals of a symbol, in the order of subcarriers.
-/// `slot` is 0 to 19 and `symbol` 0 or 4. Each component of a value is 90 or -90.
+/// Returns the pilots of port 0 in a symbol as subcarriers and values, in order. `slot` is 0 to 19 and `symbol` 0 or
+/// 4. Components of the values are 90 or -90.
 pub fn pilots(id: CellId, slot: u8, symbol: u8) -> [(u8, Cpx); 12]
     requires slot { slot < 20 }
     requires symbol { (symbol ≡ 0) ⊎ (symbol ≡ 4) }
@@ -105,8 +105,8 @@ pub fn pilots(id: CellId, slot: u8, symbol: u8) -> [(u8, Cpx); 12]
     pattern_pilots(Pattern::FIRST_PORT, id, slot, symbol)
 }
 
-/// States that the twelve subcarriers of a symbol are its reference places, each with its value. Symbols 0 and
-/// 4 of a slot share every third subcarrier, from the identity modulo 3.
+/// A law: the twelve subcarriers of a symbol are its reference signal positions. In symbols 0 and 4 of a slot
+/// together, they are every third subcarrier from the identity modulo 3.
 pub fn reference_places()
     ensures inside { (identity symbol m : ℕ) → m < 12 → subcarrier identity symbol m < 72 }
     ensures each { (identity symbol m : ℕ) → (symbol ≡ 0) ⊎ (symbol ≡ 4) →
@@ -128,8 +128,8 @@ pub fn reference_places()
         IsTrue (is_reference identity 0 k) → ¬ IsTrue (is_reference identity 4 k) }
 {}
 
-/// States that the reference places of two antenna ports together are every third subcarrier of symbols 0 and 4 of a
-/// slot, from the identity modulo 3, and that the ports share none.
+/// A law: the reference signals of ports 0 and 1 are disjoint, and together they occupy every third subcarrier in
+/// symbols 0 and 4 of a slot, from the identity modulo 3.
 pub fn reference_places_of_two()
     ensures both { (identity symbol k : ℕ) →
         (is_reference identity symbol k || is_second_reference identity symbol k)

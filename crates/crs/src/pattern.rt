@@ -1,18 +1,18 @@
-//! The parameters of reference signals that depend on antenna port and cyclic prefix.
+//! Reference signal parameters that depend on antenna port and cyclic prefix.
 
 ghost use Rattle.std.specs.Prelude.{◌≡◌, ◌<◌};
 ghost use Rattle.crs.specs.Reference.{pattern_of};
 
 use lte_types::Carrier;
 
-/// The parameters of the reference signals of an antenna port with a cyclic prefix (TS 36.211 section 6.10.1).
+/// Reference signal parameters for an antenna port and a cyclic prefix (TS 36.211 section 6.10.1).
 #[derive(Clone, Copy, Debug, PartialEq, Eq)]
 pub struct Pattern {
-    /// The second symbol of a slot that has reference signals: 4, and 3 with the extended prefix.
+    /// The second symbol of a slot with reference signals: 4, or 3 with the extended prefix.
     pub later: u8,
-    /// v in symbol 0: 0 for port 0 and 3 for port 1; in the later symbol v is 3 minus this.
+    /// v in symbol 0: 0 for port 0 and 3 for port 1. In the later symbol v is 3 minus this.
     pub shift: u8,
-    /// N_CP: 1 with the normal prefix and 0 with the extended one.
+    /// N_CP: 1 with the normal prefix, 0 with the extended one.
     pub prefix: u8,
 }
 
@@ -31,7 +31,7 @@ impl Pattern {
         prefix: 0,
     };
 
-    /// Returns the pattern of port 0 or 1 of a carrier. Ports 2 and 3 have none: see `first_of_upper`.
+    /// Returns the pattern for port 0 or 1 under `carrier`. Ports 2 and 3 have none; see `first_of_upper`.
     pub fn of(carrier: Carrier, port: u8) -> Pattern
         requires { port < 2 }
         ensures { result ≡ pattern_of carrier port }

@@ -1,4 +1,4 @@
-//! QPSK points (TS 36.211 section 7.1.2).
+//! QPSK modulation (TS 36.211 section 7.1.2).
 
 ghost use Rattle.std.specs.Prelude.{◌≡◌};
 ghost use Rattle.cs_num.specs.Complex.{square};
@@ -7,18 +7,18 @@ ghost use Rattle.crs.specs.declared.qpsk.TheConstants.{POINT_POWER};
 
 use cs_num::Cpx;
 
-/// The squared magnitude of each point: 90^2 + 90^2.
+/// The squared magnitude of each QPSK symbol: 90^2 + 90^2.
 pub const POINT_POWER: u32 = 16_200;
 
-// The component that a bit gives.
+// Returns the component for a bit.
 fn component_of(bit: bool) -> i64
     ensures { result ≡ component bit }
 {
     if bit { -90 } else { 90 }
 }
 
-/// Returns the QPSK point of two bits: the first in the real part, the second in the imaginary part. Each component
-/// is 90 for the bit 0 and -90 for the bit 1; the squared magnitude is `POINT_POWER`.
+/// Returns the QPSK symbol for two bits: the first gives the real part, the second the imaginary part. A component is
+/// 90 for the bit 0 and -90 for the bit 1.
 pub fn point(first: bool, second: bool) -> Cpx
     ensures point { result ≡ point first second }
     ensures full { IsPoint result }
