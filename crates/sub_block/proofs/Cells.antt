@@ -1,4 +1,4 @@
--- The columns, and the cells of a matrix in the order of the reading.
+-- The columns, and the cells of a matrix in the order in which they are read.
 use Rattle.std.proofs.Common.{◌≡◌, ℕ, ◌+◌, ◌*◌, ◌/◌, ◌%◌, ◌<◌, true, [], ◌∷◌, length, get_or, refl, arith, mod-lt}
 use Rattle.std.specs.Prelude.{nat_eq, nat_lt}
 use Rattle.std.proofs.lemmas.Bool.{eqb-true, ltb-true}
@@ -11,14 +11,14 @@ use Rattle.sub_block.specs.declared.Code.TheVariants.{Convolutional, Turbo}
 use Rattle.sub_block.specs.Matrix.{turbo_columns, columns, cell}
 use Rattle.sub_block.specs.Items.{item, cells_read}
 
--- the columns of the convolutional code, written out
+-- the convolutional code's columns, written out
 convolutional_columns : columns Convolutional ≡
     1 ∷ 17 ∷ 9 ∷ 25 ∷ 5 ∷ 21 ∷ 13 ∷ 29 ∷ 3 ∷ 19 ∷ 11 ∷ 27 ∷ 7 ∷ 23 ∷ 15 ∷ 31 ∷
     0 ∷ 16 ∷ 8 ∷ 24 ∷ 4 ∷ 20 ∷ 12 ∷ 28 ∷ 2 ∷ 18 ∷ 10 ∷ 26 ∷ 6 ∷ 22 ∷ 14 ∷ 30 ∷ []
 unfolding columns turbo_columns
 convolutional_columns = refl
 
--- they are those of the turbo code, 16 further on
+-- the convolutional code's columns are the turbo code's, rotated by 16
 shifted : every_below 32 (λ c. nat_eq (get_or turbo_columns ((c + 16) % 32) 0) (get_or (columns Convolutional) c 0)) ≡ true
 unfolding every_below columns turbo_columns
 shifted = refl
@@ -42,7 +42,7 @@ cell_below code r m h =
     inside : (a column r : ℕ) → a < r → column < 32 → 32 * a + column < 32 * r
     inside a column r h k = omega (arith, h, k)
 
--- ---- what is read of one stream
+-- ---- the cells of one stream
 
 pub length-cells_read : (code : Code) (r t : ℕ) → length (cells_read code r t) ≡ 32 * r
 length-cells_read code r t = values_below-length (32 * r) (λ m. item t (cell code r m))

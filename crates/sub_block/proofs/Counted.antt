@@ -1,4 +1,4 @@
--- How often items stand in a list, and at which index one does that stands there once.
+-- How often an item occurs in a list, and the index of an item that occurs once.
 use Rattle.std.proofs.Common.{◌≡◌, ℕ, zero, suc, ◌+◌, ◌<◌, ◌≤◌, Bool, true, false, inl, inr, List, [], ◌∷◌, length, get_or, cond, refl, ap, ap₂, sym, subst, ◌∙◌, arith}
 use Rattle.std.specs.Prelude.{nat_eq, nat_le, nat_lt, ◌&&◌}
 use Rattle.std.specs.List.{count_by}
@@ -37,7 +37,7 @@ same_number a = elim (eqb_tells a a) [
   | inr (x, ne) ↦ absurd (ne refl)
 ]
 
--- ---- an item that passes, where some do
+-- ---- some item passes
 
 pub counted_some : (test : Item → Bool) (xs : List Item) (d : Item) → 1 ≤ count_by test xs → (i : ℕ) × (i < length xs) × (test (get_or xs i d) ≡ true)
 counted_some test [] d h = absurd (omega (arith, h))
@@ -49,7 +49,7 @@ counted_some test (x ∷ xs) d h = elim (cases_Bool (test x)) [
       let (i, below, is) = counted_some test xs d rest in (suc i, omega (arith, below), is)
 ]
 
--- ---- two that pass are counted twice
+-- ---- two passing items are counted twice
 
 counted_one : (test : Item → Bool) (xs : List Item) (d : Item) (i : ℕ) → i < length xs → test (get_or xs i d) ≡ true → 1 ≤ count_by test xs
 counted_one test [] d i inside is = absurd (omega (arith, inside))
@@ -81,7 +81,7 @@ apart xs d i j order inside same once =
     let two = counted_two (is_at here.stream here.index) xs d i j order inside (at_itself here) (subst (λ p. is_at here.stream here.index p ≡ true) same (at_itself here)) in
     omega (arith, two, once)
 
--- a list in which each item is counted once has each at one index
+-- if each item is counted once, equal items have equal indices
 pub one_index : (xs : List Item) (d : Item) (i j : ℕ) → i < length xs → j < length xs →
     ((m : ℕ) → m < length xs → count_by (is_at (get_or xs m d).stream (get_or xs m d).index) xs ≡ 1) → get_or xs i d ≡ get_or xs j d → i ≡ j
 one_index xs d i j hi hj once same = elim (cases_lt i j) [
@@ -109,7 +109,7 @@ count_other (suc n) s t c f e =
     let none : cond {A = ℕ} (is_at t c (item s (f n))) 1 0 ≡ 0 = ap (λ b. cond (b && nat_eq (f n) c) 1 0) e in
     count_more (is_at t c) n (λ m. item s (f m)) ∙ ap₂ (λ (x y : ℕ). x + y) before none
 
--- one of the numbers below n leads to c, and it is m0
+-- exactly one number below n, m0, is mapped to c
 count_first : (n t c m0 : ℕ) (f : ℕ → ℕ) → ((m : ℕ) → m < n → nat_eq (f m) c ≡ nat_eq m m0) → (k : ℕ) → k ≤ n →
     count_by (is_at t c) (values_below k (λ m. item t (f m))) ≡ cond (nat_lt m0 k) 1 0
 count_first n t c m0 f same zero h = let e : nat_lt m0 0 ≡ false = grind arith in rw e refl
@@ -122,7 +122,7 @@ count_first n t c m0 f same (suc k) h =
     next : (m0 k : ℕ) → cond (nat_lt m0 k) 1 0 + cond (nat_eq k m0) 1 0 ≡ cond (nat_lt m0 (suc k)) 1 0
     next m0 k = grind (arith, nat_tests)
 
--- f is one to one, from the numbers below n onto them, and g leads back
+-- f permutes the numbers below n, and g is its inverse
 pub record IsInverse (n : ℕ) (f g : ℕ → ℕ) : Type 0 where
   pub back : (m : ℕ) → m < n → g (f m) ≡ m
   pub forth : (c : ℕ) → c < n → f (g c) ≡ c
@@ -136,12 +136,12 @@ count_this n t c f g inverse h =
     let e : nat_lt (g c) n ≡ true = grind arith in
     count_first n t c (g c) f same n (omega arith) ∙ rw e refl
 
--- ---- those with an index from s on
+-- ---- indices from s upwards
 
 abbrev from : ℕ → Item → Bool
 from s here = nat_le s here.index
 
--- all of them, and one less for each index
+-- all indices are at least 0
 from_first : (t : ℕ) (f : ℕ → ℕ) (k : ℕ) → count_by (from 0) (values_below k (λ m. item t (f m))) ≡ k
 from_first t f zero = refl
 from_first t f (suc k) =

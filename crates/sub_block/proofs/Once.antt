@@ -1,4 +1,4 @@
--- The reading has each cell of a matrix once, and so each bit of a stream.
+-- The bit order has each cell of a matrix once, and so each bit of a stream.
 use Rattle.std.proofs.Common.{◌≡◌, ℕ, ◌+◌, ◌-◌, ◌*◌, ◌/◌, ◌%◌, ◌<◌, ◌≤◌, Bool, true, false, List, [], ◌∷◌, length, get_or, cond, refl, ap, sym, ◌∙◌, arith, div-add-mod'}
 use Rattle.std.specs.Prelude.{All, ◌&&◌, nat_eq, nat_le, nat_lt, filter, map}
 use Rattle.std.specs.List.{count_by, position_or_len}
@@ -19,7 +19,7 @@ use Rattle.sub_block.specs.Items.{item, cells_read, bits_in, is_at}
 use Rattle.sub_block.proofs.Cells.{column_below}
 use Rattle.sub_block.proofs.Counted.{same_test, different, IsInverse, count_this, count_from}
 
--- ---- nulls are skipped
+-- ---- NULL bits are skipped
 
 pub count-bits_in : (n t p : ℕ) (cells : List Item) → count_by (is_at t p) (bits_in n cells) ≡ count_by (is_at t (p + n)) cells
 unfolding bits_in
@@ -50,7 +50,7 @@ pub length-bits_in : (n : ℕ) (cells : List Item) → length (bits_in n cells) 
 unfolding bits_in
 length-bits_in n cells = length-map (filter (λ c. nat_le n c.index) cells) _ ∙ length-filter (λ c. nat_le n c.index) cells
 
--- of cells with indices below n + m, the bits have indices below m
+-- skipping n NULL bits lowers the bound on indices by n
 pub bits_inside : (Is : ℕ → Type 0) (n m : ℕ) (cells : List Item) → 0 < m → All (λ c. Is c.stream × (c.index < n + m)) cells →
     All (λ c. Is c.stream × (c.index < m)) (bits_in n cells)
 unfolding bits_in
@@ -59,7 +59,7 @@ bits_inside Is n m cells some each =
     All-map (λ c. Is c.stream × (c.index < m)) (λ (c : Item). item c.stream (c.index - n)) (filter (λ c. nat_le n c.index) cells)
     (λ i d inside. let h = kept i d inside in (h.0, (let p = h.1 in omega (arith, p, some))))
 
--- ---- the cells of a matrix: each column has its turn once, by computation
+-- ---- the cells of a matrix: by computation, each column occurs once
 
 column_back : Code → ℕ → ℕ
 column_back code column = position_or_len (λ c. nat_eq c column) (columns code)
@@ -86,7 +86,7 @@ columns_tested Turbo = refl
 columns_inverse : (code : Code) → IsInverse 32 (λ c. get_or (columns code) c 0) (column_back code)
 columns_inverse code = inverse_by 32 (λ c. get_or (columns code) c 0) (column_back code) (columns_tested code)
 
--- after how many others a cell is read
+-- the position at which a cell is read
 pub cell_back : Code → ℕ → ℕ → ℕ
 cell_back code r c = column_back code (c % 32) * r + c / 32
 
@@ -123,7 +123,7 @@ cells_inverse code r = record {
     turns : IsInverse 32 (λ c. get_or (columns code) c 0) (column_back code)
     turns = columns_inverse code
 
--- ---- the bits of a stream of n
+-- ---- a stream of n bits
 
 pub count_of_bits : (code : Code) (n t : ℕ) → length (bits_in (nulls n) (cells_read code (matrix_rows n) t)) ≡ n
 count_of_bits code n t =
@@ -132,7 +132,7 @@ count_of_bits code n t =
     let long = length-bits_in (nulls n) (cells_read code r t) in
     omega (arith, some, long)
 
--- each stands there once
+-- each bit occurs once
 pub bit_once : (code : Code) (n t p : ℕ) → p < n → count_by (is_at t p) (bits_in (nulls n) (cells_read code (matrix_rows n) t)) ≡ 1
 bit_once code n t p h =
     let r = matrix_rows n in

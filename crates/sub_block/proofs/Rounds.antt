@@ -1,4 +1,4 @@
--- How great the sums can be: in so many rounds of a reading each item is read as often.
+-- Bounds on the sums: in q rounds of a cyclic bit order, each item occurs at most q times.
 use Rattle.std.proofs.Common.{◌≡◌, ℕ, zero, suc, ◌+◌, ◌-◌, ◌*◌, ◌<◌, ◌≤◌, List, length, get_or, ℤ, pos, nat_abs, arith, sym, subst, ◌∙◌}
 use Rattle.std.proofs.lemmas.List.Elements.{All-get_or}
 use Rattle.std.proofs.Math.Nat.{mul-le-mul_right}
@@ -8,12 +8,12 @@ use Rattle.sub_block.specs.declared.Item.{Item}
 use Rattle.sub_block.specs.Items.{is_at, summed_at}
 use Rattle.sub_block.proofs.Sums.{same_item}
 
--- after so many bits a reading begins anew, and until then each is another item
+-- the order repeats after `whole` bits, which are all different
 pub record GoesRound (whole : ℕ) (reading : ℕ → Item) : Type 0 where
   pub again : (q i : ℕ) → i < whole → reading (q * whole + i) ≡ reading i
   pub once : (i j : ℕ) → i < whole → j < whole → reading i ≡ reading j → i ≡ j
 
--- at most one of a round
+-- an item occurs at most once per round
 once_a_round : (whole : ℕ) (reading : ℕ → Item) (q t p : ℕ) → GoesRound whole reading →
     count_below whole (λ i. is_at t p (reading (q * whole + i))) ≤ 1
 once_a_round whole reading q t p round =
@@ -21,7 +21,7 @@ once_a_round whole reading q t p round =
     (λ i j hi hj pi pj. round.once i j hi hj
     (sym (round.again q i hi) ∙ same_item (reading (q * whole + i)) t p pi ∙ sym (same_item (reading (q * whole + j)) t p pj) ∙ round.again q j hj))
 
--- as many as rounds
+-- an item occurs at most q times in q rounds
 in_whole_rounds : (whole : ℕ) (reading : ℕ → Item) (q t p : ℕ) → GoesRound whole reading →
     count_below (q * whole) (λ i. is_at t p (reading i)) ≤ q
 unfolding count_below
@@ -35,7 +35,7 @@ in_whole_rounds whole reading (suc q) t p round =
     let more : suc q * whole ≡ q * whole + whole = grind arith in
     subst (λ m. count_below m (λ i. is_at t p (reading i)) ≤ suc q) (sym more) (omega (arith, before, here, split))
 
--- of fewer values no more
+-- an item occurs at most q times in fewer bits
 in_rounds : (whole : ℕ) (reading : ℕ → Item) (m q t p : ℕ) → GoesRound whole reading → m ≤ q * whole →
     count_below m (λ i. is_at t p (reading i)) ≤ q
 in_rounds whole reading m q t p round few =
@@ -44,7 +44,7 @@ in_rounds whole reading m q t p round few =
     let split = count_split m (q * whole - m) (λ i. is_at t p (reading i)) in
     omega (arith, all, split)
 
--- in so many rounds each sum is at most as many times the greatest value
+-- if the values fill at most q rounds, each sum is at most q times the maximum magnitude
 pub summed_at-small : (whole : ℕ) (reading : ℕ → Item) (values : List ℤ) (bound q : ℕ) → GoesRound whole reading →
     AllWithin bound values → length values ≤ q * whole → (t p : ℕ) → nat_abs (summed_at reading values (length values) t p) ≤ q * bound
 unfolding summed_at

@@ -1,4 +1,4 @@
--- Items that are the same, and the sums of values by stream and index.
+-- Equal items, and sums of soft values by stream and index.
 use Rattle.std.proofs.Common.{◌≡◌, ℕ, Bool, true, List, ℤ, refl, ap, ap₂, ◌∙◌, arith}
 use Rattle.std.specs.Prelude.{◌&&◌}
 use Rattle.std.proofs.lemmas.Bool.{eq-eqb}
@@ -18,7 +18,7 @@ same_item here t p h =
     let index : here.index ≡ p = grind (arith, nat_tests, h) in
     ap (λ (n : ℕ). item n here.index) stream ∙ ap (λ (n : ℕ). item t n) index
 
--- a table with a row for each stream
+-- a table with one row per stream
 pub table_by_stream : (reading : ℕ → Item) (values : List ℤ) (m rows columns : ℕ) →
     values_below rows (λ t. values_below columns (λ p. sum_below m (share (λ i. (reading i).stream) (λ i. (reading i).index) values t p)))
     ≡ values_below rows (λ t. values_below columns (summed_at reading values m t))

@@ -1,29 +1,28 @@
--- The sub-block interleaver: the bits of a stream in the rows of a matrix of 32 columns, with nulls in front, read
--- column after column (TS 36.212 sections 5.1.4.1.1 and 5.1.4.2.1).
+-- The sub-block interleaver: a stream is written to a 32-column matrix row by row, NULL bits first, and read column
+-- by column (TS 36.212 sections 5.1.4.1.1 and 5.1.4.2.1).
 use Rattle.std.specs.Prelude.{ℕ, ◌+◌, ◌-◌, ◌*◌, ◌/◌, ◌%◌, List, [], ◌∷◌, ◌++◌, take, drop, slice_index_or}
 use Rattle.sub_block.specs.declared.Code.{Code}
 use Rattle.sub_block.specs.declared.Code.TheVariants.{Convolutional, Turbo}
 
--- the columns in the order in which the turbo code reads them (TS 36.212 table 5.1.4-1)
+-- the turbo code's column permutation (TS 36.212 table 5.1.4-1)
 unfoldable pub turbo_columns : List ℕ
 turbo_columns =
     0 ∷ 16 ∷ 8 ∷ 24 ∷ 4 ∷ 20 ∷ 12 ∷ 28 ∷ 2 ∷ 18 ∷ 10 ∷ 26 ∷ 6 ∷ 22 ∷ 14 ∷ 30 ∷
     1 ∷ 17 ∷ 9 ∷ 25 ∷ 5 ∷ 21 ∷ 13 ∷ 29 ∷ 3 ∷ 19 ∷ 11 ∷ 27 ∷ 7 ∷ 23 ∷ 15 ∷ 31 ∷ []
 
--- the columns in the order in which a code reads them: the convolutional code begins with the second half (TS 36.212
--- table 5.1.4-2)
+-- the column permutation of a code; the convolutional code starts with the second half (TS 36.212 table 5.1.4-2)
 unfoldable pub columns : Code → List ℕ
 columns Turbo = turbo_columns
 columns Convolutional = drop 16 turbo_columns ++ take 16 turbo_columns
 
--- the least number of rows of 32 that hold n bits
+-- the number of rows for n bits
 abbrev pub matrix_rows : ℕ → ℕ
 matrix_rows n = (n + 31) / 32
 
--- how many nulls fill up the rows, in front of n bits
+-- the number of NULL bits that precede n bits
 abbrev pub nulls : ℕ → ℕ
 nulls n = 32 * matrix_rows n - n
 
--- the cell of r rows that is read after m others, column after column; cells are counted row by row
+-- the cell of r rows that is read after m others; cells are numbered row by row
 abbrev pub cell : Code → ℕ → ℕ → ℕ
 cell code r m = 32 * (m % r) + slice_index_or (columns code) (m / r) 0

@@ -1,13 +1,14 @@
-//! The sub-block interleaver of both channel codes (TS 36.212 sections 5.1.4.1.1 and 5.1.4.2.1): the cells
-//! of a matrix of 32 columns in the order in which they are read, and bits of a coded word by stream and index.
-//! The definitions in `specs/` are cited by both codes, and their laws stand in `proofs/`.
+//! The sub-block interleaver of LTE's rate matching, for both channel codes (TS 36.212 sections 5.1.4.1.1 and
+//! 5.1.4.2.1): the order in which a 32-column matrix is read, and coded bits by stream and index. The definitions are
+//! in `specs/`, their laws in `proofs/`.
+//! Tests: the crate `low_tests`.
 #![tactic(auto)]
 
 mod matrix;
 
 pub use matrix::cell_at;
 
-/// The channel codes.
+/// The channel codes with a sub-block interleaver.
 #[derive(Clone, Copy, Drop)]
 pub enum Code {
     /// The tail-biting convolutional code (TS 36.212 section 5.1.3.1).
@@ -16,11 +17,11 @@ pub enum Code {
     Turbo,
 }
 
-/// A bit of a coded word, or a cell of one of the three matrices.
+/// A coded bit, or a cell in one of the three matrices.
 #[derive(Clone, Copy, Drop)]
 pub struct Item {
-    /// 0 to 2.
+    /// The stream, 0 to 2.
     pub stream: usize,
-    /// The bit's number in the stream, or the cell's in the matrix.
+    /// The bit's index in the stream, or the cell's in the matrix.
     pub index: usize,
 }

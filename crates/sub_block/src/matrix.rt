@@ -1,17 +1,17 @@
-//! The matrix of the sub-block interleaver.
+//! The interleaver matrix.
 
 ghost use Rattle.std.specs.Prelude.{◌≡◌, ◌*◌, ◌<◌, ◌≤◌, slice_index_or};
 ghost use Rattle.sub_block.specs.Matrix.{cell, columns};
 
 use crate::Code;
 
-/// The columns in the order in which the turbo code reads them (TS 36.212 table 5.1.4-1).
+/// The turbo code's column permutation (TS 36.212 table 5.1.4-1).
 const COLUMNS: [usize; 32] = [
     0, 16, 8, 24, 4, 20, 12, 28, 2, 18, 10, 26, 6, 22, 14, 30, 1, 17, 9, 25, 5, 21, 13, 29, 3, 19,
     11, 27, 7, 23, 15, 31,
 ];
 
-/// The column that a code reads after c others.
+/// Returns the column that is read after `c` others.
 fn column_at(code: Code, c: usize) -> usize
     requires { c < 32 }
     ensures column { result ≡ slice_index_or (columns code) c 0 }
@@ -24,9 +24,8 @@ fn column_at(code: Code, c: usize) -> usize
     }
 }
 
-/// Returns the cell that is read after `m` others in a code's matrix, whose cells are numbered row by row.
-/// There are at most 193 rows, which hold a stream of the largest code block; `m` and the answer are below
-/// 32 `rows`.
+/// Returns the cell that is read after `m` others; cells are numbered row by row. `rows` is at most 193, enough for
+/// the largest code block. `m` and the result are below 32 `rows`.
 pub fn cell_at(code: Code, rows: usize, m: usize) -> usize
     requires rows { rows ≤ 193 }
     requires inside { m < 32 * rows }
