@@ -1,4 +1,4 @@
--- Sums by place in the order of a stream, and by index.
+-- Sums by position in interleaved order, and by index.
 use Rattle.std.proofs.Common.{◌≡◌, ◌≢◌, ℕ, ◌+◌, ◌<◌, ◌≤◌, Bool, List, [], length, get_or, set, replicate, ℤ, pos, ap, sym, ◌∙◌, inl, inr, arith, length-set, get_or-set_other, get_or-set_same}
 use Rattle.std.specs.Prelude.{◌&&◌, cond, nat_eq}
 use Rattle.std.proofs.lemmas.Bool.Decides.{eqb_tells}
@@ -13,7 +13,7 @@ use Rattle.conv_code.specs.Steps.{stream_of, place_of, placed_sum, HasPlacedSums
 use Rattle.conv_code.proofs.Orders.{index_of, is_order}
 use Rattle.conv_code.proofs.Items.{item_is}
 
--- the sums at the first p places stand at their indices
+-- the sums at the first p positions are stored at their indices
 pub record AreIndexed (n : ℕ) (placed : List (List ℤ)) (p : ℕ) (sums : List (List ℤ)) : Type 0 where
   pub size : length sums ≡ n
   pub rows : (q : ℕ) → q < n → length (get_or sums q []) ≡ 3
@@ -26,7 +26,7 @@ none_indexed n placed row three = record {
   each = λ t k h below. absurd (omega (arith, below));
 }
 
--- places are told by their indices
+-- different positions have different indices
 same_place : (n j k : ℕ) → n ≤ 64 → j < n → k < n → get_or (stream_order n) j 0 ≡ get_or (stream_order n) k 0 → j ≡ k
 same_place n j k short hj hk e =
     let o = is_order n in
@@ -57,9 +57,9 @@ indexed_more n placed sums p q row short below is three here known =
       ];
     }
 
--- ---- all of them are the sums of the definition
+-- ---- the result is what the definition says
 
--- a bit of the reading is that of an index where it is at its place
+-- a rate-matched bit belongs to an index if and only if it belongs to its position
 same_test : (n i t p : ℕ) → 6 ≤ n → n ≤ 64 → p < n →
     (nat_eq (stream_of n i) t && nat_eq (place_of n i) p) ≡ is_at t (get_or (stream_order n) p 0) (item_of n i)
 same_test n i t p long short below =

@@ -1,4 +1,4 @@
--- What the values at an index and a word cost at most.
+-- Maximum costs.
 use Rattle.std.proofs.Common.{ℕ, ◌*◌, ◌≤◌, Bool, List, [], length, get_or, ℤ, pos, arith}
 use Rattle.finite.specs.Sizes.{AllWithin, RowsWithin}
 use Rattle.finite.proofs.Items.{item-within}
@@ -7,7 +7,7 @@ use Rattle.conv_code.specs.Code.{tapped_bit, taps_0, taps_1, taps_2}
 use Rattle.cs_bits.proofs.Signs.{disagreement-le}
 use Rattle.conv_code.specs.Cost.{triple_cost, cost_at, word_cost}
 
--- three values speak against three bits with three times the greatest size at most
+-- the branch metric is at most three times the maximum magnitude
 pub triple_cost-le : (n : ℕ) (v : List ℤ) (a b c : Bool) → AllWithin n v → triple_cost v a b c ≤ 3 * n
 triple_cost-le n v a b c small =
     let s0 = item-within n v 0 small in
@@ -18,7 +18,7 @@ triple_cost-le n v a b c small =
     let d2 = disagreement-le (get_or v 2 (pos 0)) c in
     omega (arith, s0, s1, s2, d0, d1, d2)
 
--- and a word costs no more than that times its length
+-- a word costs at most its length times the maximum branch metric
 pub word_cost-le : (n : ℕ) (values : List (List ℤ)) (word : List Bool) → RowsWithin n values →
     word_cost values word ≤ length values * (3 * n)
 unfolding word_cost

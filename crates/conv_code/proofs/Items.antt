@@ -1,4 +1,4 @@
--- The items of the reading, by stream and index in the stream's order.
+-- Rate-matched bits by stream and position in interleaved order.
 use Rattle.std.proofs.Common.{◌≡◌, ℕ, zero, suc, ◌+◌, ◌-◌, ◌*◌, ◌/◌, ◌%◌, ◌<◌, ◌≤◌, ◌++◌, length, get_or, refl, ap, ap₂, sym, ◌∙◌, arith, length-append, div-add-mod', mod-eq_of_lt}
 use Rattle.std.proofs.lemmas.Nat.{div-mul-add, mod-mul-add}
 use Rattle.std.proofs.lemmas.List.{length-map, get_or-map, get_or-append_right}
@@ -60,7 +60,7 @@ reading_at n t p o below h = ap (λ bits. get_or bits (t * n + p) (item 0 0)) (s
 three : (n q : ℕ) → 0 < n → q < 3 * n → q / n < 3
 three n q some h = (div-lt_iff_lt-mul some).1 h
 
--- a bit of the reading, by its stream and its index there
+-- a rate-matched bit, by its stream and its position there
 item_of-stream : (n i : ℕ) → 0 < n → n ≤ 64 → item_of n i ≡ item_in n (i % (3 * n) % n) (i % (3 * n) / n)
 unfolding item_of
 item_of-stream n i some short =
@@ -71,7 +71,7 @@ item_of-stream n i some short =
     let h : q < 3 * n = omega arith in
     ap (λ j. get_or (reading n) j (item 0 0)) (sym e) ∙ reading_at n (q / n) (q % n) o below (three n q some h)
 
--- ---- each item once
+-- ---- each coded bit once
 
 spread : (n t p : ℕ) → 0 < n → p < n → ((t * n + p) / n ≡ t) × ((t * n + p) % n ≡ p)
 spread n t p some below = (div-mul-add t n p below, mod-mul-add t n p below)
@@ -118,6 +118,6 @@ each_once n long short =
 pub permuting : IsPermuting
 permuting n long short = record { count = length-reading n (is_order n); reads = each_once n long short }
 
--- the item that is found in the order
+-- the index is found in the interleaved order
 pub item_is : (n i : ℕ) → 6 ≤ n → n ≤ 64 → item_of n i ≡ item (i % (3 * n) / n) (get_or (stream_order n) (i % (3 * n) % n) 0)
 item_is n i some short = item_of-stream n i (omega arith) short

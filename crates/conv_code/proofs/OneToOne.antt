@@ -1,4 +1,4 @@
--- A word is told by its coded bits: bit k is the sum of five coded bits, at k and at k - 1.
+-- The code is one to one: bit k of a word is the sum of five coded bits, at k and k - 1.
 use Rattle.std.proofs.Common.{◌≡◌, ℕ, zero, suc, ◌+◌, ◌-◌, ◌%◌, ◌<◌, ◌≤◌, Bool, false, List, [], ◌∷◌, length, map, get_or, ap, sym, ◌∙◌, arith}
 use Rattle.std.proofs.lemmas.List.{ext_get_or}
 use Rattle.std.proofs.Math.Nat.{mod-eq_of_lt, add-mod_right, mod-lt}
@@ -8,7 +8,7 @@ use Rattle.finite.proofs.Bits.{xor-false, xor_assoc, xor_comm, xor_left, xor_sel
 use Rattle.conv_code.specs.Code.{parity, bit_back, taps_0, taps_1, taps_2, tapped_bit, coded_bits, coded_word}
 use Rattle.conv_code.specs.Laws.{IsOneToOne}
 
--- with D one step back, (1 + D) times the first taps and the second taps and (1 + D) times the third taps add up to 1
+-- with delay D and generators g0, g1 and g2: (1 + D) g0 + g1 + (1 + D) g2 = 1
 pub five : (f : ℕ → Bool) →
     xor (parity (map f taps_0)) (xor (parity (map (λ t. f (suc t)) taps_0)) (xor (parity (map f taps_1)) (xor (parity (map f taps_2)) (parity (map (λ t. f (suc t)) taps_2))))) ≡ f 0
 five f = eight (f 0) (f 1) (f 2) (f 3) (f 4) (f 5) (f 6) (f 7)
@@ -17,13 +17,13 @@ five f = eight (f 0) (f 1) (f 2) (f 3) (f 4) (f 5) (f 6) (f 7)
         xor (parity (a ∷ c ∷ d ∷ g ∷ h ∷ [])) (xor (parity (b ∷ d ∷ e ∷ h ∷ i ∷ [])) (xor (parity (a ∷ b ∷ c ∷ d ∷ h ∷ [])) (xor (parity (a ∷ b ∷ c ∷ e ∷ h ∷ [])) (parity (b ∷ c ∷ d ∷ g ∷ i ∷ []))))) ≡ a
     eight a b c d e g h i = simp (xor_assoc, xor-false, xor_comm, xor_left, xor_self, xor_again)
 
--- ---- indices, cyclically
+-- ---- cyclic indices
 
--- the index before
+-- the previous index
 abbrev before : ℕ → ℕ → ℕ
 before n k = (k + n - 1) % n
 
--- the bit t back, where t is at most twice the length
+-- the bit t steps earlier, for t up to twice the length
 abbrev far_back : List Bool → ℕ → ℕ → Bool
 far_back word k t = get_or word ((k + length word + length word - t) % length word) false
 
@@ -47,7 +47,7 @@ from_before word (suc k) t inside near =
     ap (λ i. get_or word ((i % n + n - t) % n) false) e ∙ ap (λ i. get_or word ((i + n - t) % n) false) (add-mod_right k n ∙ mod-eq_of_lt lt)
     ∙ ap (λ i. get_or word i false) (sym (add-mod_right (k + n - t) n)) ∙ ap (λ i. get_or word (i % n) false) (sym d)
 
--- a bit of the word, by its coded bits
+-- a word's bit, from coded bits
 word_bit : (word : List Bool) (k : ℕ) → k < length word → 6 ≤ length word →
     xor (tapped_bit taps_0 word k) (xor (tapped_bit taps_0 word (before (length word) k)) (xor (tapped_bit taps_1 word k) (xor (tapped_bit taps_2 word k) (tapped_bit taps_2 word (before (length word) k)))))
     ≡ get_or word k false
@@ -81,7 +81,7 @@ at_index word k inside = values_below_at (coded_bits word) (length word) k [] in
 same_bits : (u w : List Bool) → length u ≡ length w → coded_word u ≡ coded_word w → (k : ℕ) → k < length u → coded_bits u k ≡ coded_bits w k
 same_bits u w size same k inside = sym (at_index u k inside) ∙ ap (λ c. get_or c k []) same ∙ at_index w k (omega arith)
 
--- the bits of one stream
+-- the bits in one stream
 stream_bit : (u w : List Bool) (k t : ℕ) → coded_bits u k ≡ coded_bits w k → get_or (coded_bits u k) t false ≡ get_or (coded_bits w k) t false
 stream_bit u w k t same = ap (λ c. get_or c t false) same
 

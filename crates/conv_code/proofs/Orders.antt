@@ -1,4 +1,4 @@
--- The order of a stream has each of its indices once.
+-- A stream's interleaved order has each index once.
 use Rattle.std.proofs.Common.{◌≡◌, ℕ, ◌+◌, ◌*◌, ◌<◌, List, length, get_or, refl, ap, ap₂, sym, subst, ◌∙◌, arith}
 use Rattle.std.specs.Prelude.{All, nat_eq}
 use Rattle.std.specs.List.{count_by, position_or_len}
@@ -16,11 +16,11 @@ use Rattle.sub_block.proofs.Once.{bits_inside, count_of_bits, bit_once}
 use Rattle.sub_block.proofs.Sums.{same_item}
 use Rattle.conv_code.specs.Reading.{stream_order}
 
--- at which index of the list k stands first
+-- the position at which k first occurs in the list
 abbrev pub index_of : ℕ → List ℕ → ℕ
 index_of k xs = position_or_len (λ x. nat_eq x k) xs
 
--- each index below n stands in the order once
+-- each index below n occurs in the interleaved order once
 pub record IsOrder (n : ℕ) : Type 0 where
   pub count : length (stream_order n) ≡ n
   pub inside : (p : ℕ) → p < n → get_or (stream_order n) p 0 < n
@@ -28,7 +28,7 @@ pub record IsOrder (n : ℕ) : Type 0 where
   pub index_inside : (k : ℕ) → k < n → index_of k (stream_order n) < n
   pub each : (k : ℕ) → k < n → get_or (stream_order n) (index_of k (stream_order n)) 0 ≡ k
 
--- the bits of a stream in the order of the reading
+-- a stream's bits in interleaved order
 abbrev bits_of : ℕ → List Item
 bits_of n = bits_in (nulls n) (cells_read Convolutional (matrix_rows n) 0)
 

@@ -1,4 +1,4 @@
--- Sums by place, run by run of values that follow one another in a stream.
+-- Sums by position, for runs of values that are consecutive in one stream.
 use Rattle.std.proofs.Common.{◌≡◌, ℕ, suc, zero, ◌+◌, ◌-◌, ◌*◌, ◌/◌, ◌%◌, ◌^◌, ◌<◌, ◌≤◌, List, get_or, replicate, ℤ, pos, nat_abs, refl, ap, sym, ◌∙◌, arith, div-add-mod'}
 use Rattle.std.proofs.lemmas.Nat.{div-mul-add, mod-mul-add, mod_below}
 use Rattle.std.proofs.Math.Nat.{div-lt_iff_lt-mul}
@@ -6,7 +6,7 @@ use Rattle.finite.specs.Tables.{sums_with}
 use Rattle.finite.proofs.Tables.{AreSums, sums_none, sums_more}
 use Rattle.conv_code.specs.Steps.{stream_of, place_of, placed_sum, HasPlacedSums}
 
--- the sums of the first m values, with the lengths of the table's rows
+-- the table holds the sums of the first m values, and its rows have length n
 abbrev pub AreSumsOf : ℕ → ℕ → List ℤ → ℕ → List (List ℤ) → Type 0
 AreSumsOf n first values m sums = AreSums 3 n (2 ^ 15) (λ i. stream_of n (first + i)) (λ i. place_of n (first + i)) values m sums
 
@@ -21,9 +21,9 @@ to_table n first values m sums known = record { streams = known.size; places = k
 pub none_yet : (n first : ℕ) (values : List ℤ) → HasPlacedSums n first values 0 (replicate 3 (replicate n (pos 0)))
 none_yet n first values = to_table n first values 0 _ (sums_none 3 n (2 ^ 15) _ _ values)
 
--- ---- the next bits of the reading are of the same stream, at the next places
+-- ---- consecutive output bits have consecutive positions in a stream
 
--- t streams of n bits and p bits are below three streams
+-- position p in stream t is below 3n, counted over all streams
 below_three : (n t p : ℕ) → t < 3 → p < n → t * n + p < 3 * n
 below_three n zero p h below = omega (arith, below)
 below_three n (suc zero) p h below = omega (arith, below)
@@ -47,7 +47,7 @@ next_bit n x d some inside =
       ap (λ y. y % n) e ∙ mod-mul-add t n (p + d) inside,
     )
 
--- one more value of a run, whose first is number `at`
+-- one more value of a run that begins with value `at`
 pub run_more : (n first : ℕ) (values : List ℤ) (at i : ℕ) (sums : List (List ℤ)) → 0 < n → at ≤ i → place_of n (first + at) + (i - at) < n →
     nat_abs (get_or values i (pos 0)) ≤ 2 ^ 15 → AreSumsOf n first values i sums →
     AreSumsOf n first values (i + 1) (sums_with sums (stream_of n (first + at)) (place_of n (first + at) + (i - at)) (get_or values i (pos 0)))

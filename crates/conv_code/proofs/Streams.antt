@@ -1,4 +1,4 @@
--- The bits of each stream in the order of the reading, and the search for one of them.
+-- Each stream's bits in interleaved order, and the search for one bit.
 use Rattle.std.proofs.Common.{◌≡◌, ℕ, ◌-◌, ◌*◌, ◌<◌, inl, inr, List, [], ◌∷◌, ◌++◌, length, get_or, map, refl, ap, sym, ◌∙◌, arith}
 use Rattle.std.specs.Prelude.{nat_le, filter}
 use Rattle.std.specs.List.{range_with_len}
@@ -14,7 +14,7 @@ use Rattle.sub_block.proofs.Once.{count_of_bits}
 use Rattle.sub_block.proofs.Search.{bits_in-kept, bits_in-skipped}
 use Rattle.conv_code.specs.Reading.{reading, stream_order}
 
--- ---- every stream is read in the order of stream 0
+-- ---- every stream has the order of stream 0
 
 abbrev pub stream_reading : ℕ → ℕ → List Item
 stream_reading n t = map (item t) (stream_order n)

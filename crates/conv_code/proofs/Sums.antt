@@ -1,4 +1,4 @@
--- The sums of values by index.
+-- Sums over soft values, by index.
 use Rattle.std.proofs.Common.{◌≡◌, ℕ, ◌+◌, ◌<◌, List, [], length, get_or, ℤ, pos, ap, ◌∙◌, arith}
 use Rattle.std.proofs.Math.Path.{fun_ext}
 use Rattle.finite.specs.Lists.{values_below}
@@ -7,13 +7,13 @@ use Rattle.sub_block.specs.declared.Item.{Item}
 use Rattle.sub_block.specs.Items.{summed_at}
 use Rattle.conv_code.specs.Reading.{item_of, summed_by, summed, summed_from}
 
--- values that begin with the first bit of the reading
+-- values that start at bit 0
 pub from_first : (n : ℕ) (values : List ℤ) → summed_from 0 n values ≡ summed n values
 from_first n values =
     let same : (i : ℕ) → item_of n (0 + i) ≡ item_of n i = λ i. let e : 0 + i ≡ i = omega arith in ap (item_of n) e in
     ap (λ (reading : ℕ → Item). summed_by reading n values) (fun_ext same)
 
--- ---- what the sums have
+-- ---- the sums' shape
 
 module _ (reading : ℕ → Item) (n : ℕ) (values : List ℤ) where
   pub length-summed_by : length (summed_by reading n values) ≡ n
@@ -35,7 +35,7 @@ module _ (reading : ℕ → Item) (n : ℕ) (values : List ℤ) where
       ap (λ sums. get_or sums t (pos 0)) (row p [] below)
       ∙ values_below_at (λ t. summed_at reading values (length values) t p) 3 t (pos 0) stream
 
--- of the endless reading
+-- the rate-matched sequence
 
 pub length-summed : (n : ℕ) (values : List ℤ) → length (summed n values) ≡ n
 length-summed n values = length-summed_by (item_of n) n values

@@ -1,11 +1,11 @@
--- A walk over the cells of a stream that tells each of its bits in turn.
+-- A walk over the cells of a stream that outputs its bits in turn.
 use Rattle.std.proofs.Common.{◌≡◌, ℕ, ◌+◌, ◌-◌, ◌<◌, ◌≤◌, suc, List, ◌∷◌, length, get_or, drop, ap, refl, arith, ◌∙◌, drop_of_length-le}
 use Rattle.std.proofs.Math.Seq.{drop-cons}
 use Rattle.sub_block.specs.declared.Item.{Item}
 use Rattle.sub_block.specs.Items.{item, bits_in}
 use Rattle.sub_block.proofs.Search.{IsLeft, left_first, left_null, left_bit, bits_in-kept, bits_in-skipped}
 
--- p bits are told before cell m, and each of the others is as many bits on from there
+-- p bits are output before cell m, and later bits are counted from there
 pub record IsWalked (n total : ℕ) (cells : List Item) (p m : ℕ) : Type 0 where
   pub count : p + length (bits_in n (drop m cells)) ≡ total
   pub ahead : (k : ℕ) → p ≤ k → k < total → IsLeft n cells k m (k - p)
@@ -21,7 +21,7 @@ walk_first n total cells whole = record {
 next_cell : (cells : List Item) (m : ℕ) → m < length cells → drop m cells ≡ get_or cells m (item 0 0) ∷ drop (m + 1) cells
 next_cell cells m inside = let e : suc m ≡ m + 1 = omega arith in drop-cons cells m (item 0 0) inside ∙ rw e refl
 
--- a null
+-- a NULL bit
 pub walk_null : (n total : ℕ) (cells : List Item) (p m : ℕ) → m < length cells → (get_or cells m (item 0 0)).index < n → IsWalked n total cells p m →
     IsWalked n total cells p (m + 1)
 walk_null n total cells p m inside null known = record {
@@ -37,7 +37,7 @@ bits_here : (n : ℕ) (cells : List Item) (m : ℕ) → m < length cells → n �
 bits_here n cells m inside bit =
     ap (λ cs. length (bits_in n cs)) (next_cell cells m inside) ∙ ap length (bits_in-kept n (get_or cells m (item 0 0)) (drop (m + 1) cells) bit)
 
--- a bit
+-- a data bit
 pub walk_room : (n total : ℕ) (cells : List Item) (p m : ℕ) → m < length cells → n ≤ (get_or cells m (item 0 0)).index → IsWalked n total cells p m → p < total
 walk_room n total cells p m inside bit known =
     let here = bits_here n cells m inside bit in
@@ -53,7 +53,7 @@ walk_bit n total cells p m inside bit known = record {
       left_bit n cells k m (k - (p + 1)) inside bit (rw e at (known.ahead k (omega (arith, first)) below));
 }
 
--- after all cells
+-- after the last cell
 pub walk_end : (n total : ℕ) (cells : List Item) (p m : ℕ) → length cells ≤ m → IsWalked n total cells p m → p ≡ total
 unfolding bits_in
 walk_end n total cells p m past known =

@@ -1,9 +1,9 @@
--- The tail-biting convolutional code of rate 1/3 (TS 36.212 section 5.1.3.1).
+-- The rate 1/3 tail-biting convolutional code (TS 36.212 section 5.1.3.1).
 use Rattle.std.specs.Prelude.{ℕ, ◌+◌, ◌-◌, ◌%◌, Bool, false, List, [], ◌∷◌, length, map, slice_index_or}
 use Rattle.finite.specs.Bits.{xor}
 use Rattle.finite.specs.Lists.{values_below}
 
--- the sum of the bits modulo 2
+-- the sum modulo 2
 abbrev pub parity : List Bool → Bool
 parity [] = false
 parity (b ∷ bs) = xor b (parity bs)
@@ -12,7 +12,7 @@ parity (b ∷ bs) = xor b (parity bs)
 abbrev pub bit_back : List Bool → ℕ → ℕ → Bool
 bit_back word k t = slice_index_or word ((k + length word - t) % length word) false
 
--- the taps of the three streams, which are the generators 133, 171 and 165 (octal)
+-- the taps of the three streams; the generators are 133, 171 and 165 (octal)
 abbrev pub taps_0 : List ℕ
 taps_0 = 0 ∷ 2 ∷ 3 ∷ 5 ∷ 6 ∷ []
 
@@ -26,10 +26,10 @@ taps_2 = 0 ∷ 1 ∷ 2 ∷ 4 ∷ 6 ∷ []
 abbrev pub tapped_bit : List ℕ → List Bool → ℕ → Bool
 tapped_bit taps word k = parity (map (bit_back word k) taps)
 
--- the bits of the three streams at index k
+-- the three coded bits at index k
 abbrev pub coded_bits : List Bool → ℕ → List Bool
 coded_bits word k = tapped_bit taps_0 word k ∷ tapped_bit taps_1 word k ∷ tapped_bit taps_2 word k ∷ []
 
--- the coded word: the bits of the three streams at each index
+-- the codeword: three coded bits per index
 unfoldable pub coded_word : List Bool → List (List Bool)
 coded_word word = values_below (length word) (coded_bits word)

@@ -1,14 +1,14 @@
--- Laws of the code and of its reading. (of TS 36.212 sections 5.1.3.1 and 5.1.4.2)
+-- Laws of the code and of rate matching. (of TS 36.212 sections 5.1.3.1 and 5.1.4.2)
 use Rattle.std.specs.Prelude.{◌≡◌, ℕ, ◌*◌, ◌≤◌, Bool, List, length}
 use Rattle.sub_block.specs.Items.{ReadsEachOnce}
 use Rattle.conv_code.specs.Code.{coded_word}
 use Rattle.conv_code.specs.Reading.{reading, item_of}
 
--- words of one length with the same coded word are the same
+-- words of equal length with the same codeword are equal
 abbrev pub IsOneToOne : Type 0
 IsOneToOne = (u w : List Bool) → 6 ≤ length u → length u ≡ length w → coded_word u ≡ coded_word w → u ≡ w
 
--- the reading has 3n bits, and reads each index of n and stream of three once
+-- rate matching has the period 3n, in which each coded bit occurs once
 pub record ReadsEachItemOnce (n : ℕ) : Type 0 where
   pub count : length (reading n) ≡ 3 * n
   pub reads : ReadsEachOnce n (item_of n)

@@ -1,4 +1,4 @@
-//! The coded word.
+//! The encoder.
 
 ghost use Rattle.std.specs.Prelude.{◌≡◌, ◌<◌, ◌≤◌, length, All};
 ghost use Rattle.conv_code.specs.Code.{bit_back, tapped_bit, coded_bits, coded_word};
@@ -11,7 +11,7 @@ const TAPS_1: [usize; 5] = [0, 1, 2, 3, 6];
 
 const TAPS_2: [usize; 5] = [0, 1, 2, 4, 6];
 
-/// Bit k - t, cyclically.
+/// Returns bit `k` - `t`, cyclically.
 fn bit_before(word: &[bool], k: usize, t: usize) -> bool
     requires inside { k < length word.now }
     requires near { t ≤ length word.now }
@@ -21,7 +21,7 @@ fn bit_before(word: &[bool], k: usize, t: usize) -> bool
     word[(k + word.len() - t) % word.len()]
 }
 
-/// Bit k of the stream with these taps.
+/// Returns bit `k` of the stream with these taps.
 fn coded_bit(word: &[bool], k: usize, taps: &[usize; 5]) -> bool
     requires inside { k < length word.now }
     requires short { length word.now ≤ 64 }
@@ -35,7 +35,7 @@ fn coded_bit(word: &[bool], k: usize, taps: &[usize; 5]) -> bool
     sum
 }
 
-/// The bits of the three streams at index k.
+/// Returns the three coded bits at index `k`.
 fn coded_at(word: &[bool], k: usize) -> [bool; 3]
     requires inside { k < length word.now }
     requires low { 6 ≤ length word.now }
@@ -49,7 +49,7 @@ fn coded_at(word: &[bool], k: usize) -> [bool; 3]
     ]
 }
 
-/// Encodes a word into the bits of the three streams at each index (TS 36.212 section 5.1.3.1).
+/// Encodes a word to three coded bits per index (TS 36.212 section 5.1.3.1).
 pub fn encode<const N: usize>(word: &Bits<N>) -> [[bool; 3]; N]
     requires low { 6 ≤ N }
     requires high { N ≤ 64 }

@@ -1,13 +1,13 @@
-//! Laws of the code and of its reading.
+//! Laws of the code and of rate matching.
 
 ghost use Rattle.conv_code.specs.Laws.{IsOneToOne, IsPermuting};
 
-/// States that words of one length, 6 or more, with the same coded word are the same.
+/// A law: different words of equal length, at least 6, have different codewords.
 pub fn coded_words_tell_words()
     ensures { IsOneToOne }
 {}
 
-/// States that the first 3N bits of the reading are all 3N items, each once, for N from 6 to 64.
+/// A law: for N from 6 to 64, the first 3N rate-matched bits are all 3N coded bits, each once.
 pub fn reading_permutes()
     ensures { IsPermuting }
 {}

@@ -1,6 +1,6 @@
-//! The tail-biting convolutional code of rate 1/3 (TS 36.212 sections 5.1.3.1 and 5.1.4.2): the coded
-//! word, the endless cyclic reading of its bits, and the sums of received values by index.
-//! A word has 6 to 64 bits.
+//! LTE's rate 1/3 tail-biting convolutional code (TS 36.212 section 5.1.3.1) and its rate matching (section
+//! 5.1.4.2): encoding, the cyclic bit order, and combining soft values by index. A word has 6 to 64 bits.
+//! Tests: the crate `code_tests`.
 #![tactic(auto)]
 
 mod cost;

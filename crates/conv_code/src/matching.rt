@@ -1,4 +1,4 @@
-//! The cyclic reading of a coded word, and the sums of received values.
+//! Rate matching, and combining soft values.
 
 ghost use Rattle.std.specs.Prelude.{◌≡◌, ℕ, ◌+◌, ◌*◌, ◌^◌, ◌<◌, ◌-◌, ◌≤◌, [], length, nat_abs, pos, slice_index_or};
 ghost use Rattle.finite.specs.Sizes.{AllWithin, RowsWithin};
@@ -8,8 +8,8 @@ ghost use Rattle.conv_code.specs.Steps.{place_of, HasPlacedSums};
 
 use sub_block::{Code, Item, cell_at};
 
-/// Returns the index of the bit that is read after `p` others of a stream of `n` bits, at most 6,176, which 193 rows
-/// hold (TS 36.212 section 5.1.4.2.1). `p` is below `n`, and so is the answer.
+/// Returns the index of the bit that is read after `p` others from a stream of `n` bits, at most 6,176 (TS 36.212
+/// section 5.1.4.2.1). `p` and the result are below `n`.
 pub fn stream_index(n: usize, p: usize) -> usize
     requires high { n ≤ 6176 }
     requires bits { p < n }
@@ -31,7 +31,7 @@ pub fn stream_index(n: usize, p: usize) -> usize
     unreachable!()
 }
 
-/// The item of bit i of the endless reading of three streams of n bits.
+/// Returns the coded bit that rate matching outputs as bit `i`, for three streams of `n` bits.
 fn item_in(n: usize, i: usize) -> Item
     requires low { 6 ≤ n }
     requires high { n ≤ 64 }
@@ -46,7 +46,7 @@ fn item_in(n: usize, i: usize) -> Item
     }
 }
 
-/// Returns bit `i` of the endless cyclic reading of a coded word (TS 36.212 section 5.1.4.2).
+/// Returns bit `i` of the rate-matched sequence, which repeats cyclically (TS 36.212 section 5.1.4.2).
 pub fn match_out<const N: usize>(coded: &[[bool; 3]; N], i: usize) -> bool
     requires low { 6 ≤ N }
     requires high { N ≤ 64 }
@@ -56,8 +56,8 @@ pub fn match_out<const N: usize>(coded: &[[bool; 3]; N], i: usize) -> bool
     coded[at.index][at.stream]
 }
 
-/// Returns, for each index of a coded word, the sum of the values that the endless reading maps to it from its bit
-/// `first`. There are at most 1,920 values, and `first` is below 2^32.
+/// Combines soft values that start at rate-matched bit `first`, and returns one sum per coded bit.
+/// There are at most 1,920 values, and `first` is below 2^32.
 pub fn combine_from<const N: usize>(first: usize, values: &[i16]) -> [[i32; 3]; N]
     requires low { 6 ≤ N }
     requires high { N ≤ 64 }
@@ -69,8 +69,8 @@ pub fn combine_from<const N: usize>(first: usize, values: &[i16]) -> [[i32; 3]; 
     by_index(&by_place(first, values))
 }
 
-/// Returns, for each index of a coded word, the sum of the values that the endless reading maps to it from its bit 0:
-/// one value an item in each round.
+/// Combines soft values that start at rate-matched bit 0, and returns one sum per coded bit. There are at most
+/// 1,920 values.
 pub fn combine<const N: usize>(values: &[i16]) -> [[i32; 3]; N]
     requires low { 6 ≤ N }
     requires high { N ≤ 64 }
@@ -83,7 +83,7 @@ pub fn combine<const N: usize>(values: &[i16]) -> [[i32; 3]; N]
     combine_from(0, values)
 }
 
-// The indices of a stream of N bits, in the order of the reading.
+// Returns the indices of an `N`-bit stream in interleaved order.
 fn stream_indices<const N: usize>() -> [usize; N]
     requires high { N ≤ 64 }
     ensures { result ≡ stream_order N }
@@ -102,7 +102,7 @@ fn stream_indices<const N: usize>() -> [usize; N]
     order
 }
 
-// Adds a value to the sum at a place of a stream.
+// Adds `value` to a sum.
 fn add_at<const N: usize>(sums: &mut [[i32; N]; 3], stream: usize, place: usize, value: &i16)
     requires stream { stream < 3 }
     requires place { place < N }
@@ -113,7 +113,7 @@ fn add_at<const N: usize>(sums: &mut [[i32; N]; 3], stream: usize, place: usize,
     sums[stream][place] += *value as i32;
 }
 
-// Adds the values from number `at` to `end`, which follow one another in one stream, to the sums of those before them.
+// Adds the values `at..end`, which are consecutive in one stream.
 fn add_run<const N: usize>(
     sums: &mut [[i32; N]; 3],
     first: usize,
@@ -139,8 +139,7 @@ fn add_run<const N: usize>(
     }
 }
 
-// For each stream, by places in the order of its reading, the sums of the values that the endless reading has there,
-// from its bit `first` on.
+// Combines soft values from bit `first`, and returns the sums by stream and position in interleaved order.
 fn by_place<const N: usize>(first: usize, values: &[i16]) -> [[i32; N]; 3]
     requires low { 6 ≤ N }
     requires high { N ≤ 64 }
@@ -159,7 +158,7 @@ fn by_place<const N: usize>(first: usize, values: &[i16]) -> [[i32; N]; 3]
     sums
 }
 
-// The three sums at a place.
+// Returns the three sums at a position.
 fn sums_at<const N: usize>(placed: &[[i32; N]; 3], p: usize) -> [i32; 3]
     requires p { p < N }
     requires room { (t : ℕ) → t < 3 → nat_abs (sum_at placed.now t p) ≤ 2 ^ 30 }
@@ -169,7 +168,7 @@ fn sums_at<const N: usize>(placed: &[[i32; N]; 3], p: usize) -> [i32; 3]
     [placed[0][p], placed[1][p], placed[2][p]]
 }
 
-// The sums of the three streams at each index, by those at each place in the order of the reading.
+// Rearranges the sums from interleaved order to index order.
 fn by_index<const N: usize>(placed: &[[i32; N]; 3]) -> [[i32; 3]; N]
     requires high { N ≤ 64 }
     requires room { (t p : ℕ) → t < 3 → p < N → nat_abs (sum_at placed.now t p) ≤ 2 ^ 30 }
