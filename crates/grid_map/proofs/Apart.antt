@@ -1,4 +1,4 @@
--- The places of the control and the shared channels of a subframe: none is a reference place, and no two channels have a place in common.
+-- The channels of a subframe share no resource elements with each other or with reference signals.
 use Rattle.std.proofs.Common.{◌≡◌, ℕ, ◌*◌, ◌/◌, ◌%◌, ◌<◌, ◌≤◌, Bool, true, false, not, nat_lt, ◌⊎◌, List, length, get_or, refl, ap, sym, subst, ◌∙◌, arith}
 use Rattle.std.specs.Prelude.{All}
 use Rattle.std.specs.List.{Contains}
@@ -25,16 +25,16 @@ use Rattle.grid_map.proofs.Pieces.{pcfich_place_at, candidate_place_at}
 use Rattle.grid_map.proofs.Indexed.{pdcch_carry}
 use Rattle.grid_map.proofs.Symbols.{subframe_is, subframe_bounds, place_of, places_are, pdsch_carries}
 
--- ---- places of the control region
+-- ---- the control region
 
--- a place in a symbol up to this one, and no reference place of two antenna ports
+-- in a symbol up to `last`, and not a reference signal for port 0 or 1
 pub record IsInRegion (identity last : ℕ) (p : Place) : Type 0 where
   pub symbol : p.symbol ≤ last
   pub k : p.k < 72
   pub free : is_reference identity (p.symbol % 7) p.k ≡ false
   pub second_free : is_second_reference identity (p.symbol % 7) p.k ≡ false
 
--- the first symbols of a slot have reference places in symbol 0 alone, and those are kept
+-- in symbols 0 to 3, reference signals are in symbol 0 only, and those resource elements are reserved
 reference_is_kept : (identity symbol k : ℕ) → symbol < 4 → is_reference identity (symbol % 7) k ≡ true → is_kept identity (place symbol k) ≡ true
 unfolding is_reference first_subcarrier
 reference_is_kept identity symbol k low e = grind (arith, nat_tests)
@@ -57,7 +57,7 @@ free_where_not_kept identity symbol k low none = cases (is_reference identity (s
     cases false e = refl
     cases true e = absurd (none (reference_is_kept identity symbol k low e))
 
--- the places of a group are such places
+-- a group's resource elements satisfy this
 of_group : (identity last : ℕ) (g : Reg) (p : Place) → last ≤ 3 → is_group g ≡ true → g.symbol ≤ last → Contains (group_places identity g) p → IsInRegion identity last p
 of_group identity last g p few is below has =
     let inside = places_inside identity g p is has in
@@ -73,7 +73,7 @@ has_four identity g n is l = Contains-get_or (group_places identity g) n (place 
 
 -- ---- the PCFICH
 
--- a place is of a group of the PCFICH
+-- a resource element in a PCFICH group
 record IsOfIndicator (identity : ℕ) (p : Place) : Type 0 where
   g : Reg
   among : is_group_in (pcfich_groups identity) g ≡ true
@@ -102,17 +102,17 @@ of_indicator identity i l =
       has = subst (Contains (group_places identity g)) (sym (pcfich_place_at identity i l)) (has_four identity g (i % 4) is.0 (omega arith));
     }
 
--- the places of the PCFICH are in symbol 0
+-- the PCFICH is in symbol 0
 pub indicator_place : (identity i : ℕ) → i < 16 → IsInRegion identity 0 (get_or (pcfich_places identity) i (place 0 0))
 indicator_place identity i l = let of = of_indicator identity i l in of_group identity 0 of.g _ (omega arith) of.is (let first = of.first in omega (arith, first)) of.has
 
--- ---- the candidate of the PDCCH
+-- ---- the PDCCH candidate
 
 module _ (identity cfi : ℕ) (duration : Duration) (resource : Resource) (low : 2 ≤ cfi) (high : cfi ≤ 3) where
   abbrev groups : List Reg
   groups = pdcch_groups identity cfi duration resource
 
-  -- a place is of a group of the PDCCH
+  -- a resource element in a PDCCH group
   record IsOfControl (p : Place) : Type 0 where
     g : Reg
     among : is_group_in groups g ≡ true
@@ -140,21 +140,21 @@ module _ (identity cfi : ℕ) (duration : Duration) (resource : Resource) (low :
         has = subst (Contains (group_places identity g)) (sym (candidate_place_at identity groups i carry.enough carry.are l)) (has_four identity g (i % 4) (of_region g there).is (omega arith));
       }
 
-  -- the places of the candidate are in the control region
+  -- the candidate is in the control region
   pub control_place : (i : ℕ) → i < 144 → IsInRegion identity cfi (get_or (candidate_places identity groups) i (place 0 0))
   control_place i l =
       let of = of_control i l in
       let group = of_region of.g of.inside in
       of_group identity cfi of.g _ high group.is group.symbol of.has
 
-  -- the groups of the PDCCH are none of the PCFICH
+  -- PDCCH groups are not PCFICH groups
   not_of_indicator : (g : Reg) → is_group_in groups g ≡ true → is_group_in (pcfich_groups identity) g ≡ true → ⊥
   not_of_indicator g of taken =
       let parts = and_parts _ (not (is_group_in (phich_groups identity duration resource) g)) (sym (pdcch_found identity cfi duration resource g) ∙ of) in
       let free = and_parts (is_in_region cfi g) (not (is_group_in (pcfich_groups identity) g)) parts.0 in
       false≢true (ap not (sym taken) ∙ free.1)
 
-  -- no place of the candidate is one of the PCFICH
+  -- the candidate shares no resource element with the PCFICH
   pub control_not_indicator : (i j : ℕ) → i < 16 → j < 144 → get_or (pcfich_places identity) i (place 0 0) ≡ get_or (candidate_places identity groups) j (place 0 0) → ⊥
   control_not_indicator i j l m same =
       let first = of_indicator identity i l in
@@ -165,7 +165,7 @@ module _ (identity cfi : ℕ) (duration : Duration) (resource : Resource) (low :
 
 -- ---- the PDSCH
 
--- a place after the control region, in no symbol of the synchronisation signals, and no reference place of the carrier
+-- after the control region, not in a symbol with synchronisation signals, and not a reference signal
 pub record IsAfterRegion (carrier : Carrier) (identity last : ℕ) (p : Place) : Type 0 where
   pub after : last < p.symbol
   pub symbol : p.symbol < 14
@@ -189,7 +189,7 @@ not_true : (b : Bool) → not b ≡ true → b ≡ false
 not_true false e = refl
 not_true true e = absurd (false≢true e)
 
--- the places of the PDSCH are such places
+-- the PDSCH's resource elements satisfy this
 pub shared_place : (carrier : Carrier) (identity cfi start blocks i : ℕ) → i < length (shared_places_of carrier identity cfi start blocks) →
     IsAfterRegion carrier identity cfi (get_or (shared_places_of carrier identity cfi start blocks) i (place 0 0))
 unfolding shared_place_of

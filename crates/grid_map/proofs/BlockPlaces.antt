@@ -1,11 +1,11 @@
--- How many places a block has for the shared channel, by carrier and indicator.
+-- PDSCH resource elements per resource block, by transmission scheme and indicator.
 use Rattle.std.proofs.Common.{ℕ, ◌*◌, ◌%◌, ◌<◌, ◌≤◌, ◌≡◌, Bool, true, false, cond, nat_eq, refl, sym, subst, arith}
 use Rattle.lte_types.specs.declared.carrier.Carrier.{Carrier}
 use Rattle.lte_types.specs.declared.carrier.Carrier.TheVariants.{OnePort, TwoPorts, LongPrefix, FourPorts}
 use Rattle.lte_types.specs.Carrier.{ports_of}
 use Rattle.grid_map.specs.Shared.{block_places_of}
 
--- with indicator 2, and with 3
+-- the numbers for indicator 2, and for 3
 abbrev counts : Carrier → Bool → ℕ
 counts OnePort first = cond first 102 90
 counts TwoPorts first = cond first 96 84
@@ -18,7 +18,7 @@ counted TwoPorts cfi = refl
 counted LongPrefix cfi = refl
 counted FourPorts cfi = refl
 
--- a block's places are an even number, at least 68, at most those of one port, and with several ports at most 96
+-- an even number, at least 68, at most that for one port, and at most 96 with several ports
 pub record AreFew (carrier : Carrier) (first : Bool) (places : ℕ) : Type 0 where
   pub even : (blocks : ℕ) → (places * blocks) % 2 ≡ 0
   pub least : 68 ≤ places
@@ -38,7 +38,7 @@ few FourPorts false = record { even = λ blocks. omega arith; least = omega arit
 pub are_few : (carrier : Carrier) (cfi : ℕ) → AreFew carrier (nat_eq cfi 2) (block_places_of carrier cfi)
 are_few carrier cfi = subst (AreFew carrier (nat_eq cfi 2)) (sym (counted carrier cfi)) (few carrier (nat_eq cfi 2))
 
--- with any indicator at most 102
+-- at most 102 for every indicator
 pub at_most : (carrier : Carrier) (cfi : ℕ) → block_places_of carrier cfi ≤ 102
 at_most carrier cfi = below (nat_eq cfi 2) (are_few carrier cfi).most
   where

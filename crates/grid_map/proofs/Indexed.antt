@@ -1,4 +1,4 @@
--- Lists of places in which no place stands twice.
+-- Resource element lists without repetitions.
 use Rattle.std.proofs.Common.{◌≡◌, ℕ, ◌/◌, ◌%◌, ◌<◌, ◌≤◌, ◌⊎◌, inl, inr, Bool, true, false, List, length, get_or, refl, ap, sym, subst, ◌∙◌, arith}
 use Rattle.std.specs.Prelude.{◌&&◌}
 use Rattle.std.specs.List.{Contains}
@@ -29,9 +29,9 @@ use Rattle.grid_map.proofs.Carried.{group_inside, group_carries}
 use Rattle.grid_map.proofs.Symbols.{pdsch_once}
 use Rattle.grid_map.proofs.Pieces.{length-pcfich_places, pcfich_place_at, length-candidate_places, candidate_place_at}
 
--- ---- numbers of places
+-- ---- indices
 
--- where no place stands twice, each is the first of its kind
+-- in a list without repetitions, each item's index is its position
 pub indexed : (count : ℕ) (places : List Place) → length places ≡ count →
     ((i j : ℕ) → i < count → j < count → get_or places i (place 0 0) ≡ get_or places j (place 0 0) → i ≡ j) → IsIndexed count places
 indexed count places size once = record {
@@ -53,9 +53,9 @@ pub pbch_indexed : (identity : ℕ) → IsIndexed 240 (pbch_places identity)
 unfolding pbch_place
 pbch_indexed identity = indexed 240 (pbch_places identity) (length-pbch_places identity) (points_apart identity)
 
--- ---- the places of groups
+-- ---- the resource elements in groups
 
--- two places of groups are one only where the groups are one, and they have one number in it
+-- groups share a resource element only if they are equal, and then at the same index
 one_place : (identity : ℕ) (g h : Reg) (a b : ℕ) → is_group g ≡ true → is_group h ≡ true → a < 4 → b < 4 →
     get_or (group_places identity g) a (place 0 0) ≡ get_or (group_places identity h) b (place 0 0) → (g ≡ h) × (a ≡ b)
 one_place identity g h a b is is' l m same = (groups, number)
@@ -143,7 +143,7 @@ candidate_indexed identity groups carry = indexed 144 (candidate_places identity
         let places = both.1 in
         omega (arith, quadruplets, places)
 
--- ---- the groups of the PDCCH
+-- ---- the PDCCH groups
 
 count_fits : (cfi : ℕ) (duration : Duration) (resource : Resource) → 2 ≤ cfi → cfi ≤ 3 → (36 ≤ group_count cfi duration resource) × (group_count cfi duration resource ≤ 66)
 count_fits cfi Normal OneSixth low high = (omega arith, omega arith)
@@ -155,7 +155,7 @@ count_fits cfi Extended Half low high = (grind (arith, nat_tests), grind (arith,
 count_fits cfi Extended One low high = (grind (arith, nat_tests), grind (arith, nat_tests))
 count_fits cfi Extended Two low high = (grind (arith, nat_tests), grind (arith, nat_tests))
 
--- with indicator 2 or 3 there are four control channel elements
+-- with indicator 2 or 3 there are at least four control channel elements
 pub elements_fit : (cfi : ℕ) (duration : Duration) (resource : Resource) → 2 ≤ cfi → cfi ≤ 3 → 4 ≤ element_count cfi duration resource
 elements_fit cfi duration resource low high = let fits = count_fits cfi duration resource low high in omega (arith, fits.0)
 

@@ -1,10 +1,10 @@
--- What a filter keeps.
+-- Membership in a filtered list.
 use Rattle.std.proofs.Common.{◌≤◌, ◌≡◌, Bool, true, false, ◌&&◌, ◌||◌, cond, List, [], ◌∷◌, ◌++◌, filter, map, length, refl, ap, sym, ◌∙◌, arith}
 use Rattle.std.specs.List.{list_any, flat_map}
 use Rattle.std.proofs.lemmas.List.Elements.{filter-append}
 use Rattle.std.proofs.Math.Bool.{and-false}
 
--- an item is among those kept where it passes and is among all
+-- an item is in the filtered list if it passes and is in the list
 pub any-filter : {X : Type 0} (same : X → X → Bool) → ((x y : X) → same x y ≡ true → x ≡ y) → (p : X → Bool) (x : X) (xs : List X) →
     list_any (same x) (filter p xs) ≡ (list_any (same x) xs && p x)
 any-filter same sound p x [] = refl

@@ -1,4 +1,4 @@
--- The subcarriers that the reference places leave of some resource blocks.
+-- The subcarriers of resource blocks that reference signals leave free.
 use Rattle.std.proofs.Common.{ℕ, ◌+◌, ◌-◌, ◌*◌, ◌/◌, ◌%◌, ◌<◌, ◌≤◌, ◌≡◌, Bool, true, false, not, ◌&&◌, ◌||◌, cond, nat_eq, nat_lt, List, filter, length, get_or, refl, ap, sym, ◌∙◌, arith}
 use Rattle.std.specs.List.{range_with_len}
 use Rattle.std.proofs.lemmas.Bool.{eqb-true, and_parts}
@@ -13,8 +13,8 @@ use Rattle.grid_map.specs.Place.{skipping}
 use Rattle.grid_map.specs.Shared.{is_in_blocks, pilots_of_block}
 use Rattle.grid_map.specs.Steps.{offset_by}
 
--- ---- the subcarriers of the blocks without those that this number leaves out: every sixth from shift on where shift is
--- below 6, none where it is 6, and every third from shift - 7 on where it is 7 to 9
+-- ---- subcarriers left out, encoded in one number `shift`: below 6, every sixth from `shift`; 6, none; 7 to 9, every
+-- third from `shift` - 7
 
 abbrev pub leaves : ℕ → ℕ → Bool
 leaves shift k = cond (nat_lt shift 7) (nat_eq (k % 6) shift) (nat_eq (k % 3) (shift - 7))
@@ -25,7 +25,7 @@ keeps shift start blocks k = not (leaves shift k) && is_in_blocks start blocks k
 unfoldable pub kept : ℕ → ℕ → ℕ → List ℕ
 kept shift start blocks = filter (keeps shift start blocks) (range_with_len 0 72)
 
--- how many of a block stay, and how far from the first subcarrier the one with number n stands
+-- how many subcarriers per resource block stay, and the offset of subcarrier n among them
 abbrev pub kept_of : ℕ → ℕ
 kept_of shift = cond (nat_eq shift 6) 12 (cond (nat_lt shift 7) 10 8)
 
@@ -56,7 +56,7 @@ kept_is shift start blocks l m =
       at = λ n k. eqb-true _ _ (every_below_at (kept_of shift * blocks) (λ n. nat_eq (get_or (kept shift start blocks) n 0) (12 * start + kept_offset shift n)) parts.1 n k);
     }
 
--- ---- what a symbol leaves out, by how many of a block's places are reference places and by port 0's first one
+-- ---- the subcarriers that a symbol leaves out, by reference signal count and port 0's first
 
 abbrev pub shift_by : ℕ → ℕ → ℕ
 shift_by pilots first = cond (nat_eq pilots 0) 6 (cond (nat_eq pilots 2) first (7 + first % 3))
@@ -79,7 +79,7 @@ first_lt first l = grind (arith, nat_tests, l)
 not_6 : (first : ℕ) → first < 6 → nat_eq first 6 ≡ false
 not_6 first l = grind (arith, nat_tests, l)
 
--- a number of reference places is 0, 2 or 4
+-- the reference signal count is 0, 2 or 4
 by_count : (P : ℕ → Type 0) → P 0 → P 2 → P 4 → (has several upper : Bool) → P (cond has (cond several 4 2) (cond upper 4 0))
 by_count P none two four true true upper = four
 by_count P none two four true false upper = two
@@ -89,7 +89,7 @@ by_count P none two four false several false = none
 pub of_count : (P : ℕ → Type 0) → P 0 → P 2 → P 4 → (carrier : Carrier) (symbol : ℕ) → P (pilots_of_block carrier symbol)
 of_count P none two four carrier symbol = by_count P none two four _ _ _
 
--- how many stay, and where they stand
+-- the number that stay, and their offsets
 pub record IsLeft (pilots first : ℕ) : Type 0 where
   pub few : pilots ≤ 4
   pub small : shift_by pilots first < 10
@@ -102,12 +102,12 @@ left_is first l = of_count (λ pilots. IsLeft pilots first)
     (record { few = omega arith; small = omega (arith, l); stay = rw (not_6 first l, first_lt first l) refl; stand = λ n. rw (not_6 first l, first_lt first l) refl })
     (record { few = omega arith; small = omega arith; stay = rw (third_not_6 first, third_lt first) refl; stand = λ n. rw (third_not_6 first, third_lt first, third first) refl })
 
--- ---- which they are, by the tests of a symbol: it has those of port 0, it is the first of its slot, it is the second
+-- ---- the same by tests on the symbol: it has port 0's reference signals, it is the slot's first, it is the second
 
 abbrev first_by : Bool → ℕ → ℕ
 first_by zeroth identity = (cond zeroth 0 3 + identity) % 6
 
--- of one port
+-- with one port
 of_one : (has second : Bool) (first k : ℕ) → first < 6 →
     ((has && nat_eq (k % 6) first) || false) ≡ leaves (shift_by (cond has 2 (cond (second && false) 4 0)) first) k
 of_one true second first k l = rw (first_lt first l) (or_none (nat_eq (k % 6) first))
@@ -118,7 +118,7 @@ of_one true second first k l = rw (first_lt first l) (or_none (nat_eq (k % 6) fi
 of_one false true first k l = rw (never_6 k) refl
 of_one false false first k l = rw (never_6 k) refl
 
--- every third subcarrier, and what leaves it out
+-- every third subcarrier
 abbrev is_third : ℕ → ℕ → Bool
 is_third identity k = nat_eq (k % 3) (identity % 3)
 
@@ -131,7 +131,7 @@ leaves_third zeroth identity k =
     same true = omega arith
     same false = omega arith
 
--- both lower ports together, and both upper ones
+-- both lower ports together, and both upper ports
 lower_third : (zeroth : Bool) (identity k : ℕ) (b : Bool) → is_third identity k ≡ b →
     (nat_eq (k % 6) (first_by zeroth identity) || nat_eq (k % 6) ((cond zeroth 3 0 + identity) % 6)) ≡ b
 lower_third true identity k true e = grind (arith, nat_tests)
@@ -144,13 +144,13 @@ upper_third : (identity slot k : ℕ) (b : Bool) → is_third identity k ≡ b �
 upper_third identity slot k true e = grind (arith, nat_tests)
 upper_third identity slot k false e = grind (arith, nat_tests)
 
--- two tests of which one holds where a third does
+-- a disjunction with false
 two_are : (a b c : Bool) → (a || b) ≡ c → (a || (b || false)) ≡ c
 two_are true b c e = e
 two_are false true c e = e
 two_are false false c e = e
 
--- of two ports
+-- with two ports
 of_two : (has zeroth second : Bool) (identity k : ℕ) →
     ((has && nat_eq (k % 6) (first_by zeroth identity)) || ((has && nat_eq (k % 6) ((cond zeroth 3 0 + identity) % 6)) || false))
     ≡ leaves (shift_by (cond has 4 (cond (second && false) 4 0)) (first_by zeroth identity)) k
@@ -165,7 +165,7 @@ four_are false false true d e f g = g
 four_are false false false true e f g = g
 four_are false false false false e f g = g
 
--- of four ports
+-- with four ports
 of_four : (has zeroth second : Bool) (identity slot k : ℕ) →
     ((has && nat_eq (k % 6) (first_by zeroth identity)) || ((has && nat_eq (k % 6) ((cond zeroth 3 0 + identity) % 6))
     || ((second && nat_eq (k % 6) (upper_first 2 identity slot)) || ((second && nat_eq (k % 6) (upper_first 3 identity slot)) || false))))
@@ -177,7 +177,7 @@ of_four true zeroth false identity slot k = two_are _ _ _ (lower_third zeroth id
 of_four false zeroth true identity slot k = two_are _ _ _ (upper_third identity slot k _ refl) ∙ sym (leaves_third zeroth identity k)
 of_four false zeroth false identity slot k = rw (never_6 k) refl
 
--- a place of a slot is a reference place where its subcarrier is left out
+-- a resource element carries a reference signal if and only if its subcarrier is left out
 pub left_out : (carrier : Carrier) (identity slot symbol k : ℕ) →
     is_reference_of_any carrier identity slot symbol k ≡ leaves (shift_by (pilots_of_block carrier symbol) (pattern_first (pattern_of carrier 0) identity symbol)) k
 unfolding is_upper_reference

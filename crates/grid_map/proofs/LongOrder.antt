@@ -1,4 +1,4 @@
--- The places of the broadcast channel by their number, and back, for every identity.
+-- The PBCH's resource elements with the extended prefix: from index to resource element and back, for every identity.
 use Rattle.std.proofs.Common.{◌≡◌, ℕ, zero, suc, ◌+◌, ◌-◌, ◌*◌, ◌/◌, ◌%◌, ◌<◌, ◌≤◌, Bool, true, false, not, ◌&&◌, cond, nat_eq, nat_lt, List, length, map, get_or, refl, ap, ◌∙◌, sym, subst, arith}
 use Rattle.std.specs.List.{range_with_len}
 use Rattle.std.proofs.lemmas.Bool.{ltb-true, lt-ltb, le-ltb, and_parts, eqb-true}
@@ -9,9 +9,9 @@ use Rattle.grid_map.specs.declared.Place.{Place}
 use Rattle.grid_map.specs.Place.{place, places_of, index_in, skipping}
 use Rattle.grid_map.specs.LongBroadcast.{is_kept, free_places, long_places}
 
--- ---- the place of point i
+-- ---- the resource element for an index
 
--- subcarrier number n of those that are not kept
+-- subcarrier n among those that are not reserved
 unfoldable pub free_subcarrier : ℕ → ℕ → ℕ
 free_subcarrier shift n = 3 * (n / 2) + skipping shift (n % 2)
 
@@ -38,9 +38,9 @@ free_places_is (suc zero) few = list1
 free_places_is (suc (suc zero)) few = list2
 free_places_is (suc (suc (suc shift))) few = absurd (omega arith)
 
--- ---- each place is a free one, and has its number
+-- ---- each resource element is free, and has its index
 
--- what holds of point i: its place is in the four symbols and not kept, and no place before it is the same
+-- the test for index i: its resource element is in the four symbols, not reserved, and different from all before
 unfoldable stands : ℕ → ℕ → Bool
 stands shift i =
     let p = nth_place shift i in
@@ -81,7 +81,7 @@ long_place-nth identity i inside =
     ap (λ (ps : List Place). get_or ps i (place 0 0)) (places_are identity)
     ∙ get_or-map-range_with_len (nth_place (identity % 3)) 0 216 i i (place 0 0) inside (omega arith)
 
--- what is known of the place of a point
+-- the known facts about a resource element
 pub record IsLongPlace (identity i : ℕ) (p : Place) : Type 0 where
   pub symbol : p.symbol < 4
   pub k : p.k < 72
@@ -111,7 +111,7 @@ long_place_at identity i inside =
 pub long_place_is : (identity i : ℕ) → i < 216 → IsLongPlace identity i (get_or (long_places identity) i (place 0 0))
 long_place_is identity i inside = subst (IsLongPlace identity i) (sym (long_place-nth identity i inside)) (long_place_at identity i inside)
 
--- ---- the place of a point, as it is computed
+-- ---- the resource element as computed
 
 pub early_place : (identity shift i : ℕ) → shift ≡ identity % 3 → i < 96 → place (i / 48) (3 * (i % 48 / 2) + skipping shift (i % 48 % 2)) ≡ get_or (long_places identity) i (place 0 0)
 unfolding nth_place free_subcarrier

@@ -1,10 +1,10 @@
--- The members of a list, by a test of equality.
+-- List membership, from a test of equality.
 use Rattle.std.proofs.Common.{◌≡◌, ◌↔◌, Bool, true, List, ap, sym, ◌∙◌}
 use Rattle.std.specs.List.{Contains, list_any}
 use Rattle.std.proofs.lemmas.List.Folds.{list_any_at}
 use Rattle.std.proofs.lemmas.Map.Views.{Contains-from_any}
 
--- what a test of equality finds are the members
+-- an equality test finds exactly the members
 pub members_by : {A : Type 0} (same : A → A → Bool) → ((x y : A) → same x y ≡ true → x ≡ y) → ((x : A) → same x x ≡ true) →
     (items : List A) (is : A → Bool) → ((x : A) → list_any (same x) items ≡ is x) → (x : A) → Contains items x ↔ (is x ≡ true)
 members_by same sound itself items is told x = (

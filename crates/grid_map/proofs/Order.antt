@@ -1,4 +1,4 @@
--- The places of the broadcast channel by their number, and back.
+-- The PBCH's resource elements: from index to resource element and back.
 use Rattle.std.proofs.Common.{ℕ, zero, suc, ◌+◌, ◌-◌, ◌*◌, ◌/◌, ◌%◌, ◌<◌, ◌≤◌, ◌≡◌, Bool, true, false, not, ◌&&◌, ◌||◌, cond, nat_eq, nat_lt, length, map, get_or, refl, ap, ap₂, subst, arith, eq-eqb}
 use Rattle.std.specs.List.{range_with_len}
 use Rattle.std.proofs.lemmas.Bool.{ltb-true, ltb-false, and_parts, false≢true, eqb-true}
@@ -10,9 +10,9 @@ use Rattle.grid_map.specs.declared.Place.{Place}
 use Rattle.grid_map.specs.Place.{place, places_of, place_number, same_place}
 use Rattle.grid_map.specs.Broadcast.{free_places, is_free}
 
--- ---- the place of point i
+-- ---- the resource element for an index
 
--- of the three subcarriers of a group, the two beside the reserved one
+-- the two unreserved subcarriers of three
 unfoldable pub skip : ℕ → ℕ → ℕ
 skip shift n = cond (nat_lt n shift) n (n + 1)
 
@@ -89,7 +89,7 @@ in_order shift i (suc j) few before inside = step (nat_lt i j) refl (λ earlier.
     step true e rest = let before : place_number (nth_place shift i) < place_number (nth_place shift j) = rest (ltb-true i j e) in omega (arith, last)
     step false e rest = let same : j ≡ i = omega (arith, ltb-false i j e) in subst (λ (n : ℕ). place_number (nth_place shift n) < place_number (nth_place shift (suc j))) same last
 
--- no two points have one place
+-- different indices have different resource elements
 pub one_to_one : (shift i j : ℕ) → shift < 3 → i < 240 → j < 240 → nth_place shift i ≡ nth_place shift j → i ≡ j
 one_to_one shift i j few inside inside' same = cases (nat_lt i j) (nat_lt j i) refl refl
   where
@@ -101,7 +101,7 @@ one_to_one shift i j few inside inside' same = cases (nat_lt i j) (nat_lt j i) r
     cases false true e f = absurd (omega (arith, numbers, in_order shift j i few (ltb-true j i f) inside))
     cases false false e f = omega (arith, ltb-false i j e, ltb-false j i f)
 
--- ---- what a test of two places tells
+-- ---- equality tests on resource elements
 
 pub same_place-refl : (p : Place) → same_place p p ≡ true
 same_place-refl p = rw (eq-eqb p.symbol p.symbol refl, eq-eqb p.k p.k refl) refl
@@ -111,7 +111,7 @@ same_place-true p q same =
     let parts = and_parts (nat_eq p.symbol q.symbol) (nat_eq p.k q.k) same in
     ap₂ place (eqb-true p.symbol q.symbol parts.0) (eqb-true p.k q.k parts.1)
 
--- ---- the places of the points are those that are not reserved
+-- ---- the resource elements are those that are not reserved
 
 unfoldable stands : ℕ → ℕ → Bool
 stands shift i = is_free shift (nth_place shift i)
@@ -138,7 +138,7 @@ pub nth_place-is_free : (shift i : ℕ) → shift < 3 → i < 240 → is_free sh
 unfolding stands
 nth_place-is_free shift i few inside = every_below_at 240 (stands shift) (all_stand shift few) i inside
 
--- the number of the point at a place
+-- a resource element's index
 unfoldable pub number_of : ℕ → Place → ℕ
 number_of shift p =
     cond (nat_lt p.symbol 9)

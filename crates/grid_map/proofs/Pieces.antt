@@ -1,4 +1,4 @@
--- The places of a list of groups, one group after the other.
+-- The resource elements for a list of groups, group by group.
 use Rattle.std.proofs.Common.{◌≡◌, ℕ, ◌*◌, ◌/◌, ◌%◌, ◌<◌, ◌≤◌, ◌∙◌, true, List, length, get_or, ap, arith}
 use Rattle.std.specs.Prelude.{All}
 use Rattle.std.proofs.lemmas.List.Elements.{All-get_or}
@@ -34,7 +34,7 @@ pcfich_place_at identity i inside =
     get_or-pieces 4 (group_places identity) (pcfich_groups identity) i (group 0 0) (place 0 0) (omega arith) (pcfich_fours identity)
     (let size = length-pcfich_groups identity in omega (arith, size, inside))
 
--- ---- the candidate
+-- ---- the PDCCH candidate
 
 length-candidate_groups : (identity : ℕ) (groups : List Reg) → length (candidate_groups identity groups) ≡ 36
 unfolding candidate_groups

@@ -1,4 +1,4 @@
--- The points of the broadcast channel and their places, for every identity.
+-- The PBCH symbols and their resource elements, for every identity.
 use Rattle.std.proofs.Common.{ℕ, ◌+◌, ◌*◌, ◌/◌, ◌%◌, ◌-◌, ◌<◌, ◌≤◌, ◌≡◌, ◌↔◌, Bool, true, false, nat_lt, nat_le, inl, inr, if◌then◌else◌, length, get_or, slice_get, Some, refl, ap, sym, ◌∙◌, arith}
 use Rattle.std.specs.List.{Contains}
 use Rattle.std.proofs.lemmas.List.{get_or_past}
@@ -43,7 +43,7 @@ places_inside identity i inside =
     let here = pbch_place-nth identity i inside in
     rw here (nth_place-is_free (identity % 3) i (shift_fits identity) inside)
 
--- each is in the first four symbols of its slot
+-- all are in the first four symbols of a slot
 pub places_in_front : (identity i : ℕ) → (get_or (pbch_places identity) i (place 0 0)).symbol % 7 < 4
 unfolding pbch_place is_pbch
 places_in_front identity i = elim (cases_lt i 240) [
@@ -75,7 +75,7 @@ index_of_place identity i inside =
     (λ k before. different identity i k inside before)
     (λ within. same_place-refl (pbch_place identity i))
 
--- where the index is below 240, the point with that index has the place
+-- an index below 240 leads back to its resource element
 pub place_of_index : (identity : ℕ) (p : Place) → pbch_index identity p < 240 → p ≡ pbch_place identity (pbch_index identity p)
 unfolding pbch_index pbch_place
 place_of_index identity p few =
@@ -120,7 +120,7 @@ pbch_in_order identity = record {
   members = pbch_members identity;
 }
 
--- ---- the place of a point, as it is computed
+-- ---- the resource element as computed
 
 place_in_shared-nth : (shift i skipping : ℕ) → i < 96 → skipping ≡ skip shift (i % 48 % 2) →
     place (7 + i / 48) (3 * (i % 48 / 2) + skipping) ≡ nth_place shift i

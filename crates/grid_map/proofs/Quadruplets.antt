@@ -1,4 +1,4 @@
--- The order of the quadruplets: the groups below the count have all places of the order, each once.
+-- Quadruplet interleaving: the groups reach each position in the interleaved order once.
 use Rattle.std.proofs.Common.{◌≡◌, ℕ, ◌+◌, ◌-◌, ◌*◌, ◌/◌, ◌%◌, ◌<◌, ◌≤◌, get_or, ap, sym, ◌∙◌, ◌⊎◌, inl, inr, arith}
 use Rattle.std.proofs.lemmas.Bool.{cases_lt}
 use Rattle.std.proofs.lemmas.Nat.{mod-mul-add, mul-le}
@@ -6,7 +6,7 @@ use Rattle.conv_code.specs.Reading.{stream_order}
 use Rattle.conv_code.proofs.Orders.{index_of, is_order}
 use Rattle.grid_map.specs.Control.{quadruplet_at}
 
--- two multiples of n that differ by less than n are the same
+-- two multiples of n that differ by less than n are equal
 multiples_apart : (n a b d : ℕ) → d < n → n * a + d ≡ n * b → a ≡ b
 multiples_apart n a b d l e = cases (cases_lt a b) (cases_lt b a)
   where
@@ -15,7 +15,7 @@ multiples_apart n a b d l e = cases (cases_lt a b) (cases_lt b a)
     cases (inr h) (inl below) = absurd (let more : n * (b + 1) ≤ n * a = mul-le n (b + 1) n a (omega arith) (omega arith) in let sum : n * (b + 1) ≡ n * b + n = omega arith in omega (arith, more, sum))
     cases (inr h) (inr k) = omega (arith, h, k)
 
--- of two numbers with one remainder that differ by less than n, the first is not below the second
+-- two numbers with equal remainders that differ by less than n are equal
 not_below : (n x y : ℕ) → x % n ≡ y % n → y < x + n → x ≤ y → x ≡ y
 not_below n x y e near order =
     let first : n * (x / n) + x % n ≡ x = omega arith in
@@ -24,7 +24,7 @@ not_below n x y e near order =
     let products : n * (x / n) ≡ n * (y / n) = ap (λ q. n * q) same in
     omega (arith, first, second, e, products)
 
--- two groups below the count have two places of the order
+-- different groups reach different positions
 shifts_apart : (identity count r s : ℕ) → r < count → s < count → (r + identity) % count ≡ (s + identity) % count → r ≡ s
 shifts_apart identity count r s a b e = cases (cases_lt r s)
   where
@@ -32,7 +32,7 @@ shifts_apart identity count r s a b e = cases (cases_lt r s)
     cases (inl l) = let same : r + identity ≡ s + identity = not_below count (r + identity) (s + identity) e (omega arith) (omega (arith, l)) in omega (arith, same)
     cases (inr l) = let same : s + identity ≡ r + identity = not_below count (s + identity) (r + identity) (sym e) (omega arith) (omega (arith, l)) in omega (arith, same)
 
--- each place of the order is that of a group
+-- each position is reached by a group
 shift_of : (identity count p : ℕ) → p < count → (r : ℕ) × (r < count) × ((r + identity) % count ≡ p)
 shift_of identity count p l = cases (cases_lt p (identity % count))
   where

@@ -1,5 +1,5 @@
--- The groups of the PCFICH, the PHICH and the PDCCH. All sets repeat with the identity modulo 24, so
--- that they are known by computation for all identities.
+-- The groups of PCFICH, PHICH and PDCCH. All depend on the identity modulo 24 only, so they are computed for all
+-- identities.
 use Rattle.std.proofs.Common.{ℕ, ◌+◌, ◌-◌, ◌*◌, ◌/◌, ◌%◌, ◌<◌, ◌≤◌, ◌≡◌, Bool, true, false, not, ◌&&◌, cond, nat_eq, nat_le, List, [], ◌∷◌, ◌++◌, filter, length, get_or, refl, append_assoc, length-append, ap, ap₂, sym, ◌∙◌, subst, arith}
 use Rattle.std.specs.List.{All, range_with_len, AllPairs}
 use Rattle.std.proofs.lemmas.Bool.{eqb-true, leb-true, and_parts}
@@ -27,7 +27,7 @@ use Rattle.grid_map.specs.Order.{AreInOrder}
 use Rattle.grid_map.proofs.Members.{members_by}
 use Rattle.grid_map.proofs.Kept.{any-filter, length-filter_within}
 
--- ---- what repeats
+-- ---- periodicity
 
 pub pcfich_repeats : (identity : ℕ) → pcfich_groups identity ≡ pcfich_groups (identity % 24)
 unfolding pcfich_groups
@@ -37,9 +37,9 @@ pub left_repeats : (identity symbol : ℕ) → left_groups identity symbol ≡ l
 unfolding left_groups
 left_repeats identity symbol = ap (λ taken. without taken (symbol_groups symbol)) (pcfich_repeats identity)
 
--- ---- the groups that the PCFICH leaves
+-- ---- the groups that the PCFICH does not use
 
--- how many they are, and group number j
+-- the count of unused groups, and group j
 abbrev pub some_left : ℕ → ℕ
 some_left symbol = cond (nat_eq symbol 0) 8 18
 
@@ -81,7 +81,7 @@ left_at identity symbol j l m =
     ap (λ (gs : List Reg). get_or gs j (group 0 0)) (left_repeats identity symbol) ∙ (left_parts symbol (identity % 24) l (omega arith)).1 j m
     ∙ ap (λ shift. nth_left shift symbol j) e
 
--- ---- the groups of the PHICH
+-- ---- the PHICH groups
 
 pub phich_in-is : (identity symbol m i : ℕ) → symbol < 3 →
     phich_group_in identity symbol m i ≡ get_or (left_groups identity symbol) (phich_number identity (some_left symbol) 8 m i) (group 0 0)
@@ -108,7 +108,7 @@ phich_symbol-below : (duration : Duration) (i : ℕ) → i < 3 → phich_symbol 
 phich_symbol-below Normal i l = omega arith
 phich_symbol-below Extended i l = l
 
--- the groups of so many PHICH groups
+-- the resource-element groups for `count` PHICH groups
 unfoldable pub phich_by : ℕ → Duration → ℕ → List Reg
 phich_by identity duration count = joined_below count (λ m. values_below 3 (phich_group identity duration m))
 
@@ -119,7 +119,7 @@ phich_by-repeats identity count duration =
     (λ m l. values_below_same 3 (phich_group identity duration m) (phich_group (identity % 24) duration m)
     (λ i k. phich_in_repeats identity (phich_symbol duration i) m i (phich_symbol-below duration i k)))
 
--- the groups of the first m PHICH groups
+-- the resource-element groups for the first m PHICH groups
 pub record ArePhich (identity : ℕ) (duration : Duration) (m : ℕ) (groups : List Reg) : Type 0 where
   pub groups_are : groups ≡ phich_by identity duration m
   pub count : length groups ≡ 3 * m
@@ -146,7 +146,7 @@ pub phich_all : (identity : ℕ) (duration : Duration) (resource : Resource) (gr
 unfolding phich_by phich_groups
 phich_all identity duration resource groups known = known.groups_are
 
--- ---- the groups of the PDCCH, and how many they are
+-- ---- the PDCCH groups, and their number
 
 unfoldable pdcch_by : ℕ → ℕ → Duration → ℕ → List Reg
 pdcch_by identity cfi duration count = without (phich_by identity duration count) (without (pcfich_groups identity) (region_groups cfi))
@@ -198,7 +198,7 @@ pdcch_count identity cfi duration resource low high =
     ∙ subst (λ (n : ℕ). length (pdcch_by (identity % 24) n duration (phich_count resource)) ≡ 12 + 18 * n - 4 - phich_inside n duration * phich_count resource)
     e (count_at duration (phich_count resource) (cfi - 1) (identity % 24) (phich_count-below resource) (omega arith) (omega arith))
 
--- ---- the order of the region, and its members
+-- ---- order and members of the control region
 
 numbered_in_order : AllPairs (λ (g h : Reg). group_number g < group_number h) (values_below 288 numbered)
 numbered_in_order = λ i j d l m.
@@ -216,7 +216,7 @@ pdcch_in_order identity cfi duration resource i j l m =
     (AllPairs-filter (λ (g h : Reg). group_number g < group_number h) (λ g. not (is_group_in (pcfich_groups identity) g)) _
     (AllPairs-filter (λ (g h : Reg). group_number g < group_number h) (is_in_region cfi) (values_below 288 numbered) numbered_in_order)) i j (group 0 0) l m
 
--- each group of the region has a number
+-- each group in the control region has a number
 numbers_found : (cfi : ℕ) (g : Reg) → (is_group_in (values_below 288 numbered) g && is_in_region cfi g) ≡ is_in_region cfi g
 numbers_found cfi g = cases (is_in_region cfi g) refl
   where
@@ -256,9 +256,9 @@ groups_in_order identity cfi duration resource low high =
       members = members_by same_group same_group-true same_group-refl _ _ (pdcch_found identity cfi duration resource);
     }
 
--- ---- the groups are collected one after the other
+-- ---- collecting the groups one by one
 
--- those that stay of the first n
+-- the groups among the first n that are collected
 unfoldable pub kept_below : List Reg → List Reg → ℕ → ℕ → List Reg
 kept_below pcfich phich cfi n = without phich (without pcfich (filter (is_in_region cfi) (values_below n numbered)))
 
@@ -299,7 +299,7 @@ pub kept_no : (pcfich phich : List Reg) (cfi n : ℕ) → stays pcfich phich cfi
     kept_below pcfich phich cfi (n + 1) ≡ kept_below pcfich phich cfi n
 kept_no pcfich phich cfi n e = kept_more pcfich phich cfi n ∙ rw e (append-nil (kept_below pcfich phich cfi n))
 
--- the region has at most 66 groups
+-- the control region has at most 66 groups
 region_test : ℕ → ℕ → Bool
 region_test cfi n = nat_le (length (filter (is_in_region cfi) (values_below n numbered))) 66
 
@@ -320,7 +320,7 @@ pub kept_all : (identity cfi : ℕ) (duration : Duration) (resource : Resource) 
 unfolding kept_below pdcch_groups region_groups
 kept_all identity cfi duration resource = refl
 
--- a group finds room
+-- there is room for one more group
 pub room_for_one : (pcfich phich groups : List Reg) (cfi n : ℕ) → cfi ≤ 3 → n < 288 → stays pcfich phich cfi (numbered n) ≡ true →
     groups ≡ kept_below pcfich phich cfi n → length groups < 66
 room_for_one pcfich phich groups cfi n few l e is =

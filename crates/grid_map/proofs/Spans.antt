@@ -1,4 +1,4 @@
--- The places of a resource-element group.
+-- The resource elements in a resource-element group.
 use Rattle.std.proofs.Common.{ℕ, zero, suc, ◌+◌, ◌*◌, ◌/◌, ◌%◌, ◌<◌, ◌≤◌, ◌≡◌, ◌↔◌, ◌∷◌, [], Bool, true, false, not, ◌&&◌, ◌||◌, cond, nat_eq, nat_le, nat_lt, List, filter, map, length, get_or, refl, ap, ap₂, sym, ◌∙◌, subst, arith}
 use Rattle.std.specs.List.{All, Contains, list_any, range_with_len}
 use Rattle.std.proofs.lemmas.Bool.{false≢true}
@@ -20,14 +20,14 @@ four f = f 0 ∷ f 1 ∷ f 2 ∷ f 3 ∷ []
 four-same : {A : Type 0} (a b c d e f g h : A) → a ≡ e → b ≡ f → c ≡ g → d ≡ h → a ∷ b ∷ c ∷ d ∷ [] ≡ e ∷ f ∷ g ∷ h ∷ []
 four-same a b c d e f g h p q r s = cc
 
--- where place i of a group stands after its first subcarrier
+-- the offset of resource element i from the group's first subcarrier
 abbrev pub step_to : ℕ → ℕ → ℕ → ℕ
 step_to symbol shift i = cond (nat_eq symbol 0) (3 * (i / 2) + skipping shift (i % 2)) i
 
 abbrev pub nth_in : ℕ → Reg → ℕ → Place
 nth_in shift g i = place g.symbol (g.first + step_to g.symbol shift i)
 
--- ---- of symbol 0
+-- ---- symbol 0
 
 in_first : (shift first : ℕ) → shift < 3 → first % 6 ≡ 0 →
     filter (λ (p : Place). not (nat_eq p.symbol 0 && nat_eq (p.k % 3) shift)) (spanned (group 0 first)) ≡ four (nth_in shift (group 0 first))
@@ -57,14 +57,14 @@ in_first shift first few e = cases shift few
     cases (suc (suc zero)) l = simp (e0, e1, e2, e3, e4, e5) (four-same _ _ _ _ _ _ _ _ (ap (place 0) (omega arith)) (ap (place 0) (omega arith)) (ap (place 0) (omega arith)) (ap (place 0) (omega arith)))
     cases (suc (suc (suc s))) l = absurd (omega arith)
 
--- ---- of a later symbol
+-- ---- later symbols
 
 in_later : (shift symbol first : ℕ) → nat_eq symbol 0 ≡ false →
     filter (λ (p : Place). not (nat_eq p.symbol 0 && nat_eq (p.k % 3) shift)) (spanned (group symbol first)) ≡ four (nth_in shift (group symbol first))
 in_later shift symbol first e =
     simp e (four-same _ _ _ _ _ _ _ _ (ap (place symbol) (omega arith)) (ap (place symbol) (omega arith)) (ap (place symbol) (omega arith)) (ap (place symbol) (omega arith)))
 
--- what a group is
+-- a valid group
 pub record IsGroup (g : Reg) : Type 0 where
   pub symbol : g.symbol < 4
   pub first : g.first < 72
@@ -76,7 +76,7 @@ group_is g is = record { symbol = grind (arith, nat_tests); first = grind (arith
 pub group_begins : (g : Reg) → is_group g ≡ true → nat_eq g.symbol 0 ≡ true → g.first % 6 ≡ 0
 group_begins g is e = rw e at (group_is g is).begins
 
--- the four places of a group
+-- a group's four resource elements
 pub group_places-four : (identity : ℕ) (g : Reg) → is_group g ≡ true → group_places identity g ≡ four (nth_in (identity % 3) g)
 unfolding group_places
 group_places-four identity g is = cases (nat_eq g.symbol 0) refl
@@ -102,7 +102,7 @@ four_at f (suc (suc (suc (suc i)))) d l = absurd (omega arith)
 place_at : (identity : ℕ) (g : Reg) (i : ℕ) (d : Place) → is_group g ≡ true → i < 4 → get_or (group_places identity g) i d ≡ nth_in (identity % 3) g i
 place_at identity g i d is l = rw (group_places-four identity g is) (four_at (nth_in (identity % 3) g) i d l)
 
--- what is known of two places of a group of symbol 0, i and j, where x and y are the places beside
+-- in symbol 0, offsets increase
 steps_first : (shift i j : ℕ) → shift < 3 → i < j → j < 4 → 3 * (i / 2) + skipping shift (i % 2) < 3 * (j / 2) + skipping shift (j % 2)
 steps_first shift i zero few l m = absurd (omega arith)
 steps_first shift zero (suc zero) few l m = grind (arith, nat_tests)
@@ -129,7 +129,7 @@ places_rise identity g i j is l m =
     let steps = steps_rise g.symbol (identity % 3) i j (omega arith) l m in
     rw (place_at identity g i (place 0 0) is (omega arith), place_at identity g j (place 0 0) is m) (omega (arith, steps))
 
--- no place is further on than the span
+-- offsets are within the span
 steps_short : (symbol shift i : ℕ) → i < 4 → step_to symbol shift i < span symbol
 steps_short symbol shift i l = cases (nat_eq symbol 0)
   where
@@ -137,7 +137,7 @@ steps_short symbol shift i l = cases (nat_eq symbol 0)
     cases true = grind (arith, nat_tests)
     cases false = l
 
--- a place of a group is in its symbol and within its span
+-- in the group's symbol and span
 pub record IsSpanned (g : Reg) (p : Place) : Type 0 where
   pub symbol : p.symbol ≡ g.symbol
   pub from : g.first ≤ p.k
@@ -189,7 +189,7 @@ all_inside identity g is =
     All-weaker (Contains (group_places identity g)) (λ (p : Place). (p.symbol ≡ g.symbol) × (p.k < 72))
     (λ p has. let inside = places_inside identity g p is has in (inside.0, inside.1)) (group_places identity g) (All-contains_itself (group_places identity g))
 
--- ---- the places of a group are those that it spans and that are not kept
+-- ---- a group's resource elements are those in its span that are not reserved
 
 any_in_range : (symbol first n : ℕ) (p : Place) → list_any (same_place p) (map (place symbol) (range_with_len first n))
     ≡ (nat_eq p.symbol symbol && nat_le first p.k && nat_lt p.k (first + n))

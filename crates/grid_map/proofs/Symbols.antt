@@ -1,4 +1,4 @@
--- The places of the shared channel, symbol by symbol.
+-- The PDSCH's resource elements, symbol by symbol.
 use Rattle.std.proofs.Common.{ℕ, zero, suc, ◌+◌, ◌-◌, ◌*◌, ◌/◌, ◌%◌, ◌<◌, ◌≤◌, ◌≡◌, Bool, true, false, not, ◌&&◌, cond, nat_eq, nat_lt, List, [], ◌++◌, filter, map, length, get_or, slice_get, Some, refl, ap, ap₂, sym, ◌∙◌, subst, ◌⊎◌, inl, inr, arith, length-append, add-mul, zero-mul, le_refl, le_trans}
 use Rattle.std.specs.List.{AllPairs, Contains, list_any, range_with_len, flat_map}
 use Rattle.std.proofs.Math.ListN.{get_or-append}
@@ -25,9 +25,9 @@ use Rattle.grid_map.proofs.Kept.{filter-flat_map, filter-map, filter-same, filte
 use Rattle.grid_map.proofs.LeftOut.{leaves, keeps, kept, kept_of, IsKept, kept_is, shift_by, IsLeft, left_is, left_out}
 use Rattle.grid_map.proofs.Order.{same_place-refl, same_place-true}
 
--- ---- the places of a symbol
+-- ---- one symbol
 
--- the symbols of a subframe are 12 or 14
+-- a subframe has 12 or 14 symbols
 pub subframe_is : (carrier : Carrier) → (subframe_symbols carrier ≡ 12) ⊎ (subframe_symbols carrier ≡ 14)
 subframe_is OnePort = inr refl
 subframe_is TwoPorts = inr refl
@@ -40,7 +40,7 @@ subframe_bounds TwoPorts = (omega arith, omega arith)
 subframe_bounds LongPrefix = (omega arith, omega arith)
 subframe_bounds FourPorts = (omega arith, omega arith)
 
--- the first subcarrier of port 0 in a symbol of the subframe
+-- port 0's first subcarrier in a symbol of the subframe
 abbrev first_in : Carrier → ℕ → ℕ → ℕ
 first_in carrier identity symbol = pattern_first (pattern_of carrier 0) identity (symbol % slot_symbols carrier)
 
@@ -50,14 +50,14 @@ first_small carrier identity symbol = below (cond (nat_eq (symbol % slot_symbols
     below : (n : ℕ) → n % 6 < 6
     below n = omega arith
 
--- what a symbol of the subframe leaves out
+-- the subcarriers left out in a symbol of the subframe, encoded in one number
 abbrev shift_of : Carrier → ℕ → ℕ → ℕ
 shift_of carrier identity symbol = shift_by (pilots_of_block carrier (symbol % slot_symbols carrier)) (first_in carrier identity symbol)
 
 free_is : (carrier : Carrier) (identity symbol k : ℕ) → not (is_pilot_of carrier identity (place symbol k)) ≡ not (leaves (shift_of carrier identity symbol) k)
 free_is carrier identity symbol k = ap not (left_out carrier identity (10 + symbol / slot_symbols carrier) (symbol % slot_symbols carrier) k)
 
--- the places of a symbol that carry the channel
+-- the PDSCH's resource elements in a symbol
 unfoldable pub row : Carrier → ℕ → ℕ → ℕ → ℕ → ℕ → List Place
 row carrier identity cfi start blocks symbol = filter (is_shared_of carrier identity cfi start blocks) (symbol_places symbol)
 
@@ -124,9 +124,9 @@ is_row carrier identity cfi start blocks symbol few l after = cases (is_synchron
               ∙ ap (place symbol) (known.at n small ∙ ap (λ m. 12 * start + m) (left.stand n));
         })
 
--- ---- the symbols one after the other
+-- ---- consecutive symbols
 
--- the places of n symbols from s on
+-- the PDSCH's resource elements in n symbols from s
 unfoldable pub rows : Carrier → ℕ → ℕ → ℕ → ℕ → ℕ → ℕ → List Place
 rows carrier identity cfi start blocks s n = flat_map (row carrier identity cfi start blocks) (range_with_len s n)
 
@@ -148,7 +148,7 @@ pub rows_end : (carrier : Carrier) (identity cfi start blocks s last : ℕ) → 
 unfolding rows
 rows_end carrier identity cfi start blocks s last h = let e : last - s ≡ 0 = omega arith in rw e refl
 
--- the symbols of the control region have none
+-- the symbols of the control region contribute none
 rows_skip : (carrier : Carrier) (identity cfi start blocks s last : ℕ) → s ≤ cfi → s < last →
     rows carrier identity cfi start blocks s (last - s) ≡ rows carrier identity cfi start blocks (s + 1) (last - (s + 1))
 rows_skip carrier identity cfi start blocks s last h l =
@@ -171,7 +171,7 @@ rows_begin carrier identity cfi start blocks l =
     rows_all carrier identity cfi start blocks ∙ sym (rows_from carrier identity cfi start blocks cfi last (le_refl cfi) l)
     ∙ rows_skip carrier identity cfi start blocks cfi last (le_refl cfi) l
 
--- how many places they have
+-- the resource element count in n symbols
 rows_count : (carrier : Carrier) (identity cfi start blocks s n last : ℕ) → last ≡ subframe_symbols carrier → start + blocks ≤ 6 → cfi < s → s + n ≤ last →
     length (rows carrier identity cfi start blocks s n) ≡ block_rooms carrier s n * blocks
 unfolding rows
@@ -182,7 +182,7 @@ rows_count carrier identity cfi start blocks s (suc n) last is few after inside 
     length-append (row carrier identity cfi start blocks s) _ ∙ ap₂ (λ (a b : ℕ). a + b) here rest
     ∙ sym (add-mul (block_room carrier s) (block_rooms carrier (s + 1) n) blocks)
 
--- behind an indicator
+-- the resource element count after the control region
 rows_behind : (carrier : Carrier) (identity cfi start blocks : ℕ) → cfi ≤ 3 → start + blocks ≤ 6 →
     length (shared_places_of carrier identity cfi start blocks) ≡ block_rooms carrier (cfi + 1) (subframe_symbols carrier - (cfi + 1)) * blocks
 rows_behind carrier identity cfi start blocks high few = by (subframe_symbols carrier) refl (subframe_bounds carrier).0
@@ -201,11 +201,11 @@ pdsch_count carrier identity zero start blocks low high few = absurd (omega arit
 pdsch_count carrier identity (suc zero) start blocks low high few = absurd (omega arith)
 pdsch_count carrier identity (suc (suc (suc (suc cfi)))) start blocks low high few = absurd (omega arith)
 
--- a symbol more
+-- one more symbol
 pub rooms_next : (carrier : Carrier) (s last : ℕ) → s < last → block_rooms carrier s (last - s) ≡ block_room carrier s + block_rooms carrier (s + 1) (last - (s + 1))
 rooms_next carrier s last l = let e : last - s ≡ suc (last - (s + 1)) = omega arith in rw e refl
 
--- ---- the search for a point: point i is number `left` of those from a symbol on
+-- ---- the search for PDSCH symbol i, which is number `left` among those from a symbol on
 
 pub record IsAhead (carrier : Carrier) (identity cfi start blocks i symbol left : ℕ) : Type 0 where
   pub same : shared_place_of carrier identity cfi start blocks i ≡ get_or (rows carrier identity cfi start blocks symbol (subframe_symbols carrier - symbol)) left (place 0 0)
@@ -222,7 +222,7 @@ ahead_first carrier identity cfi start blocks i low high few inside =
     let count = pdsch_count carrier identity cfi start blocks low high few in
     record { same = ap (λ (ps : List Place). get_or ps i (place 0 0)) is; inside = rw (sym is) (rw count inside) }
 
--- a symbol whose places all come before it
+-- all resource elements in a symbol precede it
 pub ahead_later : (carrier : Carrier) (identity cfi start blocks i symbol left : ℕ) → start + blocks ≤ 6 → symbol < subframe_symbols carrier → cfi < symbol → block_room carrier symbol * blocks ≤ left →
     IsAhead carrier identity cfi start blocks i symbol left → IsAhead carrier identity cfi start blocks i (symbol + 1) (left - block_room carrier symbol * blocks)
 ahead_later carrier identity cfi start blocks i symbol left few l after past known =
@@ -237,7 +237,7 @@ ahead_later carrier identity cfi start blocks i symbol left few l after past kno
       inside = omega (arith, known', long, here, past);
     }
 
--- the symbol that has it
+-- the symbol that contains it
 pub ahead_here : (carrier : Carrier) (identity cfi start blocks i symbol left : ℕ) → start + blocks ≤ 6 → symbol < subframe_symbols carrier → cfi < symbol → left < block_room carrier symbol * blocks →
     IsAhead carrier identity cfi start blocks i symbol left → place symbol (12 * start + offset carrier identity symbol left) ≡ shared_place_of carrier identity cfi start blocks i
 ahead_here carrier identity cfi start blocks i symbol left few l after inside known =
@@ -255,7 +255,7 @@ ahead_never carrier identity cfi start blocks i symbol left past known =
 
 -- ---- laws
 
--- place n of a grid
+-- resource element n of the subframe
 abbrev pub place_of : ℕ → Place
 place_of n = place (n / 72) (n % 72)
 
@@ -291,7 +291,7 @@ pdsch_once carrier identity cfi start blocks i j l m same = cases (cases_lt i j)
     cases (inr a) (inl b) = absurd (let rises = pdsch_in_order carrier identity cfi start blocks j i b l in omega (arith, numbers, rises))
     cases (inr a) (inr b) = omega (arith, a, b)
 
--- a place is one of the first symbols' where its symbol is
+-- in the first `symbols` symbols
 abbrev is_before : ℕ → Place → Bool
 is_before symbols p = nat_lt p.symbol symbols && nat_lt p.k 72
 
@@ -326,7 +326,7 @@ before_found symbols p = cases (is_before symbols p) refl
     cases true e = places_found symbols p.symbol p.k (grind (arith, nat_tests)) (grind (arith, nat_tests))
     cases false e = none e (list_any (same_place p) places) refl
 
--- what is in the subframe is in the grid
+-- a resource element in the subframe is in the 14-symbol grid
 in_grid : (last cfi symbol k : ℕ) (c d e : Bool) → last ≤ 14 →
     (nat_lt symbol last && nat_lt k 72 && (nat_lt cfi symbol && nat_lt symbol last && c && d && e)) ≡ (nat_lt symbol 14 && nat_lt k 72 && (nat_lt cfi symbol && nat_lt symbol last && c && d && e))
 in_grid last cfi symbol k c d e few = by (nat_lt symbol last) refl (nat_lt cfi symbol)

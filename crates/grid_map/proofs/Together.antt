@@ -1,4 +1,4 @@
--- The places of the shared channel are taken two by two: each pair stands in one symbol.
+-- The PDSCH's resource elements come in pairs, and both in a pair are in one symbol.
 use Rattle.std.proofs.Common.{◌≡◌, ℕ, zero, suc, ◌+◌, ◌-◌, ◌*◌, ◌%◌, ◌<◌, ◌≤◌, inl, inr, Bool, true, false, cond, length, ap, sym, subst, ◌∙◌, arith}
 use Rattle.std.proofs.lemmas.Bool.{cases_lt}
 use Rattle.lte_types.specs.declared.carrier.Carrier.{Carrier}
@@ -7,7 +7,7 @@ use Rattle.grid_map.specs.Shared.{slot_symbols, subframe_symbols, is_synchronisa
 use Rattle.grid_map.proofs.LeftOut.{of_count}
 use Rattle.grid_map.proofs.Symbols.{IsAhead, subframe_bounds, pdsch_count, ahead_first, ahead_later, ahead_here, ahead_never}
 
--- a symbol has an even count of places
+-- a symbol has an even number of them
 room_even : (carrier : Carrier) (symbol blocks : ℕ) → (block_room carrier symbol * blocks) % 2 ≡ 0
 room_even carrier symbol blocks = cases (is_synchronisation carrier symbol)
   where

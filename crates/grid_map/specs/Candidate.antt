@@ -1,5 +1,5 @@
--- The one candidate of the common search space at aggregation level 4: control channel elements
--- (CCE) 0 to 3, each of nine quadruplets (TS 36.211 section 6.8.5, TS 36.213 section 9.1.1).
+-- The PDCCH candidate at aggregation level 4 in the common search space: control channel elements (CCE) 0 to 3, with
+-- nine quadruplets each (TS 36.211 section 6.8.5, TS 36.213 section 9.1.1).
 use Rattle.std.specs.Prelude.{ℕ, nat_eq, List, length, slice_index_or}
 use Rattle.std.specs.List.{position_or_len, range_with_len, flat_map}
 use Rattle.finite.specs.Lists.{values_below}
@@ -8,20 +8,20 @@ use Rattle.grid_map.specs.declared.Reg.{Reg}
 use Rattle.grid_map.specs.Group.{group, group_places}
 use Rattle.grid_map.specs.Control.{quadruplet_at}
 
--- the number of the group of the PDCCH, of a count of them, that carries quadruplet q
+-- the PDCCH group, below `count`, that carries quadruplet q
 unfoldable pub group_of_quadruplet : ℕ → ℕ → ℕ → ℕ
 group_of_quadruplet identity count q =
     position_or_len (λ r. nat_eq (quadruplet_at identity count r) q) (range_with_len 0 count)
 
--- the group of the PDCCH that carries quadruplet q
+-- the PDCCH group that carries quadruplet q
 abbrev pub quadruplet_group : ℕ → List Reg → ℕ → Reg
 quadruplet_group identity groups q =
     slice_index_or groups (group_of_quadruplet identity (length groups) q) (group 0 0)
 
--- the groups that carry quadruplets 0 to 35, by the groups of the PDCCH
+-- the groups that carry quadruplets 0 to 35, given the PDCCH groups
 unfoldable pub candidate_groups : ℕ → List Reg → List Reg
 candidate_groups identity groups = values_below 36 (quadruplet_group identity groups)
 
--- the 144 places of the candidate, in the order in which its points take them
+-- the candidate's 144 resource elements, in order
 unfoldable pub candidate_places : ℕ → List Reg → List Place
 candidate_places identity groups = flat_map (group_places identity) (candidate_groups identity groups)

@@ -1,5 +1,5 @@
--- The groups of the control region that carry the PCFICH, the PHICH and the PDCCH
--- (TS 36.211 sections 6.7.4, 6.9.3 and 6.8.5), with six resource blocks.
+-- The resource-element groups for PCFICH, PHICH and PDCCH (TS 36.211 sections 6.7.4, 6.9.3 and 6.8.5), for
+-- six resource blocks.
 use Rattle.std.specs.Prelude.{ℕ, ◌+◌, ◌-◌, ◌*◌, ◌/◌, ◌%◌, Bool, not, ◌&&◌, nat_eq, nat_le, if◌then◌else◌, List, filter, length, slice_index_or}
 use Rattle.std.specs.List.{list_any, flat_map}
 use Rattle.finite.specs.Lists.{values_below, joined_below}
@@ -12,100 +12,100 @@ use Rattle.grid_map.specs.declared.Reg.{Reg}
 use Rattle.grid_map.specs.declared.Place.{Place}
 use Rattle.grid_map.specs.Group.{group, is_group, same_group, symbol_groups, group_places}
 
--- a group is one of the list
+-- whether a group is in the list
 abbrev pub is_group_in : List Reg → Reg → Bool
 is_group_in groups g = list_any (same_group g) groups
 
--- the groups of a list that are not taken
+-- the groups in a list that are not taken
 abbrev pub without : List Reg → List Reg → List Reg
 without taken groups = filter (λ g. not (is_group_in taken g)) groups
 
--- group i of the PCFICH
+-- PCFICH group i
 abbrev pub pcfich_group : ℕ → ℕ → Reg
 pcfich_group identity i = group 0 ((6 * (identity % 12) + 18 * i) % 72)
 
--- the four groups of the PCFICH
+-- the four PCFICH groups
 unfoldable pub pcfich_groups : ℕ → List Reg
 pcfich_groups identity = values_below 4 (pcfich_group identity)
 
--- the sixteen places of the PCFICH, in the order in which its points take them
+-- the PCFICH's sixteen resource elements, in order
 unfoldable pub pcfich_places : ℕ → List Place
 pcfich_places identity = flat_map (group_places identity) (pcfich_groups identity)
 
--- the groups of a symbol that the PCFICH leaves, in the order of subcarriers
+-- the groups in a symbol that the PCFICH leaves unused, by subcarrier
 unfoldable pub left_groups : ℕ → ℕ → List Reg
 left_groups identity symbol = without (pcfich_groups identity) (symbol_groups symbol)
 
--- how many groups a symbol has that the PCFICH leaves
+-- how many groups in a symbol the PCFICH leaves unused
 abbrev pub left_count : ℕ → ℕ → ℕ
 left_count identity symbol = length (left_groups identity symbol)
 
--- how many PHICH groups there are
+-- the PHICH group count
 abbrev pub phich_count : Resource → ℕ
 phich_count OneSixth = 1
 phich_count Half = 1
 phich_count One = 1
 phich_count Two = 2
 
--- the symbol of quadruplet i of a PHICH group
+-- the symbol that carries quadruplet i of a PHICH group
 abbrev pub phich_symbol : Duration → ℕ → ℕ
 phich_symbol Normal i = 0
 phich_symbol Extended i = i
 
--- the number of the group that quadruplet i of PHICH group m takes among the n of its symbol, where symbol 0 has n0
+-- the index of the group for quadruplet i of PHICH group m, among the n groups in its symbol that the PCFICH leaves
+-- unused; symbol 0 has n0 of them
 abbrev pub phich_number : ℕ → ℕ → ℕ → ℕ → ℕ → ℕ
 phich_number identity n n0 m i = ((identity * n) / n0 + m + (i * n) / 3) % n
 
--- the resource-element group in a symbol that quadruplet i of PHICH group m takes
+-- the resource-element group in a symbol for quadruplet i of PHICH group m
 unfoldable pub phich_group_in : ℕ → ℕ → ℕ → ℕ → Reg
 phich_group_in identity symbol m i =
     slice_index_or (left_groups identity symbol) (phich_number identity (left_count identity symbol) (left_count identity 0) m i) (group 0 0)
 
--- the resource-element group of quadruplet i of PHICH group m
+-- the resource-element group for quadruplet i of PHICH group m
 abbrev pub phich_group : ℕ → Duration → ℕ → ℕ → Reg
 phich_group identity duration m i = phich_group_in identity (phich_symbol duration i) m i
 
--- all groups of the PHICH
+-- all PHICH groups
 unfoldable pub phich_groups : ℕ → Duration → Resource → List Reg
 phich_groups identity duration resource =
     joined_below (phich_count resource) (λ m. values_below 3 (phich_group identity duration m))
 
--- the number n of a symbol and a first subcarrier: by first subcarrier, then by symbol
+-- the symbol and first subcarrier with number n: by first subcarrier, then symbol
 abbrev pub numbered : ℕ → Reg
 numbered n = group (n % 4) (n / 4)
 
 abbrev pub group_number : Reg → ℕ
 group_number g = 4 * g.first + g.symbol
 
--- a group is in the control region, which has cfi + 1 symbols
+-- whether a group is in the control region, which has cfi + 1 symbols
 abbrev pub is_in_region : ℕ → Reg → Bool
 is_in_region cfi g = is_group g && nat_le g.symbol cfi
 
--- the groups of the control region, by first subcarrier, then by symbol
+-- the groups in the control region, by first subcarrier, then symbol
 unfoldable pub region_groups : ℕ → List Reg
 region_groups cfi = filter (is_in_region cfi) (values_below 288 numbered)
 
--- the groups of the PDCCH: those that the PCFICH and the PHICH leave, by first subcarrier, then by symbol
+-- the PDCCH groups: those that PCFICH and PHICH do not use, by first subcarrier, then symbol
 unfoldable pub pdcch_groups : ℕ → ℕ → Duration → Resource → List Reg
 pdcch_groups identity cfi duration resource =
     without (phich_groups identity duration resource) (without (pcfich_groups identity) (region_groups cfi))
 
--- how many quadruplets of each PHICH group are in the region: with the longer duration the last is
--- in symbol 2, and with indicator 1 the region ends before it
+-- how many quadruplets per PHICH group are in the control region. With the extended duration the last is in
+-- symbol 2, which the region does not include if the indicator is 1.
 abbrev pub phich_inside : ℕ → Duration → ℕ
 phich_inside cfi Normal = 3
 phich_inside cfi Extended = if nat_eq cfi 1 then 2 else 3
 
--- the count of the groups of the PDCCH: of twelve in symbol 0 and eighteen in each later symbol the
--- PCFICH takes four
+-- the PDCCH group count; symbol 0 has twelve groups, each later symbol eighteen, and the PCFICH uses four
 abbrev pub group_count : ℕ → Duration → Resource → ℕ
 group_count cfi duration resource = 12 + 18 * cfi - 4 - phich_inside cfi duration * phich_count resource
 
--- the count of control channel elements (CCE): one has nine groups (section 6.8.1)
+-- the control channel element (CCE) count, with nine groups each (section 6.8.1)
 abbrev pub element_count : ℕ → Duration → Resource → ℕ
 element_count cfi duration resource = group_count cfi duration resource / 9
 
--- the quadruplet that group r of a count of groups carries: their numbers are interleaved as the bits of a stream are
--- (TS 36.212 section 5.1.4.2.1), and shifted by the identity
+-- the quadruplet carried by group r of `count`: quadruplets are interleaved like the bits of a stream (TS 36.212
+-- section 5.1.4.2.1), and cyclically shifted by the identity
 unfoldable pub quadruplet_at : ℕ → ℕ → ℕ → ℕ
 quadruplet_at identity count r = slice_index_or (stream_order count) ((r + identity) % count) 0

@@ -1,5 +1,4 @@
--- The resource-element groups of the control region (TS 36.211 section 6.2.4), which has the first
--- symbols of a subframe.
+-- The resource-element groups of the control region, the first symbols of a subframe (TS 36.211 section 6.2.4).
 use Rattle.std.specs.Prelude.{ℕ, ◌+◌, ◌*◌, ◌/◌, ◌%◌, Bool, not, ◌&&◌, nat_eq, nat_lt, nat_le, if◌then◌else◌, List, map, filter}
 use Rattle.std.specs.List.{range_with_len}
 use Rattle.finite.specs.Lists.{values_below}
@@ -10,36 +9,36 @@ use Rattle.grid_map.specs.Place.{place}
 abbrev pub group : ℕ → ℕ → Reg
 group symbol first = record { symbol = symbol; first = first }
 
--- a group spans six subcarriers in symbol 0, where two are kept for reference signals, and four in
--- symbols 1 to 3
+-- a group spans six subcarriers in symbol 0, of which two are reserved for reference signals, and four in symbols 1
+-- to 3
 abbrev pub span : ℕ → ℕ
 span symbol = if nat_eq symbol 0 then 6 else 4
 
--- a group: it begins at a multiple of its span
+-- whether a group is valid: it begins at a multiple of its span
 abbrev pub is_group : Reg → Bool
 is_group g = nat_lt g.symbol 4 && nat_lt g.first 72 && nat_eq (g.first % span g.symbol) 0
 
 abbrev pub same_group : Reg → Reg → Bool
 same_group g h = nat_eq g.symbol h.symbol && nat_eq g.first h.first
 
--- the groups of a symbol, in the order of subcarriers
+-- the groups in a symbol, by subcarrier
 unfoldable pub symbol_groups : ℕ → List Reg
 symbol_groups symbol = values_below (72 / span symbol) (λ n. group symbol (span symbol * n))
 
--- a place is kept for reference signals: in symbol 0 every third subcarrier, from the identity
--- modulo 3 on
+-- whether a resource element is reserved for reference signals: every third subcarrier in symbol 0, from the identity
+-- modulo 3
 abbrev pub is_kept : ℕ → Place → Bool
 is_kept identity p = nat_eq p.symbol 0 && nat_eq (p.k % 3) (identity % 3)
 
--- all places that a group spans
+-- all resource elements in a group's span
 abbrev pub spanned : Reg → List Place
 spanned g = map (place g.symbol) (range_with_len g.first (span g.symbol))
 
--- the places of a group, in the order of subcarriers
+-- a group's resource elements, by subcarrier
 unfoldable pub group_places : ℕ → Reg → List Place
 group_places identity g = filter (λ p. not (is_kept identity p)) (spanned g)
 
--- a place is one of those that a group spans and not kept
+-- whether a resource element is in a group's span and not reserved
 abbrev pub is_of_group : ℕ → Reg → Place → Bool
 is_of_group identity g p =
     nat_eq p.symbol g.symbol && nat_le g.first p.k && nat_lt p.k (g.first + span g.symbol) && not (is_kept identity p)

@@ -1,12 +1,11 @@
--- Laws of lists of places and of the groups that they come from.
+-- Laws of resource element lists and the groups behind them.
 use Rattle.std.specs.Prelude.{◌≡◌, ℕ, ◌<◌, ◌≤◌, IsTrue, List, length, slice_index_or, All}
 use Rattle.grid_map.specs.declared.Place.{Place}
 use Rattle.grid_map.specs.declared.Reg.{Reg}
 use Rattle.grid_map.specs.Place.{place, index_in}
 use Rattle.grid_map.specs.Group.{group, is_group}
 
--- the places of a list are as many as the count says, each stands in it once, and they and their numbers determine
--- each other
+-- the list has `count` different resource elements, and index and resource element determine each other
 pub record IsIndexed (count : ℕ) (places : List Place) : Type 0 where
   pub size : length places ≡ count
   pub once : (i j : ℕ) → i < count → j < count →
@@ -14,7 +13,7 @@ pub record IsIndexed (count : ℕ) (places : List Place) : Type 0 where
   pub index : (i : ℕ) → i < count → index_in places (slice_index_or places i (place 0 0)) ≡ i
   pub found : (p : Place) → index_in places p < count → slice_index_or places (index_in places p) (place 0 0) ≡ p
 
--- groups that can carry the candidate: 36 to 66 groups, each once
+-- groups that can carry the candidate: 36 to 66 different ones
 pub record CarryCandidate (groups : List Reg) : Type 0 where
   pub enough : 36 ≤ length groups
   pub few : length groups ≤ 66

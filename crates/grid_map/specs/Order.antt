@@ -1,9 +1,9 @@
--- Lists of places or of groups, in the order of their numbers.
+-- Lists in increasing order.
 use Rattle.std.specs.Prelude.{◌≡◌, ◌↔◌, ℕ, ◌<◌, Bool, IsTrue, Some, List, length, slice_get}
 use Rattle.std.specs.List.{Contains}
 
--- a list in order: it has this count of items; item i is as told; their numbers rise, so that each stands once; and
--- they are the members
+-- a list in order: item i is `at i`, the items' numbers increase, so that each occurs once, and the members are those
+-- that satisfy `is`
 pub record AreInOrder {A : Type 0} (number : A → ℕ) (items : List A) (count : ℕ) (at : ℕ → A) (is : A → Bool) :
     Type 0 where
   pub size : length items ≡ count

@@ -1,23 +1,23 @@
--- Where the scrambling of each channel begins: c_init of its sequence (TS 36.211 section 7.2), by the
--- number of the slot in which its subframe begins; and the bits that the PCFICH sends.
+-- Scrambling seeds: c_init of each channel's sequence (TS 36.211 section 7.2), by the first slot of the subframe; and
+-- the PCFICH codewords.
 use Rattle.std.specs.Prelude.{ℕ, ◌+◌, ◌-◌, ◌*◌, ◌/◌, ◌%◌, ◌^◌, Bool, not, nat_eq}
 
--- c_init of the PBCH (section 6.6.1)
+-- c_init for the PBCH (section 6.6.1)
 abbrev pub pbch_c_init : ℕ → ℕ
 pbch_c_init identity = identity
 
--- c_init of the PCFICH (section 6.7.1)
+-- c_init for the PCFICH (section 6.7.1)
 abbrev pub pcfich_c_init : ℕ → ℕ → ℕ
 pcfich_c_init identity slot = (slot / 2 + 1) * (2 * identity + 1) * 2 ^ 9 + identity
 
--- c_init of the PDCCH (section 6.8.2)
+-- c_init for the PDCCH (section 6.8.2)
 abbrev pub pdcch_c_init : ℕ → ℕ → ℕ
 pdcch_c_init identity slot = slot / 2 * 2 ^ 9 + identity
 
--- c_init of the first codeword of the PDSCH for an RNTI (section 6.3.1)
+-- c_init for the first codeword of the PDSCH for an RNTI (section 6.3.1)
 abbrev pub pdsch_c_init : ℕ → ℕ → ℕ → ℕ
 pdsch_c_init identity slot rnti = rnti * 2 ^ 14 + slot / 2 * 2 ^ 9 + identity
 
--- bit i of the 32 that are sent for an indicator: 0 at every third place (TS 36.212 section 5.3.4)
+-- bit i of the 32-bit codeword for an indicator: every third bit is 0 (TS 36.212 section 5.3.4)
 abbrev pub indicator_bit : ℕ → ℕ → Bool
 indicator_bit indicator i = not (nat_eq (i % 3) (indicator - 1))

@@ -1,4 +1,4 @@
-//! The places of the physical broadcast channel.
+//! PBCH resource elements.
 
 ghost use Rattle.std.specs.Prelude.{◌≡◌, ◌<◌, ◌≤◌, ◌↔◌, ℕ, All, slice_get, IsTrue};
 ghost use Rattle.grid_map.specs.declared.Place.{Place};
@@ -10,9 +10,9 @@ ghost use Rattle.grid_map.specs.Laws.{IsIndexed};
 use crate::{Place, skipping};
 use lte_types::CellId;
 
-/// Returns the resource element of point `i` of the broadcast channel: symbols 7 to 10 of the subframe, which
-/// are the first four of slot 1, subcarriers first and then symbols, without the elements reserved for
-/// reference signals (TS 36.211 section 6.6.4). `i` is below 240.
+/// Returns the resource element for PBCH modulation symbol `i`, below 240: symbol by symbol in the first four OFDM
+/// symbols of slot 1 (7 to 10 of the subframe), without those reserved for reference signals (TS 36.211 section
+/// 6.6.4).
 pub fn pbch(id: CellId, i: usize) -> Place
     requires { i < 240 }
     ensures item { slice_get (pbch_places id) i ≡ Some result }
@@ -37,7 +37,7 @@ pub fn pbch(id: CellId, i: usize) -> Place
     }
 }
 
-/// Returns the resource elements of all 240 points of the broadcast channel, in their order.
+/// Returns all 240 PBCH resource elements, in order.
 pub fn pbch_places(id: CellId) -> [Place; 240]
     ensures places { result ≡ pbch_places id }
     ensures inside { All (λ p. (p.symbol < 14) × (p.k < 72)) result }
@@ -49,8 +49,8 @@ pub fn pbch_places(id: CellId) -> [Place; 240]
     places
 }
 
-/// States that the broadcast channel has 240 resource elements, subcarriers first and then symbols, each once, and
-/// that elements and their numbers determine each other.
+/// A law: the PBCH has 240 resource elements, in increasing order, and index and resource element determine each
+/// other.
 pub fn pbch_order()
     ensures order { (identity : ℕ) →
         AreInOrder place_number (pbch_places identity) 240 (pbch_place identity) (is_pbch identity) }

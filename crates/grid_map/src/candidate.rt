@@ -1,4 +1,4 @@
-//! The places of the candidate of the common search space.
+//! PDCCH resource elements in the common search space.
 
 ghost use Rattle.std.specs.Prelude.{◌≡◌, ◌<◌, ◌≤◌, ◌*◌, ℕ, All, IsTrue, length, slice_index_or};
 ghost use Rattle.finite.specs.Lists.{values_below};
@@ -10,7 +10,7 @@ ghost use Rattle.grid_map.specs.Candidate.{group_of_quadruplet, candidate_places
 use crate::{Place, Reg, quadruplet, reg_places};
 use lte_types::CellId;
 
-// Which of `count` groups carries quadruplet q.
+// Returns the group, below `count`, that carries quadruplet `q`.
 fn group_of(id: CellId, count: u8, q: u8) -> u8
     requires q { q < count }
     ensures value { result ≡ group_of_quadruplet id count q }
@@ -24,7 +24,7 @@ fn group_of(id: CellId, count: u8, q: u8) -> u8
     unreachable!()
 }
 
-// Which of `count` groups carry quadruplets 0 to 35.
+// Returns the groups, below `count`, that carry quadruplets 0 to 35.
 fn groups_of(id: CellId, count: u8) -> [u8; 36]
     requires enough { 36 ≤ count }
     ensures values { result ≡ values_below 36 (group_of_quadruplet id count) }
@@ -37,7 +37,7 @@ fn groups_of(id: CellId, count: u8) -> [u8; 36]
     groups
 }
 
-// Place j of a group of these.
+// Returns resource element `j` of group `number`.
 fn place_of(id: CellId, groups: &[Reg], number: u8, j: usize) -> Place
     requires inside { All (λ g. IsTrue (is_group g)) groups.now }
     requires number { number < length groups.now }
@@ -50,9 +50,8 @@ fn place_of(id: CellId, groups: &[Reg], number: u8, j: usize) -> Place
     reg_places(id, groups[number as usize])[j]
 }
 
-/// Returns the resource elements of control channel elements 0 to 3, given the groups of the PDCCH: those of the
-/// groups that carry quadruplets 0 to 35, in the order of the quadruplets (TS 36.211 section 6.8.5). There are 36 to
-/// 255 groups.
+/// Returns the resource elements of control channel elements 0 to 3, given the 36 to 255 PDCCH groups: those
+/// of the groups that carry quadruplets 0 to 35, in quadruplet order (TS 36.211 section 6.8.5).
 pub fn candidate_places(id: CellId, groups: &[Reg]) -> [Place; 144]
     requires few { length groups.now ≤ 255 }
     requires enough { 36 ≤ length groups.now }
@@ -68,7 +67,7 @@ pub fn candidate_places(id: CellId, groups: &[Reg]) -> [Place; 144]
     places
 }
 
-/// States that the group that carries a quadruplet is one of the groups, and carries no other.
+/// A law: each quadruplet is carried by a group that carries no other.
 pub fn quadruplets_carried()
     ensures inside { (identity count q : ℕ) → q < count →
         group_of_quadruplet identity count q < count }

@@ -1,4 +1,4 @@
-//! The groups of the control region that carry the PCFICH, the PHICH and the PDCCH.
+//! The resource-element groups for PCFICH, PHICH and PDCCH.
 
 ghost use Rattle.std.specs.Prelude.{◌≡◌, ◌+◌, ◌*◌, ◌/◌, ◌%◌, ◌<◌, ◌≤◌, ◌&&◌, ℕ, All, IsTrue, not, slice_index_or, nat_eq, if◌then◌else◌};
 ghost use Rattle.arrayvec.specs.ArrayVec.{array_vec_len};
@@ -16,7 +16,7 @@ use crate::{Place, Reg, reg_places, skipping};
 use arrayvec::ArrayVec;
 use lte_types::{CellId, Cfi, Duration, Mib, Resource};
 
-/// Returns the four groups of the PCFICH, in the order in which it uses them (TS 36.211 section 6.7.4).
+/// Returns the four PCFICH groups, in the order of use (TS 36.211 section 6.7.4).
 pub fn pcfich(id: CellId) -> [Reg; 4]
     ensures groups { result ≡ pcfich_groups id }
     ensures inside { All (λ g. IsTrue (is_group g) × (g.symbol ≡ 0)) result }
@@ -29,7 +29,7 @@ pub fn pcfich(id: CellId) -> [Reg; 4]
     ]
 }
 
-// Group i of the PCFICH.
+// Returns PCFICH group `i`.
 fn pcfich_number(id: CellId, i: u16) -> Reg
     requires { i < 4 }
     ensures { result ≡ pcfich_group id i }
@@ -40,7 +40,7 @@ fn pcfich_number(id: CellId, i: u16) -> Reg
     }
 }
 
-// Point i of the sixteen of the PCFICH: four in each group.
+// Returns the resource element for PCFICH symbol `i`, 0 to 15; each group has four.
 fn pcfich_point(id: CellId, groups: &[Reg; 4], i: usize) -> Place
     requires groups { groups.now ≡ pcfich_groups id }
     requires inside { All (λ g. IsTrue (is_group g) × (g.symbol ≡ 0)) groups.now }
@@ -52,8 +52,7 @@ fn pcfich_point(id: CellId, groups: &[Reg; 4], i: usize) -> Place
     reg_places(id, groups[i / 4])[i % 4]
 }
 
-/// Returns the sixteen resource elements of the PCFICH, in the order of its points: those of its groups, one after the
-/// other (TS 36.211 section 6.7.4).
+/// Returns the sixteen PCFICH resource elements, group after group (TS 36.211 section 6.7.4).
 pub fn pcfich_places(id: CellId) -> [Place; 16]
     ensures places { result ≡ pcfich_places id }
     ensures inside { All (λ p. (p.symbol < 14) × (p.k < 72)) result }
@@ -66,15 +65,15 @@ pub fn pcfich_places(id: CellId) -> [Place; 16]
     places
 }
 
-// How many groups of a symbol the PCFICH leaves.
+// Returns how many groups of a symbol the PCFICH leaves unused.
 fn left_in(symbol: u8) -> usize
     ensures { result ≡ (if nat_eq symbol 0 then 8 else 18) }
 {
     if symbol == 0 { 8 } else { 18 }
 }
 
-// Where group `number` of those of a symbol that the PCFICH leaves begins: in symbol 0 it leaves two
-// of every three.
+// Returns the first subcarrier of group `number` among those in a symbol that the PCFICH leaves unused; in symbol 0,
+// these are two of every three.
 fn left_begins(id: CellId, symbol: u8, number: usize) -> usize
     requires { number < 18 }
     ensures value { result ≡ (if nat_eq symbol 0
@@ -88,7 +87,7 @@ fn left_begins(id: CellId, symbol: u8, number: usize) -> usize
     }
 }
 
-// Group `number` of those of a symbol that the PCFICH leaves.
+// Returns group `number` among those in a symbol that the PCFICH leaves unused.
 fn left_group(id: CellId, symbol: u8, number: usize) -> Reg
     requires symbol { symbol < 3 }
     requires number { number < (if nat_eq symbol 0 then 8 else 18) }
@@ -100,7 +99,7 @@ fn left_group(id: CellId, symbol: u8, number: usize) -> Reg
     }
 }
 
-// The group in a symbol that quadruplet i of PHICH group m takes.
+// Returns the group in a symbol that carries quadruplet `i` of PHICH group `m`.
 fn phich_in(id: CellId, symbol: u8, m: usize, i: usize) -> Reg
     requires symbol { symbol < 3 }
     requires m { m < 2 }
@@ -112,7 +111,7 @@ fn phich_in(id: CellId, symbol: u8, m: usize, i: usize) -> Reg
     left_group(id, symbol, number)
 }
 
-// The symbol of quadruplet i of a PHICH group.
+// Returns the symbol that carries quadruplet `i` of a PHICH group.
 fn symbol_of(duration: Duration, i: usize) -> u8
     requires { i < 3 }
     ensures value { result ≡ phich_symbol duration i }
@@ -124,7 +123,7 @@ fn symbol_of(duration: Duration, i: usize) -> u8
     }
 }
 
-// How many PHICH groups there are.
+// Returns the PHICH group count.
 fn count_of(resource: Resource) -> usize
     ensures value { result ≡ phich_count resource }
     ensures bound { result ≤ 2 }
@@ -135,7 +134,7 @@ fn count_of(resource: Resource) -> usize
     }
 }
 
-// The group of quadruplet i of PHICH group m.
+// Returns the group that carries quadruplet `i` of PHICH group `m`.
 fn phich_of(id: CellId, duration: Duration, m: usize, i: usize) -> Reg
     requires m { m < 2 }
     requires i { i < 3 }
@@ -144,7 +143,7 @@ fn phich_of(id: CellId, duration: Duration, m: usize, i: usize) -> Reg
     phich_in(id, symbol_of(duration, i), m, i)
 }
 
-// All groups of the PHICH (TS 36.211 section 6.9.3).
+// Returns all PHICH groups (TS 36.211 section 6.9.3).
 fn phich(id: CellId, duration: Duration, resource: Resource) -> ArrayVec<Reg, 6>
     ensures { result.items ≡ phich_groups id duration resource }
 {
@@ -157,7 +156,7 @@ fn phich(id: CellId, duration: Duration, resource: Resource) -> ArrayVec<Reg, 6>
     groups
 }
 
-// The region with this last symbol has the group.
+// Returns whether a group belongs to the control region whose last symbol is `last`.
 fn is_inside(reg: Reg, last: u8) -> bool
     ensures { result ≡ is_in_region last reg }
 {
@@ -165,7 +164,7 @@ fn is_inside(reg: Reg, last: u8) -> bool
     reg.symbol < 4 && reg.first < 72 && reg.first % span == 0 && reg.symbol <= last
 }
 
-// The symbol and first subcarrier with number n: by first subcarrier, then by symbol.
+// Returns the symbol and first subcarrier with number `n`: by first subcarrier, then symbol.
 fn numbered_reg(n: u16) -> Reg
     requires { n < 288 }
     ensures { result ≡ numbered n }
@@ -176,16 +175,15 @@ fn numbered_reg(n: u16) -> Reg
     }
 }
 
-// The group is one of the region and taken neither by the PCFICH nor by the PHICH.
+// Returns whether a group belongs to the control region and is used by neither PCFICH nor PHICH.
 fn is_left(reg: Reg, last: u8, pcfich: &[Reg], phich: &[Reg]) -> bool
     ensures { result ≡ (is_in_region last reg && not (is_group_in pcfich.now reg) && not (is_group_in phich.now reg)) }
 {
     is_inside(reg, last) && !pcfich.contains(&reg) && !phich.contains(&reg)
 }
 
-/// Returns the groups of the PDCCH: those of the control region of `cfi` + 1 symbols that PCFICH and PHICH do not use,
-/// by first subcarrier and then by symbol (TS 36.211 section 6.8.5). Their count follows from the indicator and the
-/// PHICH alone.
+/// Returns the PDCCH groups: those in the `cfi` + 1 symbols of the control region that PCFICH and PHICH do not
+/// use, by first subcarrier, then symbol (TS 36.211 section 6.8.5).
 pub fn pdcch(id: CellId, cfi: Cfi, mib: Mib) -> ArrayVec<Reg, 66>
     ensures groups { result.items ≡ pdcch_groups id cfi mib.duration mib.resource }
     ensures inside { All (λ g. IsTrue (is_in_region cfi g)) result.items }
@@ -204,9 +202,8 @@ pub fn pdcch(id: CellId, cfi: Cfi, mib: Mib) -> ArrayVec<Reg, 66>
     groups
 }
 
-/// States that the PCFICH has four groups, and that the PDCCH has the groups of the region that neither PCFICH nor
-/// PHICH uses, each once, by first subcarrier and then by symbol. Their count depends on indicator, duration and
-/// resource alone: two control channel elements with indicator 1, and at least four with 2 and 3.
+/// A law: the PCFICH has four groups. The PDCCH has all others except the PHICH's, each once, in order: two control
+/// channel elements with indicator 1, at least four with 2 and 3.
 pub fn control_groups()
     ensures pcfich_inside { (identity i : ℕ) → i < 4 → IsTrue (is_group (pcfich_group identity i)) }
     ensures pcfich_apart { (identity i j : ℕ) → i < 4 → j < 4 →

@@ -1,4 +1,4 @@
-//! The places of a resource-element group.
+//! The resource elements in a group.
 
 ghost use Rattle.std.specs.Prelude.{◌≡◌, ◌+◌, ◌*◌, ◌/◌, ◌%◌, ◌<◌, ℕ, All, IsTrue, slice_index_or, nat_eq, if◌then◌else◌};
 ghost use Rattle.std.specs.List.{Contains};
@@ -11,9 +11,8 @@ ghost use Rattle.grid_map.specs.Order.{AreInOrder};
 use crate::{Place, Reg, skipping};
 use lte_types::CellId;
 
-/// Returns the four resource elements of a group of the control region, in the order of subcarriers
-/// (TS 36.211 section 6.2.4). In symbol 0 a group begins at a multiple of 6 and leaves out every third
-/// subcarrier, from the identity modulo 3; in symbols 1 to 3 it begins at a multiple of 4.
+/// Returns the four resource elements of a group, by subcarrier (TS 36.211 section 6.2.4). In symbol 0 they skip
+/// every third subcarrier, from the identity modulo 3, which is reserved for reference signals.
 pub fn reg_places(id: CellId, reg: Reg) -> [Place; 4]
     requires { IsTrue (is_group reg) }
     ensures places { result ≡ group_places id reg }
@@ -27,7 +26,7 @@ pub fn reg_places(id: CellId, reg: Reg) -> [Place; 4]
     ]
 }
 
-// Place i of a group.
+// Returns resource element `i` of a group.
 fn place_in(id: CellId, reg: Reg, i: usize) -> Place
     requires group { IsTrue (is_group reg) }
     requires i { i < 4 }
@@ -45,8 +44,8 @@ fn place_in(id: CellId, reg: Reg, i: usize) -> Place
     }
 }
 
-/// States that a group has four resource elements in the order of subcarriers, those in its span that are not reserved
-/// for reference signals, and that no two groups share one.
+/// A law: a group has four resource elements, by subcarrier: all in its span that are not reserved for reference
+/// signals. Groups are disjoint.
 pub fn places_of_groups()
     ensures order { (identity : ℕ) (g : Reg) → IsTrue (is_group g) →
         AreInOrder (λ p. p.k) (group_places identity g) 4

@@ -1,4 +1,4 @@
-//! The order of the quadruplets.
+//! PDCCH quadruplet interleaving.
 
 ghost use Rattle.std.specs.Prelude.{◌≡◌, ◌+◌, ◌*◌, ◌<◌, ◌≤◌, ℕ, slice_index_or};
 ghost use Rattle.grid_map.specs.Control.{quadruplet_at};
@@ -6,9 +6,8 @@ ghost use Rattle.grid_map.specs.Control.{quadruplet_at};
 use conv_code::stream_index;
 use lte_types::CellId;
 
-/// Returns the number of the quadruplet that group `r` of the PDCCH's `count` groups carries: the numbers are
-/// interleaved like the bits of a stream, and shifted cyclically by the identity (TS 36.211 section 6.8.5).
-/// `r` is below `count`.
+/// Returns the quadruplet carried by group `r` of the PDCCH's `count` groups: quadruplets are interleaved like the
+/// bits of a stream, and cyclically shifted by the identity (TS 36.211 section 6.8.5). `r` is below `count`.
 pub fn quadruplet(id: CellId, count: u8, r: u8) -> u8
     requires inside { r < count }
     ensures value { result ≡ quadruplet_at id count r }
@@ -18,7 +17,7 @@ pub fn quadruplet(id: CellId, count: u8, r: u8) -> u8
     stream_index(count as usize, p) as u8
 }
 
-/// States that each number below the count of groups is the quadruplet of exactly one group.
+/// A law: each quadruplet below the group count is carried by exactly one group.
 pub fn quadruplets_permute()
     ensures inside { (identity count r : ℕ) → r < count → quadruplet_at identity count r < count }
     ensures one_to_one { (identity count r s : ℕ) → r < count → s < count →

@@ -1,4 +1,4 @@
-//! Laws of the lists of places of the control channels.
+//! Laws of the control channels' resource elements.
 
 ghost use Rattle.std.specs.Prelude.{◌≤◌, ℕ, List};
 ghost use Rattle.lte_types.specs.declared.duration.Duration.{Duration};
@@ -8,8 +8,8 @@ ghost use Rattle.grid_map.specs.Control.{pcfich_places, pdcch_groups};
 ghost use Rattle.grid_map.specs.Candidate.{candidate_places};
 ghost use Rattle.grid_map.specs.Laws.{IsIndexed, CarryCandidate};
 
-/// States that the PCFICH has sixteen resource elements and the candidate 144, each once, and that the candidate's
-/// groups are those of the PDCCH with indicator 2 or 3.
+/// A law: the PCFICH has sixteen different resource elements, the PDCCH candidate 144, and the PDCCH has enough
+/// groups for the candidate if the control format indicator is 2 or 3.
 pub fn control_places()
     ensures pcfich { (identity : ℕ) → IsIndexed 16 (pcfich_places identity) }
     ensures candidate { (identity : ℕ) (groups : List Reg) → CarryCandidate groups →

@@ -1,5 +1,6 @@
-//! Where the channels stand in a subframe's grid of 14 symbols and 72 subcarriers
-//! (TS 36.211 section 6).
+//! Resource element mapping: where PBCH, PCFICH, PHICH, PDCCH and PDSCH are in a subframe of six resource blocks,
+//! with 14 symbols and 72 subcarriers, and how they are scrambled (TS 36.211 section 6).
+//! Tests: the crates `code_tests` and `slot_tests`.
 #![tactic(auto)]
 
 ghost use Rattle.std.specs.Prelude.{◌≡◌, ◌<◌};
@@ -34,16 +35,17 @@ pub struct Place {
     pub k: u8,
 }
 
-/// A resource-element group: four elements of a symbol of the control region (TS 36.211 section 6.2.4).
+/// A resource-element group (REG): four resource elements in a symbol of the control region (TS 36.211 section
+/// 6.2.4).
 #[derive(Clone, Copy, Debug, Default, PartialEq, Eq)]
 pub struct Reg {
     /// The symbol, 0 to 3.
     pub symbol: u8,
-    /// The first subcarrier that the group spans: a multiple of 6 in symbol 0 and of 4 in symbols 1 to 3.
+    /// The first subcarrier in the group's span: a multiple of 6 in symbol 0 and of 4 in symbols 1 to 3.
     pub first: u8,
 }
 
-// Number n of the subcarriers from 0 on without the reserved one.
+// Returns the `n`th number other than `reserved`, counted from 0.
 fn skipping(n: usize, reserved: usize) -> usize
     requires { n < 5 }
     ensures { result ≡ skipping reserved n }

@@ -1,4 +1,4 @@
-//! The places of the physical broadcast channel with the extended cyclic prefix.
+//! PBCH resource elements with the extended cyclic prefix.
 
 ghost use Rattle.std.specs.Prelude.{◌≡◌, ◌+◌, ◌*◌, ◌/◌, ◌%◌, ◌<◌, All, slice_index_or};
 ghost use Rattle.grid_map.specs.Place.{place, skipping};
@@ -7,8 +7,8 @@ ghost use Rattle.grid_map.specs.LongBroadcast.{long_places as places_of};
 use crate::Place;
 use lte_types::CellId;
 
-/// Returns the 216 resource elements of the broadcast channel with the extended cyclic prefix, in symbols 0 to 3 of
-/// slot 1: subcarriers first and then symbols, without those reserved for reference signals (TS 36.211 section 6.6.4).
+/// Returns the 216 PBCH resource elements with the extended prefix: symbol by symbol in symbols 0 to 3 of slot 1,
+/// without those reserved for reference signals (TS 36.211 section 6.6.4).
 pub fn long_places(id: CellId) -> [Place; 216]
     ensures places { result ≡ places_of id }
     ensures inside { All (λ p. (p.symbol < 4) × (p.k < 72)) result }
@@ -20,7 +20,7 @@ pub fn long_places(id: CellId) -> [Place; 216]
     places
 }
 
-// Place i: symbols 0, 1 and 3 have 48 places, and symbol 2 has 72.
+// Returns resource element `i`. Symbols 0, 1 and 3 have 48, symbol 2 has 72.
 fn place_at(id: CellId, i: u8) -> Place
     requires { i < 216 }
     ensures place { result ≡ slice_index_or (places_of id) i (place 0 0) }
@@ -46,7 +46,7 @@ fn place_at(id: CellId, i: u8) -> Place
     }
 }
 
-// Subcarrier number n of those that are not kept: two of each three.
+// Returns number `n` of the subcarriers that are not reserved: two of each three.
 fn free_subcarrier(shift: u8, n: u8) -> u8
     requires shift { shift < 3 }
     requires n { n < 48 }

@@ -1,4 +1,4 @@
-//! The places of the physical downlink shared channel.
+//! PDSCH resource elements.
 
 ghost use Rattle.std.specs.Prelude.{◌≡◌, ◌+◌, ◌*◌, ◌/◌, ◌%◌, ◌<◌, ◌≤◌, ◌&&◌, ℕ, IsTrue, length, slice_get};
 ghost use Rattle.std.specs.Prelude.{nat_eq, if◌then◌else◌};
@@ -15,7 +15,7 @@ use crate::{Place, skipping};
 use crs::{Pattern, first_of_pattern};
 use lte_types::{Assignment, Carrier, CellId, Cfi};
 
-// The symbols of a slot.
+// Returns the number of symbols in a slot.
 fn slot_symbols(carrier: Carrier) -> u8
     ensures value { result ≡ slot_symbols carrier }
     ensures bounds { (6 ≤ result) × (result ≤ 7) }
@@ -23,7 +23,7 @@ fn slot_symbols(carrier: Carrier) -> u8
     carrier.prefix().symbols() as u8
 }
 
-// How many of the twelve places of a block in a symbol of a slot are reference places.
+// Returns how many of a resource block's twelve subcarriers carry a reference signal in a symbol of a slot.
 fn pilots_of_block(carrier: Carrier, symbol: u8) -> u8
     ensures value { result ≡ pilots_of_block carrier symbol }
     ensures bound { result ≤ 4 }
@@ -37,7 +37,7 @@ fn pilots_of_block(carrier: Carrier, symbol: u8) -> u8
     }
 }
 
-// How many places a block has for the channel in a symbol after the control region.
+// Returns the PDSCH resource elements per resource block in a symbol after the control region.
 fn block_room(carrier: Carrier, symbol: u8) -> usize
     ensures value { result ≡ block_room carrier symbol }
     ensures bound { result ≤ 12 }
@@ -50,7 +50,7 @@ fn block_room(carrier: Carrier, symbol: u8) -> usize
     }
 }
 
-// How many subcarriers after the first one of the blocks place n of a symbol stands.
+// Returns the subcarrier of PDSCH resource element `n` in a symbol, relative to the first allocated subcarrier.
 fn offset_in(carrier: Carrier, id: CellId, symbol: u8, n: usize) -> usize
     requires { n < 72 }
     ensures value { result ≡ offset carrier id symbol n }
@@ -68,8 +68,8 @@ fn offset_in(carrier: Carrier, id: CellId, symbol: u8, n: usize) -> usize
     }
 }
 
-/// Returns the number of resource elements a block has for the shared channel in subframe 5, for `cfi` 2 and 3: 102 and
-/// 90 with one antenna port, 96 and 84 with two, 92 and 80 with four, and 78 and 68 with the extended cyclic prefix.
+/// Returns the PDSCH resource elements per resource block in subframe 5, for `cfi` 2 and 3: one antenna port 102 and
+/// 90, two 96 and 84, four 92 and 80, the extended prefix 78 and 68.
 pub fn block_places(carrier: Carrier, cfi: u8) -> usize
     ensures value { result ≡ block_places_of carrier cfi }
     ensures bound { result ≤ 102 }
@@ -82,8 +82,8 @@ pub fn block_places(carrier: Carrier, cfi: u8) -> usize
     places
 }
 
-/// States the number of resource elements a block has for the shared channel, with indicator 2 and otherwise: no
-/// carrier has fewer than 68, and none more than one antenna port with the normal prefix.
+/// A law: the values of `block_places`, with their minimum, 68, and their maximum, for one antenna port with the
+/// normal prefix.
 pub fn block_places_are()
     ensures one_port { (cfi : ℕ) → block_places_of OnePort cfi ≡ (if nat_eq cfi 2 then 102 else 90) }
     ensures two_ports { (cfi : ℕ) → block_places_of TwoPorts cfi ≡ (if nat_eq cfi 2 then 96 else 84) }
@@ -93,8 +93,8 @@ pub fn block_places_are()
     ensures most { (carrier : Carrier) (cfi : ℕ) → block_places_of carrier cfi ≤ block_places_of OnePort cfi }
 {}
 
-/// Returns the number of resource elements that the assigned blocks have for the shared channel: `block_places` each,
-/// an even number. Six blocks have at most 612, and with several antenna ports 576.
+/// Returns the number of PDSCH resource elements in the allocation: `block_places` per resource block, an even
+/// number, at most 612 for six resource blocks, and 576 with several antenna ports.
 pub fn shared_count(carrier: Carrier, assignment: &Assignment) -> usize
     ensures value { result ≡ block_places_of carrier assignment.now.cfi * assignment.now.blocks }
     ensures whole { (identity : ℕ) →
@@ -107,10 +107,8 @@ pub fn shared_count(carrier: Carrier, assignment: &Assignment) -> usize
     block_places(carrier, assignment.cfi().value()) * assignment.blocks() as usize
 }
 
-/// Returns the resource element of point `i` of the shared channel in subframe 5, subcarriers first and then
-/// symbols: after the control region, which has one symbol more than its indicator, over the assigned resource
-/// blocks, without the symbols of the synchronisation signals and the reference signals of the carrier's antenna
-/// ports (TS 36.211 sections 6.4 and 6.10.1.2). `i` is below `shared_count`.
+/// Returns the resource element for PDSCH modulation symbol `i` in subframe 5: symbol by symbol, without
+/// synchronisation symbols and reference signals (TS 36.211 sections 6.4 and 6.10.1.2). `i` is below `shared_count`.
 pub fn shared_place(carrier: Carrier, id: CellId, assignment: &Assignment, i: usize) -> Place
     requires { i < block_places_of carrier assignment.now.cfi * assignment.now.blocks }
     ensures item { slice_get
@@ -136,7 +134,7 @@ pub fn shared_place(carrier: Carrier, id: CellId, assignment: &Assignment, i: us
     unreachable!()
 }
 
-/// Returns the resource element of point `i` of the shared channel with one antenna port, over `blocks` resource blocks
+/// Returns the resource element for PDSCH modulation symbol `i` with one antenna port, over `blocks` resource blocks
 /// from `start`. `cfi` is 2 or 3, `blocks` at least 1 and `start` + `blocks` at most 6.
 pub fn pdsch(id: CellId, cfi: Cfi, start: u8, blocks: u8, i: usize) -> Place
     requires cfi { 2 ≤ cfi }
@@ -155,8 +153,8 @@ pub fn pdsch(id: CellId, cfi: Cfi, start: u8, blocks: u8, i: usize) -> Place
     }
 }
 
-/// States that the shared channel has `block_places` resource elements a block, subcarriers first and then symbols,
-/// each once: exactly those of the subframe that belong to it.
+/// A law: the PDSCH occupies `block_places` resource elements per resource block, in increasing order: exactly those
+/// that its definition admits.
 pub fn shared_order()
     ensures { (carrier : Carrier) (identity cfi start blocks : ℕ) → 2 ≤ cfi → cfi ≤ 3 → start + blocks ≤ 6 →
         AreInOrder place_number (shared_places_of carrier identity cfi start blocks)
