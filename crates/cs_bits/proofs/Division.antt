@@ -20,7 +20,7 @@ bits_of-xor zero a b = refl
 bits_of-xor (suc w) a b =
     rw (bit_at_xor a b w, xor_bits (bit_at a w) (bit_at b w) (bit_at-lt a w) (bit_at-lt b w), bits_of-xor w a b) refl
 
--- the bits below h are kept modulo 2 ^ h
+-- bit i of a remainder modulo 2 ^ h, for i below h, is bit i of the number
 bit_at_below : (h m i : ℕ) → i < h → bit_at (m % 2 ^ h) i ≡ bit_at m i
 bit_at_below h m i l = sym (bit_at_cat_low (m / 2 ^ h) h (m % 2 ^ h) i l) ∙ ap (λ n. bit_at n i) (div-add-mod' m (2 ^ h))
 

@@ -31,7 +31,7 @@ number-append (true ∷ bits) b =
     let e = pow-suc 2 (length bits) in
     rw size (omega (arith, before, e))
 
--- appending one bit
+-- a word extended by one bit
 pub number_more : (bits : List Bool) (i : ℕ) → i < length bits → number (take (i + 1) bits) ≡ 2 * number (take i bits) + cond (get_or bits i false) 1 0
 number_more bits i inside = rw (add-one, take-suc bits i false inside) (number-append (take i bits) (get_or bits i false))
 

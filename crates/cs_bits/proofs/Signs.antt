@@ -11,7 +11,7 @@ disagreement-le (pos n) true = omega arith
 disagreement-le (negsuc n) false = omega arith
 disagreement-le (negsuc n) true = omega arith
 
--- a value with the sign of b that does not contradict a: the two bits are equal
+-- if a value has the sign of b and does not contradict a, the two bits are equal
 pub speaks_for_one : (z : ℤ) (a b : Bool) → SpeaksFor z b → Allows z a → a ≡ b
 speaks_for_one z false false s h = refl
 speaks_for_one z false true s h = let d = s.costs in absurd (omega (arith, d, h))

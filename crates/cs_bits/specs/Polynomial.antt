@@ -20,7 +20,7 @@ divide (suc n) divisor (x ∷ xs) = divide n divisor (cond x (xor_onto xs diviso
 unfoldable pub remainder : ℕ → List Bool → List Bool → List Bool
 remainder w divisor message = divide (length message) divisor (message ++ replicate w false)
 
--- k is among the powers
+-- whether k is among the powers
 unfoldable pub has_power : List ℕ → ℕ → Bool
 has_power [] k = false
 has_power (p ∷ ps) k = nat_eq p k || has_power ps k

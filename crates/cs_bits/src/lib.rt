@@ -1,5 +1,5 @@
-//! Bits: fixed-length bit words, conversion between bits and numbers, the CRCs of LTE (TS 36.212 section 5.1.1), and
-//! the cost of a hard decision against a soft value.
+//! Bits: fixed-length bit words, conversion between bits and numbers, LTE's CRCs (TS 36.212 section 5.1.1), and the
+//! cost of a bit, given a soft value.
 //! Tests: the crates `low_tests` and `code_tests`.
 #![tactic(auto)]
 

@@ -16,8 +16,7 @@ floor_within (negsuc n) d bound p u l =
     let h : n / d < bound = (div-lt_iff_lt-mul p).1 m in
     omega (arith, h)
 
--- bounds the quotient: if |x| < bound * d + half, with d = 2 * half, then x / d rounds to at most `bound` in
--- magnitude
+-- the rounded quotient x / d has magnitude at most `bound` if d = 2 * half and |x| < bound * d + half
 pub rounds_within : (x : ℤ) (half bound : ℕ) → 0 < half → nat_abs x < bound * (2 * half) + half →
     nat_abs (floor_div (x +ℤ pos half) (2 * half)) ≤ bound
 rounds_within x half bound p h =
@@ -40,7 +39,7 @@ rounds_near x half p =
     let high = floor_high (x +ℤ pos half) (2 * half) (omega arith) in
     omega (arith, ints)
 
--- if |x| ≤ d * bound, the rounded quotient x / d has magnitude at most `bound`
+-- the rounded quotient x / d has magnitude at most `bound` if |x| ≤ d * bound
 quotient_part-within : (x : ℤ) (d bound : ℕ) → 0 < d → nat_abs x ≤ d * bound → nat_abs (rounded_quotient x d) ≤ bound
 quotient_part-within x d bound p h = rounds_within (pos 2 *ℤ x) d bound p (omega (arith, ints, h))
 

@@ -53,7 +53,7 @@ regrouped_part a b c d = omega (arith, ints)
 regrouped : (a b c d : Cpx) → plus a (plus b (plus c d)) ≡ plus a (plus (plus b d) c)
 regrouped a b c d = pair (regrouped_part a.re b.re c.re d.re) (regrouped_part a.im b.im c.im d.im)
 
--- folds a sum of 2h + 2 terms: the first term, h pairs at equal distance from the middle, and the middle term
+-- a sum of 2h + 2 terms, folded: the first term, h pairs at equal distance from the middle, and the middle term
 pub complex_sum_below_folded : (h : ℕ) (f : ℕ → Cpx) → complex_sum_below (1 + (h + (1 + h))) f
     ≡ plus (f 0) (plus (complex_sum_below h (λ k. plus (f (1 + k)) (f (1 + (h + (1 + (h - 1 - k))))))) (f (1 + h)))
 complex_sum_below_folded h f =

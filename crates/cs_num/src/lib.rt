@@ -99,7 +99,7 @@ impl Cpx {
         }
     }
 
-    /// Returns the complex conjugate. The imaginary part may not be `i64::MIN`.
+    /// Returns the complex conjugate. The imaginary part must not be `i64::MIN`.
     pub fn conj(self) -> Cpx
         requires { nat_abs self.im < 2 ^ 63 }
         ensures { result ≡ conjugate self }
@@ -110,7 +110,7 @@ impl Cpx {
         }
     }
 
-    /// Multiplies by `j`. The imaginary part may not be `i64::MIN`.
+    /// Multiplies by `j`. The imaginary part must not be `i64::MIN`.
     pub fn times_j(self) -> Cpx
         requires { nat_abs self.im < 2 ^ 63 }
         ensures { result ≡ times_j_of self }
@@ -121,7 +121,7 @@ impl Cpx {
         }
     }
 
-    /// Multiplies by `-j`. The real part may not be `i64::MIN`.
+    /// Multiplies by `-j`. The real part must not be `i64::MIN`.
     pub fn times_minus_j(self) -> Cpx
         requires { nat_abs self.re < 2 ^ 63 }
         ensures { result ≡ times_minus_j_of self }
@@ -201,7 +201,7 @@ impl Cpx {
     }
 }
 
-// One component of `round_shift`.
+// Computes one component of `round_shift`.
 fn round_part(x: i64, bits: u32) -> i64
     requires bits { (1 ≤ bits) × (bits ≤ 40) }
     requires size { nat_abs x ≤ 2 ^ 62 }
@@ -210,7 +210,7 @@ fn round_part(x: i64, bits: u32) -> i64
     (x + (1i64 << (bits - 1))) >> bits
 }
 
-// One component of `quotient`.
+// Computes one component of `quotient`.
 fn rounded_quotient(x: i64, divisor: u64) -> i64
     requires some { 0 < divisor }
     requires few { divisor ≤ 2 ^ 61 }
@@ -220,7 +220,7 @@ fn rounded_quotient(x: i64, divisor: u64) -> i64
     (2 * x + divisor as i64).div_euclid(2 * divisor as i64)
 }
 
-// One component of `nearest_sample`.
+// Computes one component of `nearest_sample`.
 fn in_16_bits(x: i64) -> i16
     ensures { result ≡ in_16_bits_of x }
 {

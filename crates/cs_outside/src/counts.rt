@@ -1,8 +1,8 @@
-// Saturating counts from 0 to 2^64 - 1.
+// Counts that saturate at `u64::MAX`.
 ghost use Rattle.std.specs.Prelude.{◌≡◌};
 ghost use Rattle.cs_outside.specs.Counts.{next_count};
 
-// Returns the count plus one, saturating at 2^64 - 1.
+// Returns the count plus one, saturating.
 pub(crate) fn raised(count: u64) -> u64
     ensures { result ≡ next_count count }
 {

@@ -8,7 +8,7 @@ use crate::{Failed, MemSink, MemSource, Sink, Source};
 use std::alloc::{AllocError, Global};
 use std::marker::Model;
 
-// The calls that fail. Calls are numbered from 0; the number saturates at 2^64 - 1.
+// The calls that fail. Calls are numbered from 0; the number saturates at `u64::MAX`.
 #[derive(Drop)]
 struct Script {
     fails: Vec<u64>,
@@ -28,7 +28,7 @@ impl Script {
 }
 
 /// An in-memory source that fails in the listed calls and returns at most `most` bytes per call. Calls are numbered
-/// from 0; the number saturates at 2^64 - 1.
+/// from 0; the number saturates at `u64::MAX`.
 #[derive(Drop)]
 pub struct FailSource {
     source: MemSource,
@@ -106,7 +106,7 @@ impl Source for FailSource {
 }
 
 /// An in-memory sink that fails in the listed calls and takes at most `most` bytes per call. Writing does not
-/// allocate. Calls are numbered from 0; the number saturates at 2^64 - 1. A generic caller does not learn the free
+/// allocate. Calls are numbered from 0; the number saturates at `u64::MAX`. A generic caller does not learn the free
 /// space.
 #[derive(Drop)]
 pub struct FailSink {

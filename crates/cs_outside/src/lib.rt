@@ -27,7 +27,7 @@ pub struct Failed;
 
 /// A source of bytes.
 pub trait Source {
-    /// The known state: the remaining bytes, or `None`, and the fault count, which saturates at 2^64 - 1.
+    /// The known state: the remaining bytes, or `None`, and a fault count that saturates at `u64::MAX`.
     ghost told: { Self → SourceTold };
 
     /// Reads the next bytes into the start of `into`, which is not empty, and returns their number: 0 at the end of
@@ -46,8 +46,8 @@ pub trait Source {
 
 /// A sink of bytes.
 pub trait Sink {
-    /// The known state: the bytes written and the free space, or `None`, and the fault count, which saturates at 2^64
-    /// - 1.
+    /// The known state: the bytes written and the free space, or `None`, and a fault count that saturates at
+    /// `u64::MAX`.
     ghost told: { Self → SinkTold };
 
     /// Writes at least one byte from the start of `piece`, which is not empty, and returns their number. Each

@@ -36,6 +36,6 @@ xor_self false = refl
 pub xor_again : (a b : Bool) → xor a (xor a b) ≡ b
 xor_again a b = sym (xor_assoc a a b) ∙ ap (λ c. xor c b) (xor_self a) ∙ false-xor b
 
--- exchanges the middle two of four bits
+-- the middle two of four bits can be exchanged
 pub xor_swap : (a b c d : Bool) → xor (xor a b) (xor c d) ≡ xor (xor a c) (xor b d)
 xor_swap a b c d = simp (xor_assoc, xor_comm, xor_left)

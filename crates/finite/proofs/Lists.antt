@@ -114,7 +114,7 @@ joined_below-pairs R (suc n) f each across =
     AllPairs-append R (joined_below n f) (f n) before (each n (omega arith))
     (λ x y a b. let (k, l, c) = Contains-in_joined n f x a in across k n x y l (omega arith) c b)
 
--- the first k items, if item j is f j for each j < k
+-- the first k items are f 0, .., f (k - 1) if item j is f j for each j < k
 pub front_is : {A : Type 0} (d : A) (k : ℕ) (f : ℕ → A) (xs : List A) → k ≤ length xs → ((j : ℕ) → j < k → get_or xs j d ≡ f j) → take k xs ≡ values_below k f
 front_is d k f xs long h =
     values_below_is d k f (take k xs) (length-take-le k xs long) (λ j below. get_or-take k xs j d below ∙ h j below)

@@ -24,7 +24,7 @@ length-pieces size f (x ∷ xs) each =
     let more = one_more (length xs) size in
     omega (arith, here, rest, both, more)
 
--- item j of piece i
+-- item j of piece i, found in the concatenation
 pub get_or-piece : {X A : Type 0} (size : ℕ) (f : X → List A) (xs : List X) (i j : ℕ) (e : X) (d : A) → HaveSize size f xs → i < length xs → j < size →
     get_or (flat_map f xs) (i * size + j) d ≡ get_or (f (get_or xs i e)) j d
 get_or-piece size f [] i j e d each inside small = absurd (omega (arith, inside))

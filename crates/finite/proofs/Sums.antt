@@ -114,7 +114,7 @@ total_below-within (suc n) bound f h =
     let before = total_below-within n bound f (λ k l. h k (omega arith)) in
     omega (arith, before, h n (omega arith))
 
--- a sum whose terms are at least `bound`
+-- a sum of n terms that are at least `bound`
 pub total_below-least : (n bound : ℕ) (f : ℕ → ℕ) → ((k : ℕ) → k < n → bound ≤ f k) → n * bound ≤ total_below n f
 unfolding total_below
 total_below-least zero bound f h = omega arith
@@ -130,7 +130,7 @@ total_below_split n (suc m) f =
     let h = total_below_split n m f in
     subst (λ l. total_below l f ≡ total_below n f + (total_below m (λ k. f (n + k)) + f (n + m))) (sym e) (omega (arith, h))
 
--- moving a window of n terms by one: it loses its first term and gains the next
+-- a window of n terms, moved by one, loses its first term and gains the next
 pub total_below_slides : (n t : ℕ) (f : ℕ → ℕ) → total_below n (λ k. f (t + 1 + k)) + f t ≡ total_below n (λ k. f (t + k)) + f (t + n)
 unfolding total_below
 total_below_slides zero t f = let e : t + 0 ≡ t = omega arith in rw e refl
@@ -147,7 +147,7 @@ unfolding sum_below total_below
 sum_below_pos zero f = refl
 sum_below_pos (suc n) f = let before = sum_below_pos n f in omega (arith, ints, before)
 
--- one term is greater by c, and the others are equal
+-- the sums, if one term is greater by c and the others are equal
 pub total_below_changed : (n k c : ℕ) (f g : ℕ → ℕ) → k < n → f k ≡ g k + c → ((j : ℕ) → j ≢ k → f j ≡ g j) →
     total_below n f ≡ total_below n g + c
 unfolding total_below

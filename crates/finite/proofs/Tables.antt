@@ -1,4 +1,4 @@
--- Tables of whole numbers in which each of a list of values was added at its place.
+-- Integer tables that accumulate a list of values, each at its row and column.
 use Rattle.std.proofs.Common.{◌≡◌, ℕ, ◌+◌, ◌*◌, ◌<◌, ◌≤◌, Bool, true, false, List, [], length, get_or, replicate, ℤ, pos, ◌+ℤ◌, refl, ap, sym, ◌∙◌, arith, inl, inr, get_or-set_other, get_or-set_same}
 use Rattle.std.specs.Prelude.{nat_abs, nat_eq, cond, ◌&&◌}
 use Rattle.std.proofs.lemmas.Bool.Decides.{eqb_tells}
@@ -20,7 +20,7 @@ no_larger false v bound h = omega arith
 
 -- ---- one value
 
--- an entry after v was added at row p, column q
+-- every entry after v was added at row p, column q
 pub added_at : (table : List (List ℤ)) (p q r c : ℕ) (v : ℤ) → p < length table → q < length (get_or table p []) →
     sum_at (sums_with table p q v) r c ≡ sum_at table r c +ℤ cond (nat_eq p r && nat_eq q c) v (pos 0)
 added_at table p q r c v inside inside' = elim (eqb_tells p r) [
@@ -31,7 +31,7 @@ added_at table p q r c v inside inside' = elim (eqb_tells p r) [
   | inr (b, ne) ↦ rw b (rw (get_or-set_other table p r _ [] (λ h. ne (sym h))) (plus_zero _))
 ]
 
--- the row lengths do not change
+-- adding to an entry keeps the row lengths
 pub added_length : (table : List (List ℤ)) (p q r : ℕ) (v : ℤ) → p < length table → length (get_or (sums_with table p q v) r []) ≡ length (get_or table r [])
 added_length table p q r v inside = elim (eqb_tells p r) [
   | inl (b, e) ↦ rw (← e) (rw (get_or-set_same table p _ [] inside) (length-set (get_or table p []) q _))
@@ -51,7 +51,7 @@ pub record AreSums (rows columns bound : ℕ) (row_of column_of : ℕ → ℕ) (
   pub at : (r c : ℕ) → r < rows → c < columns → sum_at sums r c ≡ sum_below m (share row_of column_of values r c)
   pub small : (r c : ℕ) → r < rows → c < columns → nat_abs (sum_at sums r c) ≤ m * bound
 
--- the table at the start is all zeros
+-- before the first value, the table is all zeros
 pub sums_none : (rows columns bound : ℕ) (row_of column_of : ℕ → ℕ) (values : List ℤ) →
     AreSums rows columns bound row_of column_of values 0 (replicate rows (replicate columns (pos 0)))
 sums_none rows columns bound row_of column_of values = record {

@@ -11,7 +11,7 @@ pub any_below_more : (n : ℕ) (p : ℕ → Bool) → any_below (n + 1) p ≡ (a
 unfolding any_below
 any_below_more n p = rw add-one refl
 
--- a passing number decides
+-- a single passing number decides
 pub any_below_at : (n k : ℕ) (p : ℕ → Bool) → k < n → p k ≡ true → any_below n p ≡ true
 unfolding any_below
 any_below_at zero k p l e = absurd (omega arith)
@@ -55,7 +55,7 @@ any_below_same (suc n) p q h = ap₂ ◌||◌ (any_below_same n p q (λ k l. h k
 
 -- ---- every number passes
 
--- reads a computed test at one number
+-- a computed test, read at one number
 pub every_below_at : (n : ℕ) (p : ℕ → Bool) → every_below n p ≡ true → (k : ℕ) → k < n → p k ≡ true
 unfolding every_below
 every_below_at zero p e k l = absurd (omega arith)
@@ -81,7 +81,7 @@ unfolding every_below
 every_below_same zero p q h = refl
 every_below_same (suc n) p q h = ap₂ ◌&&◌ (every_below_same n p q (λ k l. h k (omega (arith, l)))) (h n (omega arith))
 
--- extends a property from the numbers below n to those below n + 1
+-- a property of the numbers below n and of n holds below n + 1
 pub each_below_more : (P : ℕ → Type 0) (n : ℕ) → ((k : ℕ) → k < n → P k) → P n → (k : ℕ) → k < n + 1 → P k
 each_below_more P n before here k below = elim (cases_lt k n) [
   | inl lower ↦ before k lower

@@ -10,7 +10,7 @@ use Rattle.std.proofs.lemmas.List.Elements.{All-get_or}
 use Rattle.std.proofs.lemmas.Bool.Decides.{nat_tests}
 use Rattle.fold128.specs.Tables.{quarter, half_turn, folded, cosine, w_at, z_at, z_half, z_real, z_imaginary}
 
--- reads one entry of a computed test over a list
+-- a computed test over a list, read at one entry
 pub entry_passes : {X : Type 0} (p : X → Bool) (xs : List X) (i : ℕ) (d : X) → list_all p xs ≡ true → i < length xs → p (get_or xs i d) ≡ true
 entry_passes p xs i d all l = All-get_or (λ x. p x ≡ true) xs i d l (AllPass-from_list_all p xs all)
 

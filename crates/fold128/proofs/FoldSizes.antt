@@ -35,7 +35,7 @@ entry-le m =
     let here = leb-true _ _ (every_below_at 128 entry_passes_at all_entries (m % 128) (omega arith)) in
     subst (λ (v : Cpx). nat_abs v.re + nat_abs v.im ≤ 23170) (w_period m) here
 
--- bounds a product by the sum of the second factor's component magnitudes
+-- the product of two numbers is bounded by the second one's summed component magnitudes
 product-within : (z v : Cpx) (m n : ℕ) → IsWithin m z → nat_abs v.re + nat_abs v.im ≤ n → IsWithin (m * n) (times z v)
 product-within z v m n p h =
     let rr = mul-le (nat_abs z.re) (nat_abs v.re) m (nat_abs v.re) p.re (omega arith) in
@@ -167,14 +167,14 @@ mirror-small here opposite p q = record {
   imaginary = back-within 262144 (minus here opposite) (minus-within here opposite 131072 131072 262144 p q (omega arith));
 }
 
--- bounds one component of a combined term's contribution
+-- the bound on one component of a combined term's contribution
 pub component-small : (a b c d : ℤ) → nat_abs a ≤ 262144 → nat_abs b ≤ 16384 → nat_abs c ≤ 262144 → nat_abs d ≤ 16384 → nat_abs (a *ℤ b +ℤ c *ℤ d) ≤ 8589934592
 component-small a b c d ha hb hc hd =
     let p = product_within a b 262144 16384 4294967296 ha hb (omega arith) in
     let q = product_within c d 262144 16384 4294967296 hc hd (omega arith) in
     omega (arith, p, q, abs-sum (a *ℤ b) (c *ℤ d))
 
--- its products and their sum fit 64 bits
+-- the products and the sum in one component fit 64 bits
 pub record ComponentFits (a b c d : ℤ) : Type 0 where
   pub first : FitsSigned w64 (a *ℤ b)
   pub second : FitsSigned w64 (c *ℤ d)

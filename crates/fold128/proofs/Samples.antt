@@ -15,7 +15,7 @@ pub useful_is : (grid : ℕ → Cpx) (n : ℕ) → useful_at grid n ≡ rounded 
 unfolding useful_at
 useful_is grid n = refl
 
--- bounds a useful part's samples
+-- the bound on a useful part's samples
 pub useful-within : (grid : ℕ → Cpx) (n : ℕ) → ((k : ℕ) → k < 72 → IsWithin 127 (grid k)) → IsWithin 2287 (useful_at grid n)
 unfolding useful_at
 useful-within grid n small =

@@ -112,7 +112,7 @@ taken-unfolded p (suc (suc zero)) few = refl
 taken-unfolded p (suc (suc (suc zero))) few = refl
 taken-unfolded p (suc (suc (suc (suc q)))) few = absurd (omega (arith, few))
 
--- adding 0
+-- adding 0 changes nothing
 added_nothing : (t : Bool) (a : Cpx) → (if t then plus a nothing else a) ≡ a
 added_nothing true a = pair (omega (arith, ints)) (omega (arith, ints))
 added_nothing false a = refl

@@ -82,7 +82,7 @@ pub(crate) fn fold_four(a: Cpx, b: Cpx, c: Cpx, d: Cpx) -> Quartet
     }
 }
 
-// Unfolds the contributions of each residue to four samples at distance 32, in the direction opposite to `fold_four`.
+// Turns the residues' contributions back into four samples at distance 32, with four butterflies.
 pub(crate) fn unfold_four(parts: Quartet) -> Quartet
     requires { AreWithin 1073741824 parts }
     ensures value { result ≡ unfolded parts }

@@ -74,11 +74,11 @@ abbrev pub subframe_of : Half → ℕ
 subframe_of Zero = 0
 subframe_of Five = 5
 
--- the half frame whose first subframe is 0 or 5
+-- the half frame that begins with a subframe, 0 or 5
 abbrev pub half_of : ℕ → Half
 half_of subframe = if nat_eq subframe 0 then Zero else Five
 
--- the offset from the start of a frame to the useful part of a half's PSS, which is the last symbol of slot 0 or 10
--- (TS 36.211 section 6.11.1.2): 832 or 10,432
+-- the offset from the start of a frame to the useful part of a half's PSS, which is in the last symbol of slot 0 or
+-- 10 (TS 36.211 section 6.11.1.2): 832 or 10,432
 abbrev pub primary_start : Half → ℕ
 primary_start half = useful_start normal 0 (2 * subframe_of half) 6

@@ -26,7 +26,8 @@ number_at_start sfn offset = if nat_eq offset 0 then sfn else (sfn + 1) % 1024
 abbrev pub offset_of : ℕ → ℕ
 offset_of start = (frame_length - start) % frame_length
 
--- the number of the frame in which the recording begins: one less, modulo 1,024, unless that frame begins at sample 0
+-- the number of the frame in which the recording begins: one less than at the first frame start, modulo 1,024, unless
+-- that start is sample 0
 abbrev pub number_before : ℕ → ℕ → ℕ
 number_before start number = if nat_eq start 0 then number else (number + 1023) % 1024
 

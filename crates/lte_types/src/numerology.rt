@@ -6,19 +6,19 @@ ghost use Rattle.lte_types.specs.Numerology.{least_samples, most_samples, normal
 ghost use Rattle.lte_types.specs.Numerology.{symbol_step, symbol_of as symbol_in, useful_start as useful_start_of};
 ghost use Rattle.lte_types.specs.Numerology.{symbols_of_slot, is_extended};
 
-/// The samples in a frame.
+/// Samples per frame.
 pub const FRAME_LENGTH: usize = 19_200;
 
-/// The samples in half a frame.
+/// Samples per half frame.
 pub const HALF_FRAME_LENGTH: usize = 9_600;
 
-/// The samples in a slot. A frame has 20 slots.
+/// Samples per slot. A frame has 20 slots.
 pub const SLOT_LENGTH: usize = 960;
 
-/// The samples in the useful part of a symbol.
+/// Samples in the useful part of a symbol.
 pub const USEFUL_LENGTH: usize = 128;
 
-/// The samples in 1,024 frames, after which frame numbers repeat.
+/// Samples in 1,024 frames, after which frame numbers repeat.
 pub const CYCLE_LENGTH: usize = 19_660_800;
 
 /// The minimum length of a recording, in samples: 30 ms. (own)

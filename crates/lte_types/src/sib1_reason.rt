@@ -25,7 +25,7 @@ pub enum Sib1Reason {
     BadRiv(u8),
     /// This modulation and coding scheme is reserved.
     ReservedMcs(u8),
-    /// The transport block size for this modulation and coding scheme exceeds 1,000 bits, or there is none.
+    /// The modulation and coding scheme gives no transport block size up to 1,000 bits.
     BlockTooLarge,
     /// No transport block passed its CRC.
     NotDecoded,

@@ -7,7 +7,7 @@ ghost use Rattle.lte_types.specs.Timing.{number_at_start as number_at_start_of, 
 
 use crate::{FRAME_LENGTH, Sfn};
 
-// The samples in a frame.
+// Samples per frame.
 const FRAME: u32 = FRAME_LENGTH as u32;
 
 /// The position at which a recording begins in a cell's frame sequence. (own)

@@ -28,7 +28,7 @@ plus-exchanges a b c d = pair (parts a.re b.re c.re d.re) (parts a.im b.im c.im 
 back_part : (a b : ℤ) → b +ℤ (a -ℤ b) ≡ a
 back_part a b = omega (arith, ints)
 
--- subtracting b from a and adding it again gives a
+-- b added to a - b gives a
 pub plus-minus : (a b : Cpx) → plus b (minus a b) ≡ a
 plus-minus a b = pair (back_part a.re b.re) (back_part a.im b.im)
 

@@ -7,7 +7,7 @@ either_way m n = grind arith
 square-lt : (m n : ℕ) → m < n → m * m < n * n
 square-lt m n h = grind arith
 
--- squares preserve order, so it can be read back from them
+-- the smaller square has the smaller root
 pub root-le : (n m : ℕ) → n * n ≤ m * m → n ≤ m
 root-le n m h = elim (either_way m n) [ inl p ↦ p | inr q ↦ absurd (omega (arith, square-lt m n q)) ]
 

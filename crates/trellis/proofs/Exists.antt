@@ -32,7 +32,7 @@ begins_with_1 n cost u w a b lower = record { size = let s = b.size in omega (ar
     first (false ∷ v) size before = let h = a.least v (omega (arith, size)) in omega (arith, lower, h)
     first (true ∷ v) size before = b.first v (omega (arith, size)) before
 
--- the empty word, for n = 0
+-- the empty word is the first minimum for n = 0
 pub first_of_none : (cost : List Bool → ℕ) → IsFirstLeast 0 cost []
 first_of_none cost = record { size = refl; least = least; first = first }
   where

@@ -6,7 +6,7 @@ use Rattle.cs_bits.proofs.Numbers.{number_below}
 use Rattle.trellis.specs.Words.{IsFirstLeast, key}
 use Rattle.trellis.proofs.Words.{number-before, either_before}
 
--- a cost greater by 1 outweighs a full scale
+-- a cost that is greater by at least 1 outweighs a full scale
 unit_more : (scale a b : ℕ) → a < b → a * scale + scale ≤ b * scale
 unit_more scale a b less =
     let h : suc a * scale ≤ b * scale = mul-le-mul_right scale (omega (arith, less)) in

@@ -25,7 +25,7 @@ first_least_is_best next c ends k n x word is =
     let high = is.least bs size in
     omega (arith, low, e, reached, high)
 
--- adding a constant to all costs keeps the minimum
+-- adding a constant to all costs keeps the first of the cheapest words
 more_for_all : (n d : ℕ) (f g : List Bool → ℕ) (word : List Bool) → ((v : List Bool) → g v ≡ d + f v) → IsFirstLeast n f word → IsFirstLeast n g word
 more_for_all n d f g word is known = record {
   size = known.size;
@@ -33,7 +33,7 @@ more_for_all n d f g word is known = record {
   first = λ other size before. let h = known.first other size before in let e = is word in let e' = is other in omega (arith, h, e, e');
 }
 
--- words that begin with the bit b
+-- the first of the cheapest words that begin with the bit b
 with_first : (next : ℕ → Bool → ℕ) (c : ℕ → ℕ → Bool → ℕ) (ends : ℕ → ℕ) (k m x : ℕ) (b : Bool) (word : List Bool) →
     IsFirstLeast m (whole_cost next c ends (suc k) (next x b)) word → IsFirstLeast m (λ v. whole_cost next c ends k x (b ∷ v)) word
 with_first next c ends k m x b word known =

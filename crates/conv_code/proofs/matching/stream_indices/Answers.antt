@@ -21,7 +21,7 @@ loop-m-init g c = record {
   each = λ k below. absurd (omega (arith, below));
 }
 
--- cell m is what was read
+-- cell m is the one that was read
 index_is : (r m cell : ℕ) → m < 32 * r → cell ≡ cell_of Convolutional r m → (get_or (cells_read Convolutional r 0) m (item 0 0)).index ≡ cell
 index_is r m cell inside is = ap (λ (p : Item). p.index) (cell_is r m cell inside is)
 
