@@ -60,7 +60,7 @@ fn value_of(bits: &[bool], m: u8) -> Cpx
 }
 
 /// Returns the first subcarrier with a reference signal of `pattern` in a symbol; every sixth from there has one (TS
-/// 36.211 section 6.10.1.2). `symbol` is 0 or the pattern's later symbol, for which any other value stands too.
+/// 36.211 section 6.10.1.2). `symbol` is 0 or the pattern's later symbol; any other value counts as later.
 #[tactic(auto, using(std::proofs::lemmas::Bool::Decides::nat_tests))]
 pub fn first_of_pattern(pattern: Pattern, id: CellId, symbol: u8) -> u8
     requires { IsPattern pattern }
@@ -94,8 +94,8 @@ pub fn pattern_pilots(pattern: Pattern, id: CellId, slot: u8, symbol: u8) -> [(u
     pilots
 }
 
-/// Returns the pilots of port 0 in a symbol as subcarriers and values, in order. `slot` is 0 to 19 and `symbol` 0 or
-/// 4. Components of the values are 90 or -90.
+/// Returns the pilots of port 0 in a symbol as subcarriers and values, in order. `symbol` is 0 or 4, `slot` 0 to 19.
+/// Components of the values are 90 or -90.
 pub fn pilots(id: CellId, slot: u8, symbol: u8) -> [(u8, Cpx); 12]
     requires slot { slot < 20 }
     requires symbol { (symbol ≡ 0) ⊎ (symbol ≡ 4) }

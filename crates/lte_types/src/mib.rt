@@ -47,8 +47,8 @@ impl Mib {
         }
     }
 
-    /// Returns schedulingInfoSIB1-BR, 0 to 31: the first five of the last ten bits, which were spare before Release
-    /// 13.
+    /// Returns schedulingInfoSIB1-BR, 0 to 31: the first five of the last ten bits. They were spare before
+    /// Release 13.
     pub fn br(&self) -> u8
         ensures value { result ≡ br_of self.now }
         ensures small { result ≤ 31 }

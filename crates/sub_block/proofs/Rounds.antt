@@ -35,7 +35,7 @@ in_whole_rounds whole reading (suc q) t p round =
     let more : suc q * whole ≡ q * whole + whole = grind arith in
     subst (λ m. count_below m (λ i. is_at t p (reading i)) ≤ suc q) (sym more) (omega (arith, before, here, split))
 
--- an item occurs at most q times in fewer bits
+-- an item occurs at most q times in up to q * whole bits
 in_rounds : (whole : ℕ) (reading : ℕ → Item) (m q t p : ℕ) → GoesRound whole reading → m ≤ q * whole →
     count_below m (λ i. is_at t p (reading i)) ≤ q
 in_rounds whole reading m q t p round few =
