@@ -6,7 +6,7 @@ use Rattle.finite.specs.Bits.{xor}
 use Rattle.finite.proofs.Bits.{xor-false, false-xor, xor_assoc}
 use Rattle.conv_code.specs.Code.{parity, coded_bits, coded_word}
 
--- the loop over the taps: invariant after i of them
+-- the invariant of the loop over the taps, after i of them
 pub record IsPartSum (f : ℕ → Bool) (taps : List ℕ) (i : ℕ) (sum : Bool) : Type 0 where
   pub whole : xor sum (parity (map f (drop i taps))) ≡ parity (map f taps)
 
@@ -29,7 +29,7 @@ pub part_all : (f : ℕ → Bool) (taps : List ℕ) (i : ℕ) (sum : Bool) → l
 part_all f taps i sum past known =
     sym (xor-false sum) ∙ ap (λ ts. xor sum (parity (map f ts))) (sym (drop_of_length-le taps past)) ∙ known.whole
 
--- the result of the loop over the indices
+-- the loop over the indices ends with the codeword
 pub coded_word_is : (n : ℕ) (word bits : List Bool) (found : List (List Bool)) (k : ℕ) → bits ≡ word → length word ≡ n → n ≤ k →
     length found ≡ n → ((j : ℕ) → j < k → get_or found j [] ≡ coded_bits bits j) → found ≡ coded_word word
 unfolding coded_word

@@ -47,7 +47,7 @@ from_before word (suc k) t inside near =
     ap (λ i. get_or word ((i % n + n - t) % n) false) e ∙ ap (λ i. get_or word ((i + n - t) % n) false) (add-mod_right k n ∙ mod-eq_of_lt lt)
     ∙ ap (λ i. get_or word i false) (sym (add-mod_right (k + n - t) n)) ∙ ap (λ i. get_or word (i % n) false) (sym d)
 
--- a word's bit, from coded bits
+-- bit k of the word as the sum of five coded bits
 word_bit : (word : List Bool) (k : ℕ) → k < length word → 6 ≤ length word →
     xor (tapped_bit taps_0 word k) (xor (tapped_bit taps_0 word (before (length word) k)) (xor (tapped_bit taps_1 word k) (xor (tapped_bit taps_2 word k) (tapped_bit taps_2 word (before (length word) k)))))
     ≡ get_or word k false
@@ -81,7 +81,7 @@ at_index word k inside = values_below_at (coded_bits word) (length word) k [] in
 same_bits : (u w : List Bool) → length u ≡ length w → coded_word u ≡ coded_word w → (k : ℕ) → k < length u → coded_bits u k ≡ coded_bits w k
 same_bits u w size same k inside = sym (at_index u k inside) ∙ ap (λ c. get_or c k []) same ∙ at_index w k (omega arith)
 
--- the bits in one stream
+-- equal coded bits are equal in each stream
 stream_bit : (u w : List Bool) (k t : ℕ) → coded_bits u k ≡ coded_bits w k → get_or (coded_bits u k) t false ≡ get_or (coded_bits w k) t false
 stream_bit u w k t same = ap (λ c. get_or c t false) same
 

@@ -13,7 +13,7 @@ use Rattle.sub_block.proofs.Rounds.{GoesRound, summed_at-small}
 use Rattle.conv_code.specs.Reading.{item_of, summed_by, summed}
 use Rattle.conv_code.proofs.Items.{permuting}
 
--- an item is the same in each round
+-- rate matching outputs the same coded bit in each round
 in_round : (n q i : ℕ) → i < 3 * n → item_of n (q * (3 * n) + i) ≡ item_of n i
 unfolding item_of
 in_round n q i below = rw (mod-mul-add q (3 * n) i below, mod-eq_of_lt below) refl
@@ -21,7 +21,7 @@ in_round n q i below = rw (mod-mul-add q (3 * n) i below, mod-eq_of_lt below) re
 goes_round : (n : ℕ) → 6 ≤ n → n ≤ 64 → GoesRound (3 * n) (item_of n)
 goes_round n long short = record { again = in_round n; once = (permuting n long short).reads.once }
 
--- a value that is either counted or not
+-- a value keeps its bound whether or not it is counted
 kept-within : (b : Bool) (z : ℤ) (bound : ℕ) → nat_abs z ≤ bound → nat_abs (cond b z (pos 0)) ≤ bound
 kept-within true z bound small = small
 kept-within false z bound small = omega arith

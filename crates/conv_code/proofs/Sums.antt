@@ -7,7 +7,7 @@ use Rattle.sub_block.specs.declared.Item.{Item}
 use Rattle.sub_block.specs.Items.{summed_at}
 use Rattle.conv_code.specs.Reading.{item_of, summed_by, summed, summed_from}
 
--- values that start at bit 0
+-- `summed` is `summed_from` bit 0
 pub from_first : (n : ℕ) (values : List ℤ) → summed_from 0 n values ≡ summed n values
 from_first n values =
     let same : (i : ℕ) → item_of n (0 + i) ≡ item_of n i = λ i. let e : 0 + i ≡ i = omega arith in ap (item_of n) e in
@@ -35,7 +35,7 @@ module _ (reading : ℕ → Item) (n : ℕ) (values : List ℤ) where
       ap (λ sums. get_or sums t (pos 0)) (row p [] below)
       ∙ values_below_at (λ t. summed_at reading values (length values) t p) 3 t (pos 0) stream
 
--- the rate-matched sequence
+-- sums for the rate-matched sequence
 
 pub length-summed : (n : ℕ) (values : List ℤ) → length (summed n values) ≡ n
 length-summed n values = length-summed_by (item_of n) n values

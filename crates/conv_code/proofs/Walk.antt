@@ -21,7 +21,7 @@ walk_first n total cells whole = record {
 next_cell : (cells : List Item) (m : ℕ) → m < length cells → drop m cells ≡ get_or cells m (item 0 0) ∷ drop (m + 1) cells
 next_cell cells m inside = let e : suc m ≡ m + 1 = omega arith in drop-cons cells m (item 0 0) inside ∙ rw e refl
 
--- a NULL bit
+-- a NULL bit is skipped
 pub walk_null : (n total : ℕ) (cells : List Item) (p m : ℕ) → m < length cells → (get_or cells m (item 0 0)).index < n → IsWalked n total cells p m →
     IsWalked n total cells p (m + 1)
 walk_null n total cells p m inside null known = record {
@@ -37,7 +37,7 @@ bits_here : (n : ℕ) (cells : List Item) (m : ℕ) → m < length cells → n �
 bits_here n cells m inside bit =
     ap (λ cs. length (bits_in n cs)) (next_cell cells m inside) ∙ ap length (bits_in-kept n (get_or cells m (item 0 0)) (drop (m + 1) cells) bit)
 
--- a data bit
+-- a data bit is output
 pub walk_room : (n total : ℕ) (cells : List Item) (p m : ℕ) → m < length cells → n ≤ (get_or cells m (item 0 0)).index → IsWalked n total cells p m → p < total
 walk_room n total cells p m inside bit known =
     let here = bits_here n cells m inside bit in
@@ -53,7 +53,7 @@ walk_bit n total cells p m inside bit known = record {
       left_bit n cells k m (k - (p + 1)) inside bit (rw e at (known.ahead k (omega (arith, first)) below));
 }
 
--- after the last cell
+-- after the last cell, all bits are output
 pub walk_end : (n total : ℕ) (cells : List Item) (p m : ℕ) → length cells ≤ m → IsWalked n total cells p m → p ≡ total
 unfolding bits_in
 walk_end n total cells p m past known =

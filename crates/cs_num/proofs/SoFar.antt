@@ -25,6 +25,6 @@ one_more bound n f sum term new s t h e =
 pub has_room : (bound n : ℕ) (f : ℕ → Cpx) (sum term : Cpx) → SoFar bound n f sum → IsWithin bound term → (n + 1) * bound < 2 ^ 63 → size sum + size term < 2 ^ 63
 has_room bound n f sum term s h room = omega (arith, room, size-le sum (n * bound) s.small, size-le term bound h)
 
--- the complete sum
+-- after all terms, the partial sum is the complete sum, with its bound
 pub all_so_far : (bound n count : ℕ) (f : ℕ → Cpx) (sum : Cpx) → SoFar bound n f sum → n ≡ count → (sum ≡ complex_sum_below count f) × IsWithin (count * bound) sum
 all_so_far bound n count f sum s e = (s.is ∙ ap (λ m. complex_sum_below m f) e, subst (λ m. IsWithin (m * bound) sum) e s.small)

@@ -4,7 +4,7 @@ use Rattle.std.specs.Option.{option_map}
 use Rattle.cs_outside.specs.Outside.{SourceTold}
 use Rattle.cs_outside.specs.Streams.{HasRead, IsAtEnd}
 
--- before the first read
+-- before the first read, nothing is read
 pub read_nothing : (before : SourceTold) → HasRead [] before before
 read_nothing before = record { in_order = same before.left; unfailed = refl }
   where
@@ -12,7 +12,7 @@ read_nothing before = record { in_order = same before.left; unfailed = refl }
     same None = refl
     same (Some input) = refl
 
--- two consecutive reads
+-- two consecutive reads are one read of both
 pub read_then : (first second : List ℕ) (before between now : SourceTold) →
     HasRead first before between → HasRead second between now → HasRead (first ++ second) before now
 read_then first second before between now a b = record {

@@ -6,7 +6,7 @@ use Rattle.std.proofs.lemmas.List.{take-append-drop}
 use Rattle.cs_outside.specs.Outside.{SinkTold}
 use Rattle.cs_outside.specs.Streams.{AreTaken, HasWritten, HasWrittenFront, IsShortOf}
 
--- before the first write
+-- before the first write, nothing is written
 pub write_nothing : (before : SinkTold) → HasWritten [] before before
 write_nothing before = record { taken = record { appended = same before.taken; filled = full before.room }; unfailed = refl }
   where
@@ -18,7 +18,7 @@ write_nothing before = record { taken = record { appended = same before.taken; f
     full None = refl
     full (Some room) = ap Some (omega arith)
 
--- appending twice
+-- two consecutive appends are one append of both
 pub taken_then : (first second : List ℕ) (before between now : SinkTold) →
     AreTaken first before between → AreTaken second between now → AreTaken (first ++ second) before now
 taken_then first second before between now a b = record {
@@ -36,7 +36,7 @@ taken_then first second before between now a b = record {
     both None = refl
     both (Some room) = ap Some (omega (arith, length-append first second))
 
--- two consecutive writes
+-- two consecutive writes are one write of both
 pub write_then : (first second : List ℕ) (before between now : SinkTold) →
     HasWritten first before between → HasWritten second between now → HasWritten (first ++ second) before now
 write_then first second before between now a b = record {

@@ -67,7 +67,7 @@ sums_none rows columns bound row_of column_of values = record {
     zero_at : (r c : ℕ) → r < rows → c < columns → sum_at (replicate rows (replicate columns (pos 0))) r c ≡ pos 0
     zero_at r c h below = ap (λ xs. get_or xs c (pos 0)) (row r h) ∙ get_or-replicate columns c (pos 0) (pos 0) below
 
--- after one more value, added at row p and column q
+-- the table after one more value, added at row p and column q
 pub sums_more : (rows columns bound : ℕ) (row_of column_of : ℕ → ℕ) (values : List ℤ) (m : ℕ) (sums : List (List ℤ)) (p q : ℕ) (v : ℤ) → p ≡ row_of m → q ≡ column_of m →
     p < rows → q < columns → v ≡ get_or values m (pos 0) → nat_abs v ≤ bound →
     AreSums rows columns bound row_of column_of values m sums → AreSums rows columns bound row_of column_of values (m + 1) (sums_with sums p q v)
@@ -90,7 +90,7 @@ sums_more rows columns bound row_of column_of values m sums p q v here there ins
           rw (e, more) (omega (arith, old, new, both));
     }
 
--- the finished table
+-- after all values, the table is the table of their sums
 pub sums_all : (rows columns bound : ℕ) (row_of column_of : ℕ → ℕ) (values : List ℤ) (m : ℕ) (sums : List (List ℤ)) → AreSums rows columns bound row_of column_of values m sums →
     sums ≡ values_below rows (λ r. values_below columns (λ c. sum_below m (share row_of column_of values r c)))
 sums_all rows columns bound row_of column_of values m sums known =

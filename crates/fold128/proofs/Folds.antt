@@ -151,7 +151,7 @@ twice v = pair refl (omega (arith, ints))
 spread : (f a b c : ℕ) → a + b ≡ c → f * a + f * b ≡ f * c
 spread f a b c e = subst (λ n. f * a + f * b ≡ f * n) e (omega arith)
 
--- W at index 32 - m
+-- W at index 32 - m, by symmetry
 opposite_turns : (f m : ℕ) (z : Cpx) → m ≤ 32 → times z (conjugate (w_at (f * (32 - m)))) ≡ times (back_by (f % 4) z) (w_at (f * m))
 opposite_turns f m z inside =
     let whole : f * (32 - m) + f * m ≡ f * 32 = spread f (32 - m) m 32 (omega (arith, inside)) in

@@ -55,7 +55,7 @@ forward_turns (suc q) x z =
     let e : w_at (x + 32 * suc q) ≡ times_j (w_at (x + 32 * q)) = w_same (x + 32 * suc q) (x + 32 * q + 32) (omega arith) ∙ quarter_turn_is_j (x + 32 * q) in
     ap (times z) e ∙ across z (w_at (x + 32 * q)) ∙ forward_turns q x (times_j z) ∙ ap (forward_by q) (outward z (w_at x))
 
--- the sample q quarters later
+-- the product for the sample q quarters later
 pub tone_later : (z : Cpx) (f m q : ℕ) → q < 4 → forward_by (f % 4 * q) (times z (w_at (f * m))) ≡ times z (w_at (f * (m + 32 * q)))
 tone_later z f m q few = sym (ap (times z) (w_same (f * (m + 32 * q)) (f * m + 32 * (f % 4 * q)) (places q few)) ∙ forward_turns (f % 4 * q) (f * m) z)
   where

@@ -33,11 +33,11 @@ low_bits-suc (suc n) r =
     ap (λ bits. odd r ∷ bits)
     (low_bits-suc n (r / 2) ∙ ap (λ (m : ℕ). low_bits n (r / 2) ++ (nat_eq (m % 2) 1 ∷ [])) (shr-shr r 1 n ∙ ap (λ (m : ℕ). r / 2 ^ m) e))
 
--- one more bit
+-- the low n + 1 bits are the low n bits and bit n
 pub low_bits-more : (n r : ℕ) → low_bits (n + 1) r ≡ low_bits n r ++ (nat_eq (r / 2 ^ n % 2) 1 ∷ [])
 low_bits-more n r = rw add-one (low_bits-suc n r)
 
--- two numbers packed into one
+-- the bits of two numbers packed into one, the first number lowest
 low_bits-join : (w v n a b : ℕ) → n ≡ w + v → a < 2 ^ w → low_bits n (a + b * 2 ^ w) ≡ low_bits w a ++ low_bits v b
 unfolding low_bits
 low_bits-join zero v n a b size fits =

@@ -27,7 +27,7 @@ use Rattle.grid_map.proofs.Symbols.{subframe_is, subframe_bounds, place_of, plac
 
 -- ---- the control region
 
--- in a symbol up to `last`, and not a reference signal for port 0 or 1
+-- a resource element in a symbol up to `last`, without a reference signal for port 0 or 1
 pub record IsInRegion (identity last : ℕ) (p : Place) : Type 0 where
   pub symbol : p.symbol ≤ last
   pub k : p.k < 72
@@ -57,7 +57,7 @@ free_where_not_kept identity symbol k low none = cases (is_reference identity (s
     cases false e = refl
     cases true e = absurd (none (reference_is_kept identity symbol k low e))
 
--- a group's resource elements satisfy this
+-- a group's resource elements are in the control region, without reference signals
 of_group : (identity last : ℕ) (g : Reg) (p : Place) → last ≤ 3 → is_group g ≡ true → g.symbol ≤ last → Contains (group_places identity g) p → IsInRegion identity last p
 of_group identity last g p few is below has =
     let inside = places_inside identity g p is has in
@@ -165,7 +165,7 @@ module _ (identity cfi : ℕ) (duration : Duration) (resource : Resource) (low :
 
 -- ---- the PDSCH
 
--- after the control region, not in a symbol with synchronisation signals, and not a reference signal
+-- a resource element after the control region, in no symbol with synchronisation signals, without a reference signal
 pub record IsAfterRegion (carrier : Carrier) (identity last : ℕ) (p : Place) : Type 0 where
   pub after : last < p.symbol
   pub symbol : p.symbol < 14
@@ -189,7 +189,7 @@ not_true : (b : Bool) → not b ≡ true → b ≡ false
 not_true false e = refl
 not_true true e = absurd (false≢true e)
 
--- the PDSCH's resource elements satisfy this
+-- PDSCH resource elements are after the control region, without synchronisation and reference signals
 pub shared_place : (carrier : Carrier) (identity cfi start blocks i : ℕ) → i < length (shared_places_of carrier identity cfi start blocks) →
     IsAfterRegion carrier identity cfi (get_or (shared_places_of carrier identity cfi start blocks) i (place 0 0))
 unfolding shared_place_of

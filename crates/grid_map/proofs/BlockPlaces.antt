@@ -5,7 +5,7 @@ use Rattle.lte_types.specs.declared.carrier.Carrier.TheVariants.{OnePort, TwoPor
 use Rattle.lte_types.specs.Carrier.{ports_of}
 use Rattle.grid_map.specs.Shared.{block_places_of}
 
--- the numbers for indicator 2, and for 3
+-- PDSCH resource elements per resource block with indicator 2, and with 3
 abbrev counts : Carrier → Bool → ℕ
 counts OnePort first = cond first 102 90
 counts TwoPorts first = cond first 96 84

@@ -14,7 +14,7 @@ carries identity count q r = nat_eq (quadruplet_at identity count r) q
 number_at : (count r : ℕ) → r < count → get_or (range_with_len 0 count) r 0 ≡ r
 number_at count r l = get_or-range_with_len 0 count r 0 l ∙ zero-add r
 
--- the first group that carries it is the result
+-- the first group that carries quadruplet q is the result
 pub group_is_first : (identity count q r : ℕ) → r < count → ((k : ℕ) → k < r → carries identity count q k ≡ false) →
     quadruplet_at identity count r ≡ q → group_of_quadruplet identity count q ≡ r
 unfolding group_of_quadruplet
@@ -24,7 +24,7 @@ group_is_first identity count q r l before here =
     (λ k m. ap (carries identity count q) (number_at count k (omega (arith, l, m))) ∙ before k m)
     (λ inside. ap (carries identity count q) (number_at count r l) ∙ eq-eqb _ _ here)
 
--- some group carries it
+-- some group carries quadruplet q
 pub some_group : (identity count q r : ℕ) → q < count → count ≤ r → ((k : ℕ) → k < r → carries identity count q k ≡ false) → ⊥
 some_group identity count q r l past none =
     let (k, below, here) = quadruplet_each identity count q l in

@@ -89,7 +89,7 @@ by_count P none two four false several false = none
 pub of_count : (P : ℕ → Type 0) → P 0 → P 2 → P 4 → (carrier : Carrier) (symbol : ℕ) → P (pilots_of_block carrier symbol)
 of_count P none two four carrier symbol = by_count P none two four _ _ _
 
--- the number that stay, and their offsets
+-- the subcarriers that stay: their number and offsets
 pub record IsLeft (pilots first : ℕ) : Type 0 where
   pub few : pilots ≤ 4
   pub small : shift_by pilots first < 10
@@ -107,7 +107,7 @@ left_is first l = of_count (λ pilots. IsLeft pilots first)
 abbrev first_by : Bool → ℕ → ℕ
 first_by zeroth identity = (cond zeroth 0 3 + identity) % 6
 
--- with one port
+-- with one port, its reference signals are the left-out subcarriers
 of_one : (has second : Bool) (first k : ℕ) → first < 6 →
     ((has && nat_eq (k % 6) first) || false) ≡ leaves (shift_by (cond has 2 (cond (second && false) 4 0)) first) k
 of_one true second first k l = rw (first_lt first l) (or_none (nat_eq (k % 6) first))
@@ -118,7 +118,7 @@ of_one true second first k l = rw (first_lt first l) (or_none (nat_eq (k % 6) fi
 of_one false true first k l = rw (never_6 k) refl
 of_one false false first k l = rw (never_6 k) refl
 
--- every third subcarrier
+-- whether a subcarrier is one of every third, from the identity modulo 3
 abbrev is_third : ℕ → ℕ → Bool
 is_third identity k = nat_eq (k % 3) (identity % 3)
 
@@ -131,7 +131,7 @@ leaves_third zeroth identity k =
     same true = omega arith
     same false = omega arith
 
--- both lower ports together, and both upper ports
+-- ports 0 and 1 together, or ports 2 and 3, leave out every third subcarrier
 lower_third : (zeroth : Bool) (identity k : ℕ) (b : Bool) → is_third identity k ≡ b →
     (nat_eq (k % 6) (first_by zeroth identity) || nat_eq (k % 6) ((cond zeroth 3 0 + identity) % 6)) ≡ b
 lower_third true identity k true e = grind (arith, nat_tests)
@@ -144,13 +144,13 @@ upper_third : (identity slot k : ℕ) (b : Bool) → is_third identity k ≡ b �
 upper_third identity slot k true e = grind (arith, nat_tests)
 upper_third identity slot k false e = grind (arith, nat_tests)
 
--- a disjunction with false
+-- false may be dropped from a disjunction
 two_are : (a b c : Bool) → (a || b) ≡ c → (a || (b || false)) ≡ c
 two_are true b c e = e
 two_are false true c e = e
 two_are false false c e = e
 
--- with two ports
+-- with two ports, their reference signals are the left-out subcarriers
 of_two : (has zeroth second : Bool) (identity k : ℕ) →
     ((has && nat_eq (k % 6) (first_by zeroth identity)) || ((has && nat_eq (k % 6) ((cond zeroth 3 0 + identity) % 6)) || false))
     ≡ leaves (shift_by (cond has 4 (cond (second && false) 4 0)) (first_by zeroth identity)) k
@@ -165,7 +165,7 @@ four_are false false true d e f g = g
 four_are false false false true e f g = g
 four_are false false false false e f g = g
 
--- with four ports
+-- with four ports, their reference signals are the left-out subcarriers
 of_four : (has zeroth second : Bool) (identity slot k : ℕ) →
     ((has && nat_eq (k % 6) (first_by zeroth identity)) || ((has && nat_eq (k % 6) ((cond zeroth 3 0 + identity) % 6))
     || ((second && nat_eq (k % 6) (upper_first 2 identity slot)) || ((second && nat_eq (k % 6) (upper_first 3 identity slot)) || false))))

@@ -81,7 +81,7 @@ long_place-nth identity i inside =
     ap (λ (ps : List Place). get_or ps i (place 0 0)) (places_are identity)
     ∙ get_or-map-range_with_len (nth_place (identity % 3)) 0 216 i i (place 0 0) inside (omega arith)
 
--- the known facts about a resource element
+-- facts about the PBCH resource element for index i
 pub record IsLongPlace (identity i : ℕ) (p : Place) : Type 0 where
   pub symbol : p.symbol < 4
   pub k : p.k < 72

@@ -43,7 +43,7 @@ places_inside identity i inside =
     let here = pbch_place-nth identity i inside in
     rw here (nth_place-is_free (identity % 3) i (shift_fits identity) inside)
 
--- all are in the first four symbols of a slot
+-- the PBCH is in the first four symbols of a slot
 pub places_in_front : (identity i : ℕ) → (get_or (pbch_places identity) i (place 0 0)).symbol % 7 < 4
 unfolding pbch_place is_pbch
 places_in_front identity i = elim (cases_lt i 240) [

@@ -137,7 +137,7 @@ steps_short symbol shift i l = cases (nat_eq symbol 0)
     cases true = grind (arith, nat_tests)
     cases false = l
 
--- in the group's symbol and span
+-- a resource element in the group's symbol and span
 pub record IsSpanned (g : Reg) (p : Place) : Type 0 where
   pub symbol : p.symbol ≡ g.symbol
   pub from : g.first ≤ p.k

@@ -201,7 +201,7 @@ pdsch_count carrier identity zero start blocks low high few = absurd (omega arit
 pdsch_count carrier identity (suc zero) start blocks low high few = absurd (omega arith)
 pdsch_count carrier identity (suc (suc (suc (suc cfi)))) start blocks low high few = absurd (omega arith)
 
--- one more symbol
+-- the count over one more symbol
 pub rooms_next : (carrier : Carrier) (s last : ℕ) → s < last → block_rooms carrier s (last - s) ≡ block_room carrier s + block_rooms carrier (s + 1) (last - (s + 1))
 rooms_next carrier s last l = let e : last - s ≡ suc (last - (s + 1)) = omega arith in rw e refl
 
@@ -222,7 +222,7 @@ ahead_first carrier identity cfi start blocks i low high few inside =
     let count = pdsch_count carrier identity cfi start blocks low high few in
     record { same = ap (λ (ps : List Place). get_or ps i (place 0 0)) is; inside = rw (sym is) (rw count inside) }
 
--- all resource elements in a symbol precede it
+-- a symbol is skipped if all its resource elements come before resource element i
 pub ahead_later : (carrier : Carrier) (identity cfi start blocks i symbol left : ℕ) → start + blocks ≤ 6 → symbol < subframe_symbols carrier → cfi < symbol → block_room carrier symbol * blocks ≤ left →
     IsAhead carrier identity cfi start blocks i symbol left → IsAhead carrier identity cfi start blocks i (symbol + 1) (left - block_room carrier symbol * blocks)
 ahead_later carrier identity cfi start blocks i symbol left few l after past known =
@@ -237,7 +237,7 @@ ahead_later carrier identity cfi start blocks i symbol left few l after past kno
       inside = omega (arith, known', long, here, past);
     }
 
--- the symbol that contains it
+-- the search ends at the symbol that contains resource element i
 pub ahead_here : (carrier : Carrier) (identity cfi start blocks i symbol left : ℕ) → start + blocks ≤ 6 → symbol < subframe_symbols carrier → cfi < symbol → left < block_room carrier symbol * blocks →
     IsAhead carrier identity cfi start blocks i symbol left → place symbol (12 * start + offset carrier identity symbol left) ≡ shared_place_of carrier identity cfi start blocks i
 ahead_here carrier identity cfi start blocks i symbol left few l after inside known =
@@ -291,7 +291,7 @@ pdsch_once carrier identity cfi start blocks i j l m same = cases (cases_lt i j)
     cases (inr a) (inl b) = absurd (let rises = pdsch_in_order carrier identity cfi start blocks j i b l in omega (arith, numbers, rises))
     cases (inr a) (inr b) = omega (arith, a, b)
 
--- in the first `symbols` symbols
+-- whether a resource element is in the first `symbols` symbols
 abbrev is_before : ℕ → Place → Bool
 is_before symbols p = nat_lt p.symbol symbols && nat_lt p.k 72
 

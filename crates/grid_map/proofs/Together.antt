@@ -7,7 +7,7 @@ use Rattle.grid_map.specs.Shared.{slot_symbols, subframe_symbols, is_synchronisa
 use Rattle.grid_map.proofs.LeftOut.{of_count}
 use Rattle.grid_map.proofs.Symbols.{IsAhead, subframe_bounds, pdsch_count, ahead_first, ahead_later, ahead_here, ahead_never}
 
--- a symbol has an even number of them
+-- a symbol has an even number of PDSCH resource elements
 room_even : (carrier : Carrier) (symbol blocks : ℕ) → (block_room carrier symbol * blocks) % 2 ≡ 0
 room_even carrier symbol blocks = cases (is_synchronisation carrier symbol)
   where

@@ -60,7 +60,7 @@ energy_gain zero g f = omega arith
 energy_gain (suc n) g f =
     factors (square g) (energy_below n f) (energy_below n (λ k. times g (f k))) (energy_gain n g f) (square (times g (f n))) (square (f n)) (square-times g (f n))
 
--- the energy of the first n terms is at most that of the first m, for n ≤ m
+-- the first n terms have at most the energy that the first m have, for n ≤ m
 pub energy_part : (n m : ℕ) (f : ℕ → Cpx) → n ≤ m → energy_below n f ≤ energy_below m f
 unfolding total_below
 energy_part n zero f l = let e : n ≡ 0 = omega arith in rw e (omega arith)
@@ -103,7 +103,7 @@ correlation_multiple n m f p =
     complex_sum_below_same n (λ k. times (multiple m (f k)) (conjugate (p k))) (λ k. multiple m (times (f k) (conjugate (p k)))) (λ k l. multiple-times m (f k) (conjugate (p k)))
     ∙ sum-multiple n m (λ k. times (f k) (conjugate (p k)))
 
--- the correlation of a scaled signal with added errors
+-- a scaled signal's correlation, with added errors
 pub correlation_gain : (n : ℕ) (g : Cpx) (f e p : ℕ → Cpx) →
     correlation_below n (λ k. plus (times g (f k)) (e k)) p ≡ plus (times g (correlation_below n f p)) (correlation_below n e p)
 correlation_gain n g f e p = correlation_plus n (λ k. times g (f k)) e p ∙ ap (λ (z : Cpx). plus z (correlation_below n e p)) (correlation_times n g f p)

@@ -11,7 +11,7 @@ use Rattle.norms.specs.Sizes.{inner, real, energy_below, correlation_below}
 use Rattle.norms.proofs.Squares.{times_conjugate, square-times, square-plus}
 use Rattle.norms.proofs.Cauchy.{correlation_gain}
 
--- the correlation of a signal with itself is its energy
+-- a signal's correlation with itself is its energy
 pub correlation_self : (n : ℕ) (p : ℕ → Cpx) → correlation_below n p p ≡ real (energy_below n p)
 unfolding sum_below total_below
 correlation_self zero p = refl
@@ -61,7 +61,7 @@ one_more : (s p q x y z g : ℕ) (i j k m : ℤ) → pos s ≡ pos (g * p) +ℤ 
     k ≡ j → m ≡ i +ℤ j → pos (s + x) ≡ pos (g * (p + t)) +ℤ pos (q + z) +ℤ pos 2 *ℤ m
 one_more s p q x y z g i j k m h l t e f o = omega (arith, ints)
 
--- the energy of a scaled signal with added errors
+-- a scaled signal's energy, with added errors
 pub energy_with_errors : (n : ℕ) (g : Cpx) (p e : ℕ → Cpx) →
     pos (energy_below n (λ k. plus (times g (p k)) (e k))) ≡ pos (square g * energy_below n p) +ℤ pos (energy_below n e) +ℤ pos 2 *ℤ inner g (correlation_below n e p)
 unfolding sum_below total_below

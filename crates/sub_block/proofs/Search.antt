@@ -13,7 +13,7 @@ pub bits_in-skipped : (n : ℕ) (c : Item) (cs : List Item) → c.index < n → 
 unfolding bits_in
 bits_in-skipped n c cs h = let e : nat_le n c.index ≡ false = grind arith in rw e refl
 
--- the bit p that is sought is bit `left` in the cells from m
+-- the sought bit, bit p of all cells, is bit `left` in the cells from m
 pub record IsLeft (n : ℕ) (cells : List Item) (p m left : ℕ) : Type 0 where
   pub same : get_or (bits_in n cells) p (item 0 0) ≡ get_or (bits_in n (drop m cells)) left (item 0 0)
   pub inside : left < length (bits_in n (drop m cells))
@@ -38,7 +38,7 @@ kept : (n : ℕ) (cells : List Item) (m : ℕ) → m < length cells → n ≤ (g
     bits_in n (drop m cells) ≡ item (get_or cells m (item 0 0)).stream ((get_or cells m (item 0 0)).index - n) ∷ bits_in n (drop (m + 1) cells)
 kept n cells m inside bit = ap (bits_in n) (next_cell cells m inside) ∙ bits_in-kept n (get_or cells m (item 0 0)) (drop (m + 1) cells) bit
 
--- a bit in front of the one that is sought
+-- a bit in front of the sought one is passed
 pub left_bit : (n : ℕ) (cells : List Item) (p m left : ℕ) → m < length cells → n ≤ (get_or cells m (item 0 0)).index →
     IsLeft n cells p m (suc left) → IsLeft n cells p (m + 1) left
 left_bit n cells p m left inside bit known =
@@ -48,7 +48,7 @@ left_bit n cells p m left inside bit known =
       inside = let h = known.inside in let h' = rw keep at h in omega (arith, h');
     }
 
--- the bit that is sought
+-- the sought bit is found
 pub left_found : (n : ℕ) (cells : List Item) (p m : ℕ) → m < length cells → n ≤ (get_or cells m (item 0 0)).index → IsLeft n cells p m 0 →
     get_or (bits_in n cells) p (item 0 0) ≡ item (get_or cells m (item 0 0)).stream ((get_or cells m (item 0 0)).index - n)
 left_found n cells p m inside bit known = known.same ∙ ap (λ bs. get_or bs 0 (item 0 0)) (kept n cells m inside bit)

@@ -8,14 +8,14 @@ use Rattle.trellis.specs.Paths.{end_of, path_cost, best}
 pub min_cases : (a b : ℕ) → (min a b ≡ a) ⊎ (min a b ≡ b)
 min_cases a b = elim (cases_lt b a) [ inl h ↦ inr (min-eq_right (omega arith)) | inr h ↦ inl (min-eq_left h) ]
 
--- no path costs less
+-- no path costs less than `best`
 pub best-le : (next : ℕ → Bool → ℕ) (c : ℕ → ℕ → Bool → ℕ) (ends : ℕ → ℕ) (k x : ℕ) (bs : List Bool) →
     best next c ends k (length bs) x ≤ path_cost next c k x bs + ends (end_of next x bs)
 best-le next c ends k x [] = omega arith
 best-le next c ends k x (false ∷ bs) = let ih = best-le next c ends (suc k) (next x false) bs in omega (arith, ih)
 best-le next c ends k x (true ∷ bs) = let ih = best-le next c ends (suc k) (next x true) bs in omega (arith, ih)
 
--- some path attains the minimum
+-- some path costs exactly `best`
 pub best_reached : (next : ℕ → Bool → ℕ) (c : ℕ → ℕ → Bool → ℕ) (ends : ℕ → ℕ) (k n x : ℕ) →
     (bs : List Bool) × (length bs ≡ n) × (path_cost next c k x bs + ends (end_of next x bs) ≡ best next c ends k n x)
 best_reached next c ends k zero x = ([], refl, omega arith)

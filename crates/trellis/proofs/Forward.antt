@@ -7,7 +7,7 @@ use Rattle.trellis.specs.Least.{IsLeastTo}
 use Rattle.trellis.proofs.Paths.{end_of-append, path_cost-last, all_but_last, end_below}
 use Rattle.trellis.proofs.Best.{min_cases}
 
--- before any step
+-- before any step, the minimum cost to a state is its start cost
 pub least_to_none : (next : ℕ → Bool → ℕ) (c : ℕ → ℕ → Bool → ℕ) (starts : ℕ → ℕ) (limit x : ℕ) → x < limit → IsLeastTo next c starts limit 0 x (starts x)
 least_to_none next c starts limit x below = record {
   reached = (x, [], below, refl, refl, omega arith);
@@ -26,7 +26,7 @@ pub record HasEdges (next : ℕ → Bool → ℕ) (limit x p : ℕ) (b : Bool) (
   pub second : next q d ≡ x
   pub only : (y : ℕ) (a : Bool) → y < limit → next y a ≡ x → ((y ≡ p) × (a ≡ b)) ⊎ ((y ≡ q) × (a ≡ d))
 
--- one more step
+-- the minimum cost one step later, over the two edges into a state
 pub least_to_more : (next : ℕ → Bool → ℕ) (c : ℕ → ℕ → Bool → ℕ) (starts : ℕ → ℕ) (limit k x p : ℕ) (b : Bool) (q : ℕ) (d : Bool) (m n : ℕ) →
     ((y : ℕ) (a : Bool) → y < limit → next y a < limit) →
     HasEdges next limit x p b q d → IsLeastTo next c starts limit k p m → IsLeastTo next c starts limit k q n →

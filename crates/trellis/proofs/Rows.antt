@@ -25,7 +25,7 @@ one_zero n far s x start inside = elim (eqb_tells x s) [
   | inr (f, other) ↦ rw (get_or-set_other (replicate n far) s x 0 0 other, get_or-replicate n x far 0 inside, ends_in_other far s x f) refl
 ]
 
--- before the first step
+-- before the first step, the start costs are a row of minimum costs
 pub row_first : (next : ℕ → Bool → ℕ) (c : ℕ → ℕ → Bool → ℕ) (starts : ℕ → ℕ) (limit first most : ℕ) (row : List ℕ) →
     ((x : ℕ) → x < limit → get_or row x 0 ≡ starts x) → ((x : ℕ) → x < limit → get_or row x 0 ≤ first) →
     IsLeastRow next c starts limit first most 0 row
@@ -34,7 +34,7 @@ row_first next c starts limit first most row is small = record {
   room = λ x below. let r = small x below in omega (arith, r);
 }
 
--- after one more step: edges from p x by b x and from q x by d x enter x
+-- a row of minimum costs one step later: edges from p x by b x and from q x by d x enter state x
 pub row_later : (next : ℕ → Bool → ℕ) (c : ℕ → ℕ → Bool → ℕ) (starts : ℕ → ℕ) (limit first most k : ℕ) (p : ℕ → ℕ) (b : ℕ → Bool) (q : ℕ → ℕ) (d : ℕ → Bool)
     (row later : List ℕ) → ((y : ℕ) (a : Bool) → y < limit → next y a < limit) →
     ((x : ℕ) → x < limit → HasEdges next limit x (p x) (b x) (q x) (d x)) → IsLeastRow next c starts limit first most k row →

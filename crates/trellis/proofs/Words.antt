@@ -21,7 +21,7 @@ number-before (true ∷ u) (true ∷ w) e h =
     let e' : length u ≡ length w = omega arith in
     rw e' (omega (arith, ih))
 
--- two different words of equal length: one precedes the other
+-- two words of equal length are equal, or one precedes the other
 pub either_before : (u w : List Bool) → length u ≡ length w → (u ≡ w) ⊎ (IsBefore u w ⊎ IsBefore w u)
 either_before [] [] size = inl refl
 either_before [] (x ∷ w) size = absurd (omega (arith, size))

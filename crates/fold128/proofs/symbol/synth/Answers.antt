@@ -40,7 +40,7 @@ add_tone-requires-clause-small c =
     All-from_get_or (AreWithin 1073741824) c.loop-k.parts empty_quartet
     (λ m inside. are-more (c.loop-k.k * 4161536) 1073741824 _ (c.loop-k.invariant.small m (omega (arith, inside, long))) (omega arith))
 
--- one more subcarrier in the sum
+-- one more subcarrier extends the sum by its term
 step : (grid : ℕ → Cpx) (k n f : ℕ) (p q : Quartet) → n < 128 → f ≡ frequency k → q ≡ added p (f % 4) (times (grid k) (w_at (f * (n % 32)))) → given_at (n / 32) p ≡ complex_sum_below k (useful_term grid n)
     → given_at (n / 32) q ≡ complex_sum_below (k + 1) (useful_term grid n)
 step grid k n f p q inside is e before =

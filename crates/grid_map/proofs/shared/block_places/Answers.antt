@@ -5,7 +5,7 @@ use Rattle.grid_map.proofs.Symbols.{rooms_next}
 use Rattle.grid_map.proofs.BlockPlaces.{at_most}
 use Rattle.grid_map.proofs.shared.block_places.Goals as goal
 
--- one more symbol
+-- the count over one more symbol
 counted : (carrier : Carrier) (symbol slot room places all : ℕ) → slot ≡ slot_symbols carrier → room ≡ block_room carrier symbol → symbol < 2 * slot →
     places + block_rooms carrier symbol (subframe_symbols carrier - symbol) ≡ all → places + room + block_rooms carrier (symbol + 1) (subframe_symbols carrier - (symbol + 1)) ≡ all
 counted carrier symbol slot room places all is here l before =
