@@ -126,8 +126,7 @@ reference_at identity slot symbol k = reference identity slot symbol (k / 6)
 unfoldable pub is_second_reference : ℕ → ℕ → ℕ → Bool
 is_second_reference identity symbol k = is_pattern_place port_1 identity symbol k
 
--- ---- for ports 2 and 3 with the normal prefix: one symbol of a slot, the second, with the sequence that port 0 has
--- for that symbol; values depend on k / 6
+-- ---- for ports 2 and 3 with the normal prefix, in symbol 1 of a slot; sequence and values are those of port 0
 
 -- the part of v before 3 (n_s mod 2): 0 for port 2 and 3 for port 3 (section 6.10.1.2)
 abbrev pub upper_shift : ℕ → ℕ

@@ -35,7 +35,7 @@ number-append (true ∷ bits) b =
 pub number_more : (bits : List Bool) (i : ℕ) → i < length bits → number (take (i + 1) bits) ≡ 2 * number (take i bits) + cond (get_or bits i false) 1 0
 number_more bits i inside = rw (add-one, take-suc bits i false inside) (number-append (take i bits) (get_or bits i false))
 
--- the bits before the last of at most 64 have a number below 2 ^ 63, so it can be doubled
+-- fewer than 64 bits have a number below 2 ^ 63, which can be doubled
 pub number_before : (bits : List Bool) (i : ℕ) → i < length bits → length bits ≤ 64 → number (take i bits) < 2 ^ 63
 number_before bits i inside few =
     let below = number_below (take i bits) in

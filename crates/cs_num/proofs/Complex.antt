@@ -9,7 +9,7 @@ use Rattle.finite.proofs.Ring as ring
 use Rattle.cs_num.specs.declared.Cpx.{Cpx}
 use Rattle.cs_num.specs.Complex.{IsWithin, size, nothing, plus, minus, multiple, times, times_j, conjugate, square}
 
--- two complex numbers with the same components
+-- complex numbers with equal components are equal
 pub pair : {x y u v : ℤ} → x ≡ y → u ≡ v → ◌≡◌ {A = Cpx} (record { re = x; im = u }) (record { re = y; im = v })
 pair e f = cc
 
