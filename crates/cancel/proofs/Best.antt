@@ -1,4 +1,4 @@
--- What the best candidate leaves.
+-- The best candidate's residual.
 use Rattle.std.proofs.Common.{add-one, ◌≡◌, ℕ, zero, suc, ◌<◌, ◌≤◌, ◌+◌, inl, inr, arith, subst, max, refl, ap, ap₂}
 use Rattle.std.proofs.lemmas.Bool.{cases_lt}
 use Rattle.cs_num.specs.declared.Cpx.{Cpx}

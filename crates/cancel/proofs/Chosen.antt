@@ -1,4 +1,4 @@
--- What the code chooses among gains is the definition's choice.
+-- The code's choice of a gain is the definition's.
 use Rattle.std.proofs.Common.{◌≡◌, ◌∙◌, ℕ, ◌<◌, sym, ap, subst, List, length, Option, Some}
 use Rattle.std.proofs.Math.Path.{fun_ext}
 use Rattle.finite.specs.Lists.{values_below}
@@ -15,7 +15,7 @@ use Rattle.cancel.specs.Residue.{estimate_at, sent_at, left_at, greatest_left, r
 use Rattle.cancel.specs.Steps.{left_of, greatest_of, IsChosen, IsTakenOff}
 use Rattle.cancel.proofs.Best.{greatest_same}
 
--- ---- a recording, and what was sent
+-- ---- a recording, and the transmitted samples
 
 module _ (recording : List Sample) (plan : CellPlan) (start number : ℕ) (sent : List Sample)
     (is_sent : sent ≡ values_below (length recording) (λ i. sample_of (sent_at plan start number i))) where
@@ -51,7 +51,7 @@ module _ (recording : List Sample) (plan : CellPlan) (start number : ℕ) (sent 
     after = is.after;
   }
 
--- the same choice by equal lists and an equal estimate
+-- the same choice for equal lists and an equal estimate
 pub chosen_by : (samples recording others sent : List Sample) (middle estimate : Cpx) (found choice : Option GainChoice) → samples ≡ recording → others ≡ sent → middle ≡ estimate → found ≡ choice
     → IsChosen (greatest_of samples others) middle found → IsChosen (greatest_of recording sent) estimate choice
 chosen_by samples recording others sent middle estimate found choice e f g h chosen =
@@ -60,7 +60,7 @@ chosen_by samples recording others sent middle estimate found choice e f g h cho
     (subst (λ (m : Cpx). IsChosen (greatest_of samples others) m choice) g
     (subst (λ (c : Option GainChoice). IsChosen (greatest_of samples others) middle c) h chosen)))
 
--- what was sent, by another count
+-- an equal count gives equal transmitted samples
 pub sent_by : (recording : List Sample) (count : ℕ) (plan : CellPlan) (start number : ℕ) (sent : List Sample) → sent ≡ values_below count (λ i. sample_of (sent_at plan start number i)) →
     count ≡ length recording → sent ≡ values_below (length recording) (λ i. sample_of (sent_at plan start number i))
 sent_by recording count plan start number sent is same = is ∙ ap (λ n. values_below n (λ i. sample_of (sent_at plan start number i))) same

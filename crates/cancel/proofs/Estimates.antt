@@ -1,4 +1,4 @@
--- The estimate of a gain by a correlation with a known signal.
+-- A gain estimated by correlation with a known signal.
 use Rattle.std.proofs.Common.{◌≡◌, ℕ, ◌+◌, ◌*◌, ◌≤◌, inl, inr, arith, refl, ap, sym, ◌∙◌, ℤ, pos, ◌+ℤ◌, ◌-ℤ◌, ◌*ℤ◌, nat_abs, mul-le-mul_left, mul-le-mul_right}
 use Rattle.std.proofs.lemmas.Int.{ints}
 use Rattle.std.proofs.lemmas.Bool.{cases_lt}
@@ -21,7 +21,7 @@ use Rattle.cancel.specs.Laws.{IsGainSeen, EstimateIsNear, GainIsCandidate}
 
 -- ---- the distance
 
--- where z = h g + c, 2h times the distance of g and the quotient is what rounding took off 2z, less 2c
+-- for z = h g + c, 2h times the difference between g and the quotient is the rounding error on 2z, minus 2c
 distance_part : (h : ℕ) (g c q z : ℤ) → z ≡ pos h *ℤ g +ℤ c → pos (2 * h) *ℤ (g -ℤ q) ≡ pos 2 *ℤ z -ℤ pos (2 * h) *ℤ q -ℤ pos 2 *ℤ c
 distance_part h g c q z e =
     same (ring.times (lit (2 * h)) (ring.minus (var g) (var q)))
@@ -32,7 +32,7 @@ distance_is : (h : ℕ) (g c z : Cpx) → z ≡ plus (multiple h g) c →
     multiple (2 * h) (minus g (quotient z h)) ≡ minus (minus (multiple 2 z) (multiple (2 * h) (quotient z h))) (multiple 2 c)
 distance_is h g c z e = pair (distance_part h g.re c.re (rounded_quotient z.re h) z.re (ap (λ (x : Cpx). x.re) e)) (distance_part h g.im c.im (rounded_quotient z.im h) z.im (ap (λ (x : Cpx). x.im) e))
 
--- |x - y|^2 is at most 2 |x|^2 and 2 |y|^2
+-- |x - y|^2 is at most 2 |x|^2 + 2 |y|^2
 less_or_more : (a : ℤ) → nat_abs (pos 0 -ℤ a) ≡ nat_abs a
 less_or_more a = omega (arith, ints)
 
@@ -57,7 +57,7 @@ square-minus x y =
     sums : (s t a b c : ℕ) → t ≡ s → c ≡ b → 1 * t ≤ (1 + 1) * a + 1 * (1 + 1) * c → s ≤ 2 * a + 2 * b
     sums s t a b c e f h = omega (arith, e, f, h)
 
--- 4 h^2 s is at most 8 |c|^2 and 4 h^2, and |c|^2 at most 802816 h: so s is at most 1
+-- 4 h^2 s is at most 8 |c|^2 + 4 h^2, and |c|^2 at most 802816 h, so s is at most 1
 one_beside : (h n c s : ℕ) → 1990000 ≤ h → n ≤ 784 → c ≤ 1024 * n * h → 2 * h * (2 * h) * s ≤ 2 * (2 * (h * h)) + 2 * (2 * 2 * c) → s ≤ 1
 one_beside h n c s power small off far = elim (cases_lt s 2) [
   | inl less ↦ omega (arith, less)

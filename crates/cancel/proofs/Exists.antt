@@ -1,4 +1,4 @@
--- There is an answer of a subtraction.
+-- Every cancellation has an answer.
 use Rattle.std.proofs.Common.{◌≡◌, ℕ, zero, suc, ◌+◌, ◌⊎◌, inl, inr, arith, refl, subst, Option, Some, None, List}
 use Rattle.std.proofs.lemmas.Bool.{cases_lt}
 use Rattle.cs_num.specs.declared.Cpx.{Cpx}
@@ -16,7 +16,7 @@ use Rattle.cancel.proofs.Found.{none_before, passed, taken, best_is_found}
 
 -- ---- a candidate
 
--- a number is a candidate, or is none
+-- a number is a candidate or not
 candidate_or_not : (middle gain : Cpx) → IsCandidate middle gain ⊎ (IsCandidate middle gain → ⊥)
 candidate_or_not middle gain = elim (cases_lt (square gain) 1) [
   | inl nothing ↦ inr (λ is. let least = is.size.least in absurd (omega (arith, nothing, least)))
@@ -29,7 +29,7 @@ candidate_or_not middle gain = elim (cases_lt (square gain) 1) [
   ]
 ]
 
--- ---- the best of them
+-- ---- the best candidate
 
 module _ (greatest : Cpx → ℕ) (middle : Cpx) where
   found_before : (n : ℕ) → (found : Option GainChoice) × IsFoundBefore greatest middle None n found

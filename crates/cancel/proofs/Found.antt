@@ -1,4 +1,4 @@
--- Trying 25 gains in order finds the best candidate.
+-- A search through 25 gains in order finds the best candidate.
 use Rattle.std.proofs.Common.{◌≡◌, ℕ, ◌+◌, ◌*◌, ◌/◌, ◌%◌, ◌<◌, ◌≤◌, ◌⊎◌, inl, inr, arith, refl, ap, sym, ◌∙◌, subst, Bool, true, false, nat_lt, Option, Some, None, ltb-true, ltb-false, ℤ, pos, ◌+ℤ◌, ◌-ℤ◌, ◌≤ℤ◌, ◌<ℤ◌, nat_abs}
 use Rattle.std.specs.Prelude.{if◌then◌else◌}
 use Rattle.std.specs.Option.{option_or}
@@ -13,7 +13,7 @@ use Rattle.cancel.specs.Gain.{IsCandidate, GoesBefore}
 use Rattle.cancel.specs.Laws.{IsOneBest}
 use Rattle.cancel.specs.Steps.{around, better_choice, choice_of, IsBestBefore, IsFoundBefore, IsLimit, IsChosen}
 
--- ---- each candidate is one of the 25
+-- ---- each candidate is among the 25
 
 record IsAround (m g : ℤ) : Type 0 where
   n : ℕ
@@ -40,7 +40,7 @@ one_of middle gain near =
       is = pair (ap (λ n. middle.re +ℤ (pos n -ℤ pos 2)) row ∙ a.is) (ap (λ n. middle.im +ℤ (pos n -ℤ pos 2)) column ∙ b.is);
     }
 
--- ---- the order
+-- ---- the ranking
 
 abbrev ComesFirst : Cpx → Cpx → Type 0
 ComesFirst gain other = (gain.re <ℤ other.re) ⊎ ((gain.re ≡ other.re) × (gain.im ≤ℤ other.im))
@@ -77,7 +77,7 @@ module _ (greatest : Cpx → ℕ) (middle : Cpx) where
   pub none_before : (limit : Option ℕ) → IsFoundBefore greatest middle limit 0 None
   none_before limit j l c = absurd (omega (arith, l))
 
-  -- what is found stays the best, where the next one is no candidate or leaves no less
+  -- the choice stays the best if the next gain is no candidate or its residual is no smaller
   stays : (n : ℕ) (choice : GainChoice) → (IsCandidate middle (around middle n) → GoesBefore greatest choice.gain (around middle n)) → IsBestBefore greatest middle n choice
       → IsBestBefore greatest middle (n + 1) choice
   stays n choice next kept = record {
@@ -92,7 +92,7 @@ module _ (greatest : Cpx → ℕ) (middle : Cpx) where
     leaves = kept.leaves;
   }
 
-  -- the next one is the best, where it leaves less than all before
+  -- the next gain is the best if its residual is smaller than all before
   is_new : (n : ℕ) → IsCandidate middle (around middle n) → ((j : ℕ) → j < n → IsCandidate middle (around middle j) → greatest (around middle n) < greatest (around middle j))
       → IsBestBefore greatest middle (n + 1) (choice_of greatest (around middle n))
   is_new n is less = record {
@@ -107,7 +107,7 @@ module _ (greatest : Cpx → ℕ) (middle : Cpx) where
     leaves = refl;
   }
 
-  -- the next one is no candidate
+  -- the next gain is no candidate
   pub passed : (limit : Option ℕ) (n : ℕ) (found : Option GainChoice) → (IsCandidate middle (around middle n) → ⊥) → IsFoundBefore greatest middle limit n found
       → IsFoundBefore greatest middle limit (n + 1) found
   passed limit n None fails kept = λ j l c. elim (last_or_before n j l) [
@@ -119,7 +119,7 @@ module _ (greatest : Cpx → ℕ) (middle : Cpx) where
   less_than_all : (a b c : ℕ) → a < b → b ≤ c → a < c
   less_than_all a b c p q = omega (arith, p, q)
 
-  -- it is one
+  -- the next gain is a candidate
   pub taken : (limit : Option ℕ) (n : ℕ) (found : Option GainChoice) → IsCandidate middle (around middle n) → IsFoundBefore greatest middle limit n found
       → IsFoundBefore greatest middle limit (n + 1) (better_choice limit found (choice_of greatest (around middle n)))
   taken None n None is kept = is_new n is (λ j l c. absurd (kept j l c))
@@ -148,14 +148,14 @@ module _ (greatest : Cpx → ℕ) (middle : Cpx) where
             | inr not_less ↦ (let e : a ≡ b = omega (arith, h, not_less) in inr (e, order))
           ]
 
-  -- the middle is the one of number 12
+  -- the middle is gain 12
   middle_is : around middle 12 ≡ middle
   middle_is = pair (unmoved middle.re) (unmoved middle.im)
     where
       unmoved : (a : ℤ) → a +ℤ (pos 2 -ℤ pos 2) ≡ a
       unmoved a = omega (arith, ints)
 
-  -- what is found among all 25 is the best candidate, and none is found exactly where there is none
+  -- the search through all 25 gains finds the best candidate, if there is one
   pub best_is_found : (limit : Option ℕ) (found : Option GainChoice) → IsLimit greatest middle limit → IsFoundBefore greatest middle limit 25 found → IsChosen greatest middle found
   best_is_found None None above kept = λ gain is.
       let at = one_of middle gain is.near in
@@ -173,7 +173,7 @@ module _ (greatest : Cpx → ℕ) (middle : Cpx) where
     kept.leaves,
   )
 
--- ---- only one
+-- ---- uniqueness
 
 pub best_is_one : IsOneBest
 best_is_one greatest middle gain other first second = order (first.first other second.candidate) (second.first gain first.candidate)

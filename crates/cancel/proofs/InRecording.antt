@@ -1,4 +1,4 @@
--- A cell taken off a recording that is clean of it, whatever else the cell sends.
+-- A cell cancelled in a recording that is clean except for load.
 use Rattle.std.proofs.Common.{Result, Ok, Err, Option, Some, None, ◌≡◌, ℕ, ◌+◌, ◌*◌, ◌/◌, ◌%◌, ◌<◌, ◌≤◌, arith, ap, ap₂, sym, subst, ◌∙◌, List, length, [], ◌∷◌}
 use Rattle.std.specs.Prelude.{IsSomeAnd, IfOk}
 use Rattle.std.specs.declared.alloc.AllocError.{AllocError}
@@ -42,7 +42,7 @@ true_place : (offset : ℕ) → offset < 19200 → IsTruePlace offset (start_of 
 true_place offset within = record { frame = (start_of offset + offset) / 19200; place = omega (arith, within) }
 
 module _ (recording : List Sample) (plan : CellPlan) (grid : Elements) (sfn offset : ℕ) (gain : Cpx) (eps : ℕ) (clean : IsLoaded recording plan grid sfn offset gain eps) (long : 57600 ≤ length recording) where
-  -- the samples of the primary signal
+  -- the PSS samples equal the signal times the true gain, up to eps
   primary_near : (n : ℕ) → n < 128 → IsWithin eps (minus (samples_from recording (start_of offset + primary_start Zero) n) (times gain (useful_at (pss_grid (plan.identity % 3)) n)))
   primary_near n l =
       subst (λ (z : Cpx). IsWithin eps (minus (samples_from recording (start_of offset + primary_start Zero) n) z))
@@ -61,13 +61,13 @@ module _ (recording : List Sample) (plan : CellPlan) (grid : Elements) (sfn offs
   candidate : IsCandidate (estimate_at recording plan (start_of offset)) gain
   candidate = gain_is_candidate eps gain (samples_from recording (start_of offset + primary_start Zero)) (wave (plan.identity % 3)) seen
 
--- ---- what is left
+-- ---- the residual
 
--- eps is at most 56
+-- an error bound fits 16 bits
 small_eps : (eps n : ℕ) → n ≤ 784 → eps * eps ≤ 4 * n → eps ≤ 32767
 small_eps eps n most h = root-le eps 32767 (omega (arith, most, h))
 
--- what a gain that is a candidate leaves is no greater with the best one
+-- the best candidate's residual does not exceed the true gain's
 module _ (recording : List Sample) (plan : CellPlan) (grid : Elements) (sfn offset : ℕ) (gain : Cpx) (eps most : ℕ) (clean : IsLoaded recording plan grid sfn offset gain eps) (long : 57600 ≤ length recording)
     (few : most ≤ 32767) (near : (i : ℕ) → i < length recording → IsWithin most (left_at recording plan (start_of offset) (number_at_start sfn offset) gain i)) where
   abbrev start : ℕ
@@ -111,7 +111,7 @@ module _ (recording : List Sample) (plan : CellPlan) (grid : Elements) (sfn offs
           subst (λ (r : List Sample). IsWithin most (sample_at r i)) (sym is.residue)
           (subst (λ (z : Cpx). IsWithin most z) (sym (left_kept i (inside i l))) (all.each i (inside i l)))
 
-  -- so a cell is taken off
+  -- the cell is cancelled
   taken_off : (answer : Option Subtracted) → IsSubtraction recording plan start number answer → IsSomeAnd answer (IsLeftWithin most)
   taken_off None is = absurd (is gain (candidate recording plan grid sfn offset gain eps clean long))
   taken_off (Some taken) is = taken_is_left taken is
@@ -124,7 +124,7 @@ takes_loaded_off recording plan first frame answer long is grid sfn offset gain 
     (subst (λ n. (i : ℕ) → i < length recording → IsWithin most (left_at recording plan first n gain i)) same_sfn near)) answer
     (subst (λ s. IsSubtraction recording plan s (number_at_start sfn offset) answer) same_start (subst (λ n. IsSubtraction recording plan first n answer) same_sfn is))
 
--- where it sends nothing else the true gain leaves the errors
+-- without load the true gain leaves the errors
 left_by_gain : (recording : List Sample) (plan : CellPlan) (sfn offset : ℕ) (gain : Cpx) (eps : ℕ) → IsClean recording plan sfn offset gain eps → (i : ℕ) → i < length recording →
     IsWithin eps (left_at recording plan (start_of offset) (number_at_start sfn offset) gain i)
 left_by_gain recording plan sfn offset gain eps clean i l =

@@ -1,16 +1,16 @@
--- Sizes of samples.
+-- Magnitudes of samples.
 pub mod WaveSizes
--- The estimate of a gain.
+-- The gain estimate.
 pub mod Estimates
--- The best candidate, and what it leaves.
+-- The best candidate and its residual.
 pub mod Best
 pub mod Found
 -- Products in 32 bits.
 pub mod Narrow
--- A recording that is clean of a cell.
+-- A clean recording.
 pub mod InRecording
--- There is an answer, and only one.
+-- Existence and uniqueness of the answer.
 pub mod Exists
 pub mod Once
--- What the code chooses.
+-- The code's choice.
 pub mod Chosen

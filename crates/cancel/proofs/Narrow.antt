@@ -6,7 +6,7 @@ use Rattle.cs_num.specs.declared.Cpx.{Cpx}
 use Rattle.cs_num.specs.Complex.{IsWithin, minus, times}
 use Rattle.cs_num.proofs.Complex.{times-within, minus-within}
 
--- what is made on the way from a sample, what was sent and a gain to what is left
+-- the intermediate values from a sample, the transmitted sample and a gain to the residual
 pub record AreNarrow (sample sent gain : Cpx) : Type 0 where
   pub gain_re : FitsSigned w32 gain.re
   pub gain_im : FitsSigned w32 gain.im

@@ -1,4 +1,4 @@
--- There is one answer of a subtraction.
+-- A cancellation has one answer.
 use Rattle.std.proofs.Common.{◌≡◌, ℕ, ℤ, List, Some, None, refl, ap, sym, subst, ◌∙◌}
 use Rattle.std.proofs.Props.{props}
 use Rattle.cs_num.specs.declared.Cpx.{Cpx}
@@ -11,7 +11,7 @@ use Rattle.cancel.specs.Laws.{IsOneSubtraction}
 use Rattle.cancel.specs.Residue.{estimate_at, greatest_left, residue_of, power_of, IsSubtracted}
 use Rattle.cancel.proofs.Found.{best_is_one}
 
--- ---- answers with the same fields are the same
+-- ---- answers with equal fields are equal
 
 same_pair : (p q : ℤ × ℤ) → gain_of p ≡ gain_of q → p ≡ q
 same_pair p q e = ap (λ (z : Cpx). (z.re, z.im)) e
@@ -31,7 +31,7 @@ same_answer a b gain greatest before after residue =
     same_gain a b.gain gain b.gain_range ∙ ap (λ (n : ℕ). record c { before = n }) before ∙ ap (λ (n : ℕ). record d { after = n }) after
     ∙ ap (λ (n : ℕ). record e { greatest = n }) greatest ∙ ap (λ (r : List Sample). record b { residue = r }) residue
 
--- ---- there is one
+-- ---- uniqueness
 
 pub one_subtracted : (recording : List Sample) (plan : CellPlan) (start number : ℕ) (a b : Subtracted) → IsSubtracted recording plan start number a → IsSubtracted recording plan start number b → a ≡ b
 one_subtracted recording plan start number a b p q = same_answer a b (same_pair a.gain b.gain gains)

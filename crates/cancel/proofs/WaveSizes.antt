@@ -1,4 +1,4 @@
--- Sizes of the samples of primary signals.
+-- Magnitudes of PSS samples.
 use Rattle.std.proofs.Common.{◌≡◌, ◌∙◌, ℕ, ◌*◌, ◌<◌, ◌≤◌, arith, sym, ap, subst, List, get_or}
 use Rattle.std.specs.Prelude.{All}
 use Rattle.finite.proofs.Sums.{total_below-term}
@@ -25,7 +25,7 @@ pub wave-all_within : (n2 : ℕ) → n2 ≤ 2 → All (IsWithin 1415) (wave_list
 unfolding useful_part wave
 wave-all_within n2 known k d l = subst (IsWithin 1415) (sym (values_below_at (wave n2) 128 k d l)) (wave-within n2 k known l)
 
--- the samples of the list of a signal
+-- a signal's samples as a list
 pub wave_at : (n2 : ℕ) (signal : List Cpx) (n : ℕ) (d : Cpx) → signal ≡ wave_list n2 → n < 128 → get_or signal n d ≡ wave n2 n
 unfolding useful_part wave
 wave_at n2 signal n d e inside = ap (λ (s : List Cpx). get_or s n d) e ∙ values_below_at (wave n2) 128 n d inside

@@ -1,4 +1,4 @@
--- Laws of taking a cell off. (own)
+-- Laws of cell cancellation. (own)
 use Rattle.std.specs.Prelude.{◌≡◌, ℕ, ◌*◌, ◌<◌, ◌≤◌, List, Option}
 use Rattle.cs_num.specs.declared.Cpx.{Cpx}
 use Rattle.cs_num.specs.declared.Sample.{Sample}
@@ -11,24 +11,24 @@ use Rattle.cancel.specs.declared.subtracted.Subtracted.{Subtracted}
 use Rattle.cancel.specs.Gain.{estimate, IsCandidate, IsBest, greatest_below}
 use Rattle.cancel.specs.Residue.{IsSubtraction, TakesLoadedOff, TakesCleanOff}
 
--- 128 samples are a signal times a gain, with errors of at most twice the gain's size in each component
+-- 128 samples are a signal times a gain, plus errors of at most twice the gain's magnitude in each component
 pub record IsGainSeen (eps : ℕ) (gain : Cpx) (samples signal : ℕ → Cpx) : Type 0 where
   pub size : IsGain gain
   pub quiet : eps * eps ≤ 4 * square gain
   pub power : 1990000 ≤ energy_below 128 signal
   pub near : (n : ℕ) → n < 128 → IsWithin eps (minus (samples n) (times gain (signal n)))
 
--- where 128 samples are a signal times a gain, the gain is the estimate, or stands beside it
+-- if 128 samples are a signal times a gain, the estimate is the gain or one of its neighbours
 abbrev pub EstimateIsNear : Type 0
 EstimateIsNear = (eps : ℕ) (gain : Cpx) (samples signal : ℕ → Cpx) → IsGainSeen eps gain samples signal →
     square (minus gain (estimate samples signal)) ≤ 1
 
--- where 128 samples are a signal times a gain, the gain is a candidate
+-- if 128 samples are a signal times a gain, the gain is a candidate
 abbrev pub GainIsCandidate : Type 0
 GainIsCandidate = (eps : ℕ) (gain : Cpx) (samples signal : ℕ → Cpx) → IsGainSeen eps gain samples signal →
     IsCandidate (estimate samples signal) gain
 
--- what the best candidate leaves has components no greater than what any candidate leaves
+-- the best candidate's residual does not exceed any other candidate's
 abbrev pub BestLeavesLeast : Type 0
 BestLeavesLeast =
     (count : ℕ) (left : Cpx → ℕ → Cpx) (middle best gain : Cpx) (bound : ℕ) →
@@ -36,19 +36,19 @@ BestLeavesLeast =
     ((i : ℕ) → i < count → IsWithin bound (left gain i)) →
     (greatest_below count (left best) ≤ bound) × ((i : ℕ) → i < count → IsWithin bound (left best i))
 
--- there is an answer for a recording and a cell: it is taken off, or there is no candidate
+-- there is an answer for each recording and cell: the cell is cancelled, or there is no candidate
 abbrev pub IsSomeSubtraction : Type 0
 IsSomeSubtraction = (recording : List Sample) (plan : CellPlan) (start number : ℕ) →
     (answer : Option Subtracted) × IsSubtraction recording plan start number answer
 
--- an answer leaves of a loaded recording no more than the true gain leaves
+-- in a loaded recording, the residual does not exceed the residual for the true gain
 abbrev pub AnswerTakesLoadedOff : Type 0
 AnswerTakesLoadedOff =
     (recording : List Sample) (plan : CellPlan) (start number : ℕ) (answer : Option Subtracted) →
     IsRecording recording → IsSubtraction recording plan start number answer →
     TakesLoadedOff recording plan start number answer
 
--- an answer leaves of a clean recording no more than its errors
+-- in a clean recording, the residual does not exceed the errors
 abbrev pub AnswerTakesCleanOff : Type 0
 AnswerTakesCleanOff =
     (recording : List Sample) (plan : CellPlan) (start number : ℕ) (answer : Option Subtracted) →
@@ -60,7 +60,7 @@ abbrev pub IsOneBest : Type 0
 IsOneBest = (greatest : Cpx → ℕ) (middle gain other : Cpx) → IsBest greatest middle gain →
     IsBest greatest middle other → gain ≡ other
 
--- there is only one answer to taking a cell off
+-- there is only one answer to a cancellation
 abbrev pub IsOneSubtraction : Type 0
 IsOneSubtraction = (recording : List Sample) (plan : CellPlan) (start number : ℕ) (a b : Option Subtracted) →
     IsSubtraction recording plan start number a → IsSubtraction recording plan start number b → a ≡ b

@@ -1,4 +1,4 @@
--- What is left of a recording when a cell is taken off. (own)
+-- The residual of a recording after a cell is cancelled. (own)
 use Rattle.std.specs.Prelude.{◌≡◌, ℕ, ◌+◌, ◌%◌, ◌<◌, ◌≤◌, List, length, Option, Some, None, IsSomeAnd}
 use Rattle.finite.specs.Lists.{values_below}
 use Rattle.cs_num.specs.declared.Cpx.{Cpx}
@@ -20,34 +20,34 @@ use Rattle.clean_air.specs.Load.{IsLoaded}
 use Rattle.cancel.specs.declared.subtracted.Subtracted.{Subtracted}
 use Rattle.cancel.specs.Gain.{estimate, IsCandidate, greatest_below, IsBest}
 
--- ---- the cell, of which a frame begins at a sample, its start, and has a number there
+-- ---- the cell, with the start of a frame in the recording and the frame's number
 
--- the gain that the primary signal of the frame at the start tells
+-- the gain estimate from the PSS in the frame at `start`
 abbrev pub estimate_at : List Sample → CellPlan → ℕ → Cpx
 estimate_at recording plan start =
     estimate (λ n. sample_at recording (start + primary_start Zero + n)) (wave (plan.identity % 3))
 
--- what the cell sends at sample i of the recording
+-- the cell's transmission at sample i in the recording
 abbrev pub sent_at : CellPlan → ℕ → ℕ → ℕ → Cpx
 sent_at plan start number i = sent (element plan) (number_before start number) (i + offset_of start)
 
--- ---- what a gain leaves
+-- ---- residuals
 
--- what a gain leaves of sample i
+-- the residual at sample i for a gain
 abbrev pub left_at : List Sample → CellPlan → ℕ → ℕ → Cpx → ℕ → Cpx
 left_at recording plan start number gain i = minus (sample_at recording i) (times gain (sent_at plan start number i))
 
--- the greatest size of a component that a gain leaves, over all samples
+-- the largest component magnitude of the residual over all samples
 abbrev pub greatest_left : List Sample → CellPlan → ℕ → ℕ → Cpx → ℕ
 greatest_left recording plan start number gain =
     greatest_below (length recording) (left_at recording plan start number gain)
 
--- the gain with which the cell is taken off: the candidate that leaves least
+-- the gain used to cancel the cell: the candidate with the smallest residual
 abbrev pub IsTaken : List Sample → CellPlan → ℕ → ℕ → Cpx → Type 0
 IsTaken recording plan start number gain =
     IsBest (greatest_left recording plan start number) (estimate_at recording plan start) gain
 
--- the residue: what the gain leaves, each component in 16 bits
+-- the residual for a gain, each component clamped to 16 bits
 abbrev pub residue_of : List Sample → CellPlan → ℕ → ℕ → Cpx → List Sample
 residue_of recording plan start number gain =
     values_below (length recording) (λ i. nearest_sample (left_at recording plan start number gain i))
@@ -56,7 +56,7 @@ residue_of recording plan start number gain =
 abbrev pub power_of : List Sample → ℕ
 power_of samples = energy_below (length samples) (sample_at samples)
 
--- the cell is taken off with its gain, and this is left
+-- the cell is cancelled with its gain, and `taken` holds the residual
 pub record IsSubtracted (recording : List Sample) (plan : CellPlan) (start number : ℕ)
     (taken : Subtracted) : Type 0 where
   pub gain : IsTaken recording plan start number (gain_of taken.gain)
@@ -65,20 +65,20 @@ pub record IsSubtracted (recording : List Sample) (plan : CellPlan) (start numbe
   pub before : taken.before ≡ power_of recording
   pub after : taken.after ≡ power_of taken.residue
 
--- the cell is taken off with its gain, or there is no candidate
+-- the cell is cancelled with its gain, or there is no candidate
 abbrev pub IsSubtraction : List Sample → CellPlan → ℕ → ℕ → Option Subtracted → Type 0
 IsSubtraction recording plan start number (Some taken) = IsSubtracted recording plan start number taken
 IsSubtraction recording plan start number None = (gain : Cpx) → IsCandidate (estimate_at recording plan start) gain → ⊥
 
 -- ---- clean recordings
 
--- no component that is left has a size above eps, before and after it is taken to 16 bits
+-- no residual component exceeds eps, neither before nor after the clamp to 16 bits
 pub record IsLeftWithin (eps : ℕ) (taken : Subtracted) : Type 0 where
   pub greatest : taken.greatest ≤ eps
   pub each : (i : ℕ) → i < length taken.residue → IsWithin eps (sample_at taken.residue i)
 
--- where the recording is clean of the cell, whatever else that sends, with its first frame and that frame's number, it
--- is taken off, and no greater component is left than the true gain leaves, where that is at most 32767
+-- if the recording is clean except for load, and `start` and `number` belong to its first frame, the cell is
+-- cancelled, and the residual does not exceed the residual for the true gain, if that is at most 32,767
 abbrev pub TakesLoadedOff : List Sample → CellPlan → ℕ → ℕ → Option Subtracted → Type 0
 TakesLoadedOff recording plan start number answer =
     (grid : Elements) (sfn offset : ℕ) (gain : Cpx) (eps most : ℕ) → IsLoaded recording plan grid sfn offset gain eps →
@@ -87,8 +87,8 @@ TakesLoadedOff recording plan start number answer =
     ((i : ℕ) → i < length recording → IsWithin most (left_at recording plan start number gain i)) →
     IsSomeAnd answer (IsLeftWithin most)
 
--- where the recording is clean of the cell, with its first frame and that frame's number, it is taken off, and no more
--- is left than the errors, whatever its first sample, gain and errors are
+-- if the recording is clean, and `start` and `number` belong to its first frame, the cell is cancelled, and the
+-- residual does not exceed the errors
 abbrev pub TakesCleanOff : List Sample → CellPlan → ℕ → ℕ → Option Subtracted → Type 0
 TakesCleanOff recording plan start number answer =
     (sfn offset : ℕ) (gain : Cpx) (eps : ℕ) → IsClean recording plan sfn offset gain eps → start ≡ start_of offset →

@@ -1,4 +1,4 @@
-//! The best of the gains near an estimate.
+//! The best gain near an estimate.
 
 ghost use Rattle.std.specs.Prelude.{◌≡◌, ◌+◌, ◌*◌, ◌^◌, ◌<◌, ◌≤◌, length, max, nat_abs, nat_lt, pos, ◌+ℤ◌, ◌-ℤ◌};
 ghost use Rattle.std.specs.Prelude.{if◌then◌else◌, MatchOption};
@@ -11,14 +11,14 @@ ghost use Rattle.cancel.specs.Steps.{IsFoundBefore, IsChosen};
 use crate::leaving::greatest_of;
 use cs_num::{Cpx, Gain, Sample};
 
-// A gain and the greatest size of a component that it leaves.
+// A gain and the largest component magnitude of its residual.
 #[derive(Clone, Copy, PartialEq, Eq)]
 pub(crate) struct GainChoice {
     pub gain: Gain,
     pub greatest: u32,
 }
 
-// A component off by 2 less than this.
+// Returns `x` plus `by` minus 2.
 fn moved(x: i64, by: u8) -> i64
     requires small { nat_abs x ≤ 2 ^ 40 }
     requires by { by < 5 }
@@ -28,7 +28,7 @@ fn moved(x: i64, by: u8) -> i64
     x + (by as i64 - 2)
 }
 
-// The gains whose components are off by at most 2, in order.
+// Returns gain `i` out of 25 around `middle`, whose components differ by at most 2.
 fn around(middle: Cpx, i: u8) -> Cpx
     requires small { IsWithin (2 ^ 40) middle }
     requires i { i < 25 }
@@ -41,7 +41,7 @@ fn around(middle: Cpx, i: u8) -> Cpx
     }
 }
 
-// The gain that a number is, where it is a candidate.
+// Returns `number` as a gain if it is a candidate.
 fn candidate(middle: Cpx, number: Cpx) -> Option<Gain>
     requires middle { IsWithin (2 ^ 40) middle }
     requires number { IsWithin (2 ^ 41) number }
@@ -56,7 +56,7 @@ fn candidate(middle: Cpx, number: Cpx) -> Option<Gain>
     }
 }
 
-// A gain with what it leaves, where that is below the end, if there is one.
+// Returns the gain with its residual, if that is below `end`.
 fn choice_of(
     samples: &[Sample],
     sent: &[Sample],
@@ -75,7 +75,8 @@ fn choice_of(
     }
 }
 
-// What the middle leaves and 1 more, where it is a candidate: no gain that leaves as much is the best.
+// Returns 1 more than the residual for `middle` if `middle` is a candidate; a gain whose residual reaches this limit
+// is not the best.
 fn limit_of(samples: &[Sample], sent: &[Sample], middle: Cpx) -> Option<u32>
     requires middle { IsWithin (2 ^ 40) middle }
     requires count { length sent.now ≡ length samples.now }
@@ -85,7 +86,7 @@ fn limit_of(samples: &[Sample], sent: &[Sample], middle: Cpx) -> Option<u32>
     Some(greatest_of(samples, sent, gain, u32::MAX) + 1)
 }
 
-// The end of what a gain may leave to be better than what was found.
+// Returns the bound that a residual must stay below to improve on the best so far.
 fn end_of(limit: Option<u32>, found: &Option<GainChoice>) -> Option<u32>
     ensures { result ≡ end_with limit found.now }
 {
@@ -95,7 +96,7 @@ fn end_of(limit: Option<u32>, found: &Option<GainChoice>) -> Option<u32>
     }
 }
 
-// The better of what was found and another gain.
+// Returns the better choice of `found` and another gain.
 fn better_gain(
     samples: &[Sample],
     sent: &[Sample],
@@ -110,7 +111,7 @@ fn better_gain(
     choice_of(samples, sent, gain, end).or(found)
 }
 
-// What is found among the first gains and one more.
+// Extends the search by gain `i`.
 fn with_gain(
     samples: &[Sample],
     sent: &[Sample],
@@ -131,8 +132,7 @@ fn with_gain(
     }
 }
 
-/// The best of the candidates near an estimate, by what they leave of the samples; `None` exactly where there is no
-/// candidate.
+/// Returns the candidate near `middle` with the smallest residual, or `None` if there is no candidate.
 pub(crate) fn best(samples: &[Sample], sent: &[Sample], middle: Cpx) -> Option<GainChoice>
     requires middle { IsWithin (2 ^ 40) middle }
     requires count { length sent.now ≡ length samples.now }

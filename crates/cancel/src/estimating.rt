@@ -1,4 +1,4 @@
-//! The gain that a primary synchronisation signal tells.
+//! The gain estimate from a PSS.
 
 ghost use Rattle.std.specs.Prelude.{◌≡◌, ◌+◌, ◌%◌, ◌^◌, ◌<◌, ◌≤◌, All, length};
 ghost use Rattle.finite.specs.Lists.{values_below};
@@ -16,7 +16,7 @@ use pss_search::signal_power;
 use sample_file::Recording;
 use sync_seq::{in_middle, pss};
 
-/// The gain that the first primary signal of a cell tells, a frame of which begins at `start`, below 19,200.
+/// Estimates a cell's gain by the first PSS in the frame that begins at `start`, below 19,200.
 pub(crate) fn estimate(recording: &Recording, cell: &Cell, start: u32) -> Cpx
     requires { start < frame_length }
     ensures value { result ≡ estimate_at recording.now cell.now start }
@@ -30,7 +30,7 @@ pub(crate) fn estimate(recording: &Recording, cell: &Cell, start: u32) -> Cpx
     correlation(recording, first, n2, &wave).quotient(signal_power(n2))
 }
 
-// The identity of a cell within its group.
+// Returns the cell's identity within its group.
 fn root_of(cell: &Cell) -> u8
     ensures value { result ≡ cell.now.identity % 3 }
     ensures small { result ≤ 2 }
@@ -38,7 +38,7 @@ fn root_of(cell: &Cell) -> u8
     (cell.plan().identity % 3) as u8
 }
 
-// The grid of a symbol that holds the primary sequence of an identity within its group alone.
+// Returns a symbol's grid that holds only the PSS.
 fn grid_of(n2: u8) -> [Cpx; 72]
     requires { n2 ≤ 2 }
     ensures { result ≡ values_below 72 (pss_grid n2) }
@@ -46,7 +46,7 @@ fn grid_of(n2: u8) -> [Cpx; 72]
     in_middle(&pss(n2))
 }
 
-// The useful part of that symbol.
+// Returns the useful part of a symbol that holds only the PSS.
 fn wave_of(n2: u8) -> [Cpx; 128]
     requires { n2 ≤ 2 }
     ensures value { result ≡ wave_list n2 }
@@ -56,7 +56,7 @@ fn wave_of(n2: u8) -> [Cpx; 128]
     synth(&grid)
 }
 
-// A sample times the conjugate of a signal's.
+// Returns a sample times the conjugate of a signal's sample.
 fn term(sample: Sample, signal: Cpx) -> Cpx
     requires { IsWithin 1415 signal }
     ensures value { result ≡ times (value_of sample) (conjugate signal) }
@@ -65,7 +65,7 @@ fn term(sample: Sample, signal: Cpx) -> Cpx
     Cpx::from(sample).mul(signal.conj())
 }
 
-// The sum of the samples from a place on times the conjugate of a signal's.
+// Correlates the samples from index `first` with a signal.
 fn correlation(recording: &Recording, first: usize, n2: u8, signal: &[Cpx; 128]) -> Cpx
     requires inside { first + 128 ≤ length recording.now }
     requires signal { signal.now ≡ wave_list n2 }

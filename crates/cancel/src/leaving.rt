@@ -1,4 +1,4 @@
-//! What a gain leaves.
+//! Residuals for a gain.
 
 ghost use Rattle.std.specs.Prelude.{◌≡◌, ◌^◌, ◌<◌, ◌≤◌, length, max};
 ghost use Rattle.cs_num.specs.Complex.{IsWithin, value_of, minus, times, size as greatest_part_of};
@@ -9,10 +9,10 @@ ghost use Rattle.cancel.specs.Steps.{left_of, greatest_of as greatest_left};
 use cs_num::{Cpx, Gain, Sample};
 use std::marker::Model;
 
-// How many samples are looked at before a gain that leaves too much is given up.
+// The number of samples after which the search compares a residual with its end.
 const PIECE: usize = 256;
 
-// What a gain leaves, in 32 bits, so that the machine takes four numbers at once. Contracts see it as that number.
+// A residual in 32 bits, so that the processor handles four numbers at a time. Contracts see it as a complex number.
 #[derive(Clone, Copy)]
 pub(crate) struct Remainder {
     re: i32,
@@ -30,7 +30,7 @@ impl Model for Remainder {
     ghost inverse = { λ z. record { re = z.re; im = z.im } };
 }
 
-/// What a gain leaves of a sample, of which the other was sent.
+/// Returns the residual of a sample for a gain, given the transmitted sample.
 pub(crate) fn left(sample: Sample, sent: Sample, gain: Gain) -> Remainder
     ensures value { result ≡ minus (value_of sample) (times gain (value_of sent)) }
     ensures small { IsWithin (2 ^ 22) result }
@@ -38,7 +38,7 @@ pub(crate) fn left(sample: Sample, sent: Sample, gain: Gain) -> Remainder
     left_of_value(&Cpx::from(sample), &Cpx::from(sent), &gain.value())
 }
 
-// What a gain leaves of a number, where the other was sent.
+// Returns the residual of a value for a gain, given the transmitted value.
 fn left_of_value(value: &Cpx, sent: &Cpx, gain: &Cpx) -> Remainder
     requires value { IsWithin 32768 value.now }
     requires sent { IsWithin 32768 sent.now }
@@ -53,7 +53,7 @@ fn left_of_value(value: &Cpx, sent: &Cpx, gain: &Cpx) -> Remainder
 }
 
 impl Remainder {
-    // The greater of the sizes of its two parts.
+    // Returns the larger component magnitude.
     fn greatest_part(&self) -> u32
         requires { IsWithin (2 ^ 22) self.now }
         ensures value { result ≡ greatest_part_of self.now }
@@ -62,7 +62,7 @@ impl Remainder {
         greater_part(self.re.unsigned_abs(), self.im.unsigned_abs())
     }
 
-    /// The sample that is nearest to the number.
+    /// Returns the nearest sample.
     pub(crate) fn nearest_sample(&self) -> Sample
         ensures { result ≡ nearest_sample_of self.now }
     {
@@ -73,21 +73,21 @@ impl Remainder {
     }
 }
 
-// The nearest number of 16 bits.
+// Returns the nearest 16-bit number.
 fn in_16_bits(x: &i32) -> i16
     ensures { result ≡ in_16_bits_of x.now }
 {
     (*x).clamp(-32_768, 32_767) as i16
 }
 
-// The greater of the sizes of two parts.
+// Returns the larger magnitude.
 fn greater_part(a: u32, b: u32) -> u32
     ensures { result ≡ max a b }
 {
     a.max(b)
 }
 
-// The greatest size of a component that a gain leaves of the samples before place `to`, by that before place `from`.
+// Returns the largest residual component below index `to`, given the largest below `from`.
 fn greatest_to(
     samples: &[Sample],
     sent: &[Sample],
@@ -111,8 +111,7 @@ fn greatest_to(
     greatest
 }
 
-/// The greatest size of a component that a gain leaves, where that is below the end; where it is not, a number from the
-/// end on.
+/// Returns the largest residual component if it is below `end`, otherwise a number of at least `end`.
 pub(crate) fn greatest_of(samples: &[Sample], sent: &[Sample], gain: Gain, end: u32) -> u32
     requires { length sent.now ≡ length samples.now }
     ensures below { result < end → result ≡ greatest_left samples.now sent.now gain }

@@ -1,5 +1,14 @@
-//! A found cell is taken off a recording: the gain with which it stands there, what is left without it, and that
-//! no more than the errors are left of a clean recording of the cell.
+//! Interference cancellation: subtracts a detected cell from a recording, with the gain at which it was received.
+//!
+//! The gain is estimated by correlation with the PSS. Candidates have magnitude 1 to 28 and lie within distance 2 from
+//! the estimate. The candidate whose residual has the smallest maximum component is used; ties go to the lowest real
+//! part, then to the lowest imaginary part.
+//!
+//! If the recording is clean (the cell's samples times a gain, each component off by at most twice the gain's
+//! magnitude), the residual does not exceed the errors (`clean`). If the cell also carries load, the residual does not
+//! exceed the residual for the true gain, if that is at most 32,767 (`loaded`).
+//!
+//! Tests: the crate `list_tests`, in `taken_off.rt`.
 #![tactic(auto)]
 
 mod choosing;

@@ -1,4 +1,4 @@
-//! What a subtraction gives.
+//! The result of a cancellation.
 
 ghost use Rattle.std.specs.Prelude.{◌≡◌};
 ghost use Rattle.cs_num.specs.Gain.{IsGain};
@@ -8,24 +8,24 @@ use cell_plan::gain_of_pair;
 use cs_num::Gain;
 use sample_file::Recording;
 
-/// A recording without a cell. (own)
+/// A recording with a cell cancelled. (own)
 #[derive(Drop)]
 pub struct Subtracted {
-    /// The gain with which the cell was taken off, real before imaginary; the square of its size is 1 to 784.
+    /// The gain used to cancel the cell, real part first; its squared magnitude is 1 to 784.
     pub gain: (i16, i16),
-    /// The greatest size of a component of what is left, before it is taken to 16 bits.
+    /// The largest component magnitude of the residual, before the clamp to 16 bits.
     pub greatest: u32,
-    /// The sum of the squares of the sizes of the recording's samples.
+    /// The sum of the squared magnitudes of the recording's samples.
     pub before: u128,
-    /// The sum of the squares of the sizes of the samples of the residue.
+    /// The sum of the squared magnitudes of the residual's samples.
     pub after: u128,
-    /// What is left, each component taken to the nearest number of 16 bits.
+    /// The residual, each component clamped to 16 bits.
     pub residue: Recording,
     pub ghost gain_range: { IsGain (gain_of gain) },
 }
 
 impl Subtracted {
-    /// The gain as a number.
+    /// Returns the gain as a complex number.
     pub fn gain(&self) -> Gain
         ensures { result ≡ gain_of self.now.gain }
     {

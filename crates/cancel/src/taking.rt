@@ -1,4 +1,4 @@
-//! A cell is taken off a recording.
+//! Cell cancellation in a recording.
 
 ghost use Rattle.std.specs.Prelude.{◌≡◌, ◌+◌, ◌^◌, ◌≤◌, ◌<◌, IfOk, length};
 ghost use Rattle.finite.specs.Lists.{values_below};
@@ -20,14 +20,8 @@ use lte_types::{Carrier, Sfn, Timing};
 use sample_file::Recording;
 use std::alloc::{AllocError, Global};
 
-/// Takes a cell off a recording, a frame of which begins at sample `start`, below 19,200, with the number `sfn`: what
-/// the cell sends times a gain is subtracted from each sample. The gain is estimated by the primary signal of
-/// that frame; of the gains of size 1 to 28 whose distance from the estimate is at most 2, the one is taken that leaves
-/// the least greatest component, and of such the one with the lowest real part, and then with the lowest imaginary
-/// part. `None` exactly where there is no such gain. Wherever the recording is what the cell sends times a gain of size
-/// 1 to 28, each component off by at most twice the gain's size, no greater component is left than the errors
-/// (`clean`); whatever else the cell sends, none greater than the true gain leaves, where that is at most 32,767
-/// (`loaded`). Only memory can be wanting. (own)
+/// Cancels a cell that has a frame with number `sfn` at sample `start`, below 19,200: subtracts its samples times the
+/// best gain. Returns `None` exactly if there is no candidate. Fails only if an allocation fails. (own)
 pub fn subtract(
     alloc: Global,
     recording: &Recording,
@@ -46,9 +40,7 @@ pub fn subtract(
     subtract_from(alloc, recording, power, cell, start, sfn)
 }
 
-/// `subtract` from a recording whose power is known. Its promises on clean recordings are those of `subtract`, since
-/// they follow from this clause there. It has a parameter more, so that a round need not sum what the round before it
-/// has summed. (own)
+/// Cancels a cell as `subtract` does, for a recording whose `power` is known from an earlier round. (own)
 pub fn subtract_from(
     alloc: Global,
     recording: &Recording,
@@ -72,7 +64,7 @@ pub fn subtract_from(
     }
 }
 
-// What the cell sends, from the first sample of the recording on.
+// Returns the cell's transmission from the recording's first sample.
 fn sent_samples(
     alloc: Global,
     count: usize,
@@ -98,14 +90,14 @@ fn sent_samples(
     Ok(sent)
 }
 
-// What a gain leaves of a sample, of which the other was sent, as a sample.
+// Returns the residual of a sample for a gain, clamped to 16 bits.
 fn sample_left(sample: Sample, sent: Sample, gain: Gain) -> Sample
     ensures { result ≡ nearest_sample (minus (value_of sample) (times gain (value_of sent))) }
 {
     left(sample, sent, gain).nearest_sample()
 }
 
-// Writes what a gain leaves of samples, of which these were sent.
+// Writes the residual of `samples` for a gain.
 fn write_left(samples: &[Sample], sent: &[Sample], gain: Gain, residue: &mut [Sample])
     requires count { length sent.now ≡ length samples.now }
     requires room { length residue.old ≡ length samples.now }
@@ -117,7 +109,7 @@ fn write_left(samples: &[Sample], sent: &[Sample], gain: Gain, residue: &mut [Sa
     }
 }
 
-// What a gain leaves of samples, of which these were sent.
+// Returns the residual of `samples` for a gain.
 fn residue_samples(
     alloc: Global,
     samples: &[Sample],
@@ -133,7 +125,7 @@ fn residue_samples(
     Ok(residue)
 }
 
-// The square of the size of a sample.
+// Returns the squared magnitude of a sample.
 fn square_of(sample: Sample) -> u64
     ensures value { result ≡ square (value_of sample) }
     ensures small { result ≤ 2 ^ 31 }
@@ -141,7 +133,7 @@ fn square_of(sample: Sample) -> u64
     Cpx::from(sample).norm() as u64
 }
 
-/// The power of a recording: the sum of the squares of the sizes of its samples. (own)
+/// Returns a recording's power: the sum of its squared sample magnitudes. (own)
 pub fn power_of(recording: &Recording) -> u64
     ensures { result ≡ sum_of recording.now }
 {
@@ -155,7 +147,7 @@ pub fn power_of(recording: &Recording) -> u64
     sum
 }
 
-// The recording of these samples, of which there are as many as in another.
+// Returns the samples as a recording; they are as many as in `recording`.
 fn recording_of(recording: &Recording, samples: Vec<Sample>) -> Recording
     requires { length samples.items ≡ length recording.now }
     ensures { result ≡ samples.items }
@@ -168,7 +160,7 @@ fn recording_of(recording: &Recording, samples: Vec<Sample>) -> Recording
     }
 }
 
-// Takes a gain off the recording, whose power this is.
+// Subtracts the transmitted samples times a gain from a recording with this `power`.
 fn taken_off(
     alloc: Global,
     recording: &Recording,

@@ -1,4 +1,4 @@
--- The errors, sample after sample.
+-- The errors, sample by sample.
 use Rattle.std.proofs.Common.{◌≡◌, ℕ, ◌+◌, ◌*◌, ap, ap₂, ◌∙◌, arith, ℤ}
 use Rattle.rand_pcg.specs.Lcg.{Lcg}
 use Rattle.rand_pcg.specs.Pcg.{pcg32}
@@ -8,11 +8,11 @@ use Rattle.cs_num.specs.Complex.{value_of}
 use Rattle.capture_make.specs.Errors.{generator, drawn, error}
 use Rattle.capture_make.proofs.Words.{next_word}
 
--- after the word for the real component
+-- the generator after the real component
 after_one : (n i : ℕ) (words : Lcg) → words ≡ generator n (2 * i) → (pcg32 words).1 ≡ generator n (2 * i + 1)
 after_one n i words h = ap (λ w. (pcg32 w).1) h ∙ next_word n (2 * i)
 
--- and after both
+-- the generator after both components
 pub after_two : (n i : ℕ) (words : Lcg) → words ≡ generator n (2 * i) → (pcg32 (pcg32 words).1).1 ≡ generator n (2 * (i + 1))
 after_two n i words h =
     let count : 2 * i + 1 + 1 ≡ 2 * (i + 1) = omega arith in

@@ -1,4 +1,4 @@
--- The text of the block of system information: it has 131 bits.
+-- The encoding of SystemInformationBlockType1 has 131 bits.
 use Rattle.std.proofs.Common.{◌≡◌, ℕ, ◌+◌, ◌-◌, ◌%◌, ◌^◌, ◌<◌, ◌≤◌, Bool, true, false, List, [], ◌∷◌, length, Option, Some, None, refl, ap, sym, ◌∙◌, arith}
 use Rattle.std.specs.Prelude.{if◌then◌else◌, nat_le}
 use Rattle.std.specs.Option.{option_map}
@@ -15,11 +15,11 @@ use Rattle.lte_types.specs.declared.mnc.Mnc.TheVariants.{Two}
 use Rattle.lte_types.specs.declared.sib1.Sib1.{Sib1}
 use Rattle.capture_make.specs.Recipe.{network, message, information}
 
--- what was put: the bits so far
+-- the bits written so far
 abbrev State : Type 0
 State = Option (List Bool)
 
--- with the bits of a number
+-- the bits so far, followed by a number
 abbrev more : ℕ → ℕ → State → State
 more width n s = append s (bits_of width n)
 
@@ -114,9 +114,9 @@ schedule_put code s small =
           (puts_done list e)),
     )
 
--- ---- the whole
+-- ---- the whole block
 
--- all of it, put to nothing
+-- all bits, written to an empty buffer
 after_all : ℕ → State
 after_all n =
     let a = more 1 0 (more 1 0 (more 1 0 (more 1 1 (more 1 0 (Some []))))) in
@@ -158,12 +158,12 @@ all_put n =
     (none_puts tdd_config None s10 refl)
     (number_put 3 0 6 (n % 7) s10 (omega arith) (omega arith) (omega arith)) (number_put 5 0 31 (n % 32) s12 (omega arith) (omega arith) (omega arith))
 
--- so many bits were put
+-- 131 bits are written
 bits_put : (n : ℕ) → option_map length (after_all n) ≡ Some 131
 unfolding after_all after_network after_schedule
 bits_put n = refl
 
--- what was put to nothing is the text
+-- a text written to an empty buffer has the buffer's length
 text_put : (state : State) (text : List Bool) (n : ℕ) → option_map length state ≡ Some n → state ≡ append (Some []) text → length text ≡ n
 text_put state text n size put = by (nat_le (length text) 1000) (sym (ap (option_map length) put) ∙ size)
   where

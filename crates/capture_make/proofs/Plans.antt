@@ -1,4 +1,4 @@
--- The plan of each number can be sent.
+-- Every plan can be sent.
 use Rattle.std.proofs.Common.{◌≡◌, inl, ℕ, ◌+◌, ◌*◌, ◌%◌, ◌≤◌, false, true, if◌then◌else◌, List, length, None, refl, sym, subst, arith}
 use Rattle.std.specs.Prelude.{Bool, IsSomeAnd}
 use Rattle.std.proofs.lemmas.Bool.{le-leb}
@@ -17,7 +17,7 @@ use Rattle.cell_plan.proofs.WholeBlocks.{whole_is_resolvable}
 use Rattle.capture_make.specs.Recipe.{plan, information}
 use Rattle.capture_make.proofs.Information.{has_text}
 
--- 172 times three coded bits fit the places of six blocks, which each carrier has
+-- 172 times three coded bits fit six resource blocks, for each transmission scheme
 whole : (carrier : Carrier) (cfi : ℕ) → 3 * (144 + 24 + 4) ≤ 2 * (block_places_of carrier cfi * 6)
 whole carrier cfi = fit _ (are_few carrier cfi).least
   where
@@ -56,6 +56,6 @@ is_sendable_by carrier n = with_enough (is_resolvable (plan n) ≡ true) _ (plan
     by true = le-leb (coded_count (plan n)) (assigned_bits_of carrier (plan n)) (whole carrier (2 + n % 2))
     by false = (is_sendable n).enough
 
--- so no condition on it fails
+-- no condition on the plan fails
 pub none_fails : (carrier : Carrier) (n : ℕ) → refusal_of carrier (plan n) ≡ None
 none_fails carrier n = ((accepted_is_sendable_by carrier (plan n)).1 (is_sendable_by carrier n)).1

@@ -1,4 +1,4 @@
--- The samples of a recording by number.
+-- The samples of a recording.
 use Rattle.std.proofs.Common.{◌≡◌, ℕ, ◌+◌, ◌*◌, ◌%◌, ◌<◌, ◌≤◌, List, length, None, refl, ap, sym, subst, ◌∙◌, arith, ℤ, pos, neg_ℤ, ◌-ℤ◌, get_or, mod-lt}
 use Rattle.std.specs.Prelude.{nat_abs, nat_eq, MatchBool, All}
 use Rattle.std.proofs.lemmas.Int.{ints}
@@ -28,7 +28,7 @@ use Rattle.capture_make.specs.Made.{samples_by, samples, IsMadeBy, IsCleanNumber
 
 -- ---- the gains
 
--- the gain of a number is one
+-- the gain suits a clean recording
 pub gain_fits : (n : ℕ) → IsGain (gain n)
 gain_fits n =
     let some : 1 * 1 ≤ (1 + n % 19) * (1 + n % 19) = mul-le 1 1 (1 + n % 19) (1 + n % 19) (omega arith) (omega arith) in
@@ -59,14 +59,14 @@ both_fit n =
     let least = mul-le 1 1 (1 + n % 9) (1 + n % 9) (omega arith) (omega arith) in
     record { least = omega (arith, first, least); most = omega (arith, first, second, a, b, c, d) }
 
--- the squares of the sizes of four
+-- bounds on the squared magnitudes of four gains
 pub record AreNearOneAnother (n : ℕ) : Type 0 where
   pub first : (16 ≤ square (value_at (gains_of_four n) 0)) × (square (value_at (gains_of_four n) 0) ≤ 25)
   pub second : (16 ≤ square (value_at (gains_of_four n) 1)) × (square (value_at (gains_of_four n) 1) ≤ 20)
   pub third : (9 ≤ square (value_at (gains_of_four n) 2)) × (square (value_at (gains_of_four n) 2) ≤ 13)
   pub fourth : (16 ≤ square (value_at (gains_of_four n) 3)) × (square (value_at (gains_of_four n) 3) ≤ 17)
 
--- a number below twice another one and one more is off from it by no more
+-- a number from 0 to 2 m differs from m by at most m
 off_by : (x m : ℕ) → x < 2 * m + 1 → nat_abs (pos x -ℤ pos m) ≤ m
 off_by x m below = omega (arith, ints, below)
 
@@ -83,7 +83,7 @@ near_one_another n =
       fourth = (omega arith, omega (arith, e));
     }
 
--- these are the squares of any list that is the gains
+-- upper bounds on the squared magnitudes of four gains
 pub record AreSmall (list : List Cpx) : Type 0 where
   pub first : square (value_at list 0) ≤ 25
   pub second : square (value_at list 1) ≤ 20
@@ -114,21 +114,21 @@ are_gains TwoPorts n = both_fit n
 are_gains LongPrefix n = gain_fits n
 are_gains FourPorts n = four_fit n
 
--- and no pair of four is weak
+-- no pair of four ports is weak
 pub are_paired : (carrier : Carrier) (n : ℕ) → ArePairedBy carrier (gains carrier n)
 are_paired OnePort n = tt
 are_paired TwoPorts n = tt
 are_paired LongPrefix n = tt
 are_paired FourPorts n = four_paired n
 
--- a count that is neither 1 nor 2 is 4
+-- a port count other than 1 and 2 is 4
 pub last_count : (carrier : Carrier) (ports : ℕ) → ports ≡ ports_of carrier → (ports ≡ 1 → ⊥) → (ports ≡ 2 → ⊥) → 4 ≡ ports_of carrier
 last_count OnePort ports is one two = absurd (one is)
 last_count TwoPorts ports is one two = absurd (two is)
 last_count LongPrefix ports is one two = absurd (one is)
 last_count FourPorts ports is one two = refl
 
--- the bound of the errors hangs on the count of ports alone
+-- the error bound depends only on the port count
 allowed_by_count : (a b : Carrier) (list : List Cpx) (m : ℕ) → ports_of a ≡ ports_of b → IsAllowedBy a list m → IsAllowedBy b list m
 allowed_by_count a b list m =
     subst
@@ -141,9 +141,9 @@ bound_by_count a b n z e is = subst (λ list. IsBoundBy b list z) (ap (λ ports.
   greatest = λ m allowed. is.greatest m (allowed_by_count b a (gains a n) m (sym e) allowed);
 })
 
--- ---- what is sent, with errors
+-- ---- the emission with errors
 
--- what is received leaves room for the errors
+-- the received emission leaves headroom for the errors
 pub room_is : (e : Emission) (clean : List Sample) → clean ≡ emitted_samples e → All (λ s. IsWithin 32284 (value_of s)) clean
 room_is e clean is =
     subst (λ l. All (λ s. IsWithin 32284 (value_of s)) l) (sym is)
@@ -159,7 +159,7 @@ with_errors_is errors values count clean e =
     ∙ values_below_same count (λ i. sample_of (plus (sample_at clean i) (errors i))) (λ i. sample_of (plus (values i) (errors i)))
     (λ k below. ap (λ (s : Sample). sample_of (plus (value_of s) (errors k))) (ap (λ l. get_or l k silence) e ∙ values_below_at f count k silence below))
 
--- what was sent is what is sent for a number
+-- the emission is the recipe's
 pub record IsSentFor (carrier : Carrier) (n : ℕ) (e : Emission) : Type 0 where
   pub carrier_is : e.carrier ≡ carrier
   pub plan_is : e.cell ≡ plan n
@@ -169,7 +169,7 @@ pub record IsSentFor (carrier : Carrier) (n : ℕ) (e : Emission) : Type 0 where
   pub gains_are : e.gains ≡ gains carrier n
   pub load_is : e.load ≡ None
 
--- then the samples, with the errors, are those of its recording
+-- the samples with the errors are the recording's
 pub samples_are : (carrier : Carrier) (n bound : ℕ) (e : Emission) (clean : List Sample) → IsSentFor carrier n e → clean ≡ emitted_samples e
     → values_below (length clean) (λ i. sample_of (plus (sample_at clean i) (error n bound i))) ≡ samples_by carrier n bound
 unfolding samples_by
@@ -184,7 +184,7 @@ samples_are carrier n bound e clean s is =
     ∙ ap (λ g. values_with e.samples (received_by carrier None (plan n) (number n) (offset n) g) errors) s.gains_are
     ∙ ap (λ m. values_with m (received_by carrier None (plan n) (number n) (offset n) (gains carrier n)) errors) s.count_is
 
--- and these, with their bound, are that recording
+-- the samples with their bound make the recording
 pub is_made : (carrier : Carrier) (n bound : ℕ) (made : MadeBy) → IsSentFor carrier n made.sent → IsBound carrier n (pos bound) → made.bound ≡ pos bound
     → made.recording ≡ samples_by carrier n bound → IsMadeBy carrier n made
 is_made carrier n bound made s greatest is samples = record {
@@ -199,7 +199,7 @@ is_made carrier n bound made s greatest is samples = record {
   samples_are = samples ∙ ap (λ (z : ℤ). samples_by carrier n (nat_abs z)) (sym is);
 }
 
--- as many as a recording has
+-- the list has the recording's length
 pub is_recording : (carrier : Carrier) (n bound : ℕ) (list : List Sample) → list ≡ samples_by carrier n bound → IsRecording list
 unfolding samples_by
 is_recording carrier n bound list e =
@@ -207,7 +207,7 @@ is_recording carrier n bound list e =
     let long : length list ≡ sample_count n = ap length e ∙ values_below-length (sample_count n) (λ i. sample_of (plus (values i) (error n bound i))) in
     record { least = omega (arith, long); most = omega (arith, long) }
 
--- ---- and cleanly
+-- ---- clean recordings
 
 drawn-within : (bound w : ℕ) → nat_abs (drawn bound w) ≤ bound
 drawn-within bound w = let below : w % (2 * bound + 1) < 2 * bound + 1 = mod-lt w (omega arith) in omega (arith, ints, below)
@@ -219,7 +219,7 @@ is_clean_number law carrier n bound b =
     law carrier None (plan n) (number n) (offset n) (sample_count n) (gains carrier n) eps (error n eps) (omega arith) (omega arith) (are_gains carrier n) b.within
     (λ i below. record { re = drawn-within eps (word n (2 * i)); im = drawn-within eps (word n (2 * i + 1)) })
 
--- the law that it is
+-- every recording is clean
 abbrev pub NumbersAreClean : Type 0
 NumbersAreClean = (carrier : Carrier) (n : ℕ) (bound : ℤ) → IsBound carrier n bound → IsCleanNumber carrier n (samples_by carrier n (nat_abs bound)) (nat_abs bound)
 
@@ -246,7 +246,7 @@ one_bound carrier n x y a b =
     let q = b.greatest (nat_abs x) a.within in
     omega (arith, ints, p, q)
 
--- where the recordings are the samples with their bounds
+-- two recordings with the same number are equal
 pub one_of_number : (carrier : Carrier) (n : ℕ) (x y : ℤ) (a b : List Sample) → IsBound carrier n x → IsBound carrier n y
     → a ≡ samples_by carrier n (nat_abs x) → b ≡ samples_by carrier n (nat_abs y) → a ≡ b
 one_of_number carrier n x y a b p q e f = e ∙ ap (samples_by carrier n) (one_bound carrier n x y p q) ∙ sym f

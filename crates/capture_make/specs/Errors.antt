@@ -1,4 +1,4 @@
--- The errors of recording number n, from PCG32: O'Neill's generator of 64 bits of state and words of 32 bits. (own)
+-- The errors in recording n, from PCG32: O'Neill's generator with 64-bit state and 32-bit outputs. (own)
 use Rattle.std.specs.Prelude.{ℕ, ◌+◌, ◌*◌, ◌%◌, ℤ, pos, ◌-ℤ◌, List, length}
 use Rattle.finite.specs.Lists.{values_below}
 use Rattle.cs_num.specs.declared.Cpx.{Cpx}
@@ -7,23 +7,23 @@ use Rattle.cs_num.specs.Complex.{plus, sample_at, sample_of}
 use Rattle.rand_pcg.specs.Lcg.{Lcg, advance, started, increment_of}
 use Rattle.rand_pcg.specs.Pcg.{multiplier_64, pcg32}
 
--- the generator of state n and stream 1, after a number of words
+-- the generator with seed n and stream 1, after `words` outputs
 abbrev pub generator : ℕ → ℕ → Lcg
 generator n words = advance 64 multiplier_64 words (started 64 multiplier_64 n (increment_of 64 1))
 
--- the word that the generator gives after a number of words
+-- the next output after `words` outputs
 abbrev pub word : ℕ → ℕ → ℕ
 word n words = (pcg32 (generator n words)).0
 
--- the number from -bound to bound that a word stands for
+-- a number from -bound to bound, drawn with one output
 abbrev pub drawn : ℕ → ℕ → ℤ
 drawn bound word = pos (word % (2 * bound + 1)) -ℤ pos bound
 
--- the error of sample i: two words, the first for the real component
+-- the error in sample i: two outputs, the first for the real component
 abbrev pub error : ℕ → ℕ → ℕ → Cpx
 error n bound i = record { re = drawn bound (word n (2 * i)); im = drawn bound (word n (2 * i + 1)) }
 
--- samples, each with its error
+-- samples plus errors
 abbrev pub with_errors : ℕ → ℕ → List Sample → List Sample
 with_errors n bound samples =
     values_below (length samples) (λ i. sample_of (plus (sample_at samples i) (error n bound i)))

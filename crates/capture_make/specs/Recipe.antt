@@ -1,4 +1,4 @@
--- The recipe of recording number n: which cell is sent, and how. (own)
+-- The recipe for recording n: the cell and its transmission. (own)
 use Rattle.std.specs.Prelude.{ℕ, ◌+◌, ◌*◌, ◌%◌, ◌^◌, pos, ℤ, neg_ℤ, ◌-ℤ◌, ◌≤ℤ◌, nat_abs, true, false, List, [], ◌∷◌}
 use Rattle.std.specs.Prelude.{nat_eq, if◌then◌else◌, Some, None}
 use Rattle.cs_num.specs.declared.Cpx.{Cpx}
@@ -20,11 +20,11 @@ use Rattle.cell_plan.specs.Gains.{IsAllowedBy}
 abbrev pub network : Plmn
 network = record { mcc = Some (0 ∷ 0 ∷ 1 ∷ []); mnc = TwoDigits (0 ∷ 1 ∷ []); reserved = false }
 
--- an entry of the schedule, with the code of its period and those of its blocks
+-- a schedule entry, with the codes for its period and its blocks
 abbrev pub message : ℕ → List ℕ → SiMessage
 message period sibs = record { period = period; sibs = sibs }
 
--- SystemInformationBlockType1 of cell number n, of 131 bits
+-- SystemInformationBlockType1 for cell n, 131 bits
 abbrev pub information : ℕ → Sib1
 information n = record {
   plmns = network ∷ [];
@@ -45,7 +45,7 @@ information n = record {
   extended = false;
 }
 
--- the plan of cell number n: the size of the transport block is 144
+-- the plan for cell n; its transport block has 144 bits
 abbrev pub plan : ℕ → CellPlan
 plan n = record {
   identity = n % 504;
@@ -60,32 +60,32 @@ plan n = record {
   sib1 = information n;
 }
 
--- ---- what is sent of the cell
+-- ---- the transmission
 
--- the number of the first frame of which something is sent
+-- the first frame number
 abbrev pub number : ℕ → ℕ
 number n = n % 1024
 
--- the first sample of the first frame which is sent
+-- the first transmitted sample in the first frame
 abbrev pub offset : ℕ → ℕ
 offset n = n % frame_length
 
--- the count of samples that are sent: those of 10 to 99 frames
+-- the sample count: 10 to 99 frames
 abbrev pub sample_count : ℕ → ℕ
 sample_count n = frame_length * (10 + n % 90)
 
--- the gain of one antenna port
+-- the gain for one antenna port
 abbrev pub gain : ℕ → Cpx
 gain n = record { re = pos (1 + n % 19); im = pos (n % 20) }
 
--- the gains of the first and of the second of two antenna ports
+-- the gains for two antenna ports
 abbrev pub first_gain : ℕ → Cpx
 first_gain n = record { re = pos (1 + n % 9); im = pos (n % 10) }
 
 abbrev pub second_gain : ℕ → Cpx
 second_gain n = record { re = pos (n % 11); im = neg_ℤ (pos (n % 8)) }
 
--- the gains of four antenna ports, of sizes near one another, each about its own quarter of a turn
+-- the gains for four antenna ports: similar magnitudes, each around its own quarter cycle
 abbrev pub gains_of_four : ℕ → List Cpx
 gains_of_four n =
     record { re = pos 4; im = pos (n % 7) -ℤ pos 3 }
@@ -94,7 +94,7 @@ gains_of_four n =
     ∷ record { re = pos (n % 3) -ℤ pos 1; im = neg_ℤ (pos 4) }
     ∷ []
 
--- the gains of so many ports, and 0 for each further one of four
+-- the gains for a number of ports, and 0 up to four
 abbrev pub gains_of_ports : ℕ → ℕ → List Cpx
 gains_of_ports ports n =
     if nat_eq ports 1 then gain n ∷ nothing ∷ nothing ∷ nothing ∷ []
@@ -103,7 +103,7 @@ gains_of_ports ports n =
 abbrev pub gains : Carrier → ℕ → List Cpx
 gains carrier n = gains_of_ports (ports_of carrier) n
 
--- the bound of the errors: the greatest that a clean recording with these gains allows
+-- the error bound: the maximum that a clean recording with these gains allows
 pub record IsBoundBy (carrier : Carrier) (gains : List Cpx) (bound : ℤ) : Type 0 where
   pub within : IsAllowedBy carrier gains (nat_abs bound)
   pub greatest : (m : ℕ) → IsAllowedBy carrier gains m → pos m ≤ℤ bound

@@ -1,4 +1,4 @@
-//! The errors of a recording.
+//! A recording's errors.
 
 ghost use Rattle.std.specs.Prelude.{◌≡◌, ◌≤◌, ◌+◌, ◌*◌, All, nat_abs};
 ghost use Rattle.cs_num.specs.Complex.{IsWithin, plus, value_of, sample_of};
@@ -9,7 +9,7 @@ use cs_num::Sample;
 use rand_core::utils::NextWord;
 use rand_pcg::Lcg64Xsh32;
 
-// The next number from -bound to bound.
+// Draws a number from `-bound` to `bound`.
 fn draw(words: &mut Lcg64Xsh32, bound: u16) -> i16
     requires { bound ≤ 56 }
     ensures value { result ≡ drawn bound (pcg32 words.old).0 }
@@ -19,7 +19,7 @@ fn draw(words: &mut Lcg64Xsh32, bound: u16) -> i16
     (words.next_word() % (2 * bound as u32 + 1)) as i16 - bound as i16
 }
 
-// The error of a sample: the real component is drawn first.
+// Draws a sample's error, real component first.
 fn draw_error(words: &mut Lcg64Xsh32, bound: u16) -> Sample
     requires { bound ≤ 56 }
     ensures re { result.re ≡ drawn bound (pcg32 words.old).0 }
@@ -32,7 +32,7 @@ fn draw_error(words: &mut Lcg64Xsh32, bound: u16) -> Sample
     Sample { re, im }
 }
 
-// A sample with an error.
+// Returns a sample plus an error.
 fn with_error(clean: Sample, error: Sample) -> Sample
     requires clean { IsWithin 32284 (value_of clean) }
     requires error { IsWithin 56 (value_of error) }

@@ -1,6 +1,6 @@
-//! Synthetic recordings: for each 32-bit number and carrier the samples that a cell sends, with errors, by one recipe.
+//! Synthetic recordings: for each 32-bit number and transmission scheme, a cell's samples with errors, by one recipe.
 //!
-//! Tests: `sent_tests/src/made_recordings.rt`.
+//! Tests: the crate `sent_tests`, in `made_recordings.rt`.
 #![tactic(auto)]
 
 mod errors;

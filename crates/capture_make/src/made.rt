@@ -21,7 +21,7 @@ use lte_types::Carrier;
 use sample_file::Recording;
 use std::alloc::{AllocError, Global};
 
-/// Recording `n` of a carrier, and the emission that it contains.
+/// Recording `n` for a transmission scheme, and the emission that it contains.
 #[derive(Drop)]
 pub struct MadeBy {
     /// The emission.
@@ -32,7 +32,7 @@ pub struct MadeBy {
     pub recording: Recording,
 }
 
-/// Recording `n` of one antenna port, and the transmission that it contains.
+/// Recording `n` with one antenna port, and the transmission that it contains.
 #[derive(Drop)]
 pub struct Made {
     /// The transmission.
@@ -43,7 +43,7 @@ pub struct Made {
     pub recording: Recording,
 }
 
-// What is received of an emission, in memory of its own.
+// Returns the received emission, in newly allocated memory.
 fn emitted_samples(alloc: Global, sent: &Emission) -> Result<Vec<Sample>, AllocError>
     ensures { IfOk result (λ samples. samples.items ≡ emitted_samples sent.now) }
 {
@@ -52,8 +52,8 @@ fn emitted_samples(alloc: Global, sent: &Emission) -> Result<Vec<Sample>, AllocE
     Ok(samples)
 }
 
-// Samples, whose components have size at most 32,284, with the errors of number `n`; no component of an error has a
-// greater size than `bound`, which is at most 56.
+// Returns `samples` plus the errors of number `n`. Components have magnitude at most 32,284, and error components at
+// most `bound`, which is at most 56.
 fn with_errors(n: u32, bound: u16, mut samples: Vec<Sample>) -> Vec<Sample>
     requires bound { bound ≤ 56 }
     requires room { All (λ s. IsWithin 32284 (value_of s)) samples.items }
@@ -63,7 +63,7 @@ fn with_errors(n: u32, bound: u16, mut samples: Vec<Sample>) -> Vec<Sample>
     samples
 }
 
-// The recording with what was sent and the bound of its errors.
+// Returns the recording with its emission and error bound.
 fn with_bound(sent: Emission, bound: u16, recording: Recording) -> MadeBy
     requires { bound ≤ 56 }
     ensures sent { result.sent ≡ sent }
@@ -77,9 +77,8 @@ fn with_bound(sent: Emission, bound: u16, recording: Recording) -> MadeBy
     }
 }
 
-/// Makes recording `n` of `carrier`, 10 to 99 frames long: the samples of each antenna port times the port's gain, plus
-/// errors up to the largest bound of a clean recording, by the recipe in `docs/FORMATS.md`. Fails only if an allocation
-/// fails. (own)
+/// Makes recording `n` of `carrier`, 10 to 99 frames long, by the recipe in `docs/FORMATS.md`. Errors reach the
+/// largest bound that a clean recording allows. Fails only if an allocation fails. (own)
 pub fn make_by(alloc: Global, carrier: Carrier, n: u32) -> Result<MadeBy, AllocError>
     ensures made { IfOk result (IsMadeBy carrier n) }
     ensures sendable { IsSendableBy carrier (plan n) }
@@ -97,7 +96,7 @@ pub fn make_by(alloc: Global, carrier: Carrier, n: u32) -> Result<MadeBy, AllocE
     }
 }
 
-// What was made with one antenna port.
+// Returns a recording with one antenna port.
 fn of_one_port(n: u32, made: MadeBy) -> Made
     requires { IsMadeBy OnePort n made }
     ensures made { IsMade n result }
@@ -110,7 +109,7 @@ fn of_one_port(n: u32, made: MadeBy) -> Made
     }
 }
 
-/// Makes recording `n` with one antenna port: that of `make_by`, whose errors are at most twice the gain's magnitude.
+/// Makes recording `n` with one antenna port, as `make_by` does; its errors are at most twice the gain's magnitude.
 /// Fails only if an allocation fails. (own)
 pub fn make(alloc: Global, n: u32) -> Result<Made, AllocError>
     ensures made { IfOk result (IsMade n) }
@@ -123,7 +122,7 @@ pub fn make(alloc: Global, n: u32) -> Result<Made, AllocError>
     Ok(of_one_port(n, made))
 }
 
-/// A law: each recording of each carrier is a clean recording of its emission.
+/// A law: every recording is a clean recording of its emission, for each transmission scheme.
 pub fn numbers_are_clean()
     ensures { (carrier : AnyCarrier) (n : ℕ) (bound : ℤ) → IsBound carrier n bound →
         IsCleanNumber carrier n (samples_by carrier n (nat_abs bound)) (nat_abs bound) }
@@ -131,7 +130,7 @@ pub fn numbers_are_clean()
     sum_is_clean();
 }
 
-/// A law: each recording with one antenna port is a clean recording of its transmission.
+/// A law: every recording with one antenna port is a clean recording of its transmission.
 pub fn made_is_clean()
     ensures { (n : ℕ) (made : MadeValue) → IsMade n made → IsCleanlyMade made }
 {

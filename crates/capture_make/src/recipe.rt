@@ -1,4 +1,4 @@
-//! What is sent for a number.
+//! The recipe: the cell and its transmission for each number.
 
 ghost use Rattle.std.specs.Prelude.{◌≡◌, ◌⊎◌, ◌≤◌, ◌%◌, ◌-ℤ◌, [], ◌∷◌, pos, length, None};
 ghost use Rattle.lte_types.specs.declared.carrier.Carrier.TheVariants.{OnePort, TwoPorts, FourPorts};
@@ -15,10 +15,10 @@ use lte_types::{
     Carrier, Duration, Mnc, Plmn, Plmns, Resource, Schedule, Sfn, SiMessage, Sib1, Sibs, Timing,
 };
 
-// The samples of a frame.
+// The number of samples in a frame.
 const FRAME: u32 = lte_types::FRAME_LENGTH as u32;
 
-// The network 001/01.
+// Returns the network 001/01.
 fn networks() -> Plmns
     ensures { result ≡ network ∷ [] }
 {
@@ -31,7 +31,7 @@ fn networks() -> Plmns
     plmns
 }
 
-// An entry of the schedule.
+// Returns a schedule entry.
 fn message(period: u8, codes: &[u8]) -> SiMessage
     requires { length codes.now ≤ 31 }
     ensures { result ≡ message_of period codes.now }
@@ -43,7 +43,7 @@ fn message(period: u8, codes: &[u8]) -> SiMessage
     SiMessage { period, sibs }
 }
 
-// Two entries of the schedule: one without blocks, and one with types 3 and 5.
+// Returns two schedule entries: one without blocks, and one with SIB types 3 and 5.
 fn schedule(period: u8) -> Schedule
     ensures { result ≡ message_of period [] ∷ message_of period (0 ∷ 2 ∷ []) ∷ [] }
 {
@@ -53,7 +53,7 @@ fn schedule(period: u8) -> Schedule
     schedule
 }
 
-// The block of system information.
+// Returns SystemInformationBlockType1.
 fn information(n: u32) -> Sib1
     ensures { result ≡ information_of n }
 {
@@ -77,7 +77,7 @@ fn information(n: u32) -> Sib1
     }
 }
 
-// The duration of the PHICH.
+// Returns phich-Duration.
 fn duration(n: u32) -> Duration
     ensures { result ≡ duration_with (n % 2) }
 {
@@ -87,7 +87,7 @@ fn duration(n: u32) -> Duration
     }
 }
 
-// The resource of the PHICH.
+// Returns phich-Resource.
 fn resource(n: u32) -> Resource
     ensures { result ≡ resource_with (n % 4) }
 {
@@ -115,7 +115,7 @@ pub fn plan(n: u32) -> CellPlan
     }
 }
 
-// The plan of each number can be sent by each carrier (`Plans`), so that it is never refused.
+// Returns the cell; every plan is accepted for every transmission scheme (`Plans`).
 fn cell(carrier: Carrier, n: u32) -> Cell
     ensures plan { result ≡ plan_of n }
     ensures accepted { refusal_of carrier result ≡ None }
@@ -136,7 +136,7 @@ pub fn gain(n: u32) -> Gain
     }
 }
 
-// The gain of the first of two ports.
+// Returns the first port's gain for two antenna ports.
 fn first_gain(n: u32) -> Cpx
     ensures { result ≡ first_gain n }
 {
@@ -146,7 +146,7 @@ fn first_gain(n: u32) -> Cpx
     }
 }
 
-// The gain of the second port, which may be 0.
+// Returns the second port's gain for two antenna ports, which may be 0.
 fn second_gain(n: u32) -> Cpx
     ensures { result ≡ second_gain n }
 {
@@ -156,7 +156,7 @@ fn second_gain(n: u32) -> Cpx
     }
 }
 
-// What a number leaves by a count, less a middle.
+// Returns `n` modulo `count`, minus `middle`.
 fn about(n: u32, count: u32, middle: u32) -> i64
     requires { 1 ≤ count }
     ensures { result ≡ pos (n % count) -ℤ pos middle }
@@ -164,7 +164,7 @@ fn about(n: u32, count: u32, middle: u32) -> i64
     (n % count) as i64 - middle as i64
 }
 
-// The gains of four ports.
+// Returns the gains for four antenna ports.
 fn gains_of_four(n: u32) -> [Cpx; 4]
     ensures { result ≡ gains_of_four n }
 {
@@ -187,7 +187,7 @@ fn gains_of_four(n: u32) -> [Cpx; 4]
     [first, second, third, fourth]
 }
 
-/// Returns the gains of the carrier's antenna ports in recording `n`; 0 for ports that it does not have.
+/// Returns the gains of the antenna ports in recording `n`; 0 for ports beyond the transmission scheme's.
 pub fn gains(carrier: Carrier, n: u32) -> [Cpx; 4]
     ensures { result ≡ gains_of carrier n }
 {
@@ -209,7 +209,7 @@ pub fn timing(n: u32) -> Timing
     }
 }
 
-// How many samples recording number `n` has: those of 10 to 99 frames.
+// Returns the sample count of recording `n`: 10 to 99 frames.
 fn sample_count(n: u32) -> u32
     ensures value { result ≡ sample_count n }
     ensures bound { IsCount result }
@@ -237,8 +237,7 @@ pub(crate) fn emission(carrier: Carrier, n: u32) -> Emission
     }
 }
 
-// The bound of the errors with one antenna port: the greatest whole number whose square is at most four times that of
-// the gain's size.
+// Returns the error bound with one antenna port: the largest whole number at most twice the gain's magnitude.
 fn bound_of_one(n: u32) -> u16
     ensures bound { IsBound OnePort n (pos result) }
     ensures small { result ≤ 56 }
@@ -247,7 +246,7 @@ fn bound_of_one(n: u32) -> u16
     (4 * (re * re + im * im)).isqrt() as u16
 }
 
-// The lesser of two numbers.
+// Returns the lesser number.
 fn least(a: u32, b: u32) -> u32
     ensures first { result ≤ a }
     ensures second { result ≤ b }
@@ -256,8 +255,8 @@ fn least(a: u32, b: u32) -> u32
     if a < b { a } else { b }
 }
 
-// The bound of the errors with two antenna ports: the greatest whole number whose square is at most a quarter of the
-// sum of the squares of both gains' sizes, and at most four times that of the first.
+// Returns the error bound with two antenna ports: the largest whole number whose square is at most a quarter of the
+// total power, and at most four times the first port's.
 fn bound_of_two(n: u32) -> u16
     ensures bound { IsBound TwoPorts n (pos result) }
     ensures small { result ≤ 56 }
@@ -268,7 +267,7 @@ fn bound_of_two(n: u32) -> u16
     least(both / 4, 4 * first).isqrt() as u16
 }
 
-// The sum of the squares of the sizes of the gains of four ports.
+// Returns the total power of four gains: the sum of their squared magnitudes.
 fn power_of_four(n: u32) -> u32
     ensures value { result ≡ power_of_four (gains_of_four n) }
     ensures small { result ≤ 75 }
@@ -278,8 +277,8 @@ fn power_of_four(n: u32) -> u32
     power as u32
 }
 
-// The bound of the errors with four antenna ports: the greatest whole number whose square is at most a 64th of the
-// sum of the squares of all gains' sizes.
+// Returns the error bound with four antenna ports: the largest whole number whose square is at most 1/64 of the total
+// power.
 fn bound_of_four(n: u32) -> u16
     ensures bound { IsBound FourPorts n (pos result) }
     ensures small { result ≤ 56 }

@@ -1,4 +1,4 @@
--- Points of a list of bits.
+-- QPSK symbols for a list of bits.
 use Rattle.std.proofs.Common.{◌≡◌, ℕ, ◌+◌, ◌*◌, ◌<◌, Bool, false, List, get_or, refl, ap, arith, ◌∙◌}
 use Rattle.finite.specs.Lists.{values_below}
 use Rattle.finite.proofs.Lists.{values_below_at, values_below_same}

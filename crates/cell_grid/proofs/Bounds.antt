@@ -1,4 +1,4 @@
--- Sizes of elements and of samples.
+-- Bounds on resource elements and samples.
 use Rattle.std.proofs.Common.{◌≡◌, ℕ, ◌+◌, ◌-◌, ◌*◌, ◌/◌, ◌%◌, ◌<◌, ◌≤◌, ◌^◌, inl, inr, Bool, true, false, nat_eq, nat_lt, Option, Some, None, arith, refl, ap, ◌∙◌, ℤ, pos, neg_ℤ, ◌+ℤ◌, ◌*ℤ◌}
 use Rattle.std.specs.Prelude.{if◌then◌else◌, nat_abs}
 use Rattle.std.proofs.lemmas.Bool.{cases_lt}
@@ -43,7 +43,7 @@ use Rattle.lte_types.specs.Numerology.{normal, half_of, symbols_of_slot, useful_
 use Rattle.lte_types.specs.Timing.{number_of}
 use Rattle.cell_grid.specs.Grid.{Elements}
 
--- ---- elements
+-- ---- resource elements
 
 pub pick : (P : Cpx → Type 0) (c : Bool) (a b : Cpx) → P a → P b → P (if c then a else b)
 pick P true a b p q = p
@@ -68,7 +68,7 @@ pub shared_full : (plan : CellPlan) (sfn i : ℕ) → IsPoint (shared_point plan
 unfolding shared_point
 shared_full plan sfn i = bits_full (scrambled (pdsch_c_init plan.identity 10 system_information_rnti) (shared_bit plan sfn)) i
 
--- so have their negatives
+-- negation keeps full magnitude
 negative_full : (z : ℤ) → IsFull z → IsFull (neg_ℤ z)
 negative_full z (inl e) = inr (ap neg_ℤ e)
 negative_full z (inr e) = inl (ap neg_ℤ e)
@@ -81,7 +81,7 @@ crossed_full f full i =
     (record { re = negative_full (f (i + 1)).re next.re; im = negative_full _ (negative_full (f (i + 1)).im next.im) })
     (record { re = before.re; im = negative_full (f (i - 1)).im before.im })
 
--- what holds of points and of 0 holds of what a port sends of points
+-- what holds for 0 and all QPSK symbols also holds for the values that a port transmits
 sent_points_all : (P : Cpx → Type 0) → ((z : Cpx) → IsPoint z → P z) → P nothing → (port : Port) (f : ℕ → Cpx) → ((i : ℕ) → IsPoint (f i)) → (i : ℕ) → P (sent_point port f i)
 sent_points_all P full none port f points i =
     pick P (nat_eq (ports_of port.carrier) 1) _ _ (full _ (points i))
@@ -90,7 +90,7 @@ sent_points_all P full none port f points i =
     paired : (half : ℕ) → P (paired_point half port.number f i)
     paired half = pick P (nat_lt port.number half) _ _ (full _ (points i)) (full _ (crossed_full f points i))
 
--- the reference signals
+-- reference signals are QPSK symbols
 pub reference_full : (port : Port) (identity slot symbol k : ℕ) → IsPoint (port_reference port identity slot symbol k)
 reference_full port identity slot symbol k = pattern_reference-IsPoint (first_pattern port) identity slot symbol (k / 6)
 
@@ -106,7 +106,7 @@ channel_all P full none port plan sfn subframe symbol k =
 signal_all : (P : Cpx → Type 0) (port : Port) (z : Cpx) → P z → P nothing → P (sent_signal port z)
 signal_all P port z here none = pick P (nat_eq port.number 0) _ _ here none
 
--- what holds of each kind of value holds of every element
+-- a predicate that holds for each kind of value holds for every resource element
 element_all : (P : Cpx → Type 0) → ((z : Cpx) → IsPoint z → P z) → ((n2 n : ℕ) → P (pss_at n2 n))
     → ((n1 n2 : ℕ) (half : Half) (n : ℕ) → P (record { re = pos 127 *ℤ sss_at n1 n2 half n; im = pos 0 })) → P nothing
     → (port : Port) (plan : CellPlan) (sfn subframe symbol k : ℕ) → P (port_element port plan sfn subframe symbol k)
@@ -151,7 +151,7 @@ element-square =
     (λ n1 n2 half n. rw (secondary_size n1 n2 half n) (omega arith))
     (omega arith)
 
--- with load and without
+-- load consists of QPSK symbols
 pub load_full : (load : ℕ) (port : Port) (sfn subframe symbol k : ℕ) → IsPoint (load_point load port sfn subframe symbol k)
 unfolding load_point
 load_full load port sfn subframe symbol k = bits_full (gold_bit (load_c_init load port sfn subframe)) (72 * symbol + k)

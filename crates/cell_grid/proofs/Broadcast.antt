@@ -1,4 +1,4 @@
--- Where the broadcast channel is: in the first four symbols of slot 1.
+-- PBCH occupies the first four symbols in slot 1.
 use Rattle.std.proofs.Common.{◌≡◌, ℕ, ◌+◌, ◌*◌, ◌/◌, ◌%◌, ◌<◌, ◌≤◌, Bool, true, false, ◌&&◌, nat_eq, nat_le, nat_lt, length, if◌then◌else◌, refl, ap, sym, ◌∙◌, arith, eqb-true}
 use Rattle.std.proofs.lemmas.Bool.{lt-ltb, ltb-true}
 use Rattle.std.proofs.lemmas.Bool.Decides.{nat_tests}
@@ -16,7 +16,7 @@ use Rattle.cell_grid.specs.Grid.{is_one_of, broadcast_places, broadcast_symbol, 
 use Rattle.cell_grid.proofs.PlaceValues.{absent_is}
 use Rattle.cell_grid.proofs.Prefixes.{port_prefix_known, with_prefix}
 
--- the list of the broadcast channel's places has those that carry it
+-- membership in the PBCH list is `is_pbch`
 pub is_pbch_place : (identity : ℕ) (p : Place) → is_one_of (pbch_places identity) p ≡ is_pbch identity p
 unfolding pbch_index
 is_pbch_place identity p = by (is_pbch identity p) refl (is_one_of (pbch_places identity) p) refl
@@ -42,7 +42,7 @@ late_long identity symbol k late =
     absent_is (long_places identity) (place symbol k)
     (λ j inside same. let few = length-long_places identity in let low = (long_place_is identity j (omega (arith, inside, few))).symbol in let here = ap (λ (p : Place). p.symbol) same in omega (arith, low, here, late))
 
--- a place in slot 1 from its fifth symbol on is none of the channel's
+-- no PBCH resource element lies in slot 1 from its fifth symbol
 abbrev IsLate : ℕ → ℕ → ℕ → ℕ → Prefix → Type 0
 IsLate identity subframe symbol k prefix =
     2 * subframe + symbol / symbols_of_slot prefix ≡ 1 → 4 ≤ symbol % symbols_of_slot prefix →
@@ -55,7 +55,7 @@ late_places identity subframe symbol k port =
     (λ slot late. late_long identity (symbol % 6) k late)
     (port_prefix port) (port_prefix_known port)
 
--- nor is one of another slot
+-- there is no PBCH outside the first four symbols in slot 1
 pub not_broadcast : (port : Port) (identity subframe symbol k : ℕ) → (port_slot port subframe symbol ≡ 1 → 4 ≤ symbol % port_symbols port) → has_broadcast port identity subframe symbol k ≡ false
 not_broadcast port identity subframe symbol k late = by (nat_eq (port_slot port subframe symbol) 1) refl
   where
@@ -63,7 +63,7 @@ not_broadcast port identity subframe symbol k late = by (nat_eq (port_slot port 
     by false e = refl
     by true e = let slot = eqb-true (port_slot port subframe symbol) 1 e in late_places identity subframe symbol k port slot (late slot)
 
--- ---- the places of the normal prefix
+-- ---- resource elements with the normal prefix
 
 module _ (port : Port) (seven : port_symbols port ≡ 7) (identity symbol k : ℕ) where
   abbrev IsThere : Prefix → Type 0

@@ -1,4 +1,4 @@
--- What the code finds of each channel at a place is its value there.
+-- The values that the code looks up for each channel are the channel's values.
 use Rattle.std.proofs.Common.{◌≡◌, ℕ, ◌%◌, subst, ◌≤◌, Bool, true, false, ◌&&◌, List, length, Some, None, if◌then◌else◌, refl, ap, sym, ◌∙◌, arith}
 use Rattle.std.specs.Prelude.{All}
 use Rattle.finite.specs.Lists.{values_below}
@@ -30,12 +30,12 @@ both_true : (a b c : Bool) → a ≡ true → b ≡ c → b ≡ (a && c)
 both_true true b c e f = f
 both_true false b c e f = absurd cc
 
--- a channel that the code looks up
+-- a channel's value, looked up in its lists
 looked_up : (port : Port) (places : List Place) (points : List Cpx) (n : ℕ) (f : ℕ → Cpx) (p : Place) → points ≡ values_below n f → n % 2 ≡ 0 → length places ≤ n
     → value_in port places points p ≡ (if is_one_of places p then Some (sent_point port f (index_in places p)) else None)
 looked_up port places points n f p e even room = ap (λ (zs : List Cpx). value_in port places zs p) e ∙ values_are places p port n f even room
 
--- points of a channel have components of size 90, and are so many
+-- a channel's symbols have components with magnitude 90
 pub all_small : (points : List Cpx) (n : ℕ) (f : ℕ → Cpx) → points ≡ values_below n f → ((i : ℕ) → IsPoint (f i)) → All (IsWithin 90) points
 all_small points n f e full =
     subst (λ (zs : List Cpx). All (IsWithin 90) zs) (sym e)
@@ -44,7 +44,7 @@ all_small points n f e full =
 pub so_many : (points : List Cpx) (n : ℕ) (f : ℕ → Cpx) → points ≡ values_below n f → length points ≡ n
 so_many points n f e = ap length e ∙ values_below-length n f
 
--- the places of the broadcast channel are at most 240
+-- PBCH has at most 240 resource elements
 pub broadcast_count : (port : Port) (identity : ℕ) → length (broadcast_places port identity) ≤ 240
 broadcast_count port identity = by (is_extended (port_prefix port))
   where
@@ -52,7 +52,7 @@ broadcast_count port identity = by (is_extended (port_prefix port))
     by true = let n = length-long_places identity in omega (arith, n)
     by false = let n = length-pbch_places identity in omega (arith, n)
 
--- what it has in the symbols of its slot
+-- the PBCH value in the symbols where it may occur
 pub broadcast_is : (plan : CellPlan) (sfn subframe symbol k : ℕ) (port : Port) (points : List Cpx) → points ≡ values_below 240 (port_point port plan sfn) → may_broadcast port subframe symbol ≡ true →
     value_in port (broadcast_places port plan.identity) points (place (broadcast_symbol port symbol) k) ≡ broadcast_if port plan sfn subframe symbol k
 broadcast_is plan sfn subframe symbol k port points is e =

@@ -1,4 +1,4 @@
--- The elements of a grid, case by case.
+-- Grid values, case by case.
 use Rattle.std.proofs.Common.{◌≡◌, ℕ, zero, suc, ◌+◌, ◌*◌, ◌/◌, ◌%◌, ◌<◌, ◌≤◌, ◌⊎◌, inl, inr, Bool, true, false, not, ◌&&◌, ◌||◌, nat_eq, nat_lt, Option, Some, None, List, get_or, ◌-◌, arith, refl, sym, subst, ap, ◌∙◌, eq-eqb, eqb-true}
 use Rattle.std.specs.Prelude.{if◌then◌else◌}
 use Rattle.std.specs.Option.{unwrap_or}
@@ -19,9 +19,9 @@ use Rattle.cell_grid.specs.Grid.{is_primary, is_secondary, has_broadcast, is_ind
 use Rattle.cell_grid.specs.Load.{is_signal_symbol, is_taken, is_loaded, load_point, loaded_element, sent_element}
 use Rattle.cell_grid.specs.Rows.{port_reference_if, lower_test, any_lower_test, upper_test, any_upper_test, indicator_if, control_if, shared_if, system_if, channel_if, open_value}
 
--- ---- reference places
+-- ---- reference positions
 
--- with the normal prefix the values and places of ports 0 and 1
+-- with the normal prefix, ports 0 and 1 have the same values and positions
 pub normal_reference : (identity slot symbol k : ℕ) → pattern_reference port_0 identity slot symbol (k / 6) ≡ reference_at identity slot symbol k
 unfolding reference_at
 normal_reference identity slot symbol k = reference-of_port_0 identity slot symbol (k / 6)
@@ -34,7 +34,7 @@ pub is_second : (identity symbol k : ℕ) → is_pattern_place port_1 identity s
 unfolding is_second_reference
 is_second identity symbol k = refl
 
--- ---- tests of places
+-- ---- tests at a resource element
 
 or-false : (d : Bool) → d ≡ (d || false)
 or-false true = refl
@@ -46,7 +46,8 @@ both_false a b e f = rw (e, f) refl
 or_alike : (a b c d : Bool) → a ≡ c → b ≡ d → (a || b) ≡ (c || d)
 or_alike a b c d e f = rw (e, f) refl
 
--- what the code finds at a place, by whether it is one of the port's own twelve and of any port's
+-- the code's value at a resource element, given whether the port itself and whether any port has a reference position
+-- there
 abbrev pub found : Bool → Bool → Cpx → Option Cpx
 found own any value = if own then Some value else (if any then Some nothing else None)
 
@@ -57,7 +58,7 @@ chosen a b c d x y e f g = rw (e, f, g) (by c)
     by true = refl
     by false = refl
 
--- ---- a port by its number: 0, 1, or any other
+-- ---- ports by number: 0, 1, or any other
 
 data IsNumber : ℕ → Type 0 where
   Zeroth : IsNumber 0
@@ -69,7 +70,7 @@ number_is zero = Zeroth
 number_is (suc zero) = First
 number_is (suc (suc n)) = Upper (suc (suc n)) (let late : 2 ≤ suc (suc n) = omega arith in grind (arith, nat_tests))
 
--- ---- places without reference signals
+-- ---- resource elements without reference signals
 
 neither_is : (own any : Bool) (value : Cpx) → own ≡ false → any ≡ false → (if own then Some value else (if not own && any then Some nothing else None)) ≡ None
 neither_is own any value e f = rw (e, f) refl
@@ -85,7 +86,7 @@ no_upper_reference : (port identity slot symbol k : ℕ) → nat_eq symbol 1 ≡
 unfolding is_upper_reference
 no_upper_reference port identity slot symbol k e = rw e refl
 
--- any of the ports of a carrier, where none of four has a place
+-- if no port from 0 to 3 has a reference position, neither has any port of the transmission scheme
 pub none_of_any : (carrier : Carrier) (identity slot symbol k : ℕ) → ((number : ℕ) → is_reference_by carrier number identity slot symbol k ≡ false) →
     is_reference_of_any carrier identity slot symbol k ≡ false
 none_of_any OnePort identity slot symbol k none = both_false _ _ (none 0) refl
@@ -93,7 +94,7 @@ none_of_any TwoPorts identity slot symbol k none = both_false _ _ (none 0) (both
 none_of_any LongPrefix identity slot symbol k none = both_false _ _ (none 0) refl
 none_of_any FourPorts identity slot symbol k none = both_false _ _ (none 0) (both_false _ _ (none 1) (both_false _ _ (none 2) (both_false _ _ (none 3) refl)))
 
--- other symbols have no reference places of any port
+-- only symbols 0 and 1 and the pattern's later symbol have reference positions
 no_own : (carrier : Carrier) (number identity slot symbol k : ℕ) → nat_eq symbol 0 ≡ false → nat_eq symbol 1 ≡ false → nat_eq symbol (pattern_of carrier 0).later ≡ false →
     is_reference_by carrier number identity slot symbol k ≡ false
 no_own carrier number identity slot symbol k e g f =
@@ -109,7 +110,7 @@ no_port_reference port identity slot symbol k e g f =
     none_of port identity slot symbol k (no_own port.carrier port.number identity slot symbol k e g f)
     (none_of_any port.carrier identity slot symbol k (λ number. no_own port.carrier number identity slot symbol k e g f))
 
--- symbol 1 has none of ports 0 and 1
+-- symbol 1 has no reference positions of ports 0 and 1
 not_in_first : (carrier : Carrier) (number identity k : ℕ) → is_pattern_place (pattern_of carrier number) identity 1 k ≡ false
 not_in_first OnePort number identity k = refl
 not_in_first TwoPorts number identity k = refl
@@ -123,7 +124,7 @@ any_in_first TwoPorts identity slot k = refl
 any_in_first LongPrefix identity slot k = refl
 any_in_first FourPorts identity slot k = sym (or_alike _ _ _ _ refl (or-false _))
 
--- ---- the row of ports 0 and 1
+-- ---- the symbols that ports 0 and 1 use
 
 module _ (pattern : Pattern) (pilots : List (ℕ × Cpx)) (identity slot symbol k : ℕ) (is : pilots ≡ pattern_list pattern identity slot symbol) where
   first_is : (get_or pilots 0 no_pair).0 % 6 ≡ pattern_first pattern identity symbol
@@ -134,7 +135,7 @@ module _ (pattern : Pattern) (pilots : List (ℕ × Cpx)) (identity slot symbol 
   value_is : k < 72 → (get_or pilots (k / 6) no_pair).1 ≡ pattern_reference pattern identity slot symbol (k / 6)
   value_is inside = ap (λ (pair : ℕ × Cpx). pair.1) (ap (λ list. get_or list (k / 6) no_pair) is ∙ get_or-pattern_list pattern identity slot symbol (k / 6) no_pair (omega arith))
 
--- the two symbols with reference places of ports 0 and 1 of a carrier
+-- the two symbols with reference positions of ports 0 and 1
 abbrev IsRow : Carrier → ℕ → Type 0
 IsRow carrier symbol = (symbol ≡ 0) ⊎ (symbol ≡ (pattern_of carrier 0).later)
 
@@ -149,7 +150,7 @@ has symbol later (inr e) = by (nat_eq symbol 0)
 in_row : (pattern : Pattern) (identity symbol k n : ℕ) → (symbol ≡ 0) ⊎ (symbol ≡ pattern.later) → n ≡ pattern_first pattern identity symbol → nat_eq (k % 6) n ≡ is_pattern_place pattern identity symbol k
 in_row pattern identity symbol k n row e = ap (nat_eq (k % 6)) e ∙ sym (ap (λ b. b && nat_eq (k % 6) (pattern_first pattern identity symbol)) (has symbol pattern.later row))
 
--- port 1 has its first place three subcarriers on
+-- port 1 begins three subcarriers higher
 turned : (identity : ℕ) (b : Bool) → (((if b then 0 else 3) + identity) % 6 + 3) % 6 ≡ ((if b then 3 else 0) + identity) % 6
 turned identity true = omega arith
 turned identity false = omega arith
@@ -161,7 +162,7 @@ single TwoPorts symbol (inr e) = rw e refl
 single LongPrefix symbol (inr e) = rw e refl
 single FourPorts symbol (inr e) = rw e refl
 
--- a place is one of the twelve that begin with a subcarrier, or three subcarriers on
+-- whether the subcarrier is one of the twelve that start at `n`
 abbrev is_zero : ℕ → ℕ → Bool
 is_zero n k = nat_eq (k % 6) n
 
@@ -203,9 +204,9 @@ pilot_is port pilots identity slot symbol k row is inside =
     chosen _ _ _ _ _ _ (own_by port.carrier identity slot symbol k _ row first port.number (number_is port.number)) (any_by port.carrier identity slot symbol k _ row first)
     (value_is (first_pattern port) pilots identity slot symbol k is inside)
 
--- ---- the row of ports 2 and 3
+-- ---- the symbol that ports 2 and 3 use
 
--- a port of even number has the places of port 2, one of odd number those three subcarriers on
+-- even ports use port 2's positions, odd ones are three subcarriers higher
 even_row : (port identity slot k n : ℕ) → n ≡ upper_first 2 identity slot → port % 2 ≡ 0 → is_zero n k ≡ is_upper_reference port identity slot 1 k
 unfolding is_upper_reference
 even_row port identity slot k n e even = let same : n ≡ upper_first port identity slot = omega (arith, e, even) in ap (nat_eq (k % 6)) same
@@ -237,9 +238,9 @@ upper_is port n pilots identity slot k first is inside =
     (any_alike (nat_lt 2 (ports_of port.carrier)) _ _ _ _ (even_row 2 identity slot k n first refl) (odd_row 3 identity slot k n first refl) ∙ sym (any_in_first port.carrier identity slot k))
     (value_is (first_pattern port) pilots identity slot 1 k is inside)
 
--- ---- places by the four ports of the normal prefix
+-- ---- resource elements with four ports and the normal prefix
 
--- where no port of four has a reference signal, no port sends one
+-- where no port from 0 to 3 has a reference signal, no port transmits one
 module _ (port : Port) (identity slot symbol k : ℕ) (seven : port_symbols port ≡ 7) (zeroth : is_reference identity symbol k ≡ false) (second : is_second_reference identity symbol k ≡ false)
     (upper : (number : ℕ) → is_upper_reference number identity slot symbol k ≡ false) where
   free_of : (number : ℕ) → IsNumber number → is_reference_by port.carrier number identity slot symbol k ≡ false
@@ -251,7 +252,7 @@ module _ (port : Port) (identity slot symbol k : ℕ) (seven : port_symbols port
   none_of_four =
       none_of port identity slot symbol k (free_of port.number (number_is port.number)) (none_of_any port.carrier identity slot symbol k (λ number. free_of number (number_is number)))
 
--- at a place of its own a port sends its reference signal
+-- a port transmits its reference signal at its own positions
 pub own_sent : (port : Port) (identity slot symbol k : ℕ) → is_own_reference port identity slot symbol k ≡ true → port_reference_if port identity slot symbol k ≡ Some (port_reference port identity slot symbol k)
 own_sent port identity slot symbol k e = by _ _ _ e
   where
@@ -259,7 +260,7 @@ own_sent port identity slot symbol k e = by _ _ _ e
     by true x o e = refl
     by false x o e = absurd cc
 
--- ---- the cases of an element
+-- ---- the cases at a resource element
 
 module _ (port : Port) (plan : CellPlan) (sfn subframe symbol k : ℕ) where
   abbrev here_if : Bool → Bool → Option Cpx
@@ -292,7 +293,7 @@ module _ (port : Port) (plan : CellPlan) (sfn subframe symbol k : ℕ) where
   unfolding port_element
   element_elsewhere e = elsewhere (is_own_reference port plan.identity (port_slot port subframe symbol) (symbol % port_symbols port) k) (is_other_reference port plan.identity (port_slot port subframe symbol) (symbol % port_symbols port) k) e
 
--- ---- elements that are no reference signal
+-- ---- resource elements without a reference signal
 
 module _ (port : Port) (plan : CellPlan) (sfn subframe symbol k : ℕ) (no : port_reference_if port plan.identity (port_slot port subframe symbol) (symbol % port_symbols port) k ≡ None) where
   pub element_of_primary : is_primary port subframe symbol k ≡ true → port_element port plan sfn subframe symbol k ≡ sent_signal port (primary_value plan k)
@@ -304,7 +305,7 @@ module _ (port : Port) (plan : CellPlan) (sfn subframe symbol k : ℕ) (no : por
   pub element_of_channel : is_primary port subframe symbol k ≡ false → is_secondary port subframe symbol k ≡ false → port_element port plan sfn subframe symbol k ≡ port_channel_value port plan sfn subframe symbol k
   element_of_channel e f = element_elsewhere port plan sfn subframe symbol k no ∙ rw (e, f) refl
 
--- ---- options one after the other
+-- ---- chained options
 
 abbrev pub first_of : Option Cpx → Option Cpx → Option Cpx
 first_of (Some value) other = Some value
@@ -320,7 +321,7 @@ if_there : (here : Bool) (x z : Cpx) → (if here then x else z) ≡ unwrap_or (
 if_there true x z = refl
 if_there false x z = refl
 
--- the first of a chain of options
+-- a nested `if` equals `unwrap_or` on a chain of options
 if_first : (here : Bool) (x y z : Cpx) (o : Option Cpx) → y ≡ unwrap_or o z → (if here then x else y) ≡ unwrap_or (if here then Some x else o) z
 if_first true x y z o e = refl
 if_first false x y z o e = e
@@ -338,12 +339,12 @@ module _ (port : Port) (plan : CellPlan) (sfn subframe symbol k : ℕ) where
   unfolding port_channel_value
   channel_is = if_first (has_broadcast port plan.identity subframe symbol k) _ _ nothing _ (pick_system (has_control port))
 
-  -- where the broadcast channel is, it is the first
+  -- PBCH has priority over the other channels
   pub channel_of_broadcast : has_broadcast port plan.identity subframe symbol k ≡ true → port_channel_value port plan sfn subframe symbol k ≡ broadcast_value port plan sfn symbol k
   unfolding port_channel_value
   channel_of_broadcast e = rw e refl
 
--- the three channels that follow it, found one by one
+-- the three other channels, looked up one by one
 pub system_found : (port : Port) (plan : CellPlan) (sfn subframe symbol k : ℕ) → system_if port plan sfn subframe symbol k
     ≡ first_of (indicator_if port plan subframe symbol k) (first_of (control_if port plan sfn subframe symbol k) (shared_if port plan sfn subframe symbol k))
 system_found port plan sfn subframe symbol k =
@@ -351,7 +352,7 @@ system_found port plan sfn subframe symbol k =
 
 -- ---- load
 
--- the tests of what is open, one by one
+-- the tests for an open resource element, one by one
 taken_beside : (signal own other broadcast control information indicator grant shared : Bool) → own ≡ false → other ≡ false →
     (not (signal || ((own || other) || (broadcast || (control && ((information && indicator) || (grant || shared)))))) && not (control && indicator))
     ≡ (not signal && (not broadcast && not (control && (indicator || (grant || shared)))))
@@ -373,7 +374,7 @@ taken_beside false own other broadcast control information indicator grant share
     left false true false false false true = refl
     left false true false false false false = refl
 
--- where there is a channel nothing is open
+-- a resource element that belongs to a channel is not open
 channel_open : (broadcast control indicator grant shared : Bool) (a b c d : Cpx) (o : Option Cpx) →
     o ≡ (if broadcast then Some a else (if control then (if indicator then Some b else (if grant then Some c else (if shared then Some d else None))) else None)) →
     (signal : Bool) (x : Cpx) (free : Bool) → free ≡ (not signal && (not broadcast && not (control && (indicator || (grant || shared))))) →
@@ -391,7 +392,7 @@ channel_open false true false false true a b c d o e false x free f = rw (f, e) 
 channel_open false true false false false a b c d o e true x free f = rw (f, e) refl
 channel_open false true false false false a b c d o e false x free f = rw (f, e) refl
 
--- no reference signal of either port
+-- neither the port's own reference signal nor another port's
 neither : (own other : Bool) (x : Cpx) → (if own then Some x else (if other then Some nothing else None)) ≡ None → (own ≡ false) × (other ≡ false)
 neither true other x e = absurd cc
 neither false true x e = absurd cc
@@ -421,7 +422,7 @@ symbol_before true false c m e = absurd cc
 symbol_before false b c m e = absurd cc
 
 module _ (port : Port) (plan : CellPlan) (sfn subframe symbol k : ℕ) where
-  -- an element at a place that is taken is the plan's
+  -- at an occupied resource element the plan's value is transmitted
   pub sent_of_taken : (load : Option ℕ) → is_taken port plan sfn subframe symbol k ≡ true → sent_element load port plan sfn subframe symbol k ≡ port_element port plan sfn subframe symbol k
   unfolding loaded_element is_loaded
   sent_of_taken None e = refl
@@ -434,7 +435,7 @@ module _ (port : Port) (plan : CellPlan) (sfn subframe symbol k : ℕ) where
       element_of_reference port plan sfn subframe symbol k value e
       ∙ sym (sent_of_taken load (taken_reference _ _ _ (one_of_both (is_own_reference port plan.identity (port_slot port subframe symbol) (symbol % port_symbols port) k) (is_other_reference port plan.identity (port_slot port subframe symbol) (symbol % port_symbols port) k) _ value e)))
 
-  -- the value of a channel, or what is sent at an open place
+  -- a channel's value, or the value at an open resource element
   beside : (load : Option ℕ) → is_own_reference port plan.identity (port_slot port subframe symbol) (symbol % port_symbols port) k ≡ false → is_other_reference port plan.identity (port_slot port subframe symbol) (symbol % port_symbols port) k ≡ false
       → port_element port plan sfn subframe symbol k ≡ port_channel_value port plan sfn subframe symbol k
       → sent_element load port plan sfn subframe symbol k ≡ unwrap_or (channel_if port plan sfn subframe symbol k) (open_value load port sfn subframe symbol k)

@@ -1,4 +1,4 @@
--- What grants the system information of a plan that can be sent.
+-- The system information grant in a plan that can be sent.
 use Rattle.std.proofs.Common.{ℕ, zero, suc, ◌/◌, ◌%◌, ◌<◌, [], ◌∷◌, arith}
 use Rattle.std.specs.Prelude.{slice_index_or}
 use Rattle.dci.specs.Format1A.{IsGrant}
@@ -20,9 +20,9 @@ turn (suc (suc (suc (suc n)))) l = absurd (omega (arith, l))
 pub version-fits : (number : ℕ) → version_of number < 4
 version-fits number = turn (number % 8 / 2) (omega arith)
 
--- a plan can be sent, whatever says that what is sent of its block is enough
+-- a plan that can be sent, for any condition on its block's transmitted bits
 module _ {Enough : Type 0} (plan : CellPlan) (sendable : IsSendableWith Enough plan) where
-  -- bits carry what grants it in each frame
+  -- the grant is valid in each frame
   pub grant_is : (number : ℕ) → IsGrant (grant_of plan number)
   grant_is number = record {
     blocks = sendable.assignment;

@@ -1,4 +1,4 @@
--- The bits of a load: one subframe more, and the point at a place.
+-- A load's bits: an additional subframe, and the symbol at a resource element.
 use Rattle.std.proofs.Common.{◌≡◌, ℕ, ◌+◌, ◌-◌, ◌*◌, ◌/◌, ◌%◌, ◌<◌, ◌≤◌, inl, inr, Bool, false, List, ◌++◌, length, take, get_or, ap, ap₂, sym, ◌∙◌, arith}
 use Rattle.std.proofs.lemmas.Bool.{cases_lt}
 use Rattle.std.proofs.lemmas.List.{get_or-take, get_or_append_left, get_or-append_right, length-take-le}
@@ -9,11 +9,11 @@ use Rattle.cell_grid.specs.declared.antenna.Port.{Port}
 use Rattle.cell_grid.specs.Load.{load_c_init}
 use Rattle.cell_grid.specs.Rows.{load_bits}
 
--- bit n of a frame
+-- bit n in a frame
 abbrev pub bit_at : ℕ → Port → ℕ → ℕ → Bool
 bit_at load port sfn n = gold_bit (load_c_init load port sfn (n / 2016)) (n % 2016)
 
--- bit m of a subframe
+-- bit m in a subframe
 pub bit_of_subframe : (load : ℕ) (port : Port) (sfn subframe n m : ℕ) → n ≡ 2016 * subframe + m → m < 2016 →
     bit_at load port sfn n ≡ gold_bit (load_c_init load port sfn subframe) m
 bit_of_subframe load port sfn subframe n m is inside =
@@ -21,7 +21,7 @@ bit_of_subframe load port sfn subframe n m is inside =
     let rest : n % 2016 ≡ m = omega (arith, is, inside) in
     ap₂ (λ (s k : ℕ). gold_bit (load_c_init load port sfn s) k) quotient rest
 
--- the bits of one subframe more
+-- the bits of a frame, extended by one subframe
 pub one_more : (load : ℕ) (port : Port) (sfn subframe c_init : ℕ) (old new : List Bool) → c_init ≡ load_c_init load port sfn subframe
     → 2016 * subframe ≤ length old → take (2016 * subframe + 2016) new ≡ take (2016 * subframe) old ++ gold_bits c_init 2016
     → ((n : ℕ) → n < 2016 * subframe → get_or old n false ≡ bit_at load port sfn n)
@@ -41,7 +41,7 @@ one_more load port sfn subframe c_init old new seed room written before n inside
           ∙ ap (λ (s : ℕ). gold_bit s m) seed ∙ sym (bit_of_subframe load port sfn subframe n m is few)
     ]
 
--- a bit of a place of a subframe
+-- a bit at a resource element in a subframe
 pub bit_there : (load : ℕ) (port : Port) (sfn subframe m n : ℕ) (bits : List Bool) → bits ≡ load_bits load port sfn → subframe < 10 → m < 2016 → n ≡ 2016 * subframe + m →
     get_or bits n false ≡ gold_bit (load_c_init load port sfn subframe) m
 unfolding load_bits

@@ -1,4 +1,4 @@
--- The point that a place carries, by the places of a channel.
+-- The symbol at a resource element, looked up in a channel's list.
 use Rattle.std.proofs.Common.{◌≡◌, ℕ, ◌+◌, ◌-◌, ◌%◌, ◌<◌, nat_eq, ◌≤◌, ◌⊎◌, inl, inr, Bool, true, false, nat_lt, List, length, get_or, Some, None, if◌then◌else◌, refl, ap, sym, subst, ◌∙◌, arith}
 use Rattle.std.proofs.lemmas.Bool.{lt-ltb, le-ltb, ltb-true, eqb-true, cases_lt}
 use Rattle.std.proofs.Math.Bool.{true≢false}
@@ -16,7 +16,7 @@ use Rattle.cell_grid.specs.Ports.{crossed_point, paired_point, in_turn, sent_poi
 use Rattle.cell_grid.specs.Grid.{is_one_of}
 use Rattle.cell_grid.specs.Rows.{value_in}
 
--- the points of a list depend on nothing after them
+-- a list with the first n symbols holds symbol i at index i
 points_there : (n : ℕ) (f : ℕ → Cpx) (i : ℕ) → i < n → value_at (values_below n f) i ≡ f i
 points_there n f i inside = values_below_at f n i nothing inside
 
@@ -35,7 +35,7 @@ paired_points half number n f i even inside = by (nat_lt number half)
     by true = points_there n f i inside
     by false = crossed_points n f i even inside
 
--- nor what a port sends of them, where they are whole pairs
+-- a choice between equal values gives equal values
 alike : (b : Bool) (x y u v : Cpx) → x ≡ u → y ≡ v → (if b then x else y) ≡ (if b then u else v)
 alike true x y u v e f = e
 alike false x y u v e f = f
@@ -50,14 +50,14 @@ module _ (places : List Place) (p : Place) where
   fails q none false e = refl
   fails q none true e = absurd (none (sym (same_place-true p q e)))
 
-  -- the first place of the list that is p
+  -- `index_in` is the first index that holds p
   pub index_is : (i : ℕ) → i ≤ length places → ((j : ℕ) → j < i → get_or places j (place 0 0) ≡ p → ⊥) → (i < length places → get_or places i (place 0 0) ≡ p) → index_in places p ≡ i
   index_is i inside before here =
       position_or_len_is (same_place p) places i (place 0 0) inside
       (λ j l. fails (get_or places j (place 0 0)) (before j l) (same_place p (get_or places j (place 0 0))) refl)
       (λ l. ap (same_place p) (here l) ∙ same_place-refl p)
 
-  -- p is at no place of the list
+  -- p is not in the list
   abbrev IsAbsent : Type 0
   IsAbsent = (j : ℕ) → j < length places → get_or places j (place 0 0) ≡ p → ⊥
 
@@ -73,18 +73,18 @@ module _ (places : List Place) (p : Place) where
       by true e = let inside = ltb-true (index_in places p) (length places) e in ap (λ (z : Cpx). Some z) (sent_points port n f (index_in places p) even (omega (arith, inside, room)))
       by false e = refl
 
--- ---- tables of places
+-- ---- tables for resource elements
 
--- no place before number i of a list is p
+-- p does not occur below index i in the list
 abbrev pub IsNoneBefore : List Place → Place → ℕ → Type 0
 IsNoneBefore places p i = (j : ℕ) → j < i → get_or places j (place 0 0) ≡ p → ⊥
 
--- n is the number of the first place before number i that is p, and the count of places where there is none
+-- n is the first index below i that holds p, or the list's length if p does not occur there
 abbrev pub IsFirstBefore : List Place → Place → ℕ → ℕ → Type 0
 IsFirstBefore places p i n =
     ((n ≡ length places) × IsNoneBefore places p i) ⊎ ((n < i) × (get_or places n (place 0 0) ≡ p) × IsNoneBefore places p n)
 
--- one place more: what a table has then
+-- the table entry after one more resource element
 pub first_more : (places : List Place) (p : Place) (i old new : ℕ) → i < length places
     → (p ≡ get_or places i (place 0 0) → old ≡ length places → new ≡ i)
     → ((old ≡ length places → ⊥) → new ≡ old)
@@ -112,12 +112,12 @@ first_more places p i old new inside here taken elsewhere (inl (all, none)) = se
           ],
         ))
 
--- and after the last place
+-- the table entry after the last resource element
 pub first_of_all : (places : List Place) (p : Place) (n : ℕ) → IsFirstBefore places p (length places) n → n ≡ index_in places p
 first_of_all places p n (inl (all, none)) = all ∙ sym (index_is places p (length places) (omega arith) none (λ l. absurd (omega (arith, l))))
 first_of_all places p n (inr (few, at, none)) = sym (index_is places p n (omega (arith, few)) none (λ l. at))
 
--- what is read from a table
+-- the symbol read from a table
 pub read_there : (port : Port) (places : List Place) (points : List Cpx) (p : Place) (n count : ℕ) → count ≡ length places → n ≡ index_in places p → n < count → Some (sent_point port (value_at points) n) ≡ value_in port places points p
 read_there port places points p n count all is inside =
     let t : nat_lt (index_in places p) (length places) ≡ true = lt-ltb _ _ (omega (arith, all, is, inside)) in

@@ -1,4 +1,4 @@
--- The cyclic prefix of a port is one of two.
+-- A port has the normal or the extended cyclic prefix.
 use Rattle.std.proofs.Common.{◌≡◌, inl, inr, refl, sym, subst}
 use Rattle.lte_types.specs.declared.numerology.Prefix.{Prefix}
 use Rattle.lte_types.specs.Numerology.{normal, extended, IsPrefix}
@@ -17,7 +17,7 @@ prefix_known FourPorts = inl refl
 pub port_prefix_known : (port : Port) → IsPrefix (port_prefix port)
 port_prefix_known port = prefix_known port.carrier
 
--- what holds with both prefixes holds with each
+-- what holds for both prefixes holds for each
 pub with_prefix : (P : Prefix → Type 0) → P normal → P extended → (prefix : Prefix) → IsPrefix prefix → P prefix
 with_prefix P a b prefix (inl e) = subst P (sym e) a
 with_prefix P a b prefix (inr e) = subst P (sym e) b

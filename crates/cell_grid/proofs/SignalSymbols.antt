@@ -1,4 +1,4 @@
--- In the symbols of the synchronisation signals no channel stands.
+-- No channel occupies a synchronisation signal symbol.
 use Rattle.std.proofs.Common.{◌≡◌, ℕ, zero, suc, ◌+◌, ◌-◌, ◌*◌, ◌/◌, ◌%◌, ◌<◌, ◌≤◌, ◌⊎◌, inl, inr, Bool, true, false, ◌&&◌, ◌||◌, not, nat_eq, nat_le, nat_lt, List, [], ◌∷◌, ◌++◌, map, length, get_or, refl, ap, sym, subst, ◌∙◌, arith}
 use Rattle.std.specs.Prelude.{All, if◌then◌else◌}
 use Rattle.std.specs.List.{list_any, flat_map, range_with_len}
@@ -32,7 +32,7 @@ use Rattle.cell_grid.proofs.PlaceValues.{absent_is}
 use Rattle.cell_grid.proofs.Prefixes.{port_prefix_known, with_prefix}
 use Rattle.cell_grid.proofs.SystemPlaces.{symbols_are}
 
--- ---- lists without a place
+-- ---- lists without a resource element
 
 none_at : (test : Place → Bool) (ps : List Place) (j : ℕ) (d : Place) → list_any test ps ≡ false → j < length ps → test (get_or ps j d) ≡ false
 none_at test [] j d e inside = absurd (omega (arith, inside))
@@ -67,7 +67,7 @@ any_pieces test P f (g ∷ gs) none each =
     any_append test (f g) (flat_map f gs) (none g (each 0 g (omega arith)))
     (any_pieces test P f gs none (λ k d inside. each (suc k) d (omega (arith, inside))))
 
--- ---- groups of other symbols
+-- ---- groups in other symbols
 
 any_spanned : (p : Place) (symbol : ℕ) (ks : List ℕ) → nat_eq p.symbol symbol ≡ false → list_any (same_place p) (map (place symbol) ks) ≡ false
 any_spanned p symbol [] e = refl
@@ -155,7 +155,7 @@ pick false x z = refl
 with_seven : (port : Port) (symbol : ℕ) → has_control port ≡ true → (symbol ≡ port_symbols port - 2) ⊎ (symbol ≡ port_symbols port - 1) → (symbol ≡ 5) ⊎ (symbol ≡ 6)
 with_seven port symbol has row = subst (λ (n : ℕ). (symbol ≡ n - 2) ⊎ (symbol ≡ n - 1)) (symbols_are port has) row
 
--- none of the three other channels is in the two last symbols of the first slot of a subframe
+-- PCFICH, PDCCH and PDSCH do not occupy the last two symbols in a subframe's first slot
 no_system : (port : Port) (plan : CellPlan) (sfn subframe symbol k : ℕ) → has_control port ≡ true → (symbol ≡ port_symbols port - 2) ⊎ (symbol ≡ port_symbols port - 1) →
     system_value port plan sfn subframe symbol k ≡ nothing
 no_system port plan sfn subframe symbol k has row =
@@ -165,7 +165,7 @@ no_system port plan sfn subframe symbol k has row =
     by : (s : Bool) → (if s && false then control_value port plan sfn symbol k else (if s && false then shared_value port plan sfn symbol k else nothing)) ≡ nothing
     by s = pick s _ _ ∙ pick s _ _
 
--- nor is the broadcast channel in the two last symbols of the first slot of a subframe
+-- PBCH does not occupy the last two symbols in a subframe's first slot
 abbrev IsEarly : ℕ → ℕ → Prefix → Type 0
 IsEarly subframe symbol prefix = (symbol ≡ symbols_of_slot prefix - 2) ⊎ (symbol ≡ symbols_of_slot prefix - 1) → 2 * subframe + symbol / symbols_of_slot prefix ≡ 1 → 4 ≤ symbol % symbols_of_slot prefix
 
@@ -185,7 +185,7 @@ none_of_both true control x y e f = absurd cc
 none_of_both false true x y e f = f refl
 none_of_both false false x y e f = refl
 
--- no channel is in these two symbols
+-- no channel occupies these two symbols
 pub no_channel : (port : Port) (plan : CellPlan) (sfn subframe symbol k : ℕ) → (symbol ≡ port_symbols port - 2) ⊎ (symbol ≡ port_symbols port - 1) → port_channel_value port plan sfn subframe symbol k ≡ nothing
 unfolding port_channel_value
 no_channel port plan sfn subframe symbol k row =

@@ -1,4 +1,4 @@
--- Where subframe 5 of a frame of even number has the control information and the shared channel, its elements are their points.
+-- In subframe 5 of an even frame, the PDCCH and PDSCH resource elements carry their symbols.
 use Rattle.std.proofs.Common.{◌≡◌, ℕ, zero, suc, ◌+◌, ◌*◌, ◌/◌, ◌%◌, ◌<◌, ◌≤◌, ◌⊎◌, inl, inr, Bool, true, false, ◌&&◌, ◌||◌, nat_eq, List, length, get_or, None, refl, ap, sym, subst, ◌-◌, ◌∙◌, arith}
 use Rattle.std.proofs.lemmas.Bool.{lt-ltb}
 use Rattle.std.proofs.lemmas.Bool.Decides.{nat_tests}
@@ -28,7 +28,7 @@ use Rattle.cell_grid.proofs.PlaceValues.{absent_is}
 use Rattle.cell_grid.proofs.Broadcast.{not_broadcast}
 use Rattle.cell_grid.proofs.Elements.{is_zeroth, is_second, both_false, none_of, element_of_channel}
 
--- ---- lists in which each place stands once
+-- ---- lists without duplicates
 
 abbrev item : List Place → ℕ → Place
 item places i = get_or places i (place 0 0)
@@ -39,14 +39,14 @@ among count places i indexed l =
     let size = indexed.size in
     lt-ltb (index_in places (item places i)) (length places) (omega (arith, at, size, l))
 
--- ---- elements that are those of a channel
+-- ---- resource elements in a channel
 
--- a place of subframe 5 has neither reference signals of the cell's ports nor synchronisation signals
+-- the resource element lies in subframe 5 and carries no reference or synchronisation signal
 record IsChannelPlace (port : Port) (identity : ℕ) (p : Place) : Type 0 where
   free : (slot : ℕ) → port_reference_if port identity slot (p.symbol % 7) p.k ≡ None
   beside : (nat_eq p.symbol 5 || nat_eq p.symbol 6) ≡ false
 
--- a port is one of its carrier's
+-- the port belongs to its transmission scheme
 abbrev IsIn : Port → Type 0
 IsIn port = port.number < ports_of port.carrier
 
@@ -60,7 +60,7 @@ seven_of FourPorts has = absurd cc
 pub symbols_are : (port : Port) → has_control port ≡ true → port_symbols port ≡ 7
 symbols_are port has = seven_of port.carrier has
 
--- one port has none where there is none of port 0, and two have none where there is none of either
+-- a cell with one or two ports transmits no reference signal where these ports have no reference position
 one_of : (number identity slot symbol k : ℕ) → number < 1 → is_reference identity symbol k ≡ false → port_reference_if (port_by OnePort number) identity slot symbol k ≡ None
 one_of zero identity slot symbol k inside e =
     let none = is_zeroth identity symbol k ∙ e in
@@ -122,7 +122,7 @@ element_is port plan number p has at =
     (subst (λ (n : ℕ). is_synchronised (n - 1) 5 p.symbol p.k ≡ false) seven (no_signal p.symbol 6 _ at.beside (inr refl)))
     (subst (λ (n : ℕ). is_synchronised (n - 2) 5 p.symbol p.k ≡ false) seven (no_signal p.symbol 5 _ at.beside (inl refl)))
 
--- and has no broadcast channel in subframe 5
+-- subframe 5 has no PBCH
 no_broadcast : (port : Port) (identity symbol k : ℕ) → has_broadcast port identity 5 symbol k ≡ false
 no_broadcast port identity symbol k = not_broadcast port identity 5 symbol k (λ slot. absurd (omega (arith, slot)))
 
@@ -151,11 +151,11 @@ module _ {Enough : Type 0} (port : Port) (plan : CellPlan) (sendable : IsSendabl
   high : plan.cfi ≤ 3
   high = sendable.cfi.1
 
-  -- the places of the shared channel
+  -- the PDSCH resource elements
   abbrev assigned : List Place
   assigned = assigned_places port.carrier plan
 
-  -- each list has its places once
+  -- no resource element occurs twice in a channel's list
   pub indicator_indexed : IsIndexed 16 (pcfich_places plan.identity)
   indicator_indexed = pcfich_indexed plan.identity
 
@@ -165,14 +165,14 @@ module _ {Enough : Type 0} (port : Port) (plan : CellPlan) (sendable : IsSendabl
   pub assigned_indexed : IsIndexed (length assigned) assigned
   assigned_indexed = shared_indexed port.carrier plan.identity plan.cfi plan.start plan.blocks
 
-  -- the shared channel has a place for each two bits
+  -- PDSCH has one resource element for every two bits
   pub assigned_size : length assigned ≡ block_places_of port.carrier plan.cfi * plan.blocks
   assigned_size = pdsch_count port.carrier plan.identity plan.cfi plan.start plan.blocks low high sendable.assignment.inside
 
   pub assigned_bits_are : 2 * length assigned ≡ assigned_bits_of port.carrier plan
   assigned_bits_are = ap (λ (n : ℕ). 2 * n) assigned_size
 
-  -- where they are
+  -- the regions that the channels occupy
   pub indicator_stands : (i : ℕ) → i < 16 → IsInRegion plan.identity 0 (item (pcfich_places plan.identity) i)
   indicator_stands i l = indicator_place plan.identity i l
 
@@ -184,14 +184,14 @@ module _ {Enough : Type 0} (port : Port) (plan : CellPlan) (sendable : IsSendabl
   pub assigned_stands : (i : ℕ) → i < length assigned → IsAfterRegion port.carrier plan.identity plan.cfi (item assigned i)
   assigned_stands i l = shared_place port.carrier plan.identity plan.cfi plan.start plan.blocks i l
 
-  -- no place of the candidate is one of the indicator
+  -- PDCCH does not overlap PCFICH
   control_no_indicator : (i : ℕ) → i < 144 → is_one_of (pcfich_places plan.identity) (item (control_places plan) i) ≡ false
   control_no_indicator i l =
       let size = indicator_indexed.size in
       absent_is (pcfich_places plan.identity) (item (control_places plan) i)
       (λ j inside same. control_not_indicator plan.identity plan.cfi plan.duration plan.resource low high j i (omega (arith, size, inside)) l same)
 
-  -- and no place of the shared channel is one of the control region
+  -- PDSCH does not overlap the control region
   shared_no_indicator : (i : ℕ) → i < length assigned → is_one_of (pcfich_places plan.identity) (item assigned i) ≡ false
   shared_no_indicator i l =
       let size = indicator_indexed.size in
@@ -207,9 +207,9 @@ module _ {Enough : Type 0} (port : Port) (plan : CellPlan) (sendable : IsSendabl
       (λ j inside same. let first = (control_place plan.identity plan.cfi plan.duration plan.resource low high j (omega (arith, size, inside))).symbol in
       let level = ap (λ (p : Place). p.symbol) same in omega (arith, first, level, after))
 
-  -- what a port with a control region sends there
+  -- values that a port with a control region transmits
   module _ (has : has_control port ≡ true) (inside : IsIn port) (number : ℕ) where
-    -- in every frame the places of the indicator have its points
+    -- the PCFICH resource elements carry its symbols in every frame
     pub indicator_sent : (i : ℕ) → i < 16 →
         port_element port plan number 5 (item (pcfich_places plan.identity) i).symbol (item (pcfich_places plan.identity) i).k ≡ sent_point port (indicator_point plan 5) i
     indicator_sent i l =
@@ -222,7 +222,7 @@ module _ {Enough : Type 0} (port : Port) (plan : CellPlan) (sendable : IsSendabl
       has_information : (there : Bool) → (has_system_information number 5 && there) ≡ there
       has_information there = rw even refl
 
-      -- in those of even number those of the candidate have the points of what grants system information
+      -- in even frames the PDCCH resource elements carry the grant's symbols
       pub control_sent : (i : ℕ) → i < 144 →
           port_element port plan number 5 (item (control_places plan) i).symbol (item (control_places plan) i).k ≡ sent_point port (control_point plan number) i
       control_sent i l =
@@ -231,7 +231,7 @@ module _ {Enough : Type 0} (port : Port) (plan : CellPlan) (sendable : IsSendabl
           ∙ of_control port plan number p.symbol p.k has (control_no_indicator i l) (has_information _ ∙ among 144 (control_places plan) i control_indexed l)
           ∙ ap (sent_point port (control_point plan number)) (control_indexed.index i l)
 
-      -- and those of the assigned blocks have the points of the system information
+      -- in even frames the assigned resource blocks carry the system information's symbols
       pub shared_sent : (i : ℕ) → i < length assigned →
           port_element port plan number 5 (item assigned i).symbol (item assigned i).k ≡ sent_point port (shared_point plan number) i
       shared_sent i l =

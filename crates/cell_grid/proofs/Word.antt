@@ -1,4 +1,4 @@
--- The word that a cell broadcasts has 40 bits, and that which grants its system information 37.
+-- The MIB with its CRC has 40 bits, and the grant with its CRC 37.
 use Rattle.std.proofs.Common.{◌≡◌, ℕ, ◌/◌, Bool, true, false, nat_eq, [], ◌∷◌, ◌++◌, length, refl, bit_xor}
 use Rattle.lte_types.specs.Codes.{duration_code, resource_code}
 use Rattle.cs_bits.specs.Numbers.{bits_of}

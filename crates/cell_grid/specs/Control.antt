@@ -1,5 +1,5 @@
--- The control region of a plan: the control format indicator in every subframe (PCFICH, TS 36.211 section 6.7), and the
--- control information that grants system information in subframe 5 (PDCCH, TS 36.211 section 6.8).
+-- A plan's control region: PCFICH in every subframe (TS 36.211 section 6.7), and in subframe 5 the PDCCH that grants
+-- system information (TS 36.211 section 6.8).
 use Rattle.std.specs.Prelude.{ℕ, ◌*◌, ◌/◌, ◌%◌, Bool, List, [], ◌∷◌, slice_index_or}
 use Rattle.cs_num.specs.declared.Cpx.{Cpx}
 use Rattle.cs_bits.specs.Checks.{with_check_16}
@@ -15,20 +15,20 @@ use Rattle.cell_plan.specs.Transport.{block_size}
 use Rattle.cell_grid.specs.Points.{scrambled, point_of}
 use Rattle.cell_grid.specs.Block.{scrambled_bit}
 
--- ---- the control format indicator
+-- ---- PCFICH
 
--- point i of the 16 of a subframe; it is scrambled by the number of the subframe's first slot
+-- PCFICH symbol i, one out of 16 in a subframe, scrambled for the subframe's first slot
 unfoldable pub indicator_point : CellPlan → ℕ → ℕ → Cpx
 indicator_point plan subframe i =
     point_of (scrambled (pcfich_c_init plan.identity (2 * subframe)) (indicator_bit plan.cfi)) i
 
 -- ---- the grant
 
--- the redundancy version in a frame of even number: 0, 2, 3 and 1 in turn (TS 36.321 section 5.3.1)
+-- the redundancy version in a frame with an even number: 0, 2, 3, 1, cyclically (TS 36.321 section 5.3.1)
 abbrev pub version_of : ℕ → ℕ
 version_of sfn = slice_index_or (0 ∷ 2 ∷ 3 ∷ 1 ∷ []) (sfn % 8 / 2) 0
 
--- what grants the system information of a frame
+-- the system information grant in a frame
 abbrev pub grant_of : CellPlan → ℕ → Grant
 grant_of plan sfn = record {
   start = plan.start;
@@ -39,18 +39,18 @@ grant_of plan sfn = record {
   size = block_size plan;
 }
 
--- the 21 bits of a grant and their check, masked by the identifier of system information (TS 36.212 section 5.3.3.2)
+-- the 21 grant bits followed by their CRC, masked with SI-RNTI (TS 36.212 section 5.3.3.2)
 unfoldable pub control_word : CellPlan → ℕ → List Bool
 control_word plan sfn = with_check_16 system_information_rnti (sent_word (grant_of plan sfn))
 
--- ---- the grant as it is sent
+-- ---- the transmitted grant
 
--- the places of control channel elements 0 to 3. No other element is sent. (own)
+-- the resource elements of control channel elements 0 to 3; the others are not transmitted (own)
 abbrev pub control_places : CellPlan → List Place
 control_places plan =
     candidate_places plan.identity (pdcch_groups plan.identity plan.cfi plan.duration plan.resource)
 
--- point i of the 144 that the 288 coded and matched bits make (TS 36.212 sections 5.3.3.3 and 5.3.3.4), scrambled by
--- slot 10, the first of subframe 5
+-- PDCCH symbol i, one out of 144: 288 bits after rate matching (TS 36.212 sections 5.3.3.3 and 5.3.3.4), scrambled for
+-- slot 10, the first in subframe 5
 unfoldable pub control_point : CellPlan → ℕ → ℕ → Cpx
 control_point plan sfn i = point_of (scrambled_bit (pdcch_c_init plan.identity 10) (control_word plan sfn)) i

@@ -1,5 +1,5 @@
--- The resource grid of a sent frame: by subframe, symbol of it and subcarrier; a subframe has the symbols 0 to 13, and
--- with the extended cyclic prefix 0 to 11 (TS 36.211 section 6.2).
+-- The resource grid of a transmitted frame, indexed by subframe, symbol and subcarrier. A subframe has symbols 0 to
+-- 13, or 0 to 11 with the extended cyclic prefix (TS 36.211 section 6.2).
 use Rattle.std.specs.Prelude.{ℕ, ◌-◌, ◌/◌, ◌%◌, Bool, ◌&&◌, ◌||◌, nat_eq, nat_lt, if◌then◌else◌, List, length}
 use Rattle.cs_num.specs.declared.Cpx.{Cpx}
 use Rattle.cs_num.specs.Complex.{nothing}
@@ -20,110 +20,110 @@ use Rattle.cell_grid.specs.Block.{port_point}
 use Rattle.cell_grid.specs.Control.{control_places, indicator_point, control_point}
 use Rattle.cell_grid.specs.Shared.{assigned_places, shared_point}
 
--- the elements of frames: by the number of the frame, the subframe, its symbol and the subcarrier
+-- resource elements, indexed by frame number, subframe, symbol in the subframe, and subcarrier
 abbrev pub Elements : Type 0
 Elements = ℕ → ℕ → ℕ → ℕ → Cpx
 
--- ---- the places
+-- ---- positions
 
--- the middle 62 subcarriers of this symbol of subframes 0 and 5 hold a synchronisation signal (TS 36.211 sections
--- 6.11.1.2 and 6.11.2.2)
+-- whether the resource element belongs to the synchronisation signal in symbol `signal`: the middle 62 subcarriers in
+-- subframes 0 and 5 (TS 36.211 sections 6.11.1.2 and 6.11.2.2)
 abbrev pub is_synchronised : ℕ → ℕ → ℕ → ℕ → Bool
 is_synchronised signal subframe symbol k =
     (nat_eq subframe 0 || nat_eq subframe 5) && nat_eq symbol signal && is_middle k
 
--- the primary signal is in the last symbol of a slot, the secondary one in the symbol before
+-- whether the resource element belongs to the PSS, in a slot's last symbol; the SSS is one symbol earlier
 abbrev pub is_primary : Port → ℕ → ℕ → ℕ → Bool
 is_primary port subframe symbol k = is_synchronised (port_symbols port - 1) subframe symbol k
 
 abbrev pub is_secondary : Port → ℕ → ℕ → ℕ → Bool
 is_secondary port subframe symbol k = is_synchronised (port_symbols port - 2) subframe symbol k
 
--- a place is one of a channel's
+-- whether the resource element belongs to a channel
 abbrev pub is_one_of : List Place → Place → Bool
 is_one_of places p = nat_lt (index_in places p) (length places)
 
--- the places of the broadcast channel (TS 36.211 section 6.6.4), by the symbols of subframe 0, or with the extended
--- prefix by those of slot 1
+-- the PBCH resource elements (TS 36.211 section 6.6.4), indexed by symbol in subframe 0, or in slot 1 with the
+-- extended prefix
 abbrev pub broadcast_places : Port → ℕ → List Place
 broadcast_places port identity = if is_extended (port_prefix port) then long_places identity else pbch_places identity
 
--- the number of a symbol of a subframe among those by which these places are numbered
+-- a symbol's index as `broadcast_places` numbers it
 abbrev pub broadcast_symbol : Port → ℕ → ℕ
 broadcast_symbol port symbol = if is_extended (port_prefix port) then symbol % port_symbols port else symbol
 
--- a symbol of a subframe is in the slot of the broadcast channel
+-- whether a symbol lies in the PBCH slot
 abbrev pub may_broadcast : Port → ℕ → ℕ → Bool
 may_broadcast port subframe symbol = nat_eq (port_slot port subframe symbol) 1
 
--- a place of a subframe is one of the broadcast channel's
+-- whether the resource element belongs to PBCH
 abbrev pub has_broadcast : Port → ℕ → ℕ → ℕ → ℕ → Bool
 has_broadcast port identity subframe symbol k =
     may_broadcast port subframe symbol
     && is_one_of (broadcast_places port identity) (place (broadcast_symbol port symbol) k)
 
--- the number of the point of the broadcast channel at a place
+-- a resource element's index in the PBCH mapping
 abbrev pub broadcast_index : Port → ℕ → ℕ → ℕ → ℕ
 broadcast_index port identity symbol k =
     index_in (broadcast_places port identity) (place (broadcast_symbol port symbol) k)
 
--- the control format indicator is in every subframe (TS 36.211 section 6.7)
+-- whether the resource element belongs to PCFICH, in every subframe (TS 36.211 section 6.7)
 abbrev pub is_indicator : CellPlan → ℕ → ℕ → Bool
 is_indicator plan symbol k = is_one_of (pcfich_places plan.identity) (place symbol k)
 
--- system information is in subframe 5 of the frames of even number (TS 36.331 section 5.2.1.2)
+-- whether the subframe carries system information: subframe 5 of even frames (TS 36.331 section 5.2.1.2)
 abbrev pub has_system_information : ℕ → ℕ → Bool
 has_system_information sfn subframe = nat_eq subframe 5 && nat_eq (sfn % 2) 0
 
--- the control channel that grants system information (TS 36.211 section 6.8)
+-- whether the resource element belongs to the PDCCH that grants system information (TS 36.211 section 6.8)
 abbrev pub is_control : CellPlan → ℕ → ℕ → ℕ → ℕ → Bool
 is_control plan sfn subframe symbol k =
     has_system_information sfn subframe && is_one_of (control_places plan) (place symbol k)
 
--- the shared channel that carries system information (TS 36.211 section 6.4)
+-- whether the resource element belongs to the PDSCH with system information (TS 36.211 section 6.4)
 abbrev pub is_shared : Port → CellPlan → ℕ → ℕ → ℕ → ℕ → Bool
 is_shared port plan sfn subframe symbol k =
     has_system_information sfn subframe && is_one_of (assigned_places port.carrier plan) (place symbol k)
 
--- ---- the values of an antenna port
+-- ---- values at an antenna port
 
 -- the cell-specific reference signal (TS 36.211 section 6.10.1)
 abbrev pub reference_value : Port → CellPlan → ℕ → ℕ → ℕ → Cpx
 reference_value port plan subframe symbol k =
     port_reference port plan.identity (port_slot port subframe symbol) (symbol % port_symbols port) k
 
--- the primary synchronisation signal (TS 36.211 section 6.11.1)
+-- the PSS (TS 36.211 section 6.11.1)
 abbrev pub primary_value : CellPlan → ℕ → Cpx
 primary_value plan k = pss_at (plan.identity % 3) (k - 5)
 
--- the secondary synchronisation signal (TS 36.211 section 6.11.2)
+-- the SSS (TS 36.211 section 6.11.2)
 abbrev pub secondary_value : CellPlan → ℕ → ℕ → Cpx
 secondary_value plan subframe k =
     sss_amplitude (plan.identity / 3) (plan.identity % 3) (half_of subframe) (k - 5)
 
--- the physical broadcast channel (TS 36.211 section 6.6)
+-- PBCH (TS 36.211 section 6.6)
 abbrev pub broadcast_value : Port → CellPlan → ℕ → ℕ → ℕ → Cpx
 broadcast_value port plan sfn symbol k =
     sent_point port (port_point port plan sfn) (broadcast_index port plan.identity symbol k)
 
--- the physical control format indicator channel (TS 36.211 section 6.7)
+-- PCFICH (TS 36.211 section 6.7)
 abbrev pub indicator_value : Port → CellPlan → ℕ → ℕ → ℕ → Cpx
 indicator_value port plan subframe symbol k =
     sent_point port (indicator_point plan subframe) (index_in (pcfich_places plan.identity) (place symbol k))
 
--- the physical downlink control channel (TS 36.211 section 6.8)
+-- PDCCH (TS 36.211 section 6.8)
 abbrev pub control_value : Port → CellPlan → ℕ → ℕ → ℕ → Cpx
 control_value port plan sfn symbol k =
     sent_point port (control_point plan sfn) (index_in (control_places plan) (place symbol k))
 
--- the physical downlink shared channel (TS 36.211 section 6.4)
+-- PDSCH (TS 36.211 section 6.4)
 abbrev pub shared_value : Port → CellPlan → ℕ → ℕ → ℕ → Cpx
 shared_value port plan sfn symbol k =
     sent_point port (shared_point plan sfn) (index_in (assigned_places port.carrier plan) (place symbol k))
 
--- ---- the element
+-- ---- resource elements
 
--- what the control format indicator, the grant and the shared channel have at a place
+-- the PCFICH, PDCCH or PDSCH value at a resource element, 0 elsewhere
 abbrev pub system_value : Port → CellPlan → ℕ → ℕ → ℕ → ℕ → Cpx
 system_value port plan sfn subframe symbol k =
     if is_indicator plan symbol k then indicator_value port plan subframe symbol k
@@ -131,14 +131,14 @@ system_value port plan sfn subframe symbol k =
     else (if is_shared port plan sfn subframe symbol k then shared_value port plan sfn symbol k
     else nothing))
 
--- what the channels have at a place: the value of the first that is there
+-- the value of the first channel that occupies a resource element
 unfoldable pub port_channel_value : Port → CellPlan → ℕ → ℕ → ℕ → ℕ → Cpx
 port_channel_value port plan sfn subframe symbol k =
     if has_broadcast port plan.identity subframe symbol k then broadcast_value port plan sfn symbol k
     else (if has_control port then system_value port plan sfn subframe symbol k else nothing)
 
--- what a port sends at a place of the frame with this number: the value of the first case that applies, the signals
--- before the channels, and nothing at a reference place of the other ports
+-- the value that a port transmits at a resource element in frame `sfn`: the first case that applies. Signals take
+-- priority over channels, and a port transmits nothing at other ports' reference positions
 unfoldable pub port_element : Port → CellPlan → ℕ → ℕ → ℕ → ℕ → Cpx
 port_element port plan sfn subframe symbol k =
     if is_own_reference port plan.identity (port_slot port subframe symbol) (symbol % port_symbols port) k
@@ -149,7 +149,7 @@ port_element port plan sfn subframe symbol k =
     else (if is_secondary port subframe symbol k then sent_signal port (secondary_value plan subframe k)
     else port_channel_value port plan sfn subframe symbol k)))
 
--- ---- the element with one antenna port
+-- ---- resource elements with one antenna port
 
 abbrev pub element : CellPlan → ℕ → ℕ → ℕ → ℕ → Cpx
 element plan sfn subframe symbol k = port_element only_port plan sfn subframe symbol k

@@ -1,14 +1,14 @@
--- Bits of a channel, scrambled, and the points that they make, two by two (TS 36.211 sections 7.2 and 7.1.2).
+-- A channel's scrambled bits and their QPSK symbols, two bits a symbol (TS 36.211 sections 7.2 and 7.1.2).
 use Rattle.std.specs.Prelude.{ℕ, ◌+◌, ◌*◌, Bool}
 use Rattle.cs_num.specs.declared.Cpx.{Cpx}
 use Rattle.finite.specs.Bits.{xor}
 use Rattle.gold.specs.Gold.{gold_bit}
 use Rattle.crs.specs.Qpsk.{point}
 
--- bits, scrambled by the sequence of c_init from its first bit on
+-- bits scrambled with the Gold sequence for `c_init`, from its first bit
 abbrev pub scrambled : ℕ → (ℕ → Bool) → ℕ → Bool
 scrambled c_init bits i = xor (bits i) (gold_bit c_init i)
 
--- point i of a sequence of bits
+-- QPSK symbol i for a bit sequence
 abbrev pub point_of : (ℕ → Bool) → ℕ → Cpx
 point_of bits i = point (bits (2 * i)) (bits (2 * i + 1))

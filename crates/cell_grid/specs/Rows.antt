@@ -1,4 +1,4 @@
--- What the code makes of a frame, part by part. (own)
+-- The data from which the code assembles a frame. (own)
 use Rattle.std.specs.Prelude.{ℕ, ◌+◌, ◌-◌, ◌*◌, ◌/◌, ◌%◌, ◌<◌, ◌≤◌, ◌≡◌, Bool, false, ◌&&◌, ◌||◌, nat_eq, nat_lt}
 use Rattle.std.specs.Prelude.{if◌then◌else◌, Option, Some, None, List, length, slice_index_or}
 use Rattle.finite.specs.Lists.{values_below}
@@ -31,36 +31,36 @@ use Rattle.cell_grid.specs.Grid.{broadcast_places, has_broadcast, broadcast_valu
 use Rattle.cell_grid.specs.Grid.{indicator_value, is_control, control_value, is_shared, shared_value}
 use Rattle.cell_grid.specs.Grid.{Elements}
 
--- what a port sends at a reference place of a slot, its own or one of the other ports; none at every other place
+-- the value at a reference position: the port's own signal, or 0 at another port's position
 abbrev pub port_reference_if : Port → ℕ → ℕ → ℕ → ℕ → Option Cpx
 port_reference_if port identity slot symbol k =
     if is_own_reference port identity slot symbol k then Some (port_reference port identity slot symbol k)
     else (if is_other_reference port identity slot symbol k then Some nothing else None)
 
--- a place of a symbol with reference places of ports 0 and 1 is one of the port with a number, by whether it is one of
--- port 0 and whether it is one of port 1
+-- whether port `number` has a reference position in a symbol that ports 0 and 1 use, given whether port 0 and port 1
+-- have one
 abbrev pub lower_test : ℕ → Bool → Bool → Bool
 lower_test number zero one = if nat_lt number 2 then (if nat_eq number 0 then zero else one) else false
 
--- a place of a symbol with reference places of ports 0 and 1 is one of any port of a carrier
+-- whether any port has a reference position in a symbol that ports 0 and 1 use
 abbrev pub any_lower_test : Carrier → Bool → Bool → Bool
 any_lower_test carrier zero one = zero || (nat_lt 1 (ports_of carrier) && one)
 
--- a place of the symbol with reference places of ports 2 and 3 is one of the port with a number, by whether it is one
--- of port 2 and whether it is one of port 3
+-- whether port `number` has a reference position in the symbol that ports 2 and 3 use, given whether port 2 and port 3
+-- have one
 abbrev pub upper_test : ℕ → Bool → Bool → Bool
 upper_test number two three = if nat_lt number 2 then false else (if nat_eq (number % 2) 0 then two else three)
 
--- a place of the symbol with reference places of ports 2 and 3 is one of any port of a carrier
+-- whether any port has a reference position in the symbol that ports 2 and 3 use
 abbrev pub any_upper_test : Carrier → Bool → Bool → Bool
 any_upper_test carrier two three = nat_lt 2 (ports_of carrier) && (two || three)
 
--- what a port sends at a place, by a channel's places and points; none at every other place
+-- the value that a port transmits at a resource element, given a channel's resource elements and symbols
 abbrev pub value_in : Port → List Place → List Cpx → Place → Option Cpx
 value_in port places points p =
     if is_one_of places p then Some (sent_point port (value_at points) (index_in places p)) else None
 
--- the value of a channel at a place of a subframe; none at every other place
+-- the PBCH value at a resource element in a subframe
 abbrev pub broadcast_if : Port → CellPlan → ℕ → ℕ → ℕ → ℕ → Option Cpx
 broadcast_if port plan sfn subframe symbol k =
     if has_broadcast port plan.identity subframe symbol k then Some (broadcast_value port plan sfn symbol k) else None
@@ -77,38 +77,38 @@ abbrev pub shared_if : Port → CellPlan → ℕ → ℕ → ℕ → ℕ → Opt
 shared_if port plan sfn subframe symbol k =
     if is_shared port plan sfn subframe symbol k then Some (shared_value port plan sfn symbol k) else None
 
--- the value at a place of the control format indicator, the grant or the shared channel; none where none of them is
--- there
+-- the PCFICH, PDCCH or PDSCH value at a resource element
 abbrev pub system_if : Port → CellPlan → ℕ → ℕ → ℕ → ℕ → Option Cpx
 system_if port plan sfn subframe symbol k =
     if is_indicator plan symbol k then Some (indicator_value port plan subframe symbol k)
     else (if is_control plan sfn subframe symbol k then Some (control_value port plan sfn symbol k)
     else (if is_shared port plan sfn subframe symbol k then Some (shared_value port plan sfn symbol k) else None))
 
--- the value at a place of the first channel that is there; none where there is none
+-- the value of the first channel that occupies a resource element
 abbrev pub channel_if : Port → CellPlan → ℕ → ℕ → ℕ → ℕ → Option Cpx
 channel_if port plan sfn subframe symbol k =
     if has_broadcast port plan.identity subframe symbol k then Some (broadcast_value port plan sfn symbol k)
     else (if has_control port then system_if port plan sfn subframe symbol k else None)
 
--- what is sent at a place without signals and channels: load, but for the symbols of the synchronisation signals
+-- the value at a resource element without signals and channels: load, except in synchronisation signal symbols
 abbrev pub open_value : Option ℕ → Port → ℕ → ℕ → ℕ → ℕ → Cpx
 open_value None port sfn subframe symbol k = nothing
 open_value (Some load) port sfn subframe symbol k =
     if is_signal_symbol port subframe symbol then nothing else load_point load port sfn subframe symbol k
 
--- the bits of a load in a frame, 2,016 for each subframe
+-- the load's bits in a frame, 2,016 per subframe
 unfoldable pub load_bits : ℕ → Port → ℕ → List Bool
 load_bits load port sfn = values_below 20160 (λ n. gold_bit (load_c_init load port sfn (n / 2016)) (n % 2016))
 
--- a table has for each place of a subframe its number in a list of places, and their count where it is not in it
+-- a table with the index that each resource element in a subframe has in a list, or the list's length if it is not in
+-- the list
 pub record IsTableOf (places : List Place) (table : PlaceTable) : Type 0 where
   pub count : table.count ≡ length places
   pub number : (symbol k : ℕ) → symbol < 14 → k < 72 →
       slice_index_or table.numbers (72 * symbol + k) 0 ≡ index_in places (place symbol k)
 
--- what is the same in every frame of a plan at a port: the synchronisation signals, where the channels stand, and the
--- indicators
+-- the data that all frames in a plan share at a port: the synchronisation signals, the channels' resource elements,
+-- and the PCFICH symbols
 pub record IsLayout (port : Port) (plan : CellPlan) (layout : Layout) : Type 0 where
   pub primary : layout.primary ≡ pss_list (plan.identity % 3)
   pub zero : layout.zero ≡ sss_list (plan.identity / 3) (plan.identity % 3) Start
@@ -121,12 +121,12 @@ pub record IsLayout (port : Port) (plan : CellPlan) (layout : Layout) : Type 0 w
   pub shared : IsTableOf (assigned_places port.carrier plan) layout.shared
   pub shared_count : layout.shared.count ≤ 612
 
--- what grants the system information of a frame, and the points that carry it
+-- the PDCCH and PDSCH symbols in a frame with system information
 pub record IsCarried (plan : CellPlan) (sfn : ℕ) (carried : Carried) : Type 0 where
   pub control : carried.control ≡ values_below 144 (control_point plan sfn)
   pub shared : carried.shared ≡ values_below 612 (shared_point plan sfn)
 
--- what grants and carries the system information, for each redundancy version: in frames 0, 2, 4 and 6
+-- the PDCCH and PDSCH symbols for each redundancy version, as in frames 0, 2, 4 and 6
 pub record AreVersions (plan : CellPlan) (versions : Versions) : Type 0 where
   pub first : IsCarried plan 0 versions.first
   pub second : IsCarried plan 2 versions.second

@@ -2,13 +2,13 @@
 
 use lte_types::Carrier;
 
-/// An antenna port of a cell: the cell's carrier, and the port's number there, 0 to 3 (TS 36.211 sections 6.3.4.3 and
-/// 6.12). What any other number sends is fixed too, but no cell has it.
+/// An antenna port: the cell's transmission scheme, and the port number, 0 to 3 (TS 36.211 sections 6.3.4.3 and 6.12).
+/// Other numbers are defined too, but no cell has such a port.
 #[derive(Clone, Copy, Debug, PartialEq, Eq)]
 pub struct Port {
-    /// The carrier of the cell, which has as many ports as `Carrier::ports` says.
+    /// The cell's transmission scheme, with `Carrier::ports` ports.
     pub carrier: Carrier,
-    /// The number of the port, below that count.
+    /// The port number, below `Carrier::ports`.
     pub number: u8,
 }
 
@@ -16,7 +16,7 @@ impl Port {
     ghost use Rattle.std.specs.Prelude.{◌≡◌, ◌≤◌};
     ghost use Rattle.cell_grid.specs.Ports.{port_symbols, port_block_bits, has_control, port_mask};
 
-    // The symbols of a slot: half of those of a subframe.
+    // Returns the number of symbols in a slot.
     pub(crate) fn symbols(self) -> u8
         ensures value { result ≡ port_symbols self }
         ensures low { 6 ≤ result }
@@ -25,7 +25,7 @@ impl Port {
         self.carrier.prefix().symbols() as u8
     }
 
-    // The bits of the broadcast channel in a frame (TS 36.211 section 6.6.1).
+    // Returns the number of PBCH bits in a frame (TS 36.211 section 6.6.1).
     pub(crate) fn block_bits(self) -> usize
         ensures value { result ≡ port_block_bits self }
         ensures bound { result ≤ 480 }
@@ -37,14 +37,14 @@ impl Port {
         }
     }
 
-    // The control region and system information are sent. (own)
+    // Returns whether the control region and system information are transmitted. (own)
     pub(crate) fn has_control(self) -> bool
         ensures { result ≡ has_control self }
     {
         self.carrier.has_control()
     }
 
-    // The mask of the check of its master block (TS 36.212 section 5.3.1.1).
+    // Returns the CRC mask for the MIB (TS 36.212 section 5.3.1.1).
     pub(crate) fn mask(self) -> u16
         ensures { result ≡ port_mask self }
     {

@@ -1,4 +1,4 @@
-//! The broadcast channel of a cell.
+//! A cell's PBCH.
 
 ghost use Rattle.std.specs.Prelude.{◌≡◌, ◌+◌, ◌*◌, ◌<◌, ◌≤◌, false, length, slice_index_or};
 ghost use Rattle.finite.specs.Lists.{values_below};
@@ -18,9 +18,8 @@ use cs_num::Cpx;
 use grid_map::pbch_c_init;
 use lte_types::{Bandwidth, CellId, Duration, Resource, Sfn};
 
-// The word of the master block in a frame of a cell with 6 resource blocks: its 24 bits, by the duration and the
-// resource of the PHICH, the number of the frame and the 10 spare bits, and their check with the mask of the
-// antenna ports (TS 36.331 section 6.2.2, TS 36.212 section 5.3.1.1).
+// Returns the MIB for 6 resource blocks followed by its masked CRC (TS 36.331 section 6.2.2, TS 36.212 section
+// 5.3.1.1).
 fn master_word(mask: u16, duration: Duration, resource: Resource, sfn: Sfn, spare: u16) -> Bits<40>
     ensures { result ≡ master_word_of mask duration resource sfn spare }
 {
@@ -35,7 +34,7 @@ fn master_word(mask: u16, duration: Duration, resource: Resource, sfn: Sfn, spar
     Bits::new(bits)
 }
 
-// The master block of a plan with its check.
+// Returns the plan's MIB followed by its CRC.
 fn word_of(cell: &Cell, port: Port, sfn: Sfn) -> Bits<40>
     ensures { result ≡ port_word port cell.now sfn }
 {
@@ -43,7 +42,7 @@ fn word_of(cell: &Cell, port: Port, sfn: Sfn) -> Bits<40>
     master_word(port.mask(), plan.duration, plan.resource, sfn, plan.spare)
 }
 
-// Bit n of a coded and matched word, scrambled.
+// Returns bit `n` after rate matching, scrambled.
 fn scrambled<const N: usize>(coded: &[[bool; 3]; N], scrambling: &[bool], n: usize) -> bool
     requires low { 6 ≤ N }
     requires high { N ≤ 64 }
@@ -53,9 +52,8 @@ fn scrambled<const N: usize>(coded: &[[bool; 3]; N], scrambling: &[bool], n: usi
     match_out(coded, n) != scrambling[n]
 }
 
-// Writes the points of the broadcast channel of a cell that carry bits of a word, coded, matched and scrambled, from
-// bit `first` of the endless sequence on, two a point (TS 36.212 section 5.3.1, TS 36.211 section 6.6). The sequence
-// has 1,920 bits at most.
+// Fills `points` with QPSK symbols for the encoded, rate-matched and scrambled word, from bit `first` (TS 36.212
+// section 5.3.1, TS 36.211 section 6.6).
 fn fill_broadcast(id: CellId, word: &Bits<40>, first: usize, points: &mut [Cpx])
     requires { first + 2 * length points.old ≤ 1920 }
     ensures { points.new ≡ values_below (length points.old)
@@ -74,8 +72,7 @@ fn fill_broadcast(id: CellId, word: &Bits<40>, first: usize, points: &mut [Cpx])
     }
 }
 
-/// The 240 points of the broadcast channel in a frame of a cell with this port; with the extended prefix the first 216
-/// of them are sent.
+/// Returns the 240 PBCH symbols in a frame at `port`. With the extended prefix only the first 216 are transmitted.
 pub(crate) fn broadcast_points(cell: &Cell, port: Port, sfn: Sfn) -> [Cpx; 240]
     ensures { result ≡ values_below 240 (port_point port cell.now sfn) }
 {

@@ -1,4 +1,4 @@
-//! What the channels of a frame carry at each place.
+//! The channels' values at each resource element in a frame.
 
 ghost use Rattle.std.specs.Prelude.{◌≡◌, ◌<◌, true};
 ghost use Rattle.cell_grid.specs.Ports.{has_control};
@@ -12,14 +12,14 @@ use cs_num::Cpx;
 use grid_map::Place;
 use lte_types::Sfn;
 
-// Whether a subframe carries system information.
+// Returns whether a subframe carries system information.
 fn has_system_information(sfn: Sfn, subframe: u8) -> bool
     ensures { result ≡ has_system_information sfn subframe }
 {
     subframe == 5 && sfn.value() % 2 == 0
 }
 
-// Whether a symbol of a subframe is in the slot of the broadcast channel.
+// Returns whether a symbol lies in the PBCH slot.
 fn may_broadcast(port: Port, subframe: u8, symbol: u8) -> bool
     requires subframe { subframe < 10 }
     requires symbol { symbol < 14 }
@@ -28,7 +28,7 @@ fn may_broadcast(port: Port, subframe: u8, symbol: u8) -> bool
     2 * subframe + symbol / port.symbols() == 1
 }
 
-// The number that a symbol of a subframe has among those by which the broadcast channel's places are numbered.
+// Returns a symbol's index as the PBCH mapping numbers it.
 fn broadcast_symbol(port: Port, symbol: u8) -> u8
     requires { symbol < 14 }
     ensures value { result ≡ broadcast_symbol port symbol }
@@ -41,7 +41,7 @@ fn broadcast_symbol(port: Port, symbol: u8) -> u8
     }
 }
 
-// The value of the broadcast channel at a place of a subframe.
+// Returns the PBCH value at a resource element.
 fn broadcast_at(signals: &Signals, subframe: u8, here: Place) -> Option<Cpx>
     requires subframe { subframe < 10 }
     requires symbol { here.symbol < 14 }
@@ -60,7 +60,7 @@ fn broadcast_at(signals: &Signals, subframe: u8, here: Place) -> Option<Cpx>
     )
 }
 
-// What PCFICH carries at a place, which it does in every subframe.
+// Returns the PCFICH value at a resource element; every subframe has PCFICH.
 fn indicator_at(signals: &Signals, subframe: u8, here: Place) -> Option<Cpx>
     requires subframe { subframe < 10 }
     requires symbol { here.symbol < 14 }
@@ -71,7 +71,7 @@ fn indicator_at(signals: &Signals, subframe: u8, here: Place) -> Option<Cpx>
     value_at(signals.port, &signals.layout.indicator, points, here)
 }
 
-// What PDCCH carries at a place; none outside subframe 5 of even frames.
+// Returns the PDCCH value at a resource element; `None` outside subframe 5 of even frames.
 fn control_at(signals: &Signals, subframe: u8, here: Place) -> Option<Cpx>
     requires control { has_control signals.now.port ≡ true }
     requires symbol { here.symbol < 14 }
@@ -85,7 +85,7 @@ fn control_at(signals: &Signals, subframe: u8, here: Place) -> Option<Cpx>
     value_at(signals.port, &signals.layout.control, points, here)
 }
 
-// What PDSCH carries at a place; none outside subframe 5 of even frames.
+// Returns the PDSCH value at a resource element; `None` outside subframe 5 of even frames.
 fn shared_at(signals: &Signals, subframe: u8, here: Place) -> Option<Cpx>
     requires control { has_control signals.now.port ≡ true }
     requires symbol { here.symbol < 14 }
@@ -99,7 +99,7 @@ fn shared_at(signals: &Signals, subframe: u8, here: Place) -> Option<Cpx>
     value_at(signals.port, &signals.layout.shared, points, here)
 }
 
-// What PCFICH, PDCCH and PDSCH have at a place of a subframe: the value of the first that is there.
+// Returns the PCFICH, PDCCH or PDSCH value at a resource element.
 fn system_at(signals: &Signals, subframe: u8, here: Place) -> Option<Cpx>
     requires control { has_control signals.now.port ≡ true }
     requires subframe { subframe < 10 }
@@ -116,7 +116,7 @@ fn system_at(signals: &Signals, subframe: u8, here: Place) -> Option<Cpx>
     shared_at(signals, subframe, here)
 }
 
-/// What the channels have at a place of a subframe: the value of the first that is there.
+/// Returns the value of the first channel that occupies a resource element.
 pub(crate) fn channel_at(signals: &Signals, subframe: u8, here: Place) -> Option<Cpx>
     requires subframe { subframe < 10 }
     requires symbol { here.symbol < 14 }

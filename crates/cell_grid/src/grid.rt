@@ -28,7 +28,7 @@ use grid_map::Place;
 use lte_types::{Carrier, CellId, Sfn};
 use sync_seq::{MIDDLE, amplitude, is_middle};
 
-/// The channels and the load of one frame at one antenna port, made once for all symbols of the frame.
+/// One frame's channels and load at one antenna port, computed once for all its symbols.
 #[derive(Drop)]
 pub struct Signals<'a> {
     pub cell: &'a Cell,
@@ -46,7 +46,8 @@ pub struct Signals<'a> {
 }
 
 impl<'a> Signals<'a> {
-    /// Makes the channels and the load of frame `sfn` at `port`. `layout` and `carried` are those of the cell and port.
+    /// Computes the channels and the load of frame `sfn` at `port`. `layout` and `carried` belong to the same cell and
+    /// port.
     pub fn new(
         cell: &'a Cell,
         port: Port,
@@ -77,8 +78,8 @@ impl<'a> Signals<'a> {
     }
 }
 
-// What a port sends at a reference place by the twelve of the symbol at port 0; `None` at every other place.
-// Port 1 has its own three subcarriers on, and ports 2 and 3 have none in these symbols.
+// Returns the value at a reference position, given the symbol's twelve `pilots` at port 0. Port 1 is three subcarriers
+// higher; ports 2 and 3 have none in these symbols.
 fn reference_of(port: Port, pilots: &[(u8, Cpx); 12], k: usize) -> Option<Cpx>
     requires { k < 72 }
     ensures { (identity slot symbol : ℕ) → (symbol ≡ 0) ⊎ (symbol ≡ (first_pattern port).later) →
@@ -95,29 +96,29 @@ fn reference_of(port: Port, pilots: &[(u8, Cpx); 12], k: usize) -> Option<Cpx>
     )
 }
 
-// The test of the port with a number in the symbols with reference places of ports 0 and 1, by the tests of these two.
+// Selects the test for port `number` in a symbol that ports 0 and 1 use.
 fn lower_test(number: u8, zero: bool, one: bool) -> bool
     ensures { result ≡ lower_test number zero one }
 {
     number < 2 && own_test(number, zero, one)
 }
 
-// The first of two tests for port 0, and the second for any other.
+// Returns `zero` for port 0, otherwise `one`.
 fn own_test(number: u8, zero: bool, one: bool) -> bool
     ensures { result ≡ (if nat_eq number 0 then zero else one) }
 {
     if number == 0 { zero } else { one }
 }
 
-// Whether a place of a symbol with reference places of ports 0 and 1 is one of any port of a carrier.
+// Returns whether any port has a reference position in a symbol that ports 0 and 1 use.
 fn any_lower_test(carrier: Carrier, zero: bool, one: bool) -> bool
     ensures { result ≡ any_lower_test carrier zero one }
 {
     zero || carrier.ports() > 1 && one
 }
 
-// What a port sends at a reference place of symbol 1 by the first place of port 2 there and the twelve values; `None`
-// at every other place. Port 3 has its places three subcarriers on.
+// Returns the value at a reference position in symbol 1, given the twelve `pilots` and port 2's `first` subcarrier.
+// Port 3 is three subcarriers higher.
 fn upper_of(port: Port, first: usize, pilots: &[(u8, Cpx); 12], k: usize) -> Option<Cpx>
     requires first { first < 6 }
     requires k { k < 72 }
@@ -134,21 +135,21 @@ fn upper_of(port: Port, first: usize, pilots: &[(u8, Cpx); 12], k: usize) -> Opt
     )
 }
 
-// The test of the port with a number in the symbol with reference places of ports 2 and 3, by the tests of these two.
+// Selects the test for port `number` in the symbol that ports 2 and 3 use.
 fn upper_test(number: u8, two: bool, three: bool) -> bool
     ensures { result ≡ upper_test number two three }
 {
     number >= 2 && own_test(number % 2, two, three)
 }
 
-// Whether a place of the symbol with reference places of ports 2 and 3 is one of any port of a carrier.
+// Returns whether any port has a reference position in the symbol that ports 2 and 3 use.
 fn any_upper_test(carrier: Carrier, two: bool, three: bool) -> bool
     ensures { result ≡ any_upper_test carrier two three }
 {
     carrier.ports() > 2 && (two || three)
 }
 
-// The value at a port's own place, 0 at another port's, and `None` at neither.
+// Returns `value` at the port's own position, 0 at another port's, otherwise `None`.
 fn value_or(own: bool, other: bool, value: Cpx) -> Option<Cpx>
     ensures { result ≡ (if own then Some value else (if other then Some nothing else None)) }
 {
@@ -161,7 +162,7 @@ fn value_or(own: bool, other: bool, value: Cpx) -> Option<Cpx>
     }
 }
 
-// What the reference signals of port 0 of its carrier differ in.
+// Returns the reference signal pattern of port 0.
 fn pattern_of(port: Port) -> Pattern
     ensures pattern { result ≡ first_pattern port }
     ensures is { IsPattern result }
@@ -169,7 +170,7 @@ fn pattern_of(port: Port) -> Pattern
     Pattern::of(port.carrier, 0)
 }
 
-// What a port sends at the reference places of a symbol of a slot, by subcarriers.
+// Returns the values at a symbol's reference positions, by subcarrier.
 fn references(id: CellId, port: Port, slot: u8, symbol: u8) -> [Option<Cpx>; 72]
     requires slot { slot < 20 }
     requires symbol { symbol < 7 }
@@ -189,7 +190,7 @@ fn references(id: CellId, port: Port, slot: u8, symbol: u8) -> [Option<Cpx>; 72]
     row
 }
 
-// What a port sends at the reference places of symbol 1 of a slot, where ports 2 and 3 have theirs.
+// Returns the values at the reference positions in symbol 1, which ports 2 and 3 use.
 fn second_row(id: CellId, port: Port, slot: u8) -> [Option<Cpx>; 72]
     requires { slot < 20 }
     ensures { result ≡ values_below 72 (port_reference_if port id slot 1) }
@@ -201,7 +202,7 @@ fn second_row(id: CellId, port: Port, slot: u8) -> [Option<Cpx>; 72]
     }
 }
 
-// What a port sends there, by the places of ports 2 and 3.
+// Returns the values at the reference positions of ports 2 and 3.
 fn upper_row(id: CellId, port: Port, slot: u8) -> [Option<Cpx>; 72]
     requires { slot < 20 }
     ensures { result ≡ values_below 72 (port_reference_if port id slot 1) }
@@ -215,14 +216,14 @@ fn upper_row(id: CellId, port: Port, slot: u8) -> [Option<Cpx>; 72]
     row
 }
 
-// Whether the synchronisation signal in this symbol of its subframes is at a place.
+// Returns whether the synchronisation signal in symbol `signal` occupies a resource element.
 fn is_signal(signal: u8, subframe: u8, symbol: u8, k: u8) -> bool
     ensures { result ≡ is_synchronised signal subframe symbol k }
 {
     (subframe == 0 || subframe == 5) && symbol == signal && is_middle(k as usize)
 }
 
-// Sign n of the secondary sequence in a subframe.
+// Returns SSS element `n` in a subframe.
 fn sign_of(signals: &Signals, subframe: u8, n: usize) -> i8
     requires { n < 62 }
     ensures value { result ≡ sss_at (signals.now.cell.now.identity / 3)
@@ -236,7 +237,7 @@ fn sign_of(signals: &Signals, subframe: u8, n: usize) -> i8
     }
 }
 
-// The value of the secondary signal.
+// Returns the SSS value at subcarrier `k`.
 fn secondary_of(signals: &Signals, subframe: u8, k: u8) -> Cpx
     requires low { 5 ≤ k }
     requires high { k < 67 }
@@ -245,14 +246,14 @@ fn secondary_of(signals: &Signals, subframe: u8, k: u8) -> Cpx
     amplitude(sign_of(signals, subframe, k as usize - MIDDLE))
 }
 
-// What a port sends of a synchronisation signal.
+// Returns a synchronisation signal as `port` transmits it.
 fn sent_signal(port: Port, value: Cpx) -> Cpx
     ensures { result ≡ sent_signal port value }
 {
     if port.number == 0 { value } else { Cpx::ZERO }
 }
 
-// Whether a symbol of a subframe is one of those of the synchronisation signals.
+// Returns whether a symbol carries a synchronisation signal.
 fn is_signal_symbol(port: Port, subframe: u8, symbol: u8) -> bool
     ensures { result ≡ is_signal_symbol port subframe symbol }
 {
@@ -260,7 +261,7 @@ fn is_signal_symbol(port: Port, subframe: u8, symbol: u8) -> bool
     (subframe == 0 || subframe == 5) && (symbol == last - 1 || symbol == last)
 }
 
-// The point of a load at a place of a subframe.
+// Returns the load's QPSK symbol at a resource element.
 fn load_point(bits: &[bool; LOAD_BITS], subframe: u8, symbol: u8, k: u8) -> Cpx
     requires subframe { subframe < 10 }
     requires symbol { symbol < 14 }
@@ -272,7 +273,7 @@ fn load_point(bits: &[bool; LOAD_BITS], subframe: u8, symbol: u8, k: u8) -> Cpx
     point(bits[first], bits[first + 1])
 }
 
-// What is sent at a place without signals and channels.
+// Returns the value at a resource element without signals and channels.
 fn open_value(signals: &Signals, subframe: u8, symbol: u8, k: u8) -> Cpx
     requires subframe { subframe < 10 }
     requires symbol { symbol < 14 }
@@ -291,7 +292,7 @@ fn open_value(signals: &Signals, subframe: u8, symbol: u8, k: u8) -> Cpx
     }
 }
 
-// What is sent at a place without signals: the value of a channel, where there is one.
+// Returns the value at a resource element without signals: a channel's value, if there is one.
 fn value_beside(signals: &Signals, subframe: u8, symbol: u8, k: u8) -> Cpx
     requires subframe { subframe < 10 }
     requires symbol { symbol < 14 }
@@ -306,7 +307,7 @@ fn value_beside(signals: &Signals, subframe: u8, symbol: u8, k: u8) -> Cpx
     }
 }
 
-// The value at a place.
+// Returns the value at a resource element.
 fn element_of(
     signals: &Signals,
     references: &[Option<Cpx>; 72],
@@ -335,7 +336,7 @@ fn element_of(
     }
 }
 
-/// Returns the 72 resource elements of symbol `symbol` of `subframe`, in order of subcarriers (TS 36.211 section 6.2).
+/// Returns the 72 resource elements in symbol `symbol` of `subframe`, by subcarrier (TS 36.211 section 6.2).
 pub fn grid_of(signals: &Signals, subframe: u8, symbol: u8) -> [Cpx; 72]
     requires subframe { subframe < 10 }
     requires symbol { symbol < 2 * port_symbols signals.now.port }

@@ -1,4 +1,4 @@
-//! What is made once for all frames of a cell.
+//! Data that all frames of a cell share, computed once.
 
 ghost use Rattle.std.specs.Prelude.{◌≡◌, true};
 ghost use Rattle.cell_grid.specs.Ports.{has_control};
@@ -15,8 +15,8 @@ use grid_map::{long_places, pbch_places, pcfich_places};
 use lte_types::{CellId, Half, Sfn};
 use sync_seq::{pss, sss};
 
-/// The parts of a cell that are equal in all frames: synchronisation signals, resource elements of the channels, and
-/// control format indicators.
+/// The parts that are equal in all frames of a cell: synchronisation signals, the channels' resource elements, and
+/// PCFICH symbols.
 #[derive(Drop)]
 pub struct Layout {
     pub(crate) primary: [Cpx; 62],
@@ -29,14 +29,14 @@ pub struct Layout {
     pub(crate) shared: PlaceTable,
 }
 
-/// The PDCCH and PDSCH symbols that carry the system information of one frame.
+/// The PDCCH and PDSCH symbols that carry system information in one frame.
 #[derive(Drop)]
 pub struct Carried {
     pub(crate) control: [Cpx; 144],
     pub(crate) shared: [Cpx; 612],
 }
 
-/// The PDCCH and PDSCH symbols of system information, one set per redundancy version.
+/// The PDCCH and PDSCH symbols for system information, one set per redundancy version.
 #[derive(Drop)]
 pub struct Versions {
     first: Carried,
@@ -53,7 +53,7 @@ impl Layout {
     ghost use Rattle.cell_grid.specs.Control.{indicator_point};
     ghost use Rattle.cell_grid.specs.Rows.{IsLayout};
 
-    /// The points of the control format indicator in a subframe.
+    /// Returns the PCFICH symbols in a subframe.
     pub(crate) fn indicator_of(&self, subframe: u8) -> &[Cpx]
         requires { subframe < 10 }
         ensures points { (port : Antenna) (plan : Plan) → IsLayout port plan self.now →
@@ -64,7 +64,7 @@ impl Layout {
     }
 }
 
-// The table of the broadcast channel's places.
+// Returns the table for the PBCH resource elements.
 fn broadcast_table(id: CellId, port: Port) -> PlaceTable
     ensures { IsTableOf (broadcast_places port id) result }
 {
@@ -75,7 +75,7 @@ fn broadcast_table(id: CellId, port: Port) -> PlaceTable
     }
 }
 
-/// Makes the layout of a cell at `port`.
+/// Computes a cell's layout at `port`.
 pub fn layout_of(cell: &Cell, port: Port) -> Layout
     ensures { IsLayout port cell.now result }
 {
@@ -102,7 +102,7 @@ pub fn layout_of(cell: &Cell, port: Port) -> Layout
     }
 }
 
-/// Makes the PDCCH and PDSCH symbols of frame `sfn`, all zero if the port has no control region.
+/// Computes the PDCCH and PDSCH symbols in frame `sfn`, all zero if the port has no control region.
 pub fn carried_of(cell: &Cell, port: Port, sfn: Sfn) -> Carried
     ensures { has_control port ≡ true → IsCarried cell.now sfn result }
 {
@@ -119,7 +119,7 @@ pub fn carried_of(cell: &Cell, port: Port, sfn: Sfn) -> Carried
     }
 }
 
-/// Makes the PDCCH and PDSCH symbols of each redundancy version, all zero if the port has no control region.
+/// Computes the PDCCH and PDSCH symbols for each redundancy version, all zero if the port has no control region.
 pub fn versions_of(cell: &Cell, port: Port) -> Versions
     ensures { has_control port ≡ true → AreVersions cell.now result }
 {
@@ -136,7 +136,7 @@ impl Versions {
     ghost use Rattle.cell_plan.specs.declared.cell.CellPlan.{CellPlan as Plan};
     ghost use Rattle.cell_grid.specs.Rows.{IsCarried, AreVersions};
 
-    /// Returns the symbols of frame `sfn`, whose number is even.
+    /// Returns the symbols for frame `sfn`, an even frame.
     pub fn of_frame(&self, sfn: Sfn) -> &Carried
         ensures { (plan : Plan) → AreVersions plan self.now → IsCarried plan sfn result.now }
     {

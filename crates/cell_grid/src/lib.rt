@@ -1,9 +1,9 @@
-//! The resource grid of a sent cell: what stands at each resource element of a frame, by any carrier. Synchronisation
-//! signals, reference signals, the broadcast channel, and, but for the extended cyclic prefix and four antenna ports, the
-//! control region and the shared channel with SystemInformationBlockType1 (TS 36.211 section 6); with load at all other
-//! places, or without (own).
+//! The resource grid of a transmitted cell: the value at each resource element in a frame, for each transmission
+//! scheme. It holds synchronisation signals, reference signals and PBCH and, except with the extended cyclic prefix or
+//! four antenna ports, PCFICH, PDCCH and the PDSCH with SystemInformationBlockType1 (TS 36.211 section 6). The other
+//! resource elements are empty or carry load (own).
 //!
-//! Tests: through `cell_tx`, in `sent_tests/src/`.
+//! Tests: the crate `sent_tests`, through `cell_tx`.
 #![tactic(auto)]
 
 mod antenna;

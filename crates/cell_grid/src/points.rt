@@ -1,4 +1,4 @@
-//! Points of scrambled bits, and the places that they take.
+//! QPSK symbols for scrambled bits, and their resource elements.
 
 ghost use Rattle.std.specs.Prelude.{◌≡◌, ℕ, ◌*◌, ◌/◌, ◌%◌, ◌^◌, ◌<◌, ◌≤◌, false, if◌then◌else◌, List, All};
 ghost use Rattle.std.specs.Prelude.{length, slice_index_or};
@@ -17,10 +17,10 @@ use crs::point;
 use cs_num::Cpx;
 use grid_map::Place;
 
-// The most bits of a channel: those of the shared channel over six resource blocks.
+// The maximum number of bits in a channel: PDSCH over six resource blocks.
 const MOST: usize = 1224;
 
-// The first bits of the sequence of `c_init`.
+// Returns the first bits of the Gold sequence for `c_init`.
 fn sequence_of(c_init: u32) -> [bool; MOST]
     requires { c_init < 2 ^ 31 }
     ensures { result ≡ gold_bits c_init 1224 }
@@ -30,7 +30,7 @@ fn sequence_of(c_init: u32) -> [bool; MOST]
     sequence
 }
 
-// Bit n, scrambled.
+// Returns bit `n`, scrambled.
 fn scrambled_at(bits: &[bool], sequence: &[bool; MOST], n: usize) -> bool
     requires few { length bits.now ≤ 1224 }
     requires n { n < length bits.now }
@@ -39,8 +39,8 @@ fn scrambled_at(bits: &[bool], sequence: &[bool; MOST], n: usize) -> bool
     bits[n] != sequence[n]
 }
 
-/// Writes the points that bits make which are scrambled by the sequence of `c_init`, two bits a point
-/// (TS 36.211 sections 7.2 and 7.1.2). `c_init` is below 2^31, and there are at most 1,224 bits.
+/// Fills `points` with QPSK symbols, two bits each, for `bits` scrambled with the Gold sequence for `c_init` (TS
+/// 36.211 sections 7.2 and 7.1.2).
 pub(crate) fn fill_points(c_init: u32, bits: &[bool], points: &mut [Cpx])
     requires c_init { c_init < 2 ^ 31 }
     requires few { length bits.now ≤ 1224 }
@@ -57,17 +57,17 @@ pub(crate) fn fill_points(c_init: u32, bits: &[bool], points: &mut [Cpx])
     }
 }
 
-// The places of a subframe's grid: 14 symbols of 72 subcarriers.
+// The number of resource elements in a subframe: 14 symbols with 72 subcarriers each.
 const PLACES: usize = 14 * 72;
 
-/// For each place of a subframe its number in a list of places, and their count where it is not in it.
+/// The index that each resource element in a subframe has in a list, or the list's length if it is not in the list.
 #[derive(Drop)]
 pub(crate) struct PlaceTable {
     pub count: u16,
     pub numbers: [u16; PLACES],
 }
 
-// Writes the number of a place of a list, where the table has none for it yet.
+// Writes `number` at a resource element, if the table has no index there yet.
 fn put_number(numbers: &mut [u16; PLACES], none: u16, here: Place, number: u16)
     ensures here { (c : ℕ) → c < 1008 → place (c / 72) (c % 72) ≡ here → slice_index_or numbers.old c 0 ≡ none →
         slice_index_or numbers.new c 0 ≡ number }
@@ -84,7 +84,7 @@ fn put_number(numbers: &mut [u16; PLACES], none: u16, here: Place, number: u16)
     }
 }
 
-/// The table of at most 612 places.
+/// Returns the table for at most 612 resource elements.
 pub(crate) fn table_of(places: &[Place]) -> PlaceTable
     requires { length places.now ≤ 612 }
     ensures { IsTableOf places.now result }
@@ -97,7 +97,7 @@ pub(crate) fn table_of(places: &[Place]) -> PlaceTable
     PlaceTable { count, numbers }
 }
 
-// What a port sends at place i of a channel with these points.
+// Returns the symbol that a port transmits at index `i` in a channel.
 fn sent_point(port: Port, points: &[Cpx], i: usize) -> Cpx
     requires i { i < length points.now }
     requires pairs { length points.now % 2 ≡ 0 }
@@ -111,8 +111,8 @@ fn sent_point(port: Port, points: &[Cpx], i: usize) -> Cpx
     }
 }
 
-// What a port of four sends at place i of a channel: the pairs of even number go over ports 0 and 2 as over two ports,
-// and those of odd number over ports 1 and 3.
+// Returns symbol `i` at one of four ports: even pairs use ports 0 and 2, odd pairs ports 1 and 3, each like a two-port
+// cell.
 fn point_of_four(number: u8, points: &[Cpx], i: usize) -> Cpx
     requires i { i < length points.now }
     requires pairs { length points.now % 2 ≡ 0 }
@@ -126,7 +126,7 @@ fn point_of_four(number: u8, points: &[Cpx], i: usize) -> Cpx
     }
 }
 
-// The point at place i as the first ports send it, as many as `half` says, or as the others do.
+// Returns symbol `i` unchanged on ports below `half`, and crossed on the others.
 fn paired_point(half: u8, number: u8, points: &[Cpx], i: usize) -> Cpx
     requires i { i < length points.now }
     requires pairs { length points.now % 2 ≡ 0 }
@@ -140,8 +140,8 @@ fn paired_point(half: u8, number: u8, points: &[Cpx], i: usize) -> Cpx
     }
 }
 
-// What the second of two ports sends at place i of a channel: of a pair the negative conjugate of the other point at
-// the first place, and the conjugate of the other at the second.
+// Returns the second port's symbol `i` under transmit diversity (TS 36.211 section 6.3.4.3): `-conj(x[i + 1])` for
+// even `i`, `conj(x[i - 1])` for odd `i`.
 fn crossed_point(points: &[Cpx], i: usize) -> Cpx
     requires i { i < length points.now }
     requires pairs { length points.now % 2 ≡ 0 }
@@ -155,8 +155,8 @@ fn crossed_point(points: &[Cpx], i: usize) -> Cpx
     }
 }
 
-/// What a port sends at a place of the grid, by the table of a channel's places and its points in the same
-/// order, of which there is an even number; `None` at every other place.
+/// Returns the symbol that a port transmits at a resource element, given the channel's `table` and `points` in the
+/// same order; `None` if the channel does not occupy it.
 pub(crate) fn value_at(port: Port, table: &PlaceTable, points: &[Cpx], here: Place) -> Option<Cpx>
     requires symbol { here.symbol < 14 }
     requires k { here.k < 72 }

@@ -1,4 +1,4 @@
-//! The shared channel of a frame, which carries system information.
+//! A frame's PDSCH, which carries system information.
 
 ghost use Rattle.std.specs.Prelude.{◌≡◌, ◌≤◌, length, take};
 ghost use Rattle.finite.specs.Lists.{values_below};
@@ -13,7 +13,7 @@ use grid_map::{Place, pdsch_c_init, shared_count, shared_place};
 use lte_types::{Carrier, Sfn};
 use turbo_code::match_all;
 
-// The bits of the coded word in a frame, as they are matched.
+// Returns the codeword's bits after rate matching for a frame.
 fn shared_bits(cell: &Cell, sfn: Sfn) -> [bool; 1224]
     ensures { result ≡ values_below 1224 (shared_bit cell.now sfn) }
 {
@@ -22,7 +22,7 @@ fn shared_bits(cell: &Cell, sfn: Sfn) -> [bool; 1224]
     bits
 }
 
-/// The points that six resource blocks carry in a frame.
+/// Returns the QPSK symbols for six resource blocks in a frame.
 pub(crate) fn shared_points(cell: &Cell, sfn: Sfn) -> [Cpx; 612]
     ensures { result ≡ values_below 612 (shared_point cell.now sfn) }
 {
@@ -32,7 +32,7 @@ pub(crate) fn shared_points(cell: &Cell, sfn: Sfn) -> [Cpx; 612]
     points
 }
 
-/// The places of the assigned resource blocks of a carrier, and how many there are.
+/// Returns the resource elements in the assigned resource blocks, and their count.
 pub(crate) fn shared_places(cell: &Cell, carrier: Carrier) -> (usize, [Place; 612])
     ensures places { take result.0 result.1 ≡ assigned_places carrier cell.now }
     ensures count { result.0 ≤ 612 }

@@ -1,4 +1,4 @@
--- What a JSON value has the form of.
+-- Forms of a JSON value.
 use Rattle.std.proofs.Common.{◌≡◌, ℕ, List, [], ◌∷◌, length, Bool, true, false, Some, None, refl, ap}
 use Rattle.std.specs.Prelude.{IsUtf8, if◌then◌else◌}
 use Rattle.std.specs.Str.{is_utf8}
@@ -15,7 +15,7 @@ use Rattle.cell_json.specs.Kinds.{key_count}
 use Rattle.cell_json.specs.Reading.{json_of, refusal_of, refusal_by}
 use Rattle.cell_json.specs.Description.{pair_in}
 
--- the members of an object are its keys
+-- the number of members is the number of keys
 pub members_are_keys : (json : Data) (members : Members) → Some members ≡ as_object json → members_len members ≡ key_count json
 members_are_keys null members e = absurd (cc)
 members_are_keys (boolean b) members e = absurd (cc)
@@ -24,7 +24,7 @@ members_are_keys (string s) members e = absurd (cc)
 members_are_keys (array ds) members e = absurd (cc)
 members_are_keys (object ms) members e = let same : members ≡ ms = cc in ap members_len same
 
--- a list of another length than two is no pair
+-- a list whose length is not two is not a complex number
 pub no_pair : (values : List Value) → (length values ≡ 2 → ⊥) → pair_in (items_view values) ≡ None
 no_pair [] h = refl
 no_pair (x ∷ []) h = refl
@@ -36,7 +36,7 @@ no_pair (x ∷ y ∷ z ∷ rest) h = refl
 pub text_has_value : (bytes : List ℕ) (json : Data) → IsUtf8 bytes → value_of_text bytes ≡ Some json → json_of bytes ≡ Some json
 text_has_value bytes json text e = let t : is_utf8 bytes ≡ true = is_utf8-from_IsUtf8 bytes text in rw (t, e) refl
 
--- bytes that are no text, or a text that is no JSON, have not the form
+-- bytes that are not UTF-8 or not JSON fail the form
 pub no_json : (carrier : Carrier) (bytes : List ℕ) → (IsUtf8 bytes → value_of_text bytes ≡ None) → refusal_by carrier bytes ≡ Some Form
 no_json carrier bytes h = settle (is_utf8 bytes) refl
   where

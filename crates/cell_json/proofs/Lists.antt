@@ -12,18 +12,18 @@ use Rattle.serde_json.proofs.Views.{items_len-items_view}
 use Rattle.serde_json.specs.declared.value.Value.{Value}
 use Rattle.cell_json.specs.Kinds.{given, each, items_within}
 
--- what is given is there where the test passes
+-- `given` has a value exactly if its test holds
 pub is_given : {A : Type 0} (test : Bool) (value : A) → test ≡ is_some (given test value)
 is_given true value = refl
 is_given false value = refl
 
--- the items of a list of values, by their number
+-- a range test on the items is a range test on the list's length
 pub counted : (vs : List Value) (json : Data) (least most : ℕ) → Some (items_view vs) ≡ as_array json
     → items_within least most json ≡ given (nat_le least (length vs) && nat_le (length vs) most) (items_view vs)
 counted vs json least most e = ap (λ found. option_and_then (λ items. given (nat_le least (items_len items) && nat_le (items_len items) most) items) found) (sym e)
     ∙ ap (λ n. given (nat_le least n && nat_le n most) (items_view vs)) (items_len-items_view vs)
 
--- so many, or not
+-- items whose count is in the range pass the range test
 pub so_many : (n least most : ℕ) (items : Items) → least ≤ n → n ≤ most → Some items ≡ given (nat_le least n && nat_le n most) items
 so_many n least most items above below =
     let a : nat_le least n ≡ true = le-leb _ _ above in
@@ -44,7 +44,7 @@ module _ {A : Type 0} (kind : Data → Option A) where
   all_there (Some x) None = refl
   all_there (Some x) (Some xs) = refl
 
-  -- a list is of a kind where each item is
+  -- a list has the kind if each item has it
   pub all_are : (test : Value → Bool) → ((v : Value) → test v ≡ is_some (kind (view v))) → (vs : List Value)
       → list_all test vs ≡ is_some (each kind (items_view vs))
   all_are test same [] = refl
@@ -59,7 +59,7 @@ module _ {A : Type 0} (kind : Data → Option A) where
   one_more found x None = refl
   one_more found x (Some xs) = ap Some (sym (append_assoc found (x ∷ []) xs))
 
-  -- the first items of a list are read: with what the rest give they are what the list gives
+  -- the first i items are read: their values, followed by those of the remaining items, are the list's values
   pub record IsReadTo (vs : List Value) (i : ℕ) (found : List A) : Type 0 where
     pub count : length found ≡ i
     pub rest : each kind (items_view vs) ≡ option_map (λ more. found ++ more) (each kind (items_view (drop i vs)))
@@ -67,7 +67,7 @@ module _ {A : Type 0} (kind : Data → Option A) where
   pub read_begins : (vs : List Value) → IsReadTo vs 0 []
   read_begins vs = record { count = refl; rest = whole_list (each kind (items_view vs)) }
 
-  -- the item at a place comes first of those that are left
+  -- the item at index i is the first of the remaining items
   left : (vs : List Value) (i : ℕ) (v : Value) → i < length vs → v ≡ get_or vs i v → drop i vs ≡ v ∷ drop (i + 1) vs
   left vs i v h is = rw add-one (drop-cons vs i v h ∙ ap (λ y. y ∷ drop (suc i) vs) (sym is))
 

@@ -1,4 +1,4 @@
--- What the conditions of a description say of what is sent.
+-- Consequences of a description's conditions.
 use Rattle.std.proofs.Common.{◌≡◌, ℕ, ◌+◌, ◌≤◌, ◌<◌, ◌/◌, ◌&&◌, nat_le, ℤ, pos, arith, refl, ap, ap₂, sym, subst, ◌∙◌, Bool, true, false, if◌then◌else◌, nat_abs, List, ◌∷◌, Some, None, is_some}
 use Rattle.std.specs.Prelude.{codes}
 use Rattle.serde_json.specs.Data.{Data}
@@ -34,7 +34,7 @@ use Rattle.cell_json.proofs.Refusals.{cell_conditions_are}
 use Rattle.cell_json.proofs.Valid.{read_is_valid}
 use Rattle.cell_json.proofs.Values.{small_scheme, small_column}
 
--- in a list in which no condition fails, the first holds, and none of the others fails
+-- if no condition in a list fails, the first holds, and none after it fails
 passes : (holds : Bool) (cause : CellError) (rest : List Condition) → first_failed (condition holds cause ∷ rest) ≡ None → (holds ≡ true) × (first_failed rest ≡ None)
 passes true cause rest e = (refl, e)
 passes false cause rest e = absurd (cc e)
@@ -48,11 +48,11 @@ within least most n z e b = between least most n (subst (λ y. is_between (pos l
 both_hold : (a b c : ℕ) → (nat_le 1 a && nat_le b c) ≡ true → (1 ≤ a) × (b ≤ c)
 both_hold a b c e = (grind (arith, nat_tests), grind (arith, nat_tests))
 
--- the gains of a carrier are those of clean recordings where they pass the test
+-- gains that pass the test suit a clean recording
 pub gains_hold : (carrier : Carrier) (gains : List Cpx) → are_gains carrier gains ≡ true → AreGainsOf carrier gains
 gains_hold carrier gains e = (gains_are_together carrier gains).1 (both_hold (square (value_at gains 0)) (power_of carrier gains) (784 / ports_of carrier) e)
 
--- the test by the squares of the sizes of the gains of four ports
+-- the test of the gains by the squared magnitudes of all four
 pub gains_by_squares : (carrier : Carrier) (gains : List Cpx) (one two three four most : ℕ) → one ≡ square (value_at gains 0) → two ≡ part carrier gains 1 → three ≡ part carrier gains 2
     → four ≡ part carrier gains 3 → most ≡ 784 / ports_of carrier → 1 ≤ one → nat_le (one + two + three + four) most ≡ are_gains carrier gains
 gains_by_squares carrier gains one two three four most e f g h bound some =
@@ -85,7 +85,7 @@ all_hold carrier json e =
 
 -- ---- the cell
 
--- a field holds its number where it does not stand at its greatest
+-- a field below its maximum holds the number
 held : (most n : ℕ) (z : ℤ) → pos n ≡ z → in_field most z < most → in_field most z ≡ n
 held most n z e below = settle (is_between (pos 0) (pos most) z) refl below
   where
@@ -96,7 +96,7 @@ held most n z e below = settle (is_between (pos 0) (pos most) z) refl below
 block_is_valid : (json : Data) (sib1 : Sib1) → Some sib1 ≡ sib1_at json → IsValid sib1
 block_is_valid json sib1 e = option_and_then_some sib1_in (get (codes "sib1") json) sib1 (sym e) (λ inner is h. read_is_valid inner sib1 h)
 
--- a plan with a description's values is the plan of the description
+-- a plan with a description's values is the description's plan
 same_plan : (plan : CellPlan) (sfn offset samples : ℕ) (json : Data) → HasValues plan sfn offset samples json → IsSendable (plan_of json plan.sib1) → plan_of json plan.sib1 ≡ plan
 same_plan plan sfn offset samples json values s =
     let identity = held 65535 plan.identity (number_at (codes "identity") json) values.identity (omega (arith, s.identity)) in
@@ -124,7 +124,7 @@ same_plan plan sfn offset samples json values s =
       sib1 = e10 i;
     }
 
--- the plan, the frame number and the offset of what is sent by a carrier are in their ranges
+-- the plan, frame number and offset are in range
 pub record AreInRanges (carrier : Carrier) (plan : CellPlan) (sfn offset : ℕ) : Type 0 where
   pub sendable : IsSendableBy carrier plan
   pub number : sfn ≤ 1023
@@ -141,7 +141,7 @@ described carrier plan sfn offset samples json all values =
       within = omega (arith, below);
     }
 
--- a described emission is in the ranges of its parts
+-- the ranges of a described emission
 pub record IsInRangesBy (carrier : Carrier) (e : Emission) : Type 0 where
   pub parts : AreInRanges carrier e.cell e.timing.sfn e.timing.offset
   pub gains : AreGainsOf carrier e.gains
@@ -154,7 +154,7 @@ described_ranges_by carrier bytes e d =
       gains = subst (AreGainsOf carrier) (sym d.is.gains) (gains_hold carrier (gains_at carrier d.value) all.gains);
     }
 
--- so is a described transmission
+-- the ranges of a described transmission
 pub record IsInRanges (t : Transmission) : Type 0 where
   pub parts : AreInRanges OnePort t.cell t.sfn t.offset
   pub gain : IsGain (gain_of t.gain)

@@ -1,4 +1,4 @@
--- Which condition of a description fails first.
+-- The first failed condition of a description.
 use Rattle.std.proofs.Common.{◌≡◌, pos, true, false, List, Option, Some, [], refl, sym, ap, ◌∙◌}
 use Rattle.std.specs.Option.{option_map_or}
 use Rattle.serde_json.specs.Data.{Data}
@@ -16,14 +16,14 @@ use Rattle.cell_json.specs.Parts.{HasSending}
 pub form_fails : (carrier : Carrier) (json : Data) → has_form carrier json ≡ false → first_failed (conditions carrier json) ≡ Some Form
 form_fails carrier json e = rw e refl
 
--- a block in its ranges leaves the conditions of its plan
+-- if SystemInformationBlockType1 is in range, the plan's conditions remain
 pub cell_conditions_are : (carrier : Carrier) (json : Data) (sib1 : Sib1) → Some sib1 ≡ sib1_at json → cell_conditions carrier json ≡ conditions_of carrier (plan_of json sib1)
 unfolding cell_conditions
 cell_conditions_are carrier json sib1 e = ap (λ (found : Option Sib1). option_map_or (λ s. conditions_of carrier (plan_of json s)) found []) (sym e)
 
 module _ (carrier : Carrier) (json : Data) (d : Sending) (gains : List Cpx) (sib1 : Sib1) (form : has_form carrier json ≡ true) (parts : HasSending d json)
     (gains_are : gains ≡ gains_at carrier json) (there : Some sib1 ≡ sib1_at json) where
-  -- where what is sent and the block are in their ranges, the cell decides
+  -- if the transmission and SystemInformationBlockType1 are in range, the plan's conditions decide
   pub cell_decides : is_between (pos 0) (pos 1023) d.sfn ≡ true → is_between (pos 0) (pos 19199) d.offset ≡ true
       → is_between (pos 57600) (pos 1920000) d.samples ≡ true → are_gains carrier gains ≡ true
       → first_failed (conditions carrier json) ≡ refusal_of carrier (plan_of json sib1)

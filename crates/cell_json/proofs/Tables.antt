@@ -13,13 +13,13 @@ sib1_count : length sib1_keys ≡ 14
 unfolding access_keys selection_keys schedule_keys
 sib1_count = refl
 
--- SystemInformationBlockType1 has its form where its three parts do
+-- SystemInformationBlockType1 has its form if its three parts have theirs
 pub sib1_parts : (json : Data) → (nat_eq (key_count json) 14 && (has_all access_keys json && (has_all selection_keys json && has_all schedule_keys json)))
     ≡ has_exactly sib1_keys json
 unfolding access_keys
 sib1_parts json = rw (sib1_count, list_all-append (λ is_there. is_there json) access_keys (selection_keys ++ schedule_keys), list_all-append (λ is_there. is_there json) selection_keys schedule_keys) refl
 
--- a description has its form where its parts have theirs
+-- a description has its form if its parts have theirs
 pub form_parts : (carrier : Carrier) (json : Data) → (nat_eq (key_count json) (length (keys carrier)) && (has_all sending_keys json && (has_all number_keys json && (has (codes "duration") duration_of json
     && (has (codes "resource") resource_of json && (has (codes "sib1") (object_of sib1_keys) json && has_all (gain_keys carrier) json)))))) ≡ has_form carrier json
 unfolding sending_keys number_keys
@@ -28,7 +28,7 @@ form_parts carrier json = rw (
   list_all-append (λ is_there. is_there json) number_keys (has (codes "duration") duration_of ∷ has (codes "resource") resource_of ∷ has (codes "sib1") (object_of sib1_keys) ∷ gain_keys carrier),
 ) refl
 
--- a description has a key for each port beside 13 others
+-- a description has 13 keys and one for each port
 pub count_by_ports : (carrier : Carrier) → 13 + ports_of carrier ≡ length (keys carrier)
 unfolding sending_keys number_keys
 count_by_ports OnePort = refl

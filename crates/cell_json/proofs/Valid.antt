@@ -1,4 +1,4 @@
--- What is read of SystemInformationBlockType1 is in its ranges.
+-- A SystemInformationBlockType1 that was read is in its ranges.
 use Rattle.std.proofs.Common.{◌≡◌, if◌then◌else◌, ℕ, ◌≤◌, ℤ, pos, negsuc, ◌≤ℤ◌, List, [], ◌∷◌, length, Bool, true, false, nat_le, nat_eq, ◌&&◌, suc, ◌-◌, Option, Some, None, option_map, is_some, nat_abs, arith, refl, sym, ap, subst, ◌∙◌}
 use Rattle.std.specs.Prelude.{codes, All, IfSome}
 use Rattle.std.proofs.lemmas.Int.{ints}
@@ -48,12 +48,12 @@ naturals least most json n e =
     let both = wholes (pos least) (pos most) json z is in
     subst (λ m. (least ≤ m) × (m ≤ most)) size (size_between least most z both.0 both.1)
 
--- what a kind has at a key
+-- a property of the kind holds for the value at a key
 at : {A : Type 0} (P : A → Type 0) (kind : Data → Option A) → ((json : Data) (x : A) → kind json ≡ Some x → P x)
     → (key : List ℕ) (json : Data) (x : A) → at_key kind key json ≡ Some x → P x
 at P kind holds key json x e = option_and_then_some kind (get key json) x e (λ inner is h. holds inner x h)
 
--- null, or of a kind
+-- a property of the kind holds for the value if it is not null
 or_null : {A : Type 0} (P : A → Type 0) (kind : Data → Option A) → ((json : Data) (x : A) → kind json ≡ Some x → P x)
     → (json : Data) (o : Option A) → null_or kind json ≡ Some o → IfSome o P
 or_null P kind holds json None e = tt
@@ -77,7 +77,7 @@ each_counts kind (item first others) xs e = option_and_then_some _ (kind first) 
     option_and_then_some _ (each kind others) xs e2 (λ ys are e3.
     ap length (sym (same_Some (x ∷ ys) xs e3)) ∙ ap suc (each_counts kind others ys are)))
 
--- a list of so many values of a kind
+-- a list of values of a kind, with a length in a range
 record IsListOf {A : Type 0} (P : A → Type 0) (least most : ℕ) (xs : List A) : Type 0 where
   pub count : (least ≤ length xs) × (length xs ≤ most)
   pub all : All P xs
@@ -148,7 +148,7 @@ networks json plmns e = option_and_then_some _ (list_within 1 6 network_of json)
 
 -- ---- the schedule
 
--- the code of a listed number is less than how many are listed
+-- the index of a listed number is below the list's length
 code_fits : (values : List ℕ) (n code : ℕ) → length values ≡ 7 → position (nat_eq n) values ≡ Some code → code ≤ 6
 code_fits values n code count is = let (below, there, first) = position-Some (nat_eq n) values code 0 is in omega (arith, below, count)
 

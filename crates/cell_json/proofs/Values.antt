@@ -1,4 +1,4 @@
--- The values of a transmission and those of its description.
+-- The values of a transmission and of its description.
 use Rattle.std.proofs.Common.{◌≡◌, ℕ, ◌<◌, ℤ, pos, negsuc, Bool, true, false, nat_eq, List, length, ◌⊎◌, inl, inr, Option, is_some, if◌then◌else◌, nat_abs, Some, None, arith, refl, ap, ◌∙◌}
 use Rattle.std.specs.Prelude.{codes, IsSome, slice_get}
 use Rattle.std.proofs.lemmas.Option.{slice_get_within}
@@ -15,7 +15,7 @@ not_negative : (most : ℕ) (z : ℤ) → is_between (pos 0) (pos most) z ≡ tr
 not_negative most (pos n) e = refl
 not_negative most (negsuc n) e = absurd (cc e)
 
--- a field that does not stand at its greatest number holds the number itself
+-- a field below its maximum holds the number itself
 kept : (most n : ℕ) (z : ℤ) → n ≡ in_field most z → n < most → pos n ≡ z
 kept most n z e below = settle (is_between (pos 0) (pos most) z) refl e
   where
@@ -34,7 +34,7 @@ few_schemes : (length column_2 ≡ 22) × (length column_3 ≡ 17)
 unfolding column_2 column_3
 few_schemes = (refl, refl)
 
--- a scheme that has a size is a small number
+-- a modulation and coding scheme with a block size is a small number
 pub small_scheme : (mcs column : ℕ) → IsSome (size_of mcs column) → mcs < 255
 small_scheme mcs column h = settle (nat_eq column 2) h
   where
@@ -46,7 +46,7 @@ pub small_column : (column : ℕ) → (column ≡ 2) ⊎ (column ≡ 3) → colu
 small_column column (inl e) = omega (arith, e)
 small_column column (inr e) = omega (arith, e)
 
--- a cell with the plan of a description has its values
+-- a cell with the description's plan has its values
 pub has_values : (plan : CellPlan) (sfn offset samples : ℕ) (json : Data) (sib1 : Sib1) → IsSendable plan → plan ≡ plan_of json sib1 → Some sib1 ≡ sib1_at json
     → pos sfn ≡ number_at (codes "sfn") json → pos offset ≡ number_at (codes "offset") json → pos samples ≡ number_at (codes "samples") json → HasValues plan sfn offset samples json
 has_values plan sfn offset samples json sib1 sendable is there sfn_is offset_is samples_is = record {

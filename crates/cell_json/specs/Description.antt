@@ -1,4 +1,4 @@
--- The keys of a description, and the conditions on what it has at them. (own)
+-- The keys of a description, and the conditions on their values. (own)
 use Rattle.std.specs.Prelude.{ℕ, ◌-◌, ◌/◌, Bool, ◌&&◌, nat_le, if◌then◌else◌, List, [], ◌∷◌, ◌++◌, map, take}
 use Rattle.std.specs.Prelude.{replicate, codes, Option, None, is_some, option_map, option_and_then, ℤ, pos, nat_abs}
 use Rattle.std.specs.Option.{unwrap_or, option_map_or}
@@ -24,9 +24,9 @@ use Rattle.cell_plan.specs.Gains.{power_of}
 use Rattle.cell_json.specs.Kinds.{whole_of, is_between, null_or, list_of, at_key, has, has_exactly, object_of}
 use Rattle.cell_json.specs.Information.{sib1_in}
 
--- ---- kinds of values of a description
+-- ---- kinds of values in a description
 
--- a list of exactly two whole numbers, as the parts of a complex one
+-- a list of exactly two whole numbers: the real and the imaginary part
 abbrev pub pair_in : Items → Option Cpx
 pair_in (item a (item b no_items)) = option_and_then (λ x. option_map (λ y. with_parts x y) (whole_of b)) (whole_of a)
 pair_in _ = None
@@ -42,9 +42,9 @@ duration_of json = option_and_then duration_named (as_str json)
 abbrev pub resource_of : Data → Option Resource
 resource_of json = option_and_then resource_named (as_str json)
 
--- ---- the keys, and of which kind each is
+-- ---- keys and their kinds
 
--- the keys of an identity of a network
+-- the keys of a network identity
 abbrev pub network_keys : List (Data → Bool)
 network_keys =
     has (codes "mcc") (null_or as_str)
@@ -52,7 +52,7 @@ network_keys =
     ∷ has (codes "reserved") as_bool
     ∷ []
 
--- the keys of an entry of the schedule
+-- the keys of a schedule entry
 abbrev pub message_keys : List (Data → Bool)
 message_keys =
     has (codes "period") whole_of
@@ -80,7 +80,7 @@ selection_keys =
     ∷ has (codes "band") whole_of
     ∷ []
 
--- the keys of the schedule with systemInfoValueTag
+-- the keys of the schedule, and systemInfoValueTag
 unfoldable pub schedule_keys : List (Data → Bool)
 schedule_keys =
     has (codes "scheduling") (list_of (object_of message_keys))
@@ -92,7 +92,7 @@ schedule_keys =
 abbrev pub sib1_keys : List (Data → Bool)
 sib1_keys = access_keys ++ selection_keys ++ schedule_keys
 
--- the keys of what is sent of a cell
+-- the keys for the transmission
 unfoldable pub sending_keys : List (Data → Bool)
 sending_keys =
     has (codes "sfn") whole_of
@@ -100,7 +100,7 @@ sending_keys =
     ∷ has (codes "samples") whole_of
     ∷ []
 
--- the keys of the numbers of a plan
+-- the keys for the plan's numbers
 unfoldable pub number_keys : List (Data → Bool)
 number_keys =
     has (codes "identity") whole_of
@@ -112,11 +112,11 @@ number_keys =
     ∷ has (codes "column") whole_of
     ∷ []
 
--- the keys of the gains of four antenna ports, in the order of the ports
+-- the keys for the gains of four antenna ports, in port order
 abbrev pub gain_names : List (List ℕ)
 gain_names = codes "gain" ∷ codes "gain2" ∷ codes "gain3" ∷ codes "gain4" ∷ []
 
--- the keys of the gains of a carrier's antenna ports: the first of these
+-- the keys for the gains of the transmission scheme's ports
 abbrev pub gain_keys : Carrier → List (Data → Bool)
 gain_keys carrier = map (λ name. has name pair_of) (take (ports_of carrier) gain_names)
 
@@ -133,7 +133,7 @@ keys carrier =
 abbrev pub has_form : Carrier → Data → Bool
 has_form carrier json = has_exactly (keys carrier) json
 
--- ---- what stands at the keys
+-- ---- values at the keys
 
 -- the whole number at a key
 abbrev pub number_at : List ℕ → Data → ℤ
@@ -147,7 +147,7 @@ gain_by key json = unwrap_or (at_key pair_of key json) nothing
 abbrev pub gain_at : Data → Cpx
 gain_at json = gain_by (codes "gain") json
 
--- the gains of four antenna ports; a port that the carrier has not gets one that is not used
+-- four gains in port order; 0 for ports beyond the transmission scheme's, where it is not used
 abbrev pub gains_at : Carrier → Data → List Cpx
 gains_at carrier json =
     map (λ name. gain_by name json) (take (ports_of carrier) gain_names) ++ replicate (4 - ports_of carrier) nothing
@@ -158,16 +158,15 @@ duration_at json = unwrap_or (at_key duration_of (codes "duration") json) Normal
 abbrev pub resource_at : Data → Resource
 resource_at json = unwrap_or (at_key resource_of (codes "resource") json) OneSixth
 
--- SystemInformationBlockType1, where each of its values is in its range
+-- SystemInformationBlockType1, if each of its values is in range
 abbrev pub sib1_at : Data → Option Sib1
 sib1_at json = at_key sib1_in (codes "sib1") json
 
--- a number in a field of the plan; what the field cannot hold stands as its greatest number, which no condition
--- accepts
+-- a number in a plan's field; a number that does not fit becomes the maximum, which no condition accepts
 abbrev pub in_field : ℕ → ℤ → ℕ
 in_field most z = if is_between (pos 0) (pos most) z then nat_abs z else most
 
--- the plan of the cell, with this block
+-- the cell's plan with this SystemInformationBlockType1
 abbrev pub plan_of : Data → Sib1 → CellPlan
 plan_of json sib1 = record {
   identity = in_field 65535 (number_at (codes "identity") json);
@@ -184,18 +183,19 @@ plan_of json sib1 = record {
 
 -- ---- the conditions
 
--- the gains of a carrier's antenna ports are those of clean recordings: that of the first is not 0, and their power is
--- at most 784 by the count of ports
+-- the gains suit a clean recording: the first port's is not 0, and the total power is at most 784 divided by the
+-- number of ports
 abbrev pub are_gains : Carrier → List Cpx → Bool
 are_gains carrier gains =
     nat_le 1 (square (value_at gains 0)) && nat_le (power_of carrier gains) (784 / ports_of carrier)
 
--- the conditions of the plan, which there is where the block's values are in their ranges
+-- the plan's conditions, if SystemInformationBlockType1 is in range
 unfoldable pub cell_conditions : Carrier → Data → List Condition
 cell_conditions carrier json =
     option_map_or (λ sib1. conditions_of carrier (plan_of json sib1)) (sib1_at json) []
 
--- all conditions in their order: the form, what is sent, the block's ranges, and then those of the cell's plan
+-- all conditions in order: the form, the transmission, the ranges of SystemInformationBlockType1, and the plan's
+-- conditions
 abbrev pub conditions : Carrier → Data → List Condition
 conditions carrier json =
     condition (has_form carrier json) Form

@@ -1,4 +1,4 @@
--- SystemInformationBlockType1 of a description, each value in its range. (own; ranges of TS 36.331 section 6.2.2)
+-- A description's SystemInformationBlockType1, with each value in range. (own; ranges of TS 36.331 section 6.2.2)
 use Rattle.std.specs.Prelude.{ℕ, ◌-◌, Bool, false, ◌&&◌, nat_eq, nat_le, if◌then◌else◌, List, [], ◌∷◌, length, codes}
 use Rattle.std.specs.Prelude.{Option, Some, None, is_some, option_map, option_and_then, pos, negsuc}
 use Rattle.serde_json.specs.Data.{Data}
@@ -14,9 +14,9 @@ use Rattle.lte_types.specs.Codes.{period_of, window_of}
 use Rattle.lte_types.specs.Parts.{sib1_of}
 use Rattle.cell_json.specs.Kinds.{◌>>=◌, given, whole_within, natural_within, null_or, list_within, at_key}
 
--- ---- identities of networks
+-- ---- network identities
 
--- a digit by its code, in which `0` to `9` are 48 to 57
+-- a digit by its character code; `0` to `9` are 48 to 57
 abbrev pub digit_of : ℕ → Option ℕ
 digit_of code = given (nat_le 48 code && nat_le code 57) (code - 48)
 
@@ -35,11 +35,11 @@ three_digits (a ∷ b ∷ c ∷ []) = do
   Some (first ∷ second ∷ third ∷ [])
 three_digits _ = None
 
--- a mobile country code: a text of three digits
+-- a mobile country code: three digits
 abbrev pub mcc_of : Data → Option (List ℕ)
 mcc_of json = option_and_then three_digits (as_str json)
 
--- a mobile network code: a text of two or three digits
+-- a mobile network code: two or three digits
 abbrev pub mnc_in : List ℕ → Option Mnc
 mnc_in text = if nat_eq (length text) 2 then option_map Two (two_digits text) else option_map Three (three_digits text)
 
@@ -57,7 +57,7 @@ abbrev pub first_has_mcc : List Plmn → Bool
 first_has_mcc [] = false
 first_has_mcc (first ∷ rest) = is_some first.mcc
 
--- 1 to 6 identities, of which the first has a country code
+-- 1 to 6 network identities, the first with a country code
 abbrev pub networks_of : Data → Option (List Plmn)
 networks_of json = do
   networks ← list_within 1 6 network_of json
@@ -65,28 +65,28 @@ networks_of json = do
 
 -- ---- the schedule
 
--- the code of a period by its frames
+-- the code for a period in frames
 abbrev pub period_in : Data → Option ℕ
 period_in json = do
   frames ← natural_within 8 512 json
   period_of frames
 
--- the code of a window by its milliseconds
+-- the code for a window in milliseconds
 abbrev pub window_in : Data → Option ℕ
 window_in json = do
   milliseconds ← natural_within 1 40 json
   window_of milliseconds
 
--- an entry: the code of its period, and those of at most 31 blocks
+-- an entry: the code for its period, and the codes for at most 31 blocks
 abbrev pub message_of : Data → Option SiMessage
 message_of json = do
   period ← at_key period_in (codes "period") json
   sibs ← at_key (list_within 0 31 (natural_within 0 79)) (codes "sibs") json
   Some (record { period = period; sibs = sibs })
 
--- ---- the block; a description has no TDD-Config and no extension
+-- ---- SystemInformationBlockType1; a description has no TDD-Config and no extension
 
--- the fields that say who may use the cell
+-- the access fields: who may use the cell
 abbrev pub access_in : Data → Option CellAccessRelatedInfo
 access_in json = do
   plmns ← at_key networks_of (codes "plmns") json
@@ -106,7 +106,7 @@ access_in json = do
     csg_identity = csg_identity;
   })
 
--- the least levels at which a mobile may choose the cell
+-- the minimum levels for cell selection
 abbrev pub selection_in : Data → Option CellSelectionInfo
 selection_in json = do
   q_rx ← at_key (whole_within (negsuc 69) (negsuc 21)) (codes "q_rx") json

@@ -1,4 +1,4 @@
--- Descriptions as bytes, and what is read of them. (own)
+-- Descriptions as bytes, and the emissions that they describe. (own)
 use Rattle.std.specs.Prelude.{◌≡◌, ℕ, List, codes, if◌then◌else◌, Option, Some, None, pos}
 use Rattle.std.specs.Str.{is_utf8}
 use Rattle.serde_json.specs.Data.{Data}
@@ -16,25 +16,24 @@ use Rattle.cell_json.specs.declared.error.JsonError.{JsonError}
 use Rattle.cell_json.specs.declared.error.JsonError.TheVariants.{Cell, OutOfMemory}
 use Rattle.cell_json.specs.Description.{number_at, gain_at, gains_at, duration_at, resource_at, sib1_at, conditions}
 
--- the JSON value of a text; None where the bytes are no text or the text is no JSON
+-- the JSON value in a text; None if the bytes are not UTF-8 or not JSON
 abbrev pub json_of : List ℕ → Option Data
 json_of bytes = if is_utf8 bytes then value_of_text bytes else None
 
--- the first failed condition of a value, where a carrier sends what it describes; what is no JSON fails the form
+-- the first failed condition for a value and a transmission scheme; without JSON the form fails
 abbrev pub refusal_of : Carrier → Option Data → Option CellError
 refusal_of carrier None = Some Form
 refusal_of carrier (Some json) = first_failed (conditions carrier json)
 
--- the first failed condition of a description; None where it is valid
+-- the first failed condition for a description; None if it is valid
 abbrev pub refusal_by : Carrier → List ℕ → Option CellError
 refusal_by carrier bytes = refusal_of carrier (json_of bytes)
 
--- the first failed condition of a description with one antenna port; None where it is valid
+-- the first failed condition for a description with one antenna port; None if it is valid
 abbrev pub refusal : List ℕ → Option CellError
 refusal bytes = refusal_by OnePort bytes
 
--- the plan of a cell, the number of its first frame, the first sample of that which is sent and the count of samples
--- are those of a description
+-- the plan, first frame number, sample offset and sample count come from the description
 pub record HasValues (plan : CellPlan) (sfn offset count : ℕ) (json : Data) : Type 0 where
   pub identity : pos plan.identity ≡ number_at (codes "identity") json
   pub duration : plan.duration ≡ duration_at json
@@ -50,29 +49,29 @@ pub record HasValues (plan : CellPlan) (sfn offset count : ℕ) (json : Data) : 
   pub first : pos offset ≡ number_at (codes "offset") json
   pub samples : pos count ≡ number_at (codes "samples") json
 
--- the emission is that of the description by a carrier, without load
+-- the emission, without load, that the description gives for the transmission scheme
 pub record IsEmissionOf (carrier : Carrier) (json : Data) (e : Emission) : Type 0 where
   pub carrier_is : e.carrier ≡ carrier
   pub values : HasValues e.cell e.timing.sfn e.timing.offset e.samples json
   pub gains : e.gains ≡ gains_at carrier json
   pub load : e.load ≡ None
 
--- the JSON value is a valid description by a carrier, and this is its emission
+-- a valid description and its emission
 abbrev pub IsValueOf : Carrier → Data → Emission → Type 0
 IsValueOf carrier json e = (first_failed (conditions carrier json) ≡ None) × IsEmissionOf carrier json e
 
--- the JSON value is refused for the first condition that fails
+-- `cause` is the first condition that fails
 abbrev pub IsRefusedFor : Carrier → Data → CellError → Type 0
 IsRefusedFor carrier json cause = first_failed (conditions carrier json) ≡ Some cause
 
--- the bytes are a valid description, by a carrier, of the emission
+-- the bytes are a valid description of the emission for the transmission scheme
 pub record DescribesBy (carrier : Carrier) (bytes : List ℕ) (e : Emission) : Type 0 where
   pub value : Data
   pub json : json_of bytes ≡ Some value
   pub valid : refusal_by carrier bytes ≡ None
   pub is : IsEmissionOf carrier value e
 
--- the bytes are a valid description of the transmission, with one antenna port
+-- the bytes are a valid description of the transmission with one antenna port
 pub record Describes (bytes : List ℕ) (t : Transmission) : Type 0 where
   pub value : Data
   pub json : json_of bytes ≡ Some value
@@ -80,7 +79,7 @@ pub record Describes (bytes : List ℕ) (t : Transmission) : Type 0 where
   pub values : HasValues t.cell t.sfn t.offset t.samples value
   pub gain : gain_of t.gain ≡ gain_at value
 
--- how a refusal comes: a cause exactly where it is the first failed condition, and want of memory at any bytes
+-- the error is the first failed condition; `OutOfMemory` is possible for any bytes
 abbrev pub IsRefusedBy : Carrier → List ℕ → JsonError → Type 0
 IsRefusedBy carrier bytes (Cell cause) = refusal_by carrier bytes ≡ Some cause
 IsRefusedBy carrier bytes OutOfMemory = Unit {0}

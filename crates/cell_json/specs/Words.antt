@@ -1,4 +1,4 @@
--- What a description that was not read is answered with. (own)
+-- The messages for descriptions that were refused. (own)
 use Rattle.std.specs.Prelude.{ℕ, List, codes}
 use Rattle.cell_plan.specs.Words.{refusal_text}
 use Rattle.cell_json.specs.declared.error.JsonError.{JsonError}

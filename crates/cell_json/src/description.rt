@@ -1,4 +1,4 @@
-//! What a JSON value describes.
+//! The values in a description.
 
 ghost use Rattle.std.specs.Prelude.{◌≡◌, nat_lt, if◌then◌else◌, IsTrue, IsFalse, Some, MatchOption, codes, length};
 ghost use Rattle.serde_json.specs.View.{view};
@@ -35,7 +35,7 @@ pub(crate) struct Numbers {
     pub column: i64,
 }
 
-/// A JSON value that has the form of a description, and its values except SystemInformationBlockType1.
+/// A JSON value in the form of a description, and its values except SystemInformationBlockType1.
 #[derive(Clone, Copy)]
 pub(crate) struct Description<'a> {
     pub value: &'a Value,
@@ -44,7 +44,7 @@ pub(crate) struct Description<'a> {
     pub numbers: Numbers,
     pub duration: Duration,
     pub resource: Resource,
-    /// One gain per antenna port; 0 for ports that the carrier does not have.
+    /// One gain per antenna port; 0 for ports beyond the transmission scheme's.
     pub gains: [Cpx; 4],
     pub ghost has_form: { IsTrue (has_form carrier (view value.now)) },
     pub ghost has_sending: { HasSending sending (view value.now) },
@@ -54,7 +54,7 @@ pub(crate) struct Description<'a> {
     pub ghost has_gains: { gains ≡ gains_at carrier (view value.now) },
 }
 
-// The value, as a list of exactly two whole numbers, the real part first.
+// Returns a list of exactly two whole numbers as a complex number, real part first.
 fn pair_in(value: &Value) -> Option<Cpx>
     ensures { result ≡ pair_of (view value.now) }
 {
@@ -68,28 +68,28 @@ fn pair_in(value: &Value) -> Option<Cpx>
     })
 }
 
-// The two whole numbers at a key.
+// Returns the complex number at a key.
 fn pair(value: &Value, key: &str) -> Option<Cpx>
     ensures { result ≡ at_key pair_of key.now (view value.now) }
 {
     pair_in(value.get(key)?)
 }
 
-// phich-Duration at a key.
+// Returns phich-Duration at a key.
 fn duration(value: &Value, key: &str) -> Option<Duration>
     ensures { result ≡ at_key duration_of key.now (view value.now) }
 {
     Duration::from_name(value.get(key)?.as_str()?)
 }
 
-// phich-Resource at a key.
+// Returns phich-Resource at a key.
 fn resource(value: &Value, key: &str) -> Option<Resource>
     ensures { result ≡ at_key resource_of key.now (view value.now) }
 {
     Resource::from_name(value.get(key)?.as_str()?)
 }
 
-// What is sent of the cell.
+// Returns the values for the transmission.
 #[tactic(auto, unfolding(crate::specs::Description::sending_keys))]
 fn sending_of(value: &Value) -> Option<Sending>
     ensures { MatchOption result (IsFalse (has_all sending_keys (view value.now)))
@@ -102,7 +102,7 @@ fn sending_of(value: &Value) -> Option<Sending>
     })
 }
 
-// The numbers of the cell's plan.
+// Returns the numbers for the cell's plan.
 #[tactic(auto, unfolding(crate::specs::Description::number_keys))]
 fn numbers_of(value: &Value) -> Option<Numbers>
     ensures { MatchOption result (IsFalse (has_all number_keys (view value.now)))
@@ -119,7 +119,7 @@ fn numbers_of(value: &Value) -> Option<Numbers>
     })
 }
 
-// Whether SystemInformationBlockType1 is at the key `sib1` and has the form of one.
+// Returns whether the key `sib1` has a value in the form of SystemInformationBlockType1.
 fn has_sib1(value: &Value) -> bool
     ensures { result ≡ has (codes "sib1") (object_of sib1_keys) (view value.now) }
 {
@@ -129,7 +129,7 @@ fn has_sib1(value: &Value) -> bool
     }
 }
 
-// How many keys a description by a carrier has.
+// Returns the number of keys in a description.
 #[tactic(auto, using(crate::proofs::Tables::count_by_ports))]
 fn key_count(carrier: Carrier) -> usize
     ensures { result ≡ length (keys carrier) }
@@ -137,7 +137,7 @@ fn key_count(carrier: Carrier) -> usize
     13 + carrier.ports() as usize
 }
 
-// The gain of a port at its key; 0 for a port that the carrier has not.
+// Returns a port's gain at its key; 0 for ports beyond the transmission scheme's.
 fn gain_of(carrier: Carrier, port: u8, value: &Value, key: &str) -> Option<Cpx>
     ensures { result ≡ (if nat_lt port (ports_of carrier) then at_key pair_of key.now (view value.now)
         else Some nothing) }
@@ -149,7 +149,7 @@ fn gain_of(carrier: Carrier, port: u8, value: &Value, key: &str) -> Option<Cpx>
     }
 }
 
-// The gains of the carrier's antenna ports, and 0 for each further port of four.
+// Returns the gains of the transmission scheme's ports, followed by 0 up to four.
 fn gains_of(carrier: Carrier, value: &Value) -> Option<[Cpx; 4]>
     ensures { MatchOption result (IsFalse (has_all (gain_keys carrier) (view value.now)))
         (λ gains. IsTrue (has_all (gain_keys carrier) (view value.now))

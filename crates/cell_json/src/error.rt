@@ -1,4 +1,4 @@
-//! Why a description was not read.
+//! Why a description was refused.
 
 ghost use Rattle.std.specs.Prelude.{Some};
 ghost use Rattle.cell_json.specs.Words.{error_text};
@@ -7,7 +7,7 @@ use cell_plan::CellError;
 use std::fmt;
 use thiserror::Error;
 
-/// Why a description was not read. (own)
+/// Why a description was refused. (own)
 #[derive(Clone, Copy, Debug, PartialEq, Eq, Error)]
 pub enum JsonError {
     /// The first failed condition.

@@ -1,4 +1,4 @@
-//! The form of what stands in a description.
+//! The form of the values in a description.
 
 ghost use Rattle.std.specs.Prelude.{◌≡◌, codes, is_some, Bool};
 ghost use Rattle.serde_json.specs.Find.{as_str, as_bool};
@@ -10,21 +10,21 @@ ghost use Rattle.cell_json.specs.Description.{schedule_keys, sib1_keys};
 use crate::kinds::{count_keys, truth, whole};
 use serde_json::Value;
 
-// Whether there is a whole number at a key.
+// Returns whether a key has a whole number.
 fn has_whole(value: &Value, key: &str) -> bool
     ensures { result ≡ has key.now whole_of (view value.now) }
 {
     whole(value, key).is_some()
 }
 
-// Whether there is a truth value at a key.
+// Returns whether a key has a truth value.
 fn has_truth(value: &Value, key: &str) -> bool
     ensures { result ≡ has key.now as_bool (view value.now) }
 {
     truth(value, key).is_some()
 }
 
-// Whether there is a whole number or null at a key.
+// Returns whether a key has a whole number or null.
 fn has_whole_or_null(value: &Value, key: &str) -> bool
     ensures { result ≡ has key.now (null_or whole_of) (view value.now) }
 {
@@ -34,7 +34,7 @@ fn has_whole_or_null(value: &Value, key: &str) -> bool
     }
 }
 
-// Whether there is a text at a key.
+// Returns whether a key has a text.
 fn has_text(value: &Value, key: &str) -> bool
     ensures { result ≡ has key.now as_str (view value.now) }
 {
@@ -44,7 +44,7 @@ fn has_text(value: &Value, key: &str) -> bool
     }
 }
 
-// Whether there is a text or null at a key.
+// Returns whether a key has a text or null.
 fn has_text_or_null(value: &Value, key: &str) -> bool
     ensures { result ≡ has key.now (null_or as_str) (view value.now) }
 {
@@ -54,7 +54,7 @@ fn has_text_or_null(value: &Value, key: &str) -> bool
     }
 }
 
-// Whether a value is an identity of a network.
+// Returns whether a value is a network identity.
 fn is_network(value: &Value) -> bool
     ensures { result ≡ has_exactly network_keys (view value.now) }
 {
@@ -64,7 +64,7 @@ fn is_network(value: &Value) -> bool
         && has_truth(value, "reserved")
 }
 
-// Whether there is a list of them at a key.
+// Returns whether a key has a list of network identities.
 fn has_networks(value: &Value, key: &str) -> bool
     ensures { result ≡ has key.now (list_of (object_of network_keys)) (view value.now) }
 {
@@ -83,7 +83,7 @@ fn are_networks(value: &Value) -> bool
     }
 }
 
-// Whether there is a list of whole numbers at a key.
+// Returns whether a key has a list of whole numbers.
 fn has_wholes(value: &Value, key: &str) -> bool
     ensures { result ≡ has key.now (list_of whole_of) (view value.now) }
 {
@@ -102,14 +102,14 @@ fn are_wholes(value: &Value) -> bool
     }
 }
 
-// Whether a value is an entry of the schedule.
+// Returns whether a value is a schedule entry.
 fn is_message(value: &Value) -> bool
     ensures { result ≡ has_exactly message_keys (view value.now) }
 {
     count_keys(value) == 2 && has_whole(value, "period") && has_wholes(value, "sibs")
 }
 
-// Whether there is a list of entries of the schedule at a key.
+// Returns whether a key has a list of schedule entries.
 fn has_messages(value: &Value, key: &str) -> bool
     ensures { result ≡ has key.now (list_of (object_of message_keys)) (view value.now) }
 {
@@ -128,7 +128,7 @@ fn are_messages(value: &Value) -> bool
     }
 }
 
-// Whether a value has the keys of cellAccessRelatedInfo.
+// Returns whether a value has the keys of cellAccessRelatedInfo.
 #[tactic(auto, unfolding(crate::specs::Description::access_keys))]
 fn has_access(value: &Value) -> bool
     ensures { result ≡ has_all access_keys (view value.now) }
@@ -142,7 +142,7 @@ fn has_access(value: &Value) -> bool
         && has_whole_or_null(value, "csg_identity")
 }
 
-// Whether a value has the keys of cellSelectionInfo, p-Max and freqBandIndicator.
+// Returns whether a value has the keys of cellSelectionInfo, p-Max and freqBandIndicator.
 #[tactic(auto, unfolding(crate::specs::Description::selection_keys))]
 fn has_selection(value: &Value) -> bool
     ensures { result ≡ has_all selection_keys (view value.now) }
@@ -153,7 +153,7 @@ fn has_selection(value: &Value) -> bool
         && has_whole(value, "band")
 }
 
-// Whether a value has the keys of the schedule and systemInfoValueTag.
+// Returns whether a value has the keys of the schedule and systemInfoValueTag.
 #[tactic(auto, unfolding(crate::specs::Description::schedule_keys))]
 fn has_schedule(value: &Value) -> bool
     ensures { result ≡ has_all schedule_keys (view value.now) }

@@ -1,4 +1,4 @@
-//! SystemInformationBlockType1 of a description.
+//! A description's SystemInformationBlockType1.
 
 ghost use Rattle.std.specs.Prelude.{◌≡◌, ◌≤◌, ◌<◌, pos, negsuc, length};
 ghost use Rattle.serde_json.specs.View.{view, items_view};
@@ -20,7 +20,7 @@ use lte_types::{
 };
 use serde_json::Value;
 
-// A digit by its code.
+// Returns a digit by its character code.
 fn digit_of(code: u8) -> Option<u8>
     ensures { result ≡ digit_in code }
 {
@@ -49,7 +49,7 @@ fn three_digits(text: &str) -> Option<[u8; 3]>
     }
 }
 
-// A mobile country code or null.
+// Returns a mobile country code or null.
 fn mcc_or_null(value: &Value) -> Option<Option<[u8; 3]>>
     ensures { result ≡ null_or mcc_of (view value.now) }
 {
@@ -59,7 +59,7 @@ fn mcc_or_null(value: &Value) -> Option<Option<[u8; 3]>>
     Some(Some(three_digits(value.as_str()?)?))
 }
 
-// A mobile network code by its text.
+// Returns a mobile network code by its text.
 fn mnc_in_text(text: &str) -> Option<Mnc>
     ensures { result ≡ mnc_in text.now }
 {
@@ -76,7 +76,7 @@ fn mnc_of(value: &Value) -> Option<Mnc>
     mnc_in_text(value.as_str()?)
 }
 
-// An identity of a network.
+// Returns a network identity.
 fn plmn_of(value: &Value) -> Option<Plmn>
     ensures { result ≡ network_of (view value.now) }
 {
@@ -87,21 +87,21 @@ fn plmn_of(value: &Value) -> Option<Plmn>
     })
 }
 
-// The code of a period by its frames.
+// Returns the code for a period in frames.
 fn period_of(value: &Value) -> Option<u8>
     ensures { result ≡ period_in (view value.now) }
 {
     period::code_of(natural_within(value, 8, 512)? as u16)
 }
 
-// The code of a window by its milliseconds.
+// Returns the code for a window in milliseconds.
 fn window_of(value: &Value) -> Option<u8>
     ensures { result ≡ window_in (view value.now) }
 {
     window::code_of(natural_within(value, 1, 40)? as u8)
 }
 
-// 1 to 6 identities of networks, of which the first has a country code.
+// Returns 1 to 6 network identities, the first with a country code.
 fn plmns_of(value: &Value) -> Option<Plmns>
     ensures { result ≡ networks_of (view value.now) }
 {
@@ -121,7 +121,7 @@ fn first_has_mcc(plmns: &Plmns) -> bool
     }
 }
 
-// Each item as an identity.
+// Returns the items as network identities.
 fn plmns_in(items: &[Value]) -> Option<Plmns>
     requires { length items.now ≤ 6 }
     ensures { result ≡ each network_of (items_view items.now) }
@@ -133,7 +133,7 @@ fn plmns_in(items: &[Value]) -> Option<Plmns>
     Some(plmns)
 }
 
-// Each item as the code of a block.
+// Returns the items as block codes.
 fn sibs_in(items: &[Value]) -> Option<Sibs>
     requires { length items.now ≤ 31 }
     ensures { result ≡ each (natural_of 0 79) (items_view items.now) }
@@ -145,14 +145,14 @@ fn sibs_in(items: &[Value]) -> Option<Sibs>
     Some(sibs)
 }
 
-// The codes of a list of at most 31 blocks.
+// Returns the codes in a list of at most 31 blocks.
 fn sibs_of(value: &Value) -> Option<Sibs>
     ensures { result ≡ list_within 0 31 (natural_of 0 79) (view value.now) }
 {
     sibs_in(items_within(value, 0, 31)?)
 }
 
-// An entry of the schedule.
+// Returns a schedule entry.
 fn message_of(value: &Value) -> Option<SiMessage>
     ensures { result ≡ entry_of (view value.now) }
 {
@@ -162,7 +162,7 @@ fn message_of(value: &Value) -> Option<SiMessage>
     })
 }
 
-// Each item as an entry.
+// Returns the items as schedule entries.
 fn schedule_in(items: &[Value]) -> Option<Schedule>
     requires { length items.now ≤ 32 }
     ensures { result ≡ each entry_of (items_view items.now) }
@@ -174,14 +174,14 @@ fn schedule_in(items: &[Value]) -> Option<Schedule>
     Some(schedule)
 }
 
-// A schedule of 1 to 32 entries.
+// Returns a schedule with 1 to 32 entries.
 fn schedule_of(value: &Value) -> Option<Schedule>
     ensures { result ≡ list_within 1 32 entry_of (view value.now) }
 {
     schedule_in(items_within(value, 1, 32)?)
 }
 
-// p-Max at its key, or null.
+// Returns p-Max at its key, or null.
 fn p_max_at(value: &Value, key: &str) -> Option<Option<i8>>
     ensures { result ≡ at_key (null_or (whole_of (negsuc 29) (pos 33))) key.now (view value.now) }
 {
@@ -192,7 +192,7 @@ fn p_max_at(value: &Value, key: &str) -> Option<Option<i8>>
     Some(Some(small_within(inner, -30, 33)?))
 }
 
-// q-RxLevMinOffset at its key, or null.
+// Returns q-RxLevMinOffset at its key, or null.
 fn q_offset_at(value: &Value, key: &str) -> Option<Option<u8>>
     ensures { result ≡ at_key (null_or (natural_of 1 8)) key.now (view value.now) }
 {
@@ -203,7 +203,7 @@ fn q_offset_at(value: &Value, key: &str) -> Option<Option<u8>>
     Some(Some(natural_within(inner, 1, 8)? as u8))
 }
 
-// Who may use the cell.
+// Returns the access fields: who may use the cell.
 fn access_in(value: &Value) -> Option<CellAccessRelatedInfo>
     ensures { result ≡ described_access (view value.now) }
 {
@@ -218,7 +218,7 @@ fn access_in(value: &Value) -> Option<CellAccessRelatedInfo>
     })
 }
 
-// The least levels at which a mobile may choose the cell.
+// Returns the minimum levels for cell selection.
 fn selection_in(value: &Value) -> Option<CellSelectionInfo>
     ensures { result ≡ described_selection (view value.now) }
 {

@@ -1,6 +1,13 @@
-//! Descriptions of a transmission in JSON, for each carrier.
+//! JSON descriptions of a cell's transmission, for each transmission scheme.
 //!
-//! Tests: `sent_tests/src/descriptions.rt`, `sent_tests/src/emissions.rt`.
+//! With two antenna ports a description has one more key, the second port's gain; with four it has three more. The
+//! gains must be those of a clean recording (`AreGainsOf`); with four ports a pair may be weak. If a key occurs twice,
+//! its last value counts.
+//!
+//! If several conditions fail, the first in this order is reported: `Form`, `Sfn`, `Offset`, `Samples`, `Gain`,
+//! `Sib1Range`, then those of `Cell::of`.
+//!
+//! Tests: the crate `sent_tests`, in `descriptions.rt` and `emissions.rt`.
 #![tactic(auto)]
 
 mod description;

@@ -20,19 +20,13 @@ use lte_types::{Carrier, LEAST_SAMPLES, MOST_SAMPLES, Sfn, Sib1, Timing};
 use serde_json::Value;
 use std::alloc::Global;
 
-// The least and the most samples of a transmission.
+// The minimum and the maximum sample count.
 const LEAST: u32 = LEAST_SAMPLES as u32;
 
 const MOST: u32 = MOST_SAMPLES as u32;
 
-/// Reads the emission, without load, that `bytes` describe in JSON for `carrier`.
-///
-/// With two antenna ports a description has one more key, the second port's gain; with four it has three more. The
-/// gains must be those of a clean recording (`AreGainsOf`); with four ports a pair may be weak. If a key occurs twice,
-/// its last value counts.
-///
-/// If several conditions fail, the first in this order is reported: `Form`, `Sfn`, `Offset`, `Samples`, `Gain`,
-/// `Sib1Range`, then those of `Cell::of`. `OutOfMemory` can be returned for any bytes.
+/// Reads the emission, without load, that `bytes` describe in JSON for `carrier`. Reports the first failed condition,
+/// in the crate's order; `OutOfMemory` is possible for any bytes.
 pub fn read_by(alloc: Global, carrier: Carrier, bytes: &[u8]) -> Result<Emission, JsonError>
     ensures { MatchResult result (DescribesBy carrier bytes.now) (IsRefusedBy carrier bytes.now) }
 {
@@ -60,7 +54,7 @@ pub fn read(alloc: Global, bytes: &[u8]) -> Result<Transmission, JsonError>
     }
 }
 
-// The frame number within its range.
+// Returns the frame number if it is in range.
 fn sfn_of(number: &i64) -> Option<Sfn>
     ensures { MatchOption result (IsFalse (is_between (pos 0) (pos 1023) number.now))
         (λ sfn. IsTrue (is_between (pos 0) (pos 1023) number.now) × (pos sfn ≡ number.now)) }
@@ -68,7 +62,7 @@ fn sfn_of(number: &i64) -> Option<Sfn>
     Sfn::new(within(number, 0, 1023)? as u16)
 }
 
-// A number in a field of 16 bits; what the field cannot hold stands as its greatest number.
+// Returns a number in a 16-bit field; a number that does not fit becomes the maximum.
 fn in_16_bits(number: &i64) -> u16
     ensures { result ≡ in_field 65535 number.now }
 {
@@ -78,7 +72,7 @@ fn in_16_bits(number: &i64) -> u16
     }
 }
 
-// A number in a field of 8 bits; what the field cannot hold stands as its greatest number.
+// Returns a number in an 8-bit field; a number that does not fit becomes the maximum.
 fn in_8_bits(number: &i64) -> u8
     ensures { result ≡ in_field 255 number.now }
 {
@@ -88,7 +82,7 @@ fn in_8_bits(number: &i64) -> u8
     }
 }
 
-// The plan of a description with this block.
+// Returns the description's plan with this SystemInformationBlockType1.
 fn plan_of(description: &Description<'_>, sib1: Sib1) -> CellPlan
     ensures { result ≡ described_plan (view description.now.value.now) sib1 }
 {
@@ -107,7 +101,7 @@ fn plan_of(description: &Description<'_>, sib1: Sib1) -> CellPlan
     }
 }
 
-// SystemInformationBlockType1 of a description, where each value is in its range.
+// Returns the description's SystemInformationBlockType1 if each value is in range.
 fn information_of(value: &Value) -> Option<Sib1>
     ensures value { result ≡ sib1_at (view value.now) }
     ensures valid { IfSome result IsValid }
@@ -115,7 +109,7 @@ fn information_of(value: &Value) -> Option<Sib1>
     sib1_in(value.get("sib1")?)
 }
 
-// The square of the size of the gain of a port; 0 for a port that the carrier has not.
+// Returns the squared magnitude of a port's gain; 0 for ports beyond the transmission scheme's.
 fn power(carrier: Carrier, gains: &[Cpx; 4], port: u8) -> u128
     requires { port < 4 }
     ensures { result ≡ (if nat_lt port (ports_of carrier) then square (value_at gains.now port) else 0) }
@@ -127,7 +121,7 @@ fn power(carrier: Carrier, gains: &[Cpx; 4], port: u8) -> u128
     }
 }
 
-// Whether four numbers are together at most another one.
+// Returns whether the sum of four numbers is at most `most`.
 fn are_together(one: u128, two: u128, three: u128, four: u128, most: u128) -> bool
     ensures { result ≡ nat_le (one + two + three + four) most }
 {
@@ -137,7 +131,7 @@ fn are_together(one: u128, two: u128, three: u128, four: u128, most: u128) -> bo
         && four <= most - one - two - three
 }
 
-// Whether the gains of a carrier's antenna ports are those of clean recordings.
+// Returns whether the gains suit a clean recording.
 fn are_gains(carrier: Carrier, gains: &[Cpx; 4]) -> bool
     ensures { result ≡ are_gains carrier gains.now }
 {
@@ -148,7 +142,7 @@ fn are_gains(carrier: Carrier, gains: &[Cpx; 4]) -> bool
     1 <= first && are_together(first, second, third, fourth, 784 / carrier.ports() as u128)
 }
 
-// The gains, where they are those of clean recordings.
+// Returns the gains if they suit a clean recording.
 fn clean_gains(carrier: Carrier, gains: &[Cpx; 4]) -> Option<[Cpx; 4]>
     ensures { MatchOption result (IsFalse (are_gains carrier gains.now))
         (λ clean. IsTrue (are_gains carrier gains.now) × (clean ≡ gains.now)) }
@@ -160,7 +154,7 @@ fn clean_gains(carrier: Carrier, gains: &[Cpx; 4]) -> Option<[Cpx; 4]>
     }
 }
 
-// The emission of a description, or the first failed condition after the form.
+// Returns the described emission, or the first failed condition after the form.
 fn emission_of(description: &Description<'_>) -> Result<Emission, CellError>
     ensures { MatchResult result (IsValueOf description.now.carrier (view description.now.value.now))
         (IsRefusedFor description.now.carrier (view description.now.value.now)) }

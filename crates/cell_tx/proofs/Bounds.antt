@@ -1,4 +1,4 @@
--- Sizes of elements and of samples.
+-- Magnitudes of resource elements and samples.
 use Rattle.std.proofs.Common.{◌≡◌, ℕ, ◌+◌, ◌*◌, ◌/◌, ◌%◌, ◌<◌, ◌≤◌, ◌^◌, inl, inr, nat_lt, Option, arith, refl, ap, ℤ, ◌+ℤ◌}
 use Rattle.std.specs.Prelude.{nat_abs}
 use Rattle.std.proofs.lemmas.Bool.{cases_lt}
@@ -32,7 +32,7 @@ use Rattle.cell_tx.specs.Sent.{prefix_slot_sample, prefix_frame_sample, prefix_s
 
 -- ---- samples
 
--- what rounding leaves of a sum of size at most 72 * 128 * 16385
+-- a sum with magnitude at most 72 * 128 * 16385 is rounded to magnitude at most 1,153
 rounded-square : (z : Cpx) → IsSized 151004160 1 z → square (rounded z 17) ≤ 1153 * 1153
 rounded-square z small =
     let r : Cpx = rounded z 17 in
@@ -45,7 +45,7 @@ rounded-square z small =
     let most = whole.sized in
     omega (arith, law, ap square back, most)
 
--- the samples of a symbol whose elements have size at most 128
+-- a symbol whose resource elements have magnitude at most 128 has samples with magnitude at most 1,153
 pub useful-square : (grid : ℕ → Cpx) (n : ℕ) → ((k : ℕ) → k < 72 → square (grid k) ≤ 128 * 128) → square (useful_at grid n) ≤ 1153 * 1153
 unfolding useful_at
 useful-square grid n small =
@@ -53,7 +53,7 @@ useful-square grid n small =
     (sized-sum 72 (useful_term grid n) 2097280 1
     (λ k inside. sized-times (grid k) (w_at (frequency k * n)) 128 16385 1 1 (sized_plain (grid k) 128 (small k inside)) (sized_plain (w_at (frequency k * n)) 16385 (w-square (frequency k * n)))))
 
--- and of a whole sequence, where no element has more
+-- all samples of a grid whose resource elements have magnitude at most 128
 module _ (prefix : Prefix) (grid : Elements) (small : (sfn subframe symbol k : ℕ) → square (grid sfn subframe symbol k) ≤ 128 * 128) where
   pub slot-square : (sfn slot i : ℕ) → square (prefix_slot_sample prefix grid sfn slot i) ≤ 1153 * 1153
   slot-square sfn slot i =
@@ -73,17 +73,17 @@ module _ (prefix : Prefix) (grid : Elements) (small : (sfn subframe symbol k : �
 pub sent-square : (port : Port) (plan : CellPlan) (sfn i : ℕ) → square (sent (port_element port plan) sfn i) ≤ 1153 * 1153
 sent-square port plan = small-sent-square normal (port_element port plan) (element-square port plan)
 
--- nor has one of any port, with load or without
+-- samples at any port, with or without load, have magnitude at most 1,153
 pub sent_by-square : (load : Option ℕ) (port : Port) (plan : CellPlan) (sfn i : ℕ) → square (prefix_sent (port_prefix port) (sent_element load port plan) sfn i) ≤ 1153 * 1153
 sent_by-square load port plan = small-sent-square (port_prefix port) (sent_element load port plan) (sent_element-square load port plan)
 
--- a number of that size fits 16 bits
+-- a complex number with magnitude at most 1,153 fits 16 bits
 pub small-within : (z : Cpx) → square z ≤ 1153 * 1153 → IsWithin 32767 z
 small-within z h = record { re = omega (arith, re-le z 1153 h); im = omega (arith, im-le z 1153 h) }
 
 -- ---- a gain times a sample
 
--- the sizes of a gain and of a clean sample, and of their product
+-- bounds on a gain, a clean sample and their product
 pub record IsAmplified (gain clean : Cpx) : Type 0 where
   pub fits : size gain * size clean ≤ 2 ^ 61
   pub small : IsWithin 32284 (times gain clean)
@@ -101,7 +101,7 @@ amplified gain clean g c =
 
 -- ---- errors
 
--- an error is at most twice as large as the greatest gain
+-- an error is at most twice the maximum gain
 error-bound : (eps n : ℕ) → eps * eps ≤ 4 * n → n ≤ 784 → eps ≤ 56
 error-bound eps n e m = elim (cases_lt 56 eps) [
   | inl more ↦ absurd (let k : 57 * 57 ≤ eps * eps = mul-le 57 57 eps eps (omega (arith, more)) (omega (arith, more)) in omega (arith, e, m, k))

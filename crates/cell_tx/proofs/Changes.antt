@@ -1,4 +1,4 @@
--- Samples that are changed in some places, one step after the other.
+-- Partially changed samples, step by step.
 use Rattle.std.proofs.Common.{◌≡◌, ℕ, ◌+◌, ◌<◌, ◌≤◌, ◌⊎◌, inl, inr, Bool, true, false, nat_le, nat_lt, List, slice_index_or, arith, refl, sym, subst, ap, ◌∙◌, length, set, get_or-set_same, get_or-set_other}
 use Rattle.std.specs.Prelude.{◌&&◌, ◌||◌, if◌then◌else◌}
 use Rattle.std.proofs.lemmas.Bool.{cases_lt, and_parts, and_right, ltb-true, leb-true, true≢false}
@@ -8,7 +8,7 @@ use Rattle.cs_num.specs.declared.Sample.{Sample}
 use Rattle.cs_num.specs.Complex.{IsWithin, silence, plus, times, value_of}
 use Rattle.cell_tx.specs.Emitting.{is_between, AreChanged, FitSamples}
 
--- ---- places
+-- ---- indices
 
 pub between : (first last i : ℕ) → first ≤ i → i < last → is_between first last i ≡ true
 between first last i low high = grind (arith, nat_tests)
@@ -25,7 +25,7 @@ is_from first last i e = leb-true first i (and_parts (nat_le first i) (nat_lt i 
 pub is_below : (first last i : ℕ) → is_between first last i ≡ true → i < last
 is_below first last i e = ltb-true i last (and_parts (nat_le first i) (nat_lt i last) e).1
 
--- a place that is not one of those is before or after them
+-- an index outside a range is below or above it
 pub outside : (first last i : ℕ) → is_between first last i ≡ false → (i < first) ⊎ (last ≤ i)
 outside first last i e = elim (cases_lt i first) [
   | inl low ↦ inl low
@@ -35,7 +35,7 @@ outside first last i e = elim (cases_lt i first) [
   ]
 ]
 
--- ---- what is known of one place
+-- ---- facts about one index
 
 module _ (p : ℕ → Bool) (change : ℕ → Sample → Sample) (old new : List Sample) (is : AreChanged p change old new) (i : ℕ) (inside : i < 19200) where
   pub changed_there : p i ≡ true → slice_index_or new i silence ≡ change i (slice_index_or old i silence)
@@ -46,7 +46,7 @@ module _ (p : ℕ → Bool) (change : ℕ → Sample → Sample) (old new : List
 
 -- ---- steps
 
--- one sample more
+-- the range of changed samples, extended by one
 pub set_changed : (change : ℕ → Sample → Sample) (first i : ℕ) (old xs : List Sample) (v : Sample) → i < length xs → first ≤ i → v ≡ change i (slice_index_or xs i silence)
     → AreChanged (is_between first i) change old xs → i < 19200 → AreChanged (is_between first (i + 1)) change old (set xs i v)
 set_changed change first i old xs v long low is before_it fits j inside = settle (cases_lt j i)
@@ -70,12 +70,12 @@ set_changed change first i old xs v long low is before_it fits j inside = settle
         rw e (get_or-set_other xs i j v silence (λ e. absurd (omega (arith, e, early))) ∙ before_it j inside)
     settle (inr high) = later (cases_lt j (i + 1)) high
 
--- the same places, told otherwise
+-- a change at the same indices, stated by an equivalent test
 pub changed_same : (p q : ℕ → Bool) (change : ℕ → Sample → Sample) (old new : List Sample) → ((i : ℕ) → p i ≡ q i) → AreChanged p change old new → AreChanged q change old new
 changed_same p q change old new same is i inside =
     subst (λ (b : Bool). slice_index_or new i silence ≡ (if b then change i (slice_index_or old i silence) else slice_index_or old i silence)) (same i) (is i inside)
 
--- two sets of places one after the other
+-- changes at two disjoint sets of indices combine
 pub changed_both : (p q : ℕ → Bool) (change : ℕ → Sample → Sample) (old mid new : List Sample) → ((i : ℕ) → p i ≡ true → q i ≡ false)
     → AreChanged p change old mid → AreChanged q change mid new → AreChanged (λ i. p i || q i) change old new
 changed_both p q change old mid new apart first second i inside = settle (p i) refl
@@ -86,7 +86,7 @@ changed_both p q change old mid new apart first second i inside = settle (p i) r
         let same = kept_there p change old mid first i inside e in
         rw e (subst (λ (s : Sample). slice_index_or new i silence ≡ (if q i then change i s else s)) same (second i inside))
 
--- which meet
+-- changes in two adjacent ranges combine
 pub changed_on : (change : ℕ → Sample → Sample) (a b d : ℕ) (old mid new : List Sample) → a ≤ b → b ≤ d
     → AreChanged (is_between a b) change old mid → AreChanged (is_between b d) change mid new → AreChanged (is_between a d) change old new
 changed_on change a b d old mid new low high first second =
@@ -111,7 +111,7 @@ changed_on change a b d old mid new low high first second =
         by true = refl
         by false = refl
 
--- two changes at the same places
+-- two changes at the same indices compose
 pub changed_twice : (p : ℕ → Bool) (f g : ℕ → Sample → Sample) (old mid new : List Sample) → AreChanged p f old mid → AreChanged p g mid new → AreChanged p (λ i s. g i (f i s)) old new
 changed_twice p f g old mid new first second i inside = settle (p i) refl
   where
@@ -119,7 +119,7 @@ changed_twice p f g old mid new first second i inside = settle (p i) refl
     settle true e = rw e (changed_there p g mid new second i inside e ∙ ap (g i) (changed_there p f old mid first i inside e))
     settle false e = rw e (kept_there p g mid new second i inside e ∙ kept_there p f old mid first i inside e)
 
--- changes that make the same of what is there
+-- changes with equal results are interchangeable
 pub changed_alike : (p : ℕ → Bool) (f g : ℕ → Sample → Sample) (old new : List Sample)
     → ((i : ℕ) → i < 19200 → p i ≡ true → f i (slice_index_or old i silence) ≡ g i (slice_index_or old i silence)) → AreChanged p f old new → AreChanged p g old new
 changed_alike p f g old new alike is i inside = settle (p i) refl
@@ -128,9 +128,9 @@ changed_alike p f g old new alike is i inside = settle (p i) refl
     settle true e = rw e (changed_there p f old new is i inside e ∙ alike i inside e)
     settle false e = rw e (kept_there p f old new is i inside e)
 
--- ---- room for sums
+-- ---- headroom for sums
 
--- where other places were changed there is as much room as before
+-- changes elsewhere leave the same headroom
 pub room_left : (p q r : ℕ → Bool) (change : ℕ → Sample → Sample) (gain : Cpx) (values : ℕ → Cpx) (old new : List Sample)
     → ((i : ℕ) → r i ≡ true → p i ≡ true) → ((i : ℕ) → r i ≡ true → q i ≡ false)
     → FitSamples p gain values old → AreChanged q change old new → FitSamples r gain values new

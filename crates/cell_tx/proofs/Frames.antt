@@ -1,4 +1,4 @@
--- What the frames of a cell have in common.
+-- Parts that the frames of a cell share.
 use Rattle.std.proofs.Common.{◌≡◌, ℕ, ◌+◌, ◌*◌, ◌/◌, ◌%◌, ◌<◌, ◌≤◌, ◌⊎◌, inl, inr, Bool, true, false, nat_eq, arith, refl, sym, ap, ◌∙◌, mod-lt}
 use Rattle.std.specs.Prelude.{if◌then◌else◌}
 use Rattle.std.proofs.lemmas.Bool.Decides.{nat_tests}
@@ -25,23 +25,23 @@ use Rattle.cell_grid.proofs.Broadcast.{not_broadcast}
 use Rattle.cell_grid.proofs.Prefixes.{with_prefix}
 use Rattle.cell_tx.proofs.Symbols.{frame_sample_is, slot_sample_is, frames_follow}
 
--- ---- elements that do not depend on the frame
+-- ---- resource elements that do not depend on the frame
 
--- a place is in slot 1 only from its fifth symbol on, so that it is beside the broadcast channel
+-- the symbol is not one of the first four in slot 1, which PBCH uses
 abbrev IsBeside : Prefix → ℕ → ℕ → Type 0
 IsBeside prefix subframe symbol = 2 * subframe + symbol / symbols_of_slot prefix ≡ 1 → 4 ≤ symbol % symbols_of_slot prefix
 
--- frames of these numbers have the same elements beside the broadcast channel and subframe 5
+-- both frames have equal resource elements outside PBCH and subframe 5
 abbrev pub AreSameBeside : Prefix → Elements → ℕ → ℕ → Type 0
 AreSameBeside prefix grid a b =
     (subframe symbol k : ℕ) → IsBeside prefix subframe symbol → (subframe ≡ 5 → ⊥) → grid a subframe symbol k ≡ grid b subframe symbol k
 
--- and beside the broadcast channel alone
+-- both frames have equal resource elements outside PBCH
 abbrev pub AreSameBesideBroadcast : Prefix → Elements → ℕ → ℕ → Type 0
 AreSameBesideBroadcast prefix grid a b =
     (subframe symbol k : ℕ) → IsBeside prefix subframe symbol → grid a subframe symbol k ≡ grid b subframe symbol k
 
--- what comes after a test that fails
+-- a test that fails selects the alternative
 past : (t : Bool) (x y u v : Cpx) → t ≡ false → u ≡ v → (if t then x else u) ≡ (if t then y else v)
 past true x y u v e f = absurd cc
 past false x y u v e f = f
@@ -66,11 +66,11 @@ module _ (port : Port) (plan : CellPlan) (a b subframe symbol k : ℕ) where
 pub element_same : (port : Port) (plan : CellPlan) (a b : ℕ) → AreSameBeside (port_prefix port) (port_element port plan) a b
 element_same port plan a b subframe symbol k out other = of_channels port plan a b subframe symbol k (channel_same port plan a b subframe symbol k out other)
 
--- where system information is not sent
+-- without system information, frames differ only in PBCH
 pub element_same_without : (port : Port) (plan : CellPlan) (a b : ℕ) → has_control port ≡ false → AreSameBesideBroadcast (port_prefix port) (port_element port plan) a b
 element_same_without port plan a b without subframe symbol k out = of_channels port plan a b subframe symbol k (broadcast_alone port plan a b subframe symbol k out without)
 
--- ---- samples that do not
+-- ---- samples that do not depend on the frame
 
 same_sample : (prefix : Prefix) (grid : Elements) (a b i : ℕ) → IsPrefix prefix
     → ((k : ℕ) → grid a (i / 960 / 2) (symbols_of_slot prefix * (i / 960 % 2) + symbol_of prefix (i % 960)) k
@@ -84,11 +84,11 @@ same_sample prefix grid a b i known same =
     ∙ sym (slot_sample_is prefix grid b (i / 960) (i % 960) known (mod-lt i (omega arith)))
     ∙ sym (frame_sample_is prefix grid b i)
 
--- a sample stands before some symbols of a frame, or behind them
+-- a sample lies outside a range of symbols
 abbrev pub IsOutside : Prefix → ℕ → ℕ → ℕ → Type 0
 IsOutside prefix first last i = (i < first_sample prefix first) ⊎ (first_sample prefix last ≤ i)
 
--- a sample beside the first four symbols of slot 1 is of an element beside the broadcast channel
+-- a sample outside the PBCH symbols comes from resource elements outside PBCH
 abbrev IsOutsideFirst : ℕ → Prefix → Type 0
 IsOutsideFirst i prefix =
     IsOutside prefix (symbols_of_slot prefix) (symbols_of_slot prefix + 4) i → IsBeside prefix (i / 960 / 2) (symbols_of_slot prefix * (i / 960 % 2) + symbol_of prefix (i % 960))
@@ -104,7 +104,7 @@ by_sample i prefix known = with_prefix (IsOutsideFirst i) one other prefix known
     other (inl early) slot = absurd (omega (arith, early, slot))
     other (inr late) slot = omega (arith, late, slot)
 
--- one beside slots 10 and 11 is not of subframe 5
+-- a sample outside slots 10 and 11 does not belong to subframe 5
 abbrev IsOutsideSlots : ℕ → Prefix → Type 0
 IsOutsideSlots i prefix = IsOutside prefix (10 * symbols_of_slot prefix) (12 * symbols_of_slot prefix) i → i / 960 / 2 ≡ 5 → ⊥
 
@@ -129,7 +129,7 @@ module _ (prefix : Prefix) (known : IsPrefix prefix) (grid : Elements) (a b i : 
   sample_same_without same =
       same_sample prefix grid a b i known (λ k. same (i / 960 / 2) (symbols_of_slot prefix * (i / 960 % 2) + symbol_of prefix (i % 960)) k (by_sample i prefix known first))
 
--- a frame is the first of its sequence
+-- a frame is the first in its sequence
 pub first_frame : (prefix : Prefix) (grid : Elements) (sfn : ℕ) → sfn ≤ 1023 → values_below 19200 (λ i. sample_of (prefix_sent prefix grid sfn (i + 0))) ≡ frame_samples prefix grid sfn
 unfolding frame_samples
 first_frame prefix grid sfn few =

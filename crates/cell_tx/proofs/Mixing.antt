@@ -1,4 +1,4 @@
--- The ports of a source in one frame, and sums that are made of them port by port.
+-- A source's ports in one frame, and sums built port by port.
 use Rattle.std.proofs.Common.{◌≡◌, ℕ, zero, suc, ◌+◌, ◌-◌, ◌*◌, ◌%◌, ◌<◌, ◌≤◌, Bool, true, false, nat_eq, List, slice_index_or, arith, refl, sym, subst, ap, ◌∙◌}
 use Rattle.std.specs.Prelude.{if◌then◌else◌}
 use Rattle.std.proofs.lemmas.Nat.{mul-le}
@@ -33,13 +33,13 @@ use Rattle.cell_tx.proofs.Received.{IsSumOf, product_is, sum_is, sum_fits}
 use Rattle.cell_tx.proofs.Symbols.{prefix_sent_is}
 use Rattle.cell_tx.proofs.Changes.{changed_there, changed_alike, changed_twice}
 
--- ---- the gains of a source
+-- ---- a source's gains
 
--- the squares of the gains of the first ports
+-- the power of the first ports: the sum of their squared gains
 abbrev pub power : List Cpx → ℕ → ℕ
 power gains n = total_below n (λ number. square (value_at gains number))
 
--- those of all ports of a carrier leave room for a sum of all
+-- the power of all ports leaves headroom for their sum
 all_most : (carrier : Carrier) (gains : List Cpx) → AreGainsOf carrier gains → ports_of carrier * power gains (ports_of carrier) ≤ 784
 unfolding total_below
 all_most OnePort gains g = omega (arith, g.most)
@@ -57,7 +57,7 @@ power_most carrier gains n few g =
     let whole : n * power gains n ≤ ports_of carrier * all = mul-le n (power gains n) (ports_of carrier) all few grows in
     omega (arith, whole, most)
 
--- a gain of one of a carrier's ports
+-- each port's gain has power at most 784
 pub gain_most : (carrier : Carrier) (gains : List Cpx) (number : ℕ) → number < ports_of carrier → AreGainsOf carrier gains → square (value_at gains number) ≤ 784
 gain_most carrier gains number inside g =
     let one = total_below-term (number + 1) number (λ n. square (value_at gains n)) (omega arith) in
@@ -65,7 +65,7 @@ gain_most carrier gains number inside g =
     let times_one : 1 * power gains (number + 1) ≤ (number + 1) * power gains (number + 1) = mul-le 1 (power gains (number + 1)) (number + 1) (power gains (number + 1)) (omega arith) (omega arith) in
     omega (arith, one, most, times_one)
 
--- the gain of the first port
+-- the first port's gain has power at most 784
 pub first_most : (ports : Ports) (gains : List Cpx) → AreGainsBy ports gains → square (value_at gains 0) ≤ 784
 first_most (Alone port) gains g = g
 first_most (All carrier) gains g = gain_most carrier gains 0 (some carrier) g
@@ -76,14 +76,14 @@ first_most (All carrier) gains g = gain_most carrier gains 0 (some carrier) g
     some LongPrefix = omega arith
     some FourPorts = omega arith
 
--- ---- a sample of a source is one of a frame
+-- ---- a source's sample as a sample of a frame
 
 pub made_is : (s : Source) (i : ℕ) → made s i ≡ framed s (number_of s.timing.sfn (i + s.timing.offset)) ((i + s.timing.offset) % 19200)
 made_is s i =
     ap (λ (f : Port → Cpx). mixed_by s.ports f s.gains)
     (fun_ext (λ port. prefix_sent_is (port_prefix port) (sent_element s.load port s.cell.now) s.timing.sfn (i + s.timing.offset)))
 
--- ---- the same of ports that send the same
+-- ---- ports that transmit equal values
 
 pub mixed_same : (ports : Ports) (gains : List Cpx) (f g : Port → Cpx) → ((port : Port) → port.carrier ≡ carrier_by ports → f port ≡ g port) → mixed_by ports f gains ≡ mixed_by ports g gains
 mixed_same (Alone port) gains f g same = ap (times (value_at gains 0)) (same port refl)
@@ -91,12 +91,12 @@ mixed_same (All carrier) gains f g same =
     ap (λ (part : ℕ → Cpx). if nat_eq (ports_of carrier) 1 then part 0 else (if nat_eq (ports_of carrier) 2 then plus (part 0) (part 1) else plus (plus (part 0) (part 1)) (plus (part 2) (part 3))))
     (fun_ext (λ p. ap (times (value_at gains p)) (same (port_by carrier p) refl)))
 
--- what is not made anew is the same in every frame
+-- samples that are not recomputed are equal in every frame
 pub framed_same : (s : Source) (symbols : Symbols) (a b i : ℕ) → AreOwn (carrier_by s.ports) s.load symbols → i < frame_length → is_made_anew (prefix_of (carrier_by s.ports)) symbols i ≡ false →
     framed s a i ≡ framed s b i
 framed_same s symbols a b i own inside kept = mixed_same s.ports s.gains _ _ (λ port is. own port s.cell.now a b i is inside kept)
 
--- ---- what a port adds
+-- ---- a port's contribution
 
 abbrev pub heard : Source → ℕ → Port → ℕ → Cpx
 heard s n port i = sent_in_frame s.load port s.cell.now n i
@@ -107,9 +107,9 @@ part s n port number i = times (value_at s.gains number) (heard s n port i)
 heard-square : (s : Source) (n : ℕ) (port : Port) (i : ℕ) → square (heard s n port i) ≤ 1153 * 1153
 heard-square s n port i = frame-square (port_prefix port) (sent_element s.load port s.cell.now) (sent_element-square s.load port s.cell.now) n i
 
--- ---- sums of parts in some places
+-- ---- partial sums
 
--- samples have these values there
+-- samples have these values where the test holds
 abbrev pub HaveThere : (ℕ → Bool) → (ℕ → Cpx) → List Sample → Type 0
 HaveThere p z samples = (i : ℕ) → i < 19200 → p i ≡ true → slice_index_or samples i silence ≡ sample_of (z i)
 
@@ -127,7 +127,7 @@ sum_there p z gain values old new there is i inside e =
 -- ---- one port
 
 module _ (s : Source) (n : ℕ) (p : ℕ → Bool) where
-  -- over silence there is room for what a port sends
+  -- over silence there is headroom for one port
   pub room_alone : (port : Port) (samples : List Sample) → AreSilent p samples → FitSamples p (value_at s.gains 0) (heard s n port) samples
   room_alone port samples silent =
       room_over p (λ i. nothing) (value_at s.gains 0) (heard s n port) samples silent
@@ -140,9 +140,9 @@ module _ (s : Source) (n : ℕ) (p : ℕ → Bool) where
       (λ i inside t. ap (added (value_at s.gains 0) (heard s n port) i) (silent i inside t) ∙ ap sample_of (plus-nothing (part s n port 0 i)))
       is
 
--- ---- the ports of a carrier, one after the other
+-- ---- all ports in order
 
--- what the first ports send together
+-- the sum over the first ports
 abbrev pub sum_of : Source → ℕ → Carrier → ℕ → ℕ → Cpx
 sum_of s n carrier count i = complex_sum_below count (λ number. part s n (port_by carrier number) number i)
 
@@ -154,7 +154,7 @@ sum_small s n carrier (suc count) i =
     let last = product_is (value_at s.gains count) _ (heard-square s n (port_by carrier count) i) in
     subst (λ (m : ℕ). IsSumOf m (power s.gains (suc count)) (sum_of s n carrier (suc count) i)) one (sum_is _ _ count 1 _ _ (sum_small s n carrier count i) last)
 
--- the sum over all of them is what is received
+-- the sum over all ports is the received value
 sum_over : (s : Source) (n : ℕ) (carrier : Carrier) (i : ℕ) → sum_of s n carrier (ports_of carrier) i ≡ mixed carrier (λ port. heard s n port i) s.gains
 unfolding sum_below
 sum_over s n carrier i = by carrier
@@ -171,7 +171,7 @@ sum_over s n carrier i = by carrier
         ∙ plus-associates (plus (share FourPorts 0) (share FourPorts 1)) (share FourPorts 2) (share FourPorts 3)
 
 module _ (s : Source) (n : ℕ) (p : ℕ → Bool) (carrier : Carrier) (old : List Sample) where
-  -- the sum of the first ports stands in some places of samples that were silent there
+  -- samples hold the sum over the first ports where they were silent
   abbrev pub HaveSum : ℕ → List Sample → Type 0
   HaveSum count new = AreChanged p (λ i before. sample_of (sum_of s n carrier count i)) old new
 
@@ -191,7 +191,7 @@ module _ (s : Source) (n : ℕ) (p : ℕ → Bool) (carrier : Carrier) (old : Li
         let gains = subst (λ (x : Ports). AreGainsBy x s.gains) ports s.gains_fit in
         subst (IsWithin 32284) (next_is i) (sum_fits _ (count + 1) _ (power_most carrier s.gains (count + 1) (omega (arith, few)) gains) (sum_small s n carrier (count + 1) i))
 
-    -- there is room for the next port
+    -- there is headroom for the next port
     pub room_for_next : s.ports ≡ All carrier → count < ports_of carrier → FitSamples p (value_at s.gains count) (heard s n (port_by carrier count)) mid
     room_for_next ports few =
         room_over p (sum_of s n carrier count) (value_at s.gains count) (heard s n (port_by carrier count)) mid

@@ -1,4 +1,4 @@
--- The symbols of which each frame has its own.
+-- The symbols in which frames differ.
 use Rattle.std.proofs.Common.{◌≡◌, ℕ, ◌+◌, ◌*◌, Bool, false, sym, subst, None}
 use Rattle.std.proofs.lemmas.Bool.{or_parts}
 use Rattle.lte_types.specs.declared.carrier.Carrier.{Carrier}
@@ -15,18 +15,18 @@ use Rattle.cell_tx.proofs.Changes.{outside}
 use Rattle.cell_tx.proofs.Frames.{IsOutside, element_same, element_same_without, sample_same, sample_same_without}
 use Rattle.cell_grid.proofs.Prefixes.{prefix_known}
 
--- the first four symbols of slot 1, with those of subframe 5 and without
+-- the first four symbols in slot 1, and subframe 5
 abbrev pub channels_of : ℕ → Symbols
 channels_of n = record { first = n; last = n + 4; again = 10 * n; end = 12 * n }
 
 abbrev pub broadcast_of : ℕ → Symbols
 broadcast_of n = record { first = n; last = n + 4; again = n + 4; end = n + 4 }
 
--- what a port sends in two frames is the same
+-- a port transmits the same in both frames
 abbrev IsSame : CellPlan → ℕ → ℕ → ℕ → Port → Type 0
 IsSame plan a b i port = sent_in_frame None port plan a i ≡ sent_in_frame None port plan b i
 
--- a port of a carrier, by its number
+-- a port of the transmission scheme, by its number
 of_carrier : (P : Port → Type 0) (port : Port) (carrier : Carrier) → port.carrier ≡ carrier → P (port_by carrier port.number) → P port
 of_carrier P port carrier is there = subst (λ (c : Carrier). P (port_by c port.number)) (sym is) there
 

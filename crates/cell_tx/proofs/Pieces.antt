@@ -1,4 +1,4 @@
--- The pieces of a source.
+-- A source's pieces.
 use Rattle.std.proofs.Common.{◌≡◌, ℕ, ◌+◌, ◌-◌, ◌/◌, ◌%◌, ◌<◌, List, slice_index_or, arith, sym, ap, ◌∙◌, length, take, drop, min, pos}
 use Rattle.std.proofs.lemmas.Int.{ints}
 use Rattle.std.proofs.lemmas.List.{length-drop, get_or-drop}
@@ -12,7 +12,7 @@ use Rattle.cell_tx.specs.declared.source.Source.{Source}
 use Rattle.cell_tx.specs.Emitting.{made, made_samples, framed, AreFrame, IsMade}
 use Rattle.cell_tx.proofs.Mixing.{made_is}
 
--- the next one
+-- the emitter's invariant holds for the next piece
 pub next_made : (s : Source) (from at : ℕ) (old new : List Sample) → IsMade s from at old → length new ≡ 19200
     → (at < s.samples → AreFrame s (number_of s.timing.sfn (at + s.timing.offset)) new)
     → IsMade s at (min (at + (19200 - (at + s.timing.offset) % 19200)) s.samples) new
@@ -27,7 +27,7 @@ next_made s from at old new is whole there =
       begun = λ some below. omega (arith, below);
     }
 
--- how many there are
+-- the list of samples has the stated length
 pub so_many : (s : Source) → length (made_samples s) ≡ s.samples
 so_many s = values_below-length s.samples (λ i. sample_of (made s i))
 
@@ -43,7 +43,7 @@ module _ (s : Source) (from at : ℕ) (frame : List Sample) (is : IsMade s from 
       ∙ ap (framed s (number_of s.timing.sfn (from + k + s.timing.offset))) (sym place)
       ∙ sym (made_is s (from + k)))
 
-  -- the piece of an emitter
+  -- a piece holds the samples from `from`, below `at`
   pub piece_is : take (at - from) (drop ((from + s.timing.offset) % 19200) frame) ≡ take (at - from) (drop from (made_samples s))
   piece_is =
       let f : ℕ → Sample = λ k. sample_of (made s (from + k)) in
@@ -58,6 +58,6 @@ module _ (s : Source) (from at : ℕ) (frame : List Sample) (is : IsMade s from 
       (front_is silence count f (drop from (made_samples s)) (omega (arith, length-drop from (made_samples s), so_many s, order, most))
       (λ k below. get_or-drop from (made_samples s) k silence ∙ values_below_at (λ i. sample_of (made s i)) s.samples (from + k) silence (omega (arith, below, order, most))))
 
--- by the gain 1 a sample is itself
+-- a gain of 1 leaves a sample unchanged
 pub times-one : (z : Cpx) → times (record { re = pos 1; im = pos 0 }) z ≡ z
 times-one z = pair (omega (arith, ints)) (omega (arith, ints))

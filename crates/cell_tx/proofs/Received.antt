@@ -1,4 +1,4 @@
--- Sizes of what is received of the antenna ports of a carrier, and that it is clean.
+-- Bounds on the received sum over antenna ports, and that it is clean.
 use Rattle.std.proofs.Common.{◌≡◌, ℕ, ◌+◌, ◌*◌, ◌<◌, ◌≤◌, inl, inr, arith, ap, sym, ◌∙◌, subst, mul_assoc, mul_comm, ℤ, ◌+ℤ◌, ◌-ℤ◌}
 use Rattle.std.specs.Prelude.{nat_abs}
 use Rattle.std.proofs.lemmas.Bool.{cases_lt}
@@ -57,7 +57,7 @@ received-fits first second gain other error eps a b g bound e =
       im = omega (arith, most, added z.im error.im 32284 eps whole.im e.im);
     }
 
--- the error is what is left
+-- the difference is the error
 pub error_left : (a e : ℤ) (n : ℕ) → nat_abs e ≤ n → nat_abs (a +ℤ e -ℤ a) ≤ n
 error_left a e n h = let is : a +ℤ e -ℤ a ≡ e = omega (arith, ints) in subst (λ z. nat_abs z ≤ n) (sym is) h
 
@@ -79,7 +79,7 @@ received_clean first second offset count gain other eps errors within gains boun
 
 -- ---- four ports
 
--- a sum of n products, each of a gain and of a sample, where the squares of the gains are together so much
+-- a sum over n products, each a gain times a sample, where the gains have this total power
 pub record IsSumOf (n power : ℕ) (z : Cpx) : Type 0 where
   pub most : square z ≤ power * (n * (1153 * 1153))
 
@@ -92,7 +92,7 @@ sum_is a b m n power other p q =
     let e : m * (1153 * 1153) + n * (1153 * 1153) ≡ (m + n) * (1153 * 1153) = omega arith in
     record { most = subst (λ (room : ℕ). square (plus a b) ≤ (power + other) * room) e law }
 
--- where as many times the squares are at most 784
+-- the sum fits 16 bits if n times the power is at most 784
 pub sum_fits : (z : Cpx) (n power : ℕ) → n * power ≤ 784 → IsSumOf n power z → IsWithin 32284 z
 sum_fits z n power most is =
     let e : power * (n * (1153 * 1153)) ≡ n * power * (1153 * 1153) = regroup n power (1153 * 1153) in
@@ -102,7 +102,7 @@ sum_fits z n power most is =
     regroup : (n m k : ℕ) → m * (n * k) ≡ n * m * k
     regroup n m k = sym (mul_assoc m n k) ∙ ap (λ (x : ℕ). x * k) (mul_comm m n)
 
--- ---- a carrier
+-- ---- transmission schemes
 
 pub received_by-small : EmittedIsSmall
 received_by-small OnePort load plan sfn offset gains i g =

@@ -1,4 +1,4 @@
--- Where the samples of a frame's symbols stand.
+-- Positions of a frame's samples in its symbols.
 use Rattle.std.proofs.Common.{◌≡◌, ◌⊎◌, ℕ, ◌+◌, ◌-◌, ◌*◌, ◌/◌, ◌%◌, ◌<◌, ◌≤◌, inl, inr, Bool, true, false, nat_eq, nat_lt, List, arith, refl, sym, subst, ap, ◌∙◌, ltb-true, ltb-false, eqb-true, mod-lt}
 use Rattle.std.specs.Prelude.{if◌then◌else◌}
 use Rattle.std.proofs.lemmas.Bool.{cases_lt}
@@ -22,7 +22,7 @@ use Rattle.cell_grid.specs.Grid.{Elements}
 use Rattle.cell_tx.specs.Sent.{symbol_sample, prefix_slot_sample, prefix_frame_sample, prefix_sent}
 use Rattle.cell_tx.specs.Starts.{useful_place, first_in_slot, first_sample}
 
--- a list that holds a grid makes its useful part
+-- a list that holds a grid gives the grid's useful part
 pub useful_from : (grid : ℕ → Cpx) → useful_part (value_at (values_below 72 grid)) ≡ useful_part grid
 unfolding useful_part
 useful_from grid = values_below_same 128 (useful_at (value_at (values_below 72 grid))) (useful_at grid)
@@ -32,9 +32,9 @@ pub useful_part_at : (grid : ℕ → Cpx) (n : ℕ) → n < 128 → value_at (us
 unfolding useful_part
 useful_part_at grid n l = values_below_at (useful_at grid) 128 n nothing l
 
--- ---- a sample of a slot
+-- ---- a sample in a slot
 
--- where it stands in its symbol
+-- the sample's position in its symbol
 pub record IsPlaced (prefix : Prefix) (i : ℕ) : Type 0 where
   pub symbol : symbol_of prefix i < symbols_of_slot prefix
   pub low : useful_start prefix 0 0 (symbol_of prefix i) ≤ i + 128
@@ -62,7 +62,7 @@ module _ (prefix : Prefix) (grid : Elements) (sfn : ℕ) where
       at_place (useful_at (grid sfn (slot / 2) (symbols_of_slot prefix * (slot % 2) + symbol_of prefix i))) start i (useful_place prefix i)
       (nat_lt i start) refl at.low at.high at.place
 
-  -- read from the useful part of its symbol
+  -- the sample, read from its symbol's useful part
   pub slot_value : (slot i n : ℕ) (useful : List Cpx) → IsPrefix prefix → i < 960
       → useful ≡ useful_part (grid sfn (slot / 2) (symbols_of_slot prefix * (slot % 2) + symbol_of prefix i)) → n ≡ useful_place prefix i
       → value_at useful n ≡ prefix_slot_sample prefix grid sfn slot i
@@ -76,7 +76,7 @@ module _ (prefix : Prefix) (grid : Elements) (sfn : ℕ) where
   unfolding prefix_frame_sample
   frame_sample_is i = refl
 
--- ---- the symbols of a frame, by their number
+-- ---- symbols in a frame, by number
 
 normal_next : (n : ℕ) → first_sample normal (n + 1) ≡ 960 * (n / 7) + 138 + 137 * (n % 7)
 normal_next n = settle (nat_lt (n % 7) 6) refl
@@ -110,7 +110,7 @@ extended_first n = settle (nat_eq (n % 6) 0) refl
     settle true e = let z : n % 6 ≡ 0 = eqb-true _ _ e in rw z (omega (arith, z))
     settle false e = rw e (omega arith)
 
--- the slot of a sample that a symbol has, and the symbol within it
+-- the slot and the symbol that contain a sample
 pub record StandsIn (prefix : Prefix) (n i : ℕ) : Type 0 where
   pub slot : i / 960 ≡ n / symbols_of_slot prefix
   pub symbol : symbol_of prefix (i % 960) ≡ n % symbols_of_slot prefix
@@ -134,7 +134,7 @@ stands_in prefix n i known =
     record { slot = omega (arith, from, high); symbol = omega (arith, from, high) })
     prefix known
 
--- the sample of its useful part that it repeats or is, told from its end
+-- the sample's index in the useful part, counted from the symbol's end
 pub place_from_end : (prefix : Prefix) (n i : ℕ) → IsPrefix prefix → first_sample prefix n ≤ i → i < first_sample prefix (n + 1)
     → useful_place prefix (i % 960) ≡ (i + 256 - first_sample prefix (n + 1)) % 128
 place_from_end prefix n i known =
@@ -154,7 +154,7 @@ place_from_end prefix n i known =
     rw (e, extended_first (n + 1)) (omega (arith, s, from, high)))
     prefix known
 
--- and the sample, read from that part
+-- the sample, read from the useful part
 pub value_there : (prefix : Prefix) (grid : Elements) (sfn n i last : ℕ) (useful : List Cpx) → IsPrefix prefix
     → useful ≡ useful_part (grid sfn (n / symbols_of_slot prefix / 2) (symbols_of_slot prefix * (n / symbols_of_slot prefix % 2) + n % symbols_of_slot prefix))
     → last ≡ first_sample prefix (n + 1) → first_sample prefix n ≤ i → i < last → value_at useful ((i + 256 - last) % 128) ≡ prefix_frame_sample prefix grid sfn i
@@ -176,7 +176,7 @@ pub first-mono : (prefix : Prefix) (m n : ℕ) → IsPrefix prefix → m ≤ n �
 first-mono prefix m n known h =
     with_prefix (λ p. first_sample p m ≤ first_sample p n) (normal_mono m n h) (rw (extended_first m, extended_first n) (omega (arith, h))) prefix known
 
--- ---- the frames of a sequence
+-- ---- frames in a sequence
 
 module _ (prefix : Prefix) (grid : Elements) where
   pub prefix_sent_is : (sfn i : ℕ) → prefix_sent prefix grid sfn i ≡ prefix_frame_sample prefix grid (number_of sfn i) (i % 19200)
@@ -191,7 +191,7 @@ module _ (prefix : Prefix) (grid : Elements) where
       let whole : (19200 * j + i) / 19200 ≡ j = omega (arith, inside) in
       in_frame sfn (19200 * j + i) ((sfn + j) % 1024) i (ap (λ (n : ℕ). (sfn + n) % 1024) whole) (omega (arith, inside))
 
--- the number of a frame from the start on
+-- a frame's number, counted from the start sample
 number_from_start : (sfn offset j : ℕ) (none : Bool) → nat_eq offset 0 ≡ none → sfn ≤ 1023 → offset < 19200 →
     (sfn + (if none then j else j + 1)) % 1024 ≡ (number_at_start sfn offset + j) % 1024
 number_from_start sfn offset j true e small inside = rw e refl
@@ -210,9 +210,9 @@ frames_begin prefix grid sfn offset j i small inside few =
     let number = number_from_start sfn offset j (nat_eq offset 0) refl small inside in
     ap (prefix_sent prefix grid sfn) place ∙ frames_follow prefix grid sfn frames i few ∙ ap (λ (n : ℕ). prefix_frame_sample prefix grid n i) number
 
--- ---- useful parts and prefixes
+-- ---- useful parts and cyclic prefixes
 
--- where a sample of a symbol stands in its slot
+-- a sample's position in its slot
 pub record IsInSymbol (prefix : Prefix) (l i : ℕ) : Type 0 where
   pub inside : i < 960
   pub symbol : symbol_of prefix i ≡ l
@@ -250,7 +250,7 @@ useful_parts_stand prefix grid sfn slot l n known few inside =
     ap (prefix_frame_sample prefix grid sfn) e ∙ in_slot prefix grid sfn slot l (useful_start prefix 0 0 l + n) (in_useful prefix l n known few inside)
     ∙ later_sample (useful_at (grid sfn (slot / 2) (symbols_of_slot prefix * (slot % 2) + l))) (useful_start prefix 0 0 l) n
 
--- the samples of a prefix
+-- the samples in a cyclic prefix
 record IsInPrefix (prefix : Prefix) (l d : ℕ) : Type 0 where
   fits : d ≤ useful_start prefix 0 0 l
   few : d ≤ 128

@@ -1,5 +1,4 @@
--- What is sent of a cell by a carrier: the samples of each of its antenna ports, times the gain of the port, with load
--- or without. (own)
+-- The emission of a cell: each antenna port's samples times the port's gain, with or without load. (own)
 use Rattle.std.specs.Prelude.{ℕ, ◌+◌, ◌≤◌, nat_eq, if◌then◌else◌, Option, List}
 use Rattle.finite.specs.Lists.{values_below}
 use Rattle.cs_num.specs.declared.Cpx.{Cpx}
@@ -17,15 +16,15 @@ use Rattle.cell_tx.specs.Sent.{prefix_sent}
 use Rattle.cell_plan.specs.Gains.{AreGainsOf, IsAllowedBy}
 use Rattle.cell_tx.specs.Clean.{AreNear}
 
--- sample i of what a port sends from the frame numbered sfn on
+-- sample i that a port transmits from frame `sfn`
 abbrev pub sent_by : Option ℕ → Port → CellPlan → ℕ → ℕ → Cpx
 sent_by load port plan sfn i = prefix_sent (port_prefix port) (sent_element load port plan) sfn i
 
--- what is received of the port of a carrier with a number, by a channel that is one number for each
+-- one port's received value, over a channel with one complex gain
 abbrev pub part_of : Carrier → (Port → Cpx) → List Cpx → ℕ → Cpx
 part_of carrier values gains number = times (value_at gains number) (values (port_by carrier number))
 
--- what is received of all ports of a carrier that send these values: the sum over one, two or four
+-- the received sum over all ports, one, two or four
 abbrev pub mixed : Carrier → (Port → Cpx) → List Cpx → Cpx
 mixed carrier values gains =
     let part = part_of carrier values gains in
@@ -33,19 +32,19 @@ mixed carrier values gains =
     else (if nat_eq (ports_of carrier) 2 then plus (part 0) (part 1)
     else plus (plus (part 0) (part 1)) (plus (part 2) (part 3)))
 
--- what is received of all ports of a carrier, from the sample at offset on, by a channel that is one number for each
+-- the received sum over all ports from sample `offset`, each over a channel with one complex gain
 abbrev pub received_by : Carrier → Option ℕ → CellPlan → ℕ → ℕ → List Cpx → ℕ → Cpx
 received_by carrier load plan sfn offset gains i =
     mixed carrier (λ port. sent_by load port plan sfn (i + offset)) gains
 
--- what is received of an emission without errors
+-- the received emission without errors
 abbrev pub emitted : Emission → ℕ → Cpx
 emitted e i = received_by e.carrier e.load e.cell e.timing.sfn e.timing.offset e.gains i
 
 abbrev pub emitted_samples : Emission → List Sample
 emitted_samples e = values_below e.samples (λ i. sample_of (emitted e i))
 
--- the samples are what is received of all ports of a carrier, and each component is off by at most eps
+-- the samples are the received sum over all ports; each component is off by at most eps
 pub record IsCleanBy (carrier : Carrier) (load : Option ℕ) (recording : List Sample) (plan : CellPlan)
     (sfn offset : ℕ) (gains : List Cpx) (eps : ℕ) : Type 0 where
   pub number : sfn ≤ 1023

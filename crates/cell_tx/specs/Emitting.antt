@@ -1,4 +1,4 @@
--- How samples are made: a frame after the other, of which only some symbols are made anew. (own)
+-- Frame-by-frame computation of samples, which recomputes only the symbols that differ between frames. (own)
 use Rattle.std.specs.Prelude.{◌≡◌, ℕ, ◌+◌, ◌-◌, ◌*◌, ◌%◌, ◌<◌, ◌≤◌, Bool, true, false, ◌&&◌, ◌||◌, nat_le, nat_lt, min}
 use Rattle.std.specs.Prelude.{if◌then◌else◌, Option, List, length, take, drop, slice_index_or}
 use Rattle.finite.specs.Lists.{values_below}
@@ -21,100 +21,100 @@ use Rattle.cell_grid.specs.Load.{sent_element}
 use Rattle.cell_tx.specs.Starts.{first_sample}
 use Rattle.cell_tx.specs.Sent.{prefix_frame_sample}
 
--- ---- what is made of a source
+-- ---- samples of a source
 
--- sample i
+-- sample i of a source
 abbrev pub made : Source → ℕ → Cpx
 made s i = mixed_by s.ports (λ port. sent_by s.load port s.cell.now s.timing.sfn (i + s.timing.offset)) s.gains
 
 abbrev pub made_samples : Source → List Sample
 made_samples s = values_below s.samples (λ i. sample_of (made s i))
 
--- ---- the frames of a source
+-- ---- frames of a source
 
--- sample i of the frame with number n, as a port sends it
+-- sample i of frame n as a port transmits it
 abbrev pub sent_in_frame : Option ℕ → Port → CellPlan → ℕ → ℕ → Cpx
 sent_in_frame load port plan n i = prefix_frame_sample (port_prefix port) (sent_element load port plan) n i
 
--- sample i of the frame with number n, as it is received
+-- sample i of frame n as received
 abbrev pub framed : Source → ℕ → ℕ → Cpx
 framed s n i = mixed_by s.ports (λ port. sent_in_frame s.load port s.cell.now n i) s.gains
 
--- samples are the frame with number n
+-- the samples equal frame n
 abbrev pub AreFrame : Source → ℕ → List Sample → Type 0
 AreFrame s n samples = (i : ℕ) → i < frame_length → slice_index_or samples i silence ≡ sample_of (framed s n i)
 
--- ---- some symbols of a frame
+-- ---- symbol ranges in a frame
 
--- sample i is one of those from first up to last
+-- whether i is at least `first` and below `last`
 abbrev pub is_between : ℕ → ℕ → ℕ → Bool
 is_between first last i = nat_le first i && nat_lt i last
 
--- sample i of a frame is in one of these symbols
+-- whether sample i in a frame lies in these symbols
 abbrev pub is_made_anew : Prefix → Symbols → ℕ → Bool
 is_made_anew prefix symbols i =
     is_between (first_sample prefix symbols.first) (first_sample prefix symbols.last) i
     || is_between (first_sample prefix symbols.again) (first_sample prefix symbols.end) i
 
--- the symbols are two spans, one after the other and within a frame
+-- the symbols are two ranges in order, within a frame
 pub record AreSpans (prefix : Prefix) (symbols : Symbols) : Type 0 where
   pub first : symbols.first ≤ symbols.last
   pub again : symbols.last ≤ symbols.again
   pub end : symbols.again ≤ symbols.end
   pub most : symbols.end ≤ 20 * symbols_of_slot prefix
 
--- all samples of a frame are in these symbols
+-- the symbols cover all samples in a frame
 abbrev pub AreAll : Prefix → Symbols → Type 0
 AreAll prefix symbols = (i : ℕ) → i < frame_length → is_made_anew prefix symbols i ≡ true
 
--- no sample of a port of the carrier outside these symbols depends on which frame it is in
+-- outside these symbols, no port's samples depend on the frame
 abbrev pub AreOwn : Carrier → Option ℕ → Symbols → Type 0
 AreOwn carrier load symbols =
     (port : Port) (plan : CellPlan) (a b i : ℕ) → port.carrier ≡ carrier → i < frame_length →
     is_made_anew (prefix_of carrier) symbols i ≡ false →
     sent_in_frame load port plan a i ≡ sent_in_frame load port plan b i
 
--- ---- samples that are changed in some places
+-- ---- partially changed samples
 
--- each sample at one of the places is what the change makes of it, and the others are as they were
+-- the change is applied to each sample that satisfies the test, and the others are unchanged
 abbrev pub AreChanged : (ℕ → Bool) → (ℕ → Sample → Sample) → List Sample → List Sample → Type 0
 AreChanged there change old new =
     (i : ℕ) → i < frame_length →
     slice_index_or new i silence
     ≡ (if there i then change i (slice_index_or old i silence) else slice_index_or old i silence)
 
--- a sample with a value, times a gain, added
+-- a sample plus a value times a gain
 abbrev pub added : Cpx → (ℕ → Cpx) → ℕ → Sample → Sample
 added gain values i before = sample_of (plus (value_of before) (times gain (values i)))
 
--- samples with values, times a gain, added at some places fit 16 bits
+-- where the test holds, the sums of samples and values times a gain fit 16 bits
 abbrev pub FitSamples : (ℕ → Bool) → Cpx → (ℕ → Cpx) → List Sample → Type 0
 FitSamples there gain values samples =
     (i : ℕ) → i < frame_length → there i ≡ true → IsWithin 32767 (plus (sample_at samples i) (times gain (values i)))
 
--- samples are silent at some places
+-- samples are silent where the test holds
 abbrev pub AreSilent : (ℕ → Bool) → List Sample → Type 0
 AreSilent there samples = (i : ℕ) → i < frame_length → there i ≡ true → slice_index_or samples i silence ≡ silence
 
--- ---- one piece after the other
+-- ---- pieces in order
 
--- what is made, and how far: the last piece of the samples stands from number `from` on, and the next one from number
--- `at` on; the first frame begins `offset` samples before them
+-- the emission's samples and the current position: the last piece begins at `from`, and the next one at `at`. The
+-- first frame begins `offset` samples earlier than the emission
 pub record Progress : Type 0 where
   pub samples : List Sample
   pub offset : ℕ
   pub from : ℕ
   pub at : ℕ
 
--- where the piece that begins at `at` ends: with the frame, or with the samples
+-- the end of the piece that begins at `at`: the end of its frame, or of the samples
 abbrev pub piece_end : Progress → ℕ
 piece_end p = min (p.at + (frame_length - (p.at + p.offset) % frame_length)) (length p.samples)
 
--- the last piece that was made
+-- the last piece
 abbrev pub piece_of : Progress → List Sample
 piece_of p = take (p.at - p.from) (drop p.from p.samples)
 
--- what an emitter keeps: the piece is of one frame, and that frame is there
+-- an emitter's invariant: the last piece lies in one frame, and `frame` holds it
 pub record IsMade (s : Source) (from at : ℕ) (frame : List Sample) : Type 0 where
   pub order : from ≤ at
   pub most : at ≤ s.samples

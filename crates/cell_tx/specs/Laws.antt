@@ -1,4 +1,4 @@
--- Laws of what a cell sends.
+-- Laws for transmitted cells.
 use Rattle.std.specs.Prelude.{◌≡◌, ℕ, ◌+◌, ◌-◌, ◌*◌, ◌/◌, ◌%◌, ◌<◌, ◌≤◌, Option, List}
 use Rattle.cs_num.specs.declared.Sample.{Sample}
 use Rattle.cs_num.specs.Complex.{IsWithin, square, plus, times, sample_of}
@@ -20,14 +20,14 @@ use Rattle.cell_plan.specs.Gains.{AreGains, IsAllowed, AreGainsOf, IsAllowedBy}
 use Rattle.cell_tx.specs.Clean.{IsCleanOf, IsClean, received_of_two, IsCleanOfTwo}
 use Rattle.cell_tx.specs.Emission.{received_by, IsCleanBy}
 
--- the useful part of symbol l of a slot, with either cyclic prefix, stands from its first sample on
+-- the useful part of symbol l in a slot begins at `useful_start`, for either cyclic prefix
 abbrev pub UsefulPartsStand : Type 0
 UsefulPartsStand =
     (prefix : Prefix) (grid : Elements) (sfn slot l n : ℕ) → IsPrefix prefix → l < symbols_of_slot prefix → n < 128 →
     prefix_frame_sample prefix grid sfn (useful_start prefix 0 slot l + n)
     ≡ useful_at (grid sfn (slot / 2) (symbols_of_slot prefix * (slot % 2) + l)) n
 
--- before the useful part of a symbol stand its last samples, as many as its prefix has
+-- the cyclic prefix repeats the end of the symbol's useful part
 abbrev pub PrefixesRepeat : Type 0
 PrefixesRepeat =
     (prefix : Prefix) (grid : Elements) (sfn slot l d : ℕ) → IsPrefix prefix → l < symbols_of_slot prefix → 1 ≤ d →
@@ -35,20 +35,19 @@ PrefixesRepeat =
     prefix_frame_sample prefix grid sfn (useful_start prefix 0 slot l - d)
     ≡ useful_at (grid sfn (slot / 2) (symbols_of_slot prefix * (slot % 2) + l)) (128 - d)
 
--- frame j of a sequence has the number of its first frame and j more
+-- the number of frame j in a sequence is the first frame's number plus j
 abbrev pub FramesFollow : Type 0
 FramesFollow = (prefix : Prefix) (grid : Elements) (sfn j i : ℕ) → i < frame_length →
     prefix_sent prefix grid sfn (frame_length * j + i) ≡ prefix_frame_sample prefix grid ((sfn + j) % 1024) i
 
--- what is sent from an offset on has a frame at its start and then one after the other, with the number at the start
--- and on
+-- a sequence that begins at an offset has its first whole frame at the start sample, and the others follow in order
 abbrev pub FramesBeginAtStart : Type 0
 FramesBeginAtStart =
     (prefix : Prefix) (grid : Elements) (sfn offset j i : ℕ) → sfn ≤ 1023 → IsOffset offset → i < frame_length →
     prefix_sent prefix grid sfn (start_of offset + frame_length * j + i + offset)
     ≡ prefix_frame_sample prefix grid ((number_at_start sfn offset + j) % 1024) i
 
--- an element of any port, with load or without, has components of size at most 127, and size at most 128
+-- a resource element at any port, with or without load, has components of at most 127, and magnitude at most 128
 abbrev pub ElementsAreWithin : Type 0
 ElementsAreWithin =
     (load : Option ℕ) (port : Port) (plan : CellPlan) (sfn subframe symbol k : ℕ) →
@@ -59,55 +58,55 @@ ElementsAreSmall =
     (load : Option ℕ) (port : Port) (plan : CellPlan) (sfn subframe symbol k : ℕ) →
     square (sent_element load port plan sfn subframe symbol k) ≤ 128 * 128
 
--- where no element has a size above 128, no sample has a size above 1,153
+-- if no resource element exceeds magnitude 128, no sample exceeds magnitude 1,153
 abbrev pub SmallElementsMakeSmallSamples : Type 0
 SmallElementsMakeSmallSamples =
     (prefix : Prefix) (grid : Elements) →
     ((sfn subframe symbol k : ℕ) → square (grid sfn subframe symbol k) ≤ 128 * 128) → (sfn i : ℕ) →
     square (prefix_sent prefix grid sfn i) ≤ 1153 * 1153
 
--- no sample of a cell has a size above 1,153
+-- no sample of a cell exceeds magnitude 1,153
 abbrev pub SamplesAreSmall : Type 0
 SamplesAreSmall =
     (load : Option ℕ) (port : Port) (plan : CellPlan) (sfn i : ℕ) →
     square (prefix_sent (port_prefix port) (sent_element load port plan) sfn i) ≤ 1153 * 1153
 
--- values, each with an error, as samples
+-- values plus errors, as samples
 abbrev pub values_with : ℕ → (ℕ → Cpx) → (ℕ → Cpx) → List Sample
 values_with count values errors = values_below count (λ i. sample_of (plus (values i) (errors i)))
 
--- samples that are received of a sequence, each with an error
+-- a received sequence plus errors
 abbrev pub received_with : (ℕ → Cpx) → ℕ → ℕ → Cpx → (ℕ → Cpx) → List Sample
 received_with sequence offset count gain errors = values_with count (λ i. times gain (sequence (i + offset))) errors
 
--- samples that are received of a sequence, with any errors within the bound, are a clean recording of it
+-- a received sequence plus any errors within the bound is a clean recording
 abbrev pub ReceivedWithErrorsIsClean : Type 0
 ReceivedWithErrorsIsClean =
     (sequence : ℕ → Cpx) (offset count : ℕ) (gain : Cpx) (eps : ℕ) (errors : ℕ → Cpx) → IsOffset offset → IsGain gain →
     eps * eps ≤ 4 * square gain → ((i : ℕ) → i < count → IsWithin eps (errors i)) →
     IsCleanOf sequence (received_with sequence offset count gain errors) offset gain eps
 
--- where no sample of a sequence has a size above 1,153, the samples received of it with errors have components of
--- sizes of at most 32,340, so that they fit 16 bits
+-- if no sample of a sequence exceeds magnitude 1,153, the received samples with errors have components of at most
+-- 32,340 and fit 16 bits
 abbrev pub ReceivedWithErrorsFits : Type 0
 ReceivedWithErrorsFits =
     (clean gain error : Cpx) (eps : ℕ) → square clean ≤ 1153 * 1153 → IsGain gain → eps * eps ≤ 4 * square gain →
     IsWithin eps error →
     IsWithin 32340 (plus (times gain clean) error)
 
--- what is received of a cell without errors is a clean recording of it
+-- a cell received without errors is a clean recording
 abbrev pub ReceivedIsClean : Type 0
 ReceivedIsClean = (plan : CellPlan) (sfn offset count : ℕ) (gain : Cpx) → sfn ≤ 1023 → IsOffset offset → IsGain gain →
     IsClean (values_below count (λ i. sample_of (received plan sfn offset gain i))) plan sfn offset gain 0
 
 -- ---- two antenna ports
 
--- samples that are received of two sequences, each with an error
+-- two received sequences plus errors
 abbrev pub received_of_two_with : (ℕ → Cpx) → (ℕ → Cpx) → ℕ → ℕ → Cpx → Cpx → (ℕ → Cpx) → List Sample
 received_of_two_with first second offset count gain other errors =
     values_with count (received_of_two first second offset gain other) errors
 
--- samples that are received of two sequences, with any errors within the bound, are a clean recording of both
+-- two received sequences plus any errors within the bound are a clean recording of both
 abbrev pub ReceivedOfTwoIsClean : Type 0
 ReceivedOfTwoIsClean =
     (first second : ℕ → Cpx) (offset count : ℕ) (gain other : Cpx) (eps : ℕ) (errors : ℕ → Cpx) →
@@ -115,15 +114,15 @@ ReceivedOfTwoIsClean =
     IsAllowed gain other eps → ((i : ℕ) → i < count → IsWithin eps (errors i)) →
     IsCleanOfTwo first second (received_of_two_with first second offset count gain other errors) offset gain other eps
 
--- where no sample of two sequences has a size above 1,153, what is received without errors has components of at most
--- 32,284
+-- if no sample of two sequences exceeds magnitude 1,153, the received samples without errors have components of at
+-- most 32,284
 abbrev pub ReceivedOfTwoIsSmall : Type 0
 ReceivedOfTwoIsSmall =
     (first second gain other : Cpx) → square first ≤ 1153 * 1153 → square second ≤ 1153 * 1153 → AreGains gain other →
     IsWithin 32284 (plus (times gain first) (times other second))
 
--- where no sample of two sequences has a size above 1,153, what is received with errors has components of at most
--- 32,293, so that they fit 16 bits
+-- if no sample of two sequences exceeds magnitude 1,153, the received samples with errors have components of at most
+-- 32,293 and fit 16 bits
 abbrev pub ReceivedOfTwoFits : Type 0
 ReceivedOfTwoFits =
     (first second gain other error : Cpx) (eps : ℕ) →
@@ -131,9 +130,9 @@ ReceivedOfTwoFits =
     IsAllowed gain other eps → IsWithin eps error →
     IsWithin 32293 (plus (plus (times gain first) (times other second)) error)
 
--- ---- a carrier
+-- ---- transmission schemes
 
--- what is received of an emission with any errors within the bound is a clean recording of it
+-- a received emission plus any errors within the bound is a clean recording
 abbrev pub EmittedIsClean : Type 0
 EmittedIsClean =
     (carrier : Carrier) (load : Option ℕ) (plan : CellPlan) (sfn offset count : ℕ) (gains : List Cpx) (eps : ℕ)
@@ -143,7 +142,7 @@ EmittedIsClean =
     IsCleanBy carrier load (values_with count (received_by carrier load plan sfn offset gains) errors)
     plan sfn offset gains eps
 
--- what is received of an emission without errors has components of at most 32,284
+-- a received emission without errors has components of at most 32,284
 abbrev pub EmittedIsSmall : Type 0
 EmittedIsSmall =
     (carrier : Carrier) (load : Option ℕ) (plan : CellPlan) (sfn offset : ℕ) (gains : List Cpx) (i : ℕ) →

@@ -1,4 +1,4 @@
--- What is sent frame by frame, and all samples of a transmission. (own)
+-- Transmitted frames, and the samples of a whole transmission. (own)
 use Rattle.std.specs.Prelude.{ℕ, ◌+◌, List}
 use Rattle.finite.specs.Lists.{values_below}
 use Rattle.cs_num.specs.declared.Cpx.{Cpx}
@@ -15,26 +15,26 @@ use Rattle.cell_grid.specs.Grid.{Elements}
 use Rattle.cell_tx.specs.Sent.{prefix_frame_sample, received}
 use Rattle.cell_tx.specs.Emission.{sent_by}
 
--- ---- the frame of signals
+-- ---- the frame of `Signals`
 
 abbrev pub elements_of : Signals → Elements
 elements_of signals = sent_element signals.load signals.port signals.cell.now
 
--- sample i of the frame of signals
+-- sample i of the frame
 abbrev pub sample_in : Signals → ℕ → Cpx
 sample_in signals i = prefix_frame_sample (port_prefix signals.port) (elements_of signals) signals.sfn i
 
--- where symbol number n of the frame of signals begins
+-- the first sample of symbol n in the frame
 abbrev pub symbol_start : Signals → ℕ → ℕ
 symbol_start signals n = first_sample (port_prefix signals.port) n
 
--- ---- the sequence of a sender
+-- ---- a sender's sequence
 
--- sample i of the sequence of a sender
+-- sample i of a sender's sequence
 abbrev pub sample_by : Sender → ℕ → Cpx
 sample_by sender i = sent_by sender.load sender.port sender.cell.now sender.timing.sfn (i + sender.timing.offset)
 
--- what is received of a transmission without errors
+-- the received transmission without errors
 abbrev pub received_samples : Transmission → List Sample
 received_samples t =
     values_below t.samples (λ i. sample_of (received t.cell t.sfn t.offset (gain_of t.gain) i))

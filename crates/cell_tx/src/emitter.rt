@@ -1,4 +1,4 @@
-//! Samples, made a frame's piece at a time.
+//! Computes samples one frame at a time.
 
 ghost use Rattle.std.specs.Prelude.{ℕ, ◌≡◌, ◌+◌, ◌<◌, ◌≤◌, ◌++◌, true, length, take};
 ghost use Rattle.cs_num.specs.Complex.{IsWithin, square, value_at};
@@ -18,7 +18,7 @@ use cs_num::Sample;
 use lte_types::{Carrier, FRAME_LENGTH, Sfn};
 use std::marker::Model;
 
-// A source with what is the same in all its frames, and at all its ports, of which `port` is the first.
+// A source with the data that all its frames and ports share; `port` is its first port.
 #[derive(Drop)]
 struct FrameMaker<'a> {
     source: Source<'a>,
@@ -38,7 +38,7 @@ impl<'a> FrameMaker<'a> {
     ghost use Rattle.cell_tx.specs.Emitting.{sent_in_frame, framed, AreFrame, is_made_anew, AreSpans, AreChanged};
     ghost use Rattle.cell_tx.specs.Emitting.{added, FitSamples, AreSilent};
 
-    // The maker of the frames of a source.
+    // Creates the frame maker for `source`.
     fn new(source: &Source<'a>) -> FrameMaker<'a>
         ensures { result.source ≡ source.now }
     {
@@ -53,7 +53,7 @@ impl<'a> FrameMaker<'a> {
         }
     }
 
-    // Adds what a port sends in some symbols of a frame, times its gain.
+    // Adds the port's samples in some symbols of a frame, times its gain.
     fn add(&self, port: Port, number: usize, sfn: Sfn, symbols: &Symbols, frame: &mut [Sample])
         requires port { port.carrier ≡ carrier_by self.now.source.ports }
         requires number { number < 4 }
@@ -73,7 +73,7 @@ impl<'a> FrameMaker<'a> {
         add_symbols(&signals, &source.gains[number], symbols, frame);
     }
 
-    // Adds to silence what all ports of a carrier send.
+    // Adds the samples of all ports to silence.
     fn add_ports(&self, carrier: Carrier, sfn: Sfn, symbols: &Symbols, frame: &mut [Sample])
         requires ports { self.now.source.ports ≡ All carrier }
         requires order { AreSpans (prefix_of carrier) symbols.now }
@@ -88,7 +88,7 @@ impl<'a> FrameMaker<'a> {
         }
     }
 
-    // Adds to silence what the ports of a source send.
+    // Adds the samples of the source's ports to silence.
     fn add_all(&self, sfn: Sfn, symbols: &Symbols, frame: &mut [Sample])
         requires order { AreSpans (prefix_of (carrier_by self.now.source.ports)) symbols.now }
         requires room { length frame.old ≡ frame_length }
@@ -103,7 +103,7 @@ impl<'a> FrameMaker<'a> {
         }
     }
 
-    // Makes some symbols of a frame.
+    // Computes some symbols of a frame.
     fn make(&self, sfn: Sfn, symbols: &Symbols, frame: &mut [Sample])
         requires order { AreSpans (prefix_of (carrier_by self.now.source.ports)) symbols.now }
         requires room { length frame.old ≡ frame_length }
@@ -114,7 +114,7 @@ impl<'a> FrameMaker<'a> {
         self.add_all(sfn, symbols, frame);
     }
 
-    // Makes the frame of a sample: over any frame of the source, but for the first.
+    // Computes the frame that contains sample `at`; unless it is the first, `frame` holds another frame of the source.
     fn make_frame_of(&self, at: usize, frame: &mut [Sample])
         requires at { at < self.now.source.samples }
         requires room { length frame.old ≡ frame_length }
@@ -128,8 +128,9 @@ impl<'a> FrameMaker<'a> {
     }
 }
 
-/// Makes the samples of an emission frame by frame, and holds one frame. Samples that all frames share are made once.
-/// Contracts see it as the emission's samples and the indices at which the last piece and the next one begin. (own)
+/// Computes an emission's samples frame by frame, and holds one frame. Samples that all frames share are computed
+/// once. Contracts see it as the emission's samples and the indices at which the last piece and the next one begin.
+/// (own)
 #[derive(Drop)]
 pub struct Emitter<'a> {
     maker: FrameMaker<'a>,
@@ -157,7 +158,7 @@ impl<'a> Emitter<'a> {
     ghost use Rattle.std.specs.Prelude.{nat_lt};
     ghost use Rattle.cell_tx.specs.Emitting.{made_samples, piece_end, piece_of};
 
-    /// Makes an emitter that has made no piece yet.
+    /// Creates an emitter positioned before its first piece.
     pub fn new(emission: &'a Emission) -> Emitter<'a>
         ensures samples { result.samples ≡ emitted_samples emission.now }
         ensures offset { result.offset ≡ emission.now.timing.offset }
@@ -167,7 +168,7 @@ impl<'a> Emitter<'a> {
         Emitter::by(&Source::of(emission))
     }
 
-    /// Before the first piece of a source.
+    /// Creates an emitter for `source`, positioned before its first piece.
     pub(crate) fn by(source: &Source<'a>) -> Emitter<'a>
         ensures samples { result.samples ≡ made_samples source.now }
         ensures offset { result.offset ≡ source.now.timing.offset }
@@ -182,7 +183,7 @@ impl<'a> Emitter<'a> {
         }
     }
 
-    /// Makes the next piece, up to the end of its frame or of the emission. Returns whether there was one.
+    /// Computes the next piece, up to the end of its frame or of the emission. Returns whether there was one.
     pub fn advance(&mut self) -> bool
         ensures samples { self.new.samples ≡ self.old.samples }
         ensures offset { self.new.offset ≡ self.old.offset }
@@ -213,7 +214,7 @@ impl<'a> Emitter<'a> {
     }
 }
 
-// Puts a piece into samples from a place on.
+// Copies `piece` to `out` from index `at`.
 fn put_piece(at: usize, piece: &[Sample], out: &mut [Sample])
     requires { at + length piece.now ≤ length out.old }
     ensures front { take (at + length piece.now) out.new ≡ take at out.old ++ piece.now }
@@ -222,7 +223,7 @@ fn put_piece(at: usize, piece: &[Sample], out: &mut [Sample])
     out[at..at + piece.len()].copy_from_slice(piece);
 }
 
-/// Puts all samples of an emitter before its first piece, over as many.
+/// Writes all samples of an emitter, positioned before its first piece, to `out`, which has the same length.
 pub(crate) fn put_all(mut emitter: Emitter, out: &mut [Sample])
     requires start { emitter.at ≡ 0 }
     requires room { length out.old ≡ length emitter.samples }
@@ -236,7 +237,7 @@ pub(crate) fn put_all(mut emitter: Emitter, out: &mut [Sample])
     }
 }
 
-/// Writes all samples of an emission into `out`, which has as many: the sum over the antenna ports of sample
+/// Writes all samples of an emission into `out`, which has the same length: the sum over the antenna ports of sample
 /// `i + offset` of the port's sequence, times its gain. Components have magnitude at most 32,284.
 pub fn emit(emission: &Emission, out: &mut [Sample])
     requires { length out.old ≡ emission.now.samples }

@@ -1,4 +1,4 @@
-//! Some symbols of a frame: which they are, and what a port sends in them, added to samples.
+//! Symbol ranges in a frame, and the samples that a port adds in them.
 
 ghost use Rattle.std.specs.Prelude.{◌≡◌, ◌+◌, ◌*◌, ◌/◌, ◌%◌, ◌<◌, ◌≤◌, true, None, length};
 ghost use Rattle.cs_num.specs.Complex.{IsWithin, square, plus, times, value_of, sample_of, silence};
@@ -17,10 +17,9 @@ use cell_grid::Signals;
 use cs_num::{Cpx, Sample};
 use lte_types::{Carrier, SLOT_LENGTH};
 
-// ---- which symbols
+// ---- symbol ranges
 
-/// Some symbols of a frame, by their numbers in it: those from `first` on before `last`, and those from `again` on
-/// before `end`.
+/// Two symbol ranges in a frame: `first..last` and `again..end`.
 #[derive(Clone, Copy)]
 pub(crate) struct Symbols {
     pub first: usize,
@@ -29,7 +28,7 @@ pub(crate) struct Symbols {
     pub end: usize,
 }
 
-// The first symbols of a frame, as many as `count` says.
+// Returns the first `count` symbols of a frame.
 fn first_symbols(count: usize) -> Symbols
     ensures { result ≡ record { first = 0; last = count; again = count; end = count } }
 {
@@ -41,7 +40,7 @@ fn first_symbols(count: usize) -> Symbols
     }
 }
 
-/// All symbols of a frame.
+/// Returns all symbols of a frame.
 pub(crate) fn all_symbols(carrier: Carrier) -> Symbols
     ensures order { AreSpans (prefix_of carrier) result }
     ensures all { AreAll (prefix_of carrier) result }
@@ -49,8 +48,8 @@ pub(crate) fn all_symbols(carrier: Carrier) -> Symbols
     first_symbols(20 * carrier.prefix().symbols())
 }
 
-// The symbols in which frames without load differ: the first four of slot 1, which carry the broadcast channel, and
-// those of subframe 5, where system information is sent.
+// Returns the symbols in which frames without load differ: the four PBCH symbols in slot 1, and subframe 5 if system
+// information is transmitted.
 fn channel_symbols(carrier: Carrier) -> Symbols
     ensures order { AreSpans (prefix_of carrier) result }
     ensures own { AreOwn carrier None result }
@@ -74,8 +73,8 @@ fn channel_symbols(carrier: Carrier) -> Symbols
     }
 }
 
-/// The symbols of a frame that are made anew over another frame of the cell: all where there is load, each of which
-/// has one of its own, and else those in which frames differ.
+/// Returns the symbols to recompute when another frame is in the buffer: all with load, otherwise those in which
+/// frames differ.
 pub(crate) fn own_symbols(carrier: Carrier, load: Option<u32>) -> Symbols
     ensures order { AreSpans (prefix_of carrier) result }
     ensures own { AreOwn carrier load result }
@@ -87,7 +86,7 @@ pub(crate) fn own_symbols(carrier: Carrier, load: Option<u32>) -> Symbols
     }
 }
 
-/// The symbols of a frame that are made anew: all in the first frame that is made, and else as for `own_symbols`.
+/// Returns the symbols to recompute: all in the first frame, otherwise `own_symbols`.
 pub(crate) fn symbols_at(carrier: Carrier, load: Option<u32>, is_first: bool) -> Symbols
     ensures order { AreSpans (prefix_of carrier) result }
     ensures all { is_first ≡ true → AreAll (prefix_of carrier) result }
@@ -100,12 +99,12 @@ pub(crate) fn symbols_at(carrier: Carrier, load: Option<u32>, is_first: bool) ->
     }
 }
 
-// ---- what a port sends in them
+// ---- a port's samples
 
 // A sample of silence.
 pub(crate) const SILENCE: Sample = Sample { re: 0, im: 0 };
 
-// Where symbol l of a slot begins.
+// Returns the first sample of symbol `l` in a slot.
 fn first_in_slot(port: Port, l: usize) -> usize
     requires { l < port_symbols port }
     ensures value { result ≡ first_in_slot (port_prefix port) l }
@@ -119,7 +118,7 @@ fn first_in_slot(port: Port, l: usize) -> usize
     }
 }
 
-// The first sample of a symbol of a frame by its number, the greatest of which is that of what follows the last.
+// Returns the first sample of a symbol in a frame, or the frame's end for the number after the last symbol.
 fn first_sample_of(port: Port, symbol: usize) -> usize
     requires { symbol ≤ 20 * port_symbols port }
     ensures value { result ≡ first_sample (port_prefix port) symbol }
@@ -129,7 +128,7 @@ fn first_sample_of(port: Port, symbol: usize) -> usize
     SLOT_LENGTH * (symbol / symbols) + first_in_slot(port, symbol % symbols)
 }
 
-// The useful part of a symbol of a frame by its number.
+// Returns the useful part of a symbol in a frame.
 fn useful_at(signals: &Signals, symbol: usize) -> [Cpx; 128]
     requires { symbol < 20 * port_symbols signals.now.port }
     ensures { result ≡ useful_part (elements_of signals.now signals.now.sfn (symbol / port_symbols signals.now.port / 2)
@@ -140,7 +139,7 @@ fn useful_at(signals: &Signals, symbol: usize) -> [Cpx; 128]
     useful_of(signals, (symbol / symbols) as u8, (symbol % symbols) as u8)
 }
 
-// Overwrites the samples from one up to another with silence.
+// Overwrites the samples `first..last` with silence.
 fn clear_between(first: usize, last: usize, out: &mut [Sample])
     requires order { first ≤ last }
     requires last { last ≤ frame_length }
@@ -170,7 +169,7 @@ pub(crate) fn clear_symbols(port: Port, symbols: &Symbols, out: &mut [Sample])
     );
 }
 
-// A sample with a value added to it, times a gain.
+// Returns a sample plus a value times a gain.
 fn sum_of(before: Sample, gain: &Cpx, value: Cpx) -> Sample
     requires gain { square gain.now ≤ 784 }
     requires value { square value ≤ 1153 * 1153 }
@@ -181,8 +180,8 @@ fn sum_of(before: Sample, gain: &Cpx, value: Cpx) -> Sample
     (Cpx::from(before) + product).exact_sample()
 }
 
-// Adds what a port sends in a symbol of a frame, times a gain. Its samples are those of the useful part up to its
-// last one, before which they repeat.
+// Adds the port's samples in a symbol, times a gain. The symbol ends with its useful part, and its cyclic prefix
+// repeats the last samples.
 fn add_symbol(signals: &Signals, gain: &Cpx, symbol: usize, out: &mut [Sample])
     requires symbol { symbol < 20 * port_symbols signals.now.port }
     requires gain { square gain.now ≤ 784 }
@@ -199,7 +198,7 @@ fn add_symbol(signals: &Signals, gain: &Cpx, symbol: usize, out: &mut [Sample])
     }
 }
 
-// Adds what a port sends in the symbols of a frame from one up to another, times a gain.
+// Adds the port's samples in the symbols `first..last`, times a gain.
 fn add_between(signals: &Signals, gain: &Cpx, first: usize, last: usize, out: &mut [Sample])
     requires order { first ≤ last }
     requires last { last ≤ 20 * port_symbols signals.now.port }
@@ -215,7 +214,7 @@ fn add_between(signals: &Signals, gain: &Cpx, first: usize, last: usize, out: &m
     }
 }
 
-/// Adds what a port sends in some symbols of a frame, times a gain.
+/// Adds the port's samples in some symbols of a frame, times a gain.
 pub(crate) fn add_symbols(signals: &Signals, gain: &Cpx, symbols: &Symbols, out: &mut [Sample])
     requires order { AreSpans (port_prefix signals.now.port) symbols.now }
     requires gain { square gain.now ≤ 784 }

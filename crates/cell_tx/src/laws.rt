@@ -1,4 +1,4 @@
-//! Laws of what a cell sends.
+//! Laws for transmitted cells.
 
 ghost use Rattle.cell_tx.specs.Laws.{UsefulPartsStand, PrefixesRepeat, FramesFollow, FramesBeginAtStart};
 ghost use Rattle.cell_tx.specs.Laws.{ElementsAreWithin, ElementsAreSmall};
@@ -7,22 +7,20 @@ ghost use Rattle.cell_tx.specs.Laws.{ReceivedWithErrorsIsClean, ReceivedWithErro
 ghost use Rattle.cell_tx.specs.Laws.{ReceivedOfTwoIsClean, ReceivedOfTwoIsSmall, ReceivedOfTwoFits};
 ghost use Rattle.cell_tx.specs.Laws.{EmittedIsClean, EmittedIsSmall};
 
-/// Where the useful parts of the symbols of a frame stand, and the prefixes before them, whatever its
-/// elements are (TS 36.211 section 6.12).
+/// A law: the positions of useful parts and cyclic prefixes in a frame, for any grid (TS 36.211 section 6.12).
 pub fn symbols_stand()
     ensures useful { UsefulPartsStand }
     ensures prefix { PrefixesRepeat }
 {}
 
-/// Where the frames of a sequence stand, and those of what is sent from an offset on, whatever their
-/// elements are.
+/// A law: the positions of frames in a sequence, also from an offset, for any grid.
 pub fn frames_stand()
     ensures follow { FramesFollow }
     ensures begin { FramesBeginAtStart }
 {}
 
-/// Elements of a cell at any port, with load or without, have size at most 128, and samples of such elements 1,153.
-/// (own amplitudes)
+/// A law: resource elements at any port, with or without load, have magnitude at most 128, and their samples at most
+/// 1,153. (own amplitudes)
 pub fn sizes()
     ensures within { ElementsAreWithin }
     ensures elements { ElementsAreSmall }
@@ -30,19 +28,16 @@ pub fn sizes()
     ensures samples { SamplesAreSmall }
 {}
 
-/// A sequence times a gain, with any error in each component of at most twice the gain's size, is a clean
-/// recording of it; where none of its samples has a size above 1,153, the components have sizes of at
-/// most 32,340, so that they fit 16 bits. What a cell sends, times a gain, is clean without errors.
+/// A law: a sequence times a gain, plus errors up to twice the gain's magnitude, is a clean recording, and fits 16
+/// bits if no sample exceeds magnitude 1,153.
 pub fn sent_is_clean()
     ensures errors { ReceivedWithErrorsIsClean }
     ensures fits { ReceivedWithErrorsFits }
     ensures exact { ReceivedIsClean }
 {}
 
-/// Two sequences, each times its gain, with any error in each component within the bound that the gains allow, are a
-/// clean recording of both; where no sample of either has a size above 1,153, components are at most 32,284 without
-/// errors and 32,293 with them, so that they fit 16 bits. What is received of an emission by any carrier, with load or
-/// without, is so as well, where no pair of four ports is weak.
+/// A law: two sequences times their gains, plus errors within the bound, are a clean recording and fit 16 bits if no
+/// sample exceeds magnitude 1,153. So does an emission, if no pair of four ports is weak.
 pub fn sum_is_clean()
     ensures errors { ReceivedOfTwoIsClean }
     ensures small { ReceivedOfTwoIsSmall }

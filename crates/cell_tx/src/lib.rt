@@ -1,7 +1,7 @@
-//! The transmitter of a described cell by any carrier: the samples that its resource grid makes, frame after frame
-//! without end, at each antenna port or of all ports together (TS 36.211 section 6.12).
+//! The transmitter for a described cell, for each transmission scheme: the endless frame sequence that its resource
+//! grid produces, at one antenna port or summed over all ports (TS 36.211 section 6.12).
 //!
-//! Tests: `sent_tests/src/transmissions.rt`, `sent_tests/src/emissions.rt`.
+//! Tests: the crate `sent_tests`, in `transmissions.rt` and `emissions.rt`.
 #![tactic(auto)]
 
 mod emitter;

@@ -1,4 +1,4 @@
-//! The samples of a cell.
+//! A cell's samples.
 
 ghost use Rattle.std.specs.Prelude.{◌≡◌, ◌+◌, ◌*◌, ◌/◌, ◌%◌, ◌<◌, ◌≤◌, length, None};
 ghost use Rattle.finite.specs.Lists.{values_below};
@@ -23,19 +23,19 @@ use cell_plan::{Cell, Transmission};
 use cs_num::{Cpx, Gain, Sample};
 use lte_types::{Carrier, FRAME_LENGTH, SLOT_LENGTH, Sfn, Timing, USEFUL_LENGTH};
 
-// The samples of a frame.
+// The number of samples in a frame.
 const FRAME: u64 = FRAME_LENGTH as u64;
 
-// The only port of a cell with the normal cyclic prefix.
+// The only port, with the normal cyclic prefix.
 const ONLY: Port = Port {
     carrier: Carrier::OnePort,
     number: 0,
 };
 
-// The gain by which nothing changes.
+// The unit gain.
 const ONE: Cpx = Cpx { re: 1, im: 0 };
 
-// The sample of the useful part of its symbol that sample i of a slot repeats or is.
+// Returns the index in the symbol's useful part for sample `i` of a slot.
 fn place_at(port: Port, i: usize) -> usize
     requires { i < slot_length }
     ensures value { result ≡ useful_place (port_prefix port) i }
@@ -46,7 +46,7 @@ fn place_at(port: Port, i: usize) -> usize
     (i + first - prefix.step() * prefix.symbol_of(i)) % USEFUL_LENGTH
 }
 
-// The symbol of a slot that sample i of it is in.
+// Returns the symbol in the slot that contains sample `i`.
 fn symbol_at(port: Port, i: usize) -> u8
     requires { i < slot_length }
     ensures value { result ≡ symbol_of (port_prefix port) i }
@@ -55,7 +55,7 @@ fn symbol_at(port: Port, i: usize) -> u8
     port.carrier.prefix().symbol_of(i) as u8
 }
 
-// Sample i of a slot, from the useful part of its symbol.
+// Returns sample `i` of a slot, given the useful part of its symbol.
 fn sample_of_slot(signals: &Signals, useful: &[Cpx; 128], slot: usize, i: usize) -> Sample
     requires i { i < slot_length }
     requires useful { useful.now ≡ useful_part (elements_of signals.now signals.now.sfn (slot / 2)
@@ -66,7 +66,7 @@ fn sample_of_slot(signals: &Signals, useful: &[Cpx; 128], slot: usize, i: usize)
     useful[place_at(signals.port, i)].exact_sample()
 }
 
-// Sample i of a frame.
+// Returns sample `i` of a frame.
 fn sample_of_frame(signals: &Signals, i: usize) -> Sample
     requires { i < frame_length }
     ensures { result ≡ sample_of (sample_in signals.now i) }
@@ -102,7 +102,7 @@ pub fn sample(cell: &Cell, sfn: Sfn, i: u64) -> Sample
     port_sample(cell, ONLY, sfn, i)
 }
 
-/// Writes frame `sfn` into `out`, which has 19,200 samples: those of `sample` from 0.
+/// Writes frame `sfn` into `out`, which has 19,200 samples: `sample` for indices from 0.
 pub fn frame(cell: &Cell, sfn: Sfn, out: &mut [Sample])
     requires { length out.old ≡ frame_length }
     ensures { out.new ≡ frame_samples normal (element cell.now) sfn }
@@ -118,7 +118,7 @@ pub fn frame(cell: &Cell, sfn: Sfn, out: &mut [Sample])
     sequence(&sender, out);
 }
 
-// A clean sample times a gain. The size of the sample is at most 1,153.
+// Returns a sample times a gain. The sample's magnitude is at most 1,153.
 fn amplified(gain: Gain, clean: Sample) -> Sample
     requires { square (value_of clean) ≤ 1153 * 1153 }
     ensures value { result ≡ sample_of (times gain (value_of clean)) }
@@ -137,21 +137,21 @@ pub fn send(t: &Transmission, i: u32) -> Sample
     amplified(t.gain(), sample(&t.cell, t.sfn, i as u64 + t.offset as u64))
 }
 
-/// A cell that is sent at one antenna port, from a sample of a frame, with load or without.
+/// A cell transmitted at one antenna port, from a sample in a frame, with or without load.
 #[derive(Drop)]
 pub struct Sender<'a> {
-    /// The cell. With the extended cyclic prefix or four antenna ports its system information is not sent.
+    /// The cell. Its system information is not transmitted with the extended cyclic prefix or four antenna ports.
     pub cell: &'a Cell,
     /// The antenna port.
     pub port: Port,
-    /// The first frame and the first sample of it which is sent.
+    /// The first frame, and the first transmitted sample in it.
     pub timing: Timing,
-    /// The number of the load that stands at each place which the plan leaves open, where there is one.
+    /// The number of the load on the resource elements that the plan leaves open, if there is load.
     pub load: Option<u32>,
 }
 
-/// Writes what is sent at a port into `out`, at most 1,920,000 samples: sample `i + offset` of the port's sequence into
-/// item `i`. Magnitudes are at most 1,153 (`sizes`).
+/// Writes the port's transmission into `out`, at most 1,920,000 samples: sample `i + offset` of the port's sequence
+/// into item `i`. Magnitudes are at most 1,153 (`sizes`).
 pub fn sequence(sender: &Sender, out: &mut [Sample])
     requires { length out.old ≤ most_samples }
     ensures { out.new ≡ values_below (length out.old) (λ i. sample_of (sample_by sender.now i)) }
@@ -160,7 +160,7 @@ pub fn sequence(sender: &Sender, out: &mut [Sample])
     put_all(Emitter::by(&source), out);
 }
 
-/// Writes all samples of a transmission into `out`, which has as many: that of `send` into item `i`.
+/// Writes all samples of a transmission into `out`, which has the same length: `send` for each index.
 pub fn send_all(t: &Transmission, out: &mut [Sample])
     requires { length out.old ≡ t.now.samples }
     ensures { out.new ≡ received_samples t.now }

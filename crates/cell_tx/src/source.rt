@@ -1,4 +1,4 @@
-//! What samples are made of: a cell, the antenna ports that send it, their gains, the timing and the load.
+//! The source of samples: a cell, its antenna ports with gains, the timing and the load.
 
 ghost use Rattle.std.specs.Prelude.{◌≤◌};
 ghost use Rattle.lte_types.specs.Numerology.{most_samples};
@@ -9,15 +9,15 @@ use cell_plan::{Cell, Emission};
 use cs_num::Cpx;
 use lte_types::{Carrier, Timing};
 
-/// The antenna ports that send at once: one alone, or all of a carrier.
+/// The antenna ports that transmit simultaneously: a single one, or all in a transmission scheme.
 #[derive(Clone, Copy)]
 pub(crate) enum Ports {
     Alone(Port),
     All(Carrier),
 }
 
-/// What samples are made of: `samples` samples of a cell from where `timing` says on, those of each port times the gain
-/// of the port. The gain of a port alone is the first.
+/// A cell's samples from `timing`, as the sum over the ports times their gains. For a single port the first gain is
+/// used.
 #[derive(Drop)]
 pub(crate) struct Source<'a> {
     pub cell: &'a Cell,
@@ -38,7 +38,7 @@ impl<'a> Source<'a> {
     ghost use Rattle.cell_tx.specs.Sending.{sample_by};
     ghost use Rattle.cell_tx.specs.Emitting.{made_samples};
 
-    /// What an emission is made of.
+    /// Returns the source of an emission.
     pub(crate) fn of(emission: &'a Emission) -> Source<'a>
         ensures made { made_samples result ≡ emitted_samples emission.now }
         ensures offset { result.timing.offset ≡ emission.now.timing.offset }
@@ -53,7 +53,7 @@ impl<'a> Source<'a> {
         }
     }
 
-    /// What some samples of a port are made of, times a gain.
+    /// Returns the source of one port's samples, times a gain.
     pub(crate) fn of_port(sender: &Sender<'a>, gain: Cpx, samples: usize) -> Source<'a>
         requires samples { samples ≤ most_samples }
         requires gain { square gain ≤ 784 }
@@ -69,7 +69,7 @@ impl<'a> Source<'a> {
         }
     }
 
-    /// A source equal to this one.
+    /// Returns a copy of this source.
     pub(crate) fn again(&self) -> Source<'a>
         ensures { result ≡ self.now }
     {
@@ -88,7 +88,7 @@ impl Ports {
     ghost use Rattle.std.specs.Prelude.{◌≡◌};
     ghost use Rattle.cell_tx.specs.Mixing.{carrier_by};
 
-    /// The first port.
+    /// Returns the first port.
     pub(crate) fn first(self) -> Port
         ensures { result.carrier ≡ carrier_by self }
     {

@@ -10,7 +10,7 @@ use cell_grid::{Signals, grid_of};
 use cs_num::Cpx;
 use fold128::synth;
 
-// The number in its subframe of a symbol of a slot.
+// Returns the index in its subframe for a symbol of a slot.
 fn symbol_of(port: Port, slot: u8, symbol: u8) -> u8
     requires { symbol < port_symbols port }
     ensures value { result ≡ port_symbols port * (slot % 2) + symbol }
@@ -23,7 +23,7 @@ fn symbol_of(port: Port, slot: u8, symbol: u8) -> u8
     }
 }
 
-/// The samples of the useful part of symbol `symbol` of a slot.
+/// Returns the useful part of symbol `symbol` in a slot.
 pub(crate) fn useful_of(signals: &Signals, slot: u8, symbol: u8) -> [Cpx; 128]
     requires slot { slot < 20 }
     requires symbol { symbol < port_symbols signals.now.port }

@@ -1,4 +1,4 @@
--- A recording turned by 0.
+-- Correction by 0.
 use Rattle.std.proofs.Common.{◌≡◌, ℕ, ◌+◌, ◌*◌, ◌/◌, length, arith, refl, ap, ap₂, sym, ◌∙◌, ℤ, pos, negsuc, ◌+ℤ◌, ◌-ℤ◌, ◌*ℤ◌, neg_ℤ, FitsSigned}
 use Rattle.std.specs.Prelude.{slice_index_or}
 use Rattle.std.specs.Int.{w16}
@@ -23,7 +23,7 @@ w_is_one = refl
 no_angle : (i : ℕ) → angle (pos 0) i ≡ pos 0
 no_angle i = let e : 0 * i ≡ 0 = omega arith in rw e refl
 
--- a whole number times 2^14, divided by it
+-- x times 2^14 plus 2^13, divided by 2^14 and rounded down, is x
 floor_back : (x : ℤ) → floor_div (x *ℤ pos 16384 +ℤ pos 8192) 16384 ≡ x
 floor_back (pos n) = ap pos (let e : (n * 16384 + 8192) / 16384 ≡ n = omega arith in e)
 floor_back (negsuc n) =

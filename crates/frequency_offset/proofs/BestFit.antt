@@ -1,4 +1,4 @@
--- The best fit, one turn after the other.
+-- The best match, offset by offset.
 use Rattle.std.proofs.Common.{◌≡◌, ℕ, zero, suc, ◌+◌, ◌-◌, ◌≤◌, arith, refl, ℤ, int_lt}
 use Rattle.std.specs.Prelude.{if◌then◌else◌}
 use Rattle.cs_num.specs.declared.Cpx.{Cpx}
@@ -7,7 +7,7 @@ use Rattle.sss_detect.proofs.Choices.{first_greatest-le}
 use Rattle.frequency_offset.specs.Order.{by_size}
 use Rattle.frequency_offset.specs.Fine.{fit}
 
--- how well number k of the turns by size fits
+-- how well offset k, by magnitude, matches
 abbrev pub fit_at : Cpx → ℕ → ℤ
 fit_at sum k = fit sum (by_size k)
 

@@ -1,4 +1,4 @@
--- The whole numbers by size.
+-- The integers by magnitude.
 use Rattle.std.proofs.Common.{◌≡◌, ℕ, ◌+◌, ◌*◌, ◌/◌, ◌%◌, ◌≤◌, Bool, true, false, nat_eq, arith, refl, pos, negsuc}
 use Rattle.std.proofs.lemmas.Bool.Decides.{nat_tests}
 use borrow.Author.Differences.{up, down}
@@ -13,7 +13,7 @@ pub by_size_odd : (k : ℕ) → (k % 2 ≡ 0 → ⊥) → by_size k ≡ negsuc (
 unfolding by_size
 by_size_odd k e = let t : nat_eq (k % 2) 0 ≡ false = grind (arith, nat_tests) in rw t refl
 
--- twice each part is at most k, and one more below 0
+-- twice the positive part is at most k, and twice the negative part at most k + 1
 pub by_size_between : (k : ℕ) → (2 * up (by_size k) ≤ k) × (2 * down (by_size k) ≤ k + 1)
 unfolding by_size
 by_size_between k = settle (nat_eq (k % 2) 0) refl

@@ -1,4 +1,4 @@
--- What the front of a recording tells of the whole.
+-- The front of a recording determines its cell list.
 use Rattle.std.proofs.Common.{◌≡◌, ℕ, ◌<◌, ◌≤◌, ◌⊎◌, inl, inr, Result, Ok, Err, List, length, take, min, arith, sym, ap, subst, ◌∙◌}
 use Rattle.std.specs.Prelude.{IfOk}
 use Rattle.std.proofs.lemmas.Bool.{cases_lt}
@@ -8,7 +8,7 @@ use Rattle.explain.specs.Deciding.{deciding_length}
 use Rattle.explain.proofs.Deciding.{first_frames_decide}
 use Rattle.frequency_offset.specs.Telling.{HasCells}
 
--- what was made of as many samples as are looked at, or of all where there are fewer, is the front
+-- the samples computed for the front are the recording's front
 pub front_made : {E : Type 0} (x : List Sample) (count most : ℕ) (made : Result (List Sample) E) → count ≡ min most (length x) → IfOk made (λ front. length front ≡ count) →
     IfOk made (λ front. take count front ≡ take count x) → IfOk made (λ front. front ≡ take most x)
 front_made x count most (Ok front) few size same = sym (take_all count front (omega (arith, size))) ∙ same ∙ ap (λ n. take n x) few ∙ take_min most x

@@ -1,4 +1,4 @@
--- What holds of values holds of the greatest.
+-- A property of all values holds for the largest.
 use Rattle.std.proofs.Common.{◌≡◌, suc, Bool, true, false, List, [], ◌∷◌, fold, Some, arith, subst}
 use Rattle.std.specs.Prelude.{All, if◌then◌else◌}
 use Rattle.frequency_offset.specs.declared.fraction.Fraction.{Fraction}

@@ -1,4 +1,4 @@
--- How great the fractions of a turned recording's hits are.
+-- Bounds on the fractions of hits in a corrected recording.
 use Rattle.std.proofs.Common.{ℕ, ◌*◌, ◌^◌, ◌≤◌, List, arith, ℤ}
 use Rattle.std.specs.Prelude.{All}
 use Rattle.std.proofs.lemmas.Nat.{mul-le}

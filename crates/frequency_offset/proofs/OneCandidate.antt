@@ -1,4 +1,4 @@
--- The candidate of one coarse turn, and the list of them while it grows.
+-- The candidate at one coarse offset, and the growing list.
 use Rattle.std.proofs.Common.{◌≡◌, ℕ, ◌+◌, List, [], ◌++◌, take, Option, arith, ap, sym, subst, ◌∙◌, ℤ}
 use Rattle.std.specs.Prelude.{All, option_map, option_to_list}
 use Rattle.finite.proofs.Lists.{joined_below_none, joined_below_more}
@@ -13,7 +13,7 @@ use Rattle.frequency_offset.specs.Candidates.{candidate_by, candidate_at, coarse
 use Rattle.frequency_offset.specs.Steps.{IsSmallHit}
 use Rattle.frequency_offset.proofs.HitSizes.{hits_are_small}
 
--- what a best hit gives, or none
+-- the candidate from the best hit, or none
 pub candidate_is : (recording x : List Sample) (k : ℕ) (hits : List Hit) (o : Option Hit) → x ≡ coarsely_turned recording k → hits ≡ hits_of x → o ≡ greatest fraction_of hits →
     option_map (candidate_by x k) o ≡ candidate_at recording k
 unfolding candidate_at
@@ -34,10 +34,10 @@ one_candidate recording k old new o before e now =
     now ∙ ap (λ xs. xs ++ option_to_list o) before ∙ ap (λ c. candidates_below recording k ++ option_to_list c) e
     ∙ sym (joined_below_more k (λ i. option_to_list (candidate_at recording i)))
 
--- what has the samples of the turned recording that are looked at has its hits
+-- recordings with equal samples in the PSS search have equal hits
 pub hits_told : (x front : List Sample) (list slice : List Hit) → take 19473 front ≡ take 19473 x → list ≡ hits_of front → slice ≡ list → slice ≡ hits_of x
 hits_told x front list slice f l s = s ∙ l ∙ hits_agree 19473 front x f (omega arith)
 
--- and so their fractions are small
+-- the hits' fractions have bounded numbers
 pub small_told : (recording x : List Sample) (m : ℤ) (hits : List Hit) → x ≡ turned recording m → hits ≡ hits_of x → All IsSmallHit hits
 small_told recording x m hits e h = subst (λ (xs : List Hit). All IsSmallHit xs) (sym (h ∙ ap hits_of e)) (hits_are_small recording m)

@@ -1,4 +1,4 @@
--- One thing is told of a recording.
+-- A recording has only one estimate.
 use Rattle.std.proofs.Common.{◌≡◌, ℕ, ◌<◌, ◌≤◌, ◌⊎◌, inl, inr, List, [], length, get_or, Option, Some, None, arith, refl, ap, sym, subst, ◌∙◌, ℤ, pos}
 use Rattle.std.proofs.lemmas.Bool.{cases_lt}
 use Rattle.cs_num.specs.declared.Sample.{Sample}
@@ -28,12 +28,12 @@ module _ (recording : List Sample) where
   one_tells : (candidate : Candidate) (x y : Told) → Tells recording candidate x → Tells recording candidate y → x ≡ y
   one_tells candidate x y p q = told_is x y (p.turn ∙ sym q.turn) (p.hits ∙ sym q.hits) (one_count (turned recording candidate.turn) x.cells y.cells p.cells q.cells)
 
-  -- a candidate that gives no cell tells none
+  -- a candidate without cells has an estimate without cells
   silent_tells : (candidate : Candidate) (x : Told) → IsSilent recording candidate → Tells recording candidate x → x.cells ≡ 0
   silent_tells candidate x s t = one_count (turned recording candidate.turn) x.cells 0 t.cells s
 
   module _ (taken : List Candidate) where
-    -- the first that gives a cell stands no later than another that does
+    -- the first candidate with a cell has the lowest index among those with a cell
     not_later : (x y : Told) (p : IsFirstHeard recording taken x) (q : IsFirstHeard recording taken y) → p.place ≤ q.place
     not_later x y p q = settle (cases_lt q.place p.place)
       where
@@ -82,7 +82,7 @@ pub is_one_applied : IsOneApplied
 is_one_applied recording first second p q =
     p.samples ∙ ap (λ told. turned recording (turn_of told)) (is_one_told recording p.told q.told p.is_told q.is_told) ∙ sym q.samples
 
--- what is told of the cells is true of the recording that is turned by it
+-- the corrected recording has as many cells as the estimate states
 cells_of : (recording : List Sample) (taken : List Candidate) (told : Told) → IsFirstHeard recording taken told ⊎ IsFirstSilent recording taken told →
     HasCells (turned recording told.turn) told.cells
 cells_of recording taken told (inl p) = let t = p.tells no_candidate in subst (λ turn. HasCells (turned recording turn) told.cells) (sym t.turn) t.cells

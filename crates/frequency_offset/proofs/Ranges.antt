@@ -1,4 +1,4 @@
--- What is known of each candidate: the range of its turn, and the size of its fraction.
+-- Bounds on each candidate: the range of its offset, and the numbers in its fraction.
 use Rattle.std.proofs.Common.{◌≡◌, ℕ, zero, suc, ◌<◌, ◌≤◌, ◌⊎◌, inl, inr, List, [], ◌∷◌, Option, Some, None, arith, refl, sym, subst, ℤ, pos, negsuc, ◌+ℤ◌, ◌*ℤ◌, ◌≤ℤ◌}
 use Rattle.std.specs.Prelude.{All, option_map, option_to_list, nat_abs}
 use Rattle.std.proofs.lemmas.Int.{ints}
@@ -27,7 +27,7 @@ use Rattle.frequency_offset.proofs.HitSizes.{hits_are_small}
 use Rattle.frequency_offset.proofs.Greatest.{greatest_has}
 use Rattle.frequency_offset.proofs.Takes.{taken_has}
 
--- a number from -576 to 575
+-- an offset from -576 to 575
 pub record IsInTurns (turn : ℤ) : Type 0 where
   pub least : negsuc 575 ≤ℤ turn
   pub most : turn ≤ℤ pos 575

@@ -1,4 +1,4 @@
--- The candidates that are taken, one after the other.
+-- The selected candidates, one by one.
 use Rattle.std.proofs.Common.{◌≡◌, ℕ, zero, suc, ◌+◌, ◌-◌, ◌<◌, List, [], ◌∷◌, ◌++◌, Option, Some, None, arith, refl, ap, ap₂, sym, ◌∙◌, append_assoc, append-nil}
 use Rattle.std.specs.Prelude.{All, filter}
 use Rattle.std.specs.Option.{option_map_or}
@@ -28,7 +28,7 @@ pub taken_no_more : (candidates : List Candidate) → first_taken 0 candidates �
 unfolding first_taken
 taken_no_more candidates = refl
 
--- the loop's step: what is taken, and what is left to take
+-- the loop's step: the selected candidates, and those that remain
 pub one_taken : (n more : ℕ) (all taken rest new left : List Candidate) (best : Candidate) → n < 4 → best_of_all rest ≡ Some best →
     first_taken 4 all ≡ taken ++ first_taken (4 - n) rest → new ≡ taken ++ (best ∷ []) → more ≡ n + 1 → left ≡ filter (is_far best) rest →
     first_taken 4 all ≡ new ++ first_taken (4 - more) left
@@ -39,12 +39,12 @@ one_taken n more all taken rest new left best few e before now m l =
     ∙ sym (append_assoc taken (best ∷ []) (first_taken (4 - more) (filter (is_far best) rest)))
     ∙ ap₂ (λ xs ys. xs ++ first_taken (4 - more) ys) (sym now) (sym l)
 
--- its end: no candidate is left, or none more is taken
+-- the loop's end: no candidate remains, or four are selected
 pub all_taken : (n : ℕ) (all taken rest : List Candidate) → first_taken 4 all ≡ taken ++ first_taken (4 - n) rest → first_taken (4 - n) rest ≡ [] →
     taken ≡ first_taken 4 all
 all_taken n all taken rest before none = sym (before ∙ ap (λ xs. taken ++ xs) none ∙ append-nil taken)
 
--- what holds of candidates holds of those that are taken
+-- what holds for all candidates holds for the selected ones
 pub taken_has : (P : Candidate → Type 0) (n : ℕ) (candidates : List Candidate) → All P candidates → All P (first_taken n candidates)
 unfolding first_taken
 taken_has P zero candidates h = λ k d l. absurd (omega (arith, l))

@@ -1,4 +1,4 @@
--- What is told of the first of the taken candidates.
+-- The estimate from the first of the selected candidates.
 use Rattle.std.proofs.Common.{◌≡◌, ℕ, ◌+◌, ◌<◌, inl, inr, List, [], ◌∷◌, length, Option, Some, None, arith, refl, sym, subst, ◌∙◌}
 use Rattle.std.specs.Prelude.{HoldsAt}
 use Rattle.std.specs.List.{AllWithin}
@@ -10,7 +10,7 @@ use Rattle.frequency_offset.specs.declared.telling.Told.{Told}
 use Rattle.frequency_offset.specs.Turned.{turned}
 use Rattle.frequency_offset.specs.Telling.{HasCells, Tells, IsSilent, IsToldBy}
 
--- what the first of candidates tells, where there is one
+-- the first candidate's estimate, if there is a candidate
 abbrev pub IsFirstOf : List Sample → List Candidate → ℕ → Option Told → Type 0
 IsFirstOf recording taken n None = n ≡ 0
 IsFirstOf recording taken n (Some told) = (0 < n) × HoldsAt (λ candidate. Tells recording candidate told) taken 0

@@ -1,4 +1,4 @@
--- The samples of a turned recording.
+-- The samples of a corrected recording.
 use Rattle.std.proofs.Common.{◌≡◌, ℕ, ◌<◌, ◌≤◌, List, length, get_or, ◌⊎◌, inl, inr, arith, ap, sym, subst, ℤ}
 use Rattle.std.proofs.lemmas.Bool.{cases_lt}
 use Rattle.std.proofs.Math.ListN.{get_or-eq_default}
@@ -14,7 +14,7 @@ turned-length recording m = values_below-length (length recording) (turned_at re
 pub turned_sample : (recording : List Sample) (m : ℤ) (i : ℕ) → i < length recording → sample_at (turned recording m) i ≡ value_of (turned_at recording m i)
 turned_sample recording m i l = ap value_of (values_below_at (turned_at recording m) (length recording) i silence l)
 
--- ---- sizes
+-- ---- magnitudes
 
 turned_at_small : (recording : List Sample) (m : ℤ) (i : ℕ) → IsWithin 32768 (value_of (turned_at recording m i))
 unfolding turned_at turned_back
@@ -30,6 +30,6 @@ turned-within recording m i = settle (cases_lt i (length recording))
         let none : get_or (turned recording m) i silence ≡ silence = get_or-eq_default (turned recording m) silence (omega (arith, long, outside)) in
         subst (λ (s : Sample). IsWithin 32768 (value_of s)) (sym none) (record { re = omega arith; im = omega arith })
 
--- a place in a turned recording is one in the recording
+-- an index in a corrected recording is one in the recording
 pub inside_is : (recording x : List Sample) (m : ℤ) (i : ℕ) → turned recording m ≡ x → i < length x → i < length recording
 inside_is recording x m i e l = let long = turned-length recording m in let same = ap length e in omega (arith, long, same, l)

@@ -1,4 +1,4 @@
--- The turns that may be the one: candidates, and which of them are taken. (own)
+-- Candidate offsets, and the selection among them. (own)
 use Rattle.std.specs.Prelude.{ℕ, zero, suc, Bool, nat_lt, nat_abs, ℤ, pos, ◌+ℤ◌, ◌-ℤ◌, ◌*ℤ◌, List, [], ◌∷◌, length}
 use Rattle.std.specs.Prelude.{filter, Option, option_map, option_to_list}
 use Rattle.std.specs.Option.{option_map_or}
@@ -12,11 +12,11 @@ use Rattle.frequency_offset.specs.Order.{by_size}
 use Rattle.frequency_offset.specs.Fine.{fine_turn}
 use Rattle.frequency_offset.specs.Fractions.{fraction_of, greatest}
 
--- turns of 3.75 kHz more and less: number k of them, by size
+-- coarse offset k in steps of 117.1875 Hz: multiples of 3.75 kHz, by magnitude
 abbrev pub coarse_turn : ℕ → ℤ
 coarse_turn k = pos 32 *ℤ by_size k
 
--- what is told by the best hit of a recording that was turned by coarse turn number k
+-- the candidate from the best hit in a recording corrected by coarse offset k
 abbrev pub candidate_by : List Sample → ℕ → Hit → Candidate
 candidate_by turned k best = record {
   coarse = by_size k;
@@ -25,36 +25,35 @@ candidate_by turned k best = record {
   fraction = fraction_of best;
 }
 
--- the recording turned by coarse turn number k
+-- the recording corrected by coarse offset k
 abbrev pub coarsely_turned : List Sample → ℕ → List Sample
 coarsely_turned recording k = turned recording (coarse_turn k)
 
--- the candidate of coarse turn number k, where the recording then has a hit
+-- the candidate at coarse offset k, if the corrected recording has a hit
 unfoldable pub candidate_at : List Sample → ℕ → Option Candidate
 candidate_at recording k =
     option_map (candidate_by (coarsely_turned recording k) k)
     (greatest fraction_of (hits_of (coarsely_turned recording k)))
 
--- the candidates of the first of the 33 turns up to 60 kHz, by size
+-- the candidates at the first `count` of 33 coarse offsets up to 60 kHz, by magnitude
 unfoldable pub candidates_below : List Sample → ℕ → List Candidate
 candidates_below recording count = joined_below count (λ k. option_to_list (candidate_at recording k))
 
--- the candidates of all 33 turns
+-- the candidates at all 33 coarse offsets
 abbrev pub candidates_of : List Sample → List Candidate
 candidates_of recording = candidates_below recording 33
 
--- the second turn is more than 64, 7.5 kHz, from the first
+-- whether the second offset is more than 64 steps, 7.5 kHz, from the first
 abbrev pub is_far : Candidate → Candidate → Bool
 is_far first second = nat_lt 64 (nat_abs (second.turn -ℤ first.turn))
 
--- the candidate of greatest fraction, then that of the ones far from it, and on in this way, at most as many as the
--- number says
+-- the candidate with the largest fraction, then the best one among those far from it, and so on, at most n
 unfoldable pub first_taken : ℕ → List Candidate → List Candidate
 first_taken zero candidates = []
 first_taken (suc n) candidates =
     option_map_or (λ best. best ∷ first_taken n (filter (is_far best) candidates))
     (greatest (λ c. c.fraction) candidates) []
 
--- the candidates that are taken, in their order
+-- the selected candidates, in order
 abbrev pub taken_of : List Sample → List Candidate
 taken_of recording = first_taken 4 (candidates_of recording)

@@ -1,31 +1,31 @@
--- Fractions, and the greatest of several. (own)
+-- Fractions, and the largest among several. (own)
 use Rattle.std.specs.Prelude.{ℕ, ◌*◌, ◌^◌, ◌≤◌, Bool, nat_lt, if◌then◌else◌, List, [], ◌∷◌, Option, Some, None, fold}
 use Rattle.lte_types.specs.declared.hit.Hit.{Hit}
 use Rattle.pss_search.specs.Correlation.{wave_power}
 use Rattle.frequency_offset.specs.declared.fraction.Fraction.{Fraction}
 
--- the fraction of a hit: how much of the energy the primary signal is
+-- a hit's fraction: how much of the energy belongs to the PSS
 abbrev pub fraction_of : Hit → Fraction
 fraction_of hit = record { peak = hit.peak; energy = hit.energy; power = wave_power hit.n2 }
 
--- what the peak of a fraction is divided by
+-- the denominator of a fraction
 abbrev pub whole : Fraction → ℕ
 whole a = a.energy * a.power
 
--- the first fraction is less than the second
+-- whether the first fraction is less than the second
 abbrev pub is_less : Fraction → Fraction → Bool
 is_less a b = nat_lt (a.peak * whole b) (b.peak * whole a)
 
--- the one of greater fraction of two values, and of equals the first
+-- the value with the larger fraction; on a tie, the first
 abbrev pub greater : {A : Type 0} → (A → Fraction) → A → A → A
 greater fraction a b = if is_less (fraction a) (fraction b) then b else a
 
--- the one of greatest fraction of a list of values, and of equals the first
+-- the value with the largest fraction in a list; on a tie, the first
 abbrev pub greatest : {A : Type 0} → (A → Fraction) → List A → Option A
 greatest fraction [] = None
 greatest fraction (x ∷ xs) = Some (fold (greater fraction) x xs)
 
--- how great the numbers of a fraction are
+-- bounds on the numbers in a fraction
 pub record IsSmall (a : Fraction) : Type 0 where
   pub peak : a.peak ≤ 2 ^ 59
   pub whole : whole a ≤ 2 ^ 59

@@ -1,4 +1,4 @@
--- Laws of turned recordings and of what is told of them. (own)
+-- Laws of offset correction and estimation. (own)
 use Rattle.std.specs.Prelude.{◌≡◌, ◌≤ℤ◌, List, All, ℤ, pos, negsuc, Option, Some, FitsSigned}
 use Rattle.std.specs.Int.{w16}
 use Rattle.cs_num.specs.declared.Sample.{Sample}
@@ -8,35 +8,35 @@ use Rattle.frequency_offset.specs.declared.telling.Told.{Told}
 use Rattle.frequency_offset.specs.Turned.{mean, turned}
 use Rattle.frequency_offset.specs.Telling.{HasCells, IsTold, IsApplied}
 
--- a sample has 16 bits a component
+-- each component of a sample has 16 bits
 pub record Has16Bits (sample : Sample) : Type 0 where
   pub re : FitsSigned w16 sample.re
   pub im : FitsSigned w16 sample.im
 
--- a recording without a mean, turned by 0, is itself
+-- correction by 0 leaves a recording with mean 0 unchanged
 abbrev pub StaysAtZero : Type 0
 StaysAtZero =
     (recording : List Sample) → All Has16Bits recording → mean recording ≡ nothing →
     turned recording (pos 0) ≡ recording
 
--- one thing is told of a recording
+-- a recording has only one estimate
 abbrev pub IsOneTold : Type 0
 IsOneTold =
     (recording : List Sample) (first second : Option Told) → IsTold recording first → IsTold recording second →
     first ≡ second
 
--- a recording is turned in one way by what is told of it
+-- a recording is corrected by its estimate in only one way
 abbrev pub IsOneApplied : Type 0
 IsOneApplied =
     (recording first second : List Sample) → IsApplied recording first → IsApplied recording second → first ≡ second
 
--- where a turn is told, the recording turned by it has as many cells as are told
+-- if there is an estimate, the corrected recording has as many cells as it states
 abbrev pub ToldCellsAreThere : Type 0
 ToldCellsAreThere =
     (recording applied : List Sample) (told : Told) → IsTold recording (Some told) → IsApplied recording applied →
     HasCells applied told.cells
 
--- the turn that is told is one of those within 67.5 kHz
+-- the estimate lies within 67.5 kHz
 pub record IsTurnInRange (told : Told) : Type 0 where
   pub least : negsuc 575 ≤ℤ told.turn
   pub most : told.turn ≤ℤ pos 575
@@ -44,6 +44,6 @@ pub record IsTurnInRange (told : Told) : Type 0 where
 abbrev pub TurnIsInRange : Type 0
 TurnIsInRange = (recording : List Sample) (told : Told) → IsTold recording (Some told) → IsTurnInRange told
 
--- what a recording is turned to is a recording
+-- a corrected recording is a recording
 abbrev pub TurnedIsRecording : Type 0
 TurnedIsRecording = (recording : List Sample) (m : ℤ) → IsRecording recording → IsRecording (turned recording m)

@@ -1,6 +1,6 @@
--- The order in which turns are tried. (own)
+-- The order in which offsets are tried. (own)
 use Rattle.std.specs.Prelude.{ℕ, ◌/◌, ◌%◌, nat_eq, if◌then◌else◌, ℤ, pos, negsuc}
 
--- the whole numbers by their size, of two of one size the negative one first: 0, -1, 1, -2, 2, ..
+-- the integers by magnitude, negative first: 0, -1, 1, -2, 2, ..
 unfoldable pub by_size : ℕ → ℤ
 by_size k = if nat_eq (k % 2) 0 then pos (k / 2) else negsuc (k / 2)

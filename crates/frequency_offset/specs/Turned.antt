@@ -1,4 +1,4 @@
--- A recording with its mean taken off and turned back, against an offset of its frequency. (own)
+-- A recording without its mean, corrected by a frequency offset. (own)
 use Rattle.std.specs.Prelude.{ℕ, List, length, nat_abs, ℤ, pos, ◌*ℤ◌}
 use Rattle.std.specs.Int.{int_rem_euclid}
 use Rattle.finite.specs.Lists.{values_below}
@@ -13,27 +13,27 @@ use Rattle.fold128.specs.Tables.{w_at}
 abbrev pub sum_of : List Sample → Cpx
 sum_of recording = complex_sum_below (length recording) (sample_at recording)
 
--- the mean of all samples, rounded to the nearest, halves up, by components
+-- the mean of all samples, each component rounded to nearest, halves up
 unfoldable pub mean : List Sample → Cpx
 mean recording = quotient (sum_of recording) (length recording)
 
--- W at any whole number, by its period
+-- W for any whole number, by its period
 abbrev pub w_of : ℤ → Cpx
 w_of z = w_at (nat_abs (int_rem_euclid z (pos 128)))
 
--- how far a turn of m has come at sample i, in parts of which 128 are a whole turn: m / 128 more from each sample to
--- the next, which is m times 117.1875 Hz
+-- the phase for offset m at sample i, in 1/128 of a cycle; it advances by m / 128 per sample, which is m times
+-- 117.1875 Hz
 abbrev pub angle : ℤ → ℕ → ℤ
 angle m i = floor_div (m *ℤ pos i) 128
 
--- a number without the mean, turned back
+-- a value minus the mean, rotated back by the phase
 unfoldable pub turned_back : Cpx → Cpx → ℤ → Sample
 turned_back value mean angle = nearest_sample (rounded (times (minus value mean) (conjugate (w_of angle))) 14)
 
--- sample i of a recording turned by m
+-- sample i of a recording corrected by m
 unfoldable pub turned_at : List Sample → ℤ → ℕ → Sample
 turned_at recording m i = turned_back (sample_at recording i) (mean recording) (angle m i)
 
--- a recording turned by m
+-- a recording corrected by m
 abbrev pub turned : List Sample → ℤ → List Sample
 turned recording m = values_below (length recording) (turned_at recording m)

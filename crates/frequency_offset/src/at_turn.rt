@@ -1,4 +1,4 @@
-//! A recording turned, sample by sample.
+//! A corrected recording, computed sample by sample.
 
 ghost use Rattle.std.specs.Prelude.{◌≡◌, ◌*◌, ◌<◌, ◌≤◌, IfOk, length, take, slice_index_or};
 ghost use Rattle.cs_num.specs.Complex.{IsWithin, value_of, silence};
@@ -16,10 +16,10 @@ use sample_file::Recording;
 use std::alloc::{AllocError, Global};
 use std::marker::Model;
 
-// How many samples are looked at for the hits of a recording.
+// The number of samples that the PSS search reads.
 const LOOKED_AT: usize = 19_473;
 
-// A recording turned, whose samples are made where they are asked for. Contracts see it as their list.
+// A corrected recording, whose samples are computed on demand. Contracts see it as their list.
 #[derive(Drop)]
 pub(crate) struct Turned<'a> {
     samples: &'a [Sample],
@@ -41,7 +41,7 @@ impl<'a> Model for Turned<'a> {
 }
 
 impl<'a> Turned<'a> {
-    // Samples with this mean, turned by m.
+    // Creates the correction of samples with this mean by `m`.
     pub(crate) fn new(samples: &'a [Sample], mean: Cpx, m: i16) -> Turned<'a>
         requires { IsCentred samples.now mean }
         ensures { result ≡ turned_by samples.now m }
@@ -53,7 +53,7 @@ impl<'a> Turned<'a> {
         }
     }
 
-    // The number of samples.
+    // Returns the number of samples.
     pub(crate) fn len(&self) -> usize
         ensures value { result ≡ length self.now }
         ensures valid { IsRecording self.now }
@@ -61,7 +61,7 @@ impl<'a> Turned<'a> {
         self.samples.len()
     }
 
-    // Sample i.
+    // Returns sample `i`.
     pub(crate) fn at(&self, i: usize) -> Sample
         requires { i < length self.now }
         ensures { result ≡ slice_index_or self.now i silence }
@@ -70,7 +70,7 @@ impl<'a> Turned<'a> {
         turned_back(samples[i], self.mean, angle(&self.turn, i))
     }
 
-    // All samples.
+    // Returns all samples.
     pub(crate) fn whole(&self, alloc: Global) -> Result<Recording, AllocError>
         ensures value { IfOk result (λ whole. whole ≡ self.now) }
         ensures valid { IfOk result IsRecording }
@@ -79,7 +79,7 @@ impl<'a> Turned<'a> {
         self.with_first(alloc, end, end)
     }
 
-    // As much as decides the list: the first 17 frames, or all where there are fewer.
+    // Returns the samples that determine the cell list: the first 17 frames, or all if there are fewer.
     pub(crate) fn front(&self, alloc: Global) -> Result<Recording, AllocError>
         ensures { IfOk result (λ front. front ≡ take deciding_length self.now) }
     {
@@ -87,7 +87,7 @@ impl<'a> Turned<'a> {
         self.with_first(alloc, count, count)
     }
 
-    // A recording as short as one can be with the same hits: the samples that are looked at for them, and others behind.
+    // Returns the shortest recording with the same hits: the samples that the PSS search reads, then others.
     pub(crate) fn looked_at(&self, alloc: Global) -> Result<Recording, AllocError>
         ensures { IfOk result (λ front. take 19473 front ≡ take 19473 self.now) }
     {
@@ -96,7 +96,7 @@ impl<'a> Turned<'a> {
         self.with_first(alloc, LOOKED_AT, LEAST_SAMPLES)
     }
 
-    // The first `count` samples, and others behind them, `whole` in all.
+    // Returns the first `count` samples followed by others, `whole` in total.
     fn with_first(&self, alloc: Global, count: usize, whole: usize) -> Result<Recording, AllocError>
         requires count { count ≤ length self.now }
         requires room { count ≤ whole }
@@ -113,7 +113,7 @@ impl<'a> Turned<'a> {
         }
     }
 
-    // Writes the first `count` samples over those of others.
+    // Overwrites the first `count` samples of `others`.
     fn write(&self, count: usize, others: &mut [Sample])
         requires count { count ≤ length self.now }
         requires room { count ≤ length others.old }
@@ -126,7 +126,7 @@ impl<'a> Turned<'a> {
     }
 }
 
-// How far a turn of m has come at sample i, in parts of which 128 are a whole turn.
+// Returns the phase for offset `m` at sample `i`, in 1/128 of a cycle.
 fn angle(m: &i16, i: usize) -> i64
     requires { i < most_samples }
     ensures { result ≡ angle_of m.now i }
@@ -134,7 +134,7 @@ fn angle(m: &i16, i: usize) -> i64
     (*m as i64 * i as i64) >> 7
 }
 
-// A sample without the mean, turned back.
+// Returns a sample minus the mean, rotated back by the phase.
 fn turned_back(sample: Sample, mean: Cpx, angle: i64) -> Sample
     requires { IsWithin 32768 mean }
     ensures { result ≡ turned_back_by (value_of sample) mean angle }

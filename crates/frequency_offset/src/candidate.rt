@@ -1,4 +1,4 @@
-//! Turns that may be the one.
+//! Candidate offsets.
 
 ghost use Rattle.std.specs.Prelude.{◌≡◌, ◌+◌, ◌*◌, ◌<◌, ◌≤◌, All, IfOk, OnOk, nat_abs, length};
 ghost use Rattle.pss_search.specs.Hits.{hits_of};
@@ -16,20 +16,20 @@ use lte_types::Hit;
 use pss_search::{HitList, hits};
 use std::alloc::{AllocError, Global};
 
-/// A turn that may be the one, in steps of 117.1875 Hz. (own)
+/// A candidate offset in steps of 117.1875 Hz. (own)
 #[derive(Clone, Copy, Debug, PartialEq, Eq)]
 pub struct Candidate {
-    /// The coarse turn, in steps of 3.75 kHz: -16 to 16.
+    /// The coarse offset, in steps of 3.75 kHz: -16 to 16.
     pub coarse: i16,
-    /// The turn.
+    /// The offset.
     pub turn: i16,
-    /// The count of hits at the coarse turn.
+    /// The hit count at the coarse offset.
     pub hits: usize,
-    /// The greatest fraction of a hit at the coarse turn.
+    /// The largest fraction of a hit at the coarse offset.
     pub fraction: Fraction,
 }
 
-// The candidates of a recording.
+// Returns the candidates in a recording.
 pub(crate) fn candidates_of(alloc: Global, centred: &Centred) -> Result<Vec<Candidate>, AllocError>
     ensures value { IfOk result (λ list. list.items ≡ all_candidates centred.now) }
     ensures small { IfOk result (λ list. All IsSmallCandidate list.items) }
@@ -42,7 +42,7 @@ pub(crate) fn candidates_of(alloc: Global, centred: &Centred) -> Result<Vec<Cand
     Ok(candidates)
 }
 
-// Adds the candidate of coarse turn k, where there is one.
+// Adds the candidate at coarse offset `k`, if there is one.
 fn add_candidate(
     alloc: Global,
     centred: &Centred,
@@ -63,7 +63,7 @@ fn add_candidate(
     }
 }
 
-// Coarse turn k, by size.
+// Returns coarse offset `k`, by magnitude.
 fn coarse_turn(k: usize) -> i16
     requires { k < 33 }
     ensures value { result ≡ coarse_turn_of k }
@@ -72,7 +72,7 @@ fn coarse_turn(k: usize) -> i16
     32 * by_size(k)
 }
 
-// The candidate of coarse turn k, where the recording then has a hit.
+// Returns the candidate at coarse offset `k`, if the corrected recording has a hit.
 fn candidate_at(
     alloc: Global,
     centred: &Centred,
@@ -93,7 +93,7 @@ fn candidate_at(
     }
 }
 
-// What the best hit tells at coarse turn k.
+// Returns the candidate from the best hit at coarse offset `k`.
 fn candidate_by(turned: &Turned, k: usize, hits: usize, best: &Hit) -> Candidate
     requires known { k < 33 }
     requires best { IsSmallHit best.now }

@@ -30,7 +30,7 @@ impl<'a> Model for Centred<'a> {
 }
 
 impl<'a> Centred<'a> {
-    // A recording with its mean, made once for all turns.
+    // Computes the mean of a recording, once for all offsets.
     pub(crate) fn new(recording: &'a Recording) -> Centred<'a>
         ensures { result ≡ recording.now }
     {
@@ -39,7 +39,7 @@ impl<'a> Centred<'a> {
         Centred { samples, mean }
     }
 
-    // The recording turned by m.
+    // Returns the recording corrected by `m`.
     pub(crate) fn turned(&self, m: i16) -> Turned<'a>
         ensures { result ≡ turned_by self.now m }
     {
@@ -47,7 +47,7 @@ impl<'a> Centred<'a> {
     }
 }
 
-// The mean of samples.
+// Returns the mean of the samples.
 fn mean(samples: &[Sample]) -> Cpx
     requires some { 0 < length samples.now }
     requires few { length samples.now ≤ most_samples }

@@ -1,4 +1,4 @@
-//! The rest of a turn, by the cyclic prefixes.
+//! The fine offset, from the cyclic prefixes.
 
 ghost use Rattle.std.specs.Prelude.{◌≡◌, ◌+◌, ◌-◌, ◌*◌, ◌^◌, ◌<◌, ◌≤◌, length, nat_abs, int_lt, nat_le};
 ghost use Rattle.std.specs.Prelude.{◌&&◌, if◌then◌else◌};
@@ -16,7 +16,7 @@ use crate::table::w_at;
 use cs_num::Cpx;
 use lte_types::{HALF_FRAME_LENGTH, Half, Prefix};
 
-// The rest of a turn by m, by the primary signal at place t: -64 to 63.
+// Returns the fine offset, -64 to 63, by the PSS at sample `t` of a corrected recording.
 pub(crate) fn fine_turn(turned: &Turned, t: usize) -> i16
     requires { t < 19600 }
     ensures value { result ≡ fine_turn_of turned.now t }
@@ -25,7 +25,7 @@ pub(crate) fn fine_turn(turned: &Turned, t: usize) -> i16
     best_fit(prefix_sum(turned, t))
 }
 
-// The turn that fits a sum best.
+// Returns the offset that matches a sum best.
 fn best_fit(sum: Cpx) -> i16
     requires { IsWithin (2 ^ 46) sum }
     ensures value { result ≡ best_fit_of sum }
@@ -38,7 +38,7 @@ fn best_fit(sum: Cpx) -> i16
     by_size(best)
 }
 
-// The one of two numbers of turns that fits better, and of equals the first.
+// Returns the index of the offset that matches better; on a tie, the first.
 fn better_fit(sum: Cpx, first: usize, second: usize) -> usize
     requires sum { IsWithin (2 ^ 46) sum }
     requires first { first < 128 }
@@ -53,7 +53,7 @@ fn better_fit(sum: Cpx, first: usize, second: usize) -> usize
     }
 }
 
-// How well a sum fits a turn by m.
+// Returns how well a sum matches offset `m`.
 fn fit(sum: Cpx, m: i16) -> i64
     requires { IsWithin (2 ^ 46) sum }
     ensures { result ≡ fit_of sum m }
@@ -61,7 +61,7 @@ fn fit(sum: Cpx, m: i16) -> i64
     sum.mul(w_at(m as i64).conj()).re
 }
 
-// The sum of 160 slots of a recording turned by m.
+// Returns the sum over 160 slots.
 fn prefix_sum(turned: &Turned, t: usize) -> Cpx
     requires { t < 19600 }
     ensures value { result ≡ prefix_sum_of turned.now t }
@@ -75,7 +75,7 @@ fn prefix_sum(turned: &Turned, t: usize) -> Cpx
     sum
 }
 
-// Where the first half of a frame begins, by the place of a primary signal.
+// Returns the start of the first half frame in the recording, from a PSS position.
 fn half_start(t: usize) -> usize
     requires { t < 19600 }
     ensures value { result ≡ half_start_of t }
@@ -85,7 +85,7 @@ fn half_start(t: usize) -> usize
     (t + (HALF_FRAME_LENGTH - primary)) % HALF_FRAME_LENGTH
 }
 
-// The sum of a slot.
+// Returns the sum for a slot.
 fn slot_sum(turned: &Turned, start: usize, slot: usize) -> Cpx
     requires start { start < half_frame_length }
     requires slot { slot < 160 }
@@ -99,14 +99,14 @@ fn slot_sum(turned: &Turned, start: usize, slot: usize) -> Cpx
     sum
 }
 
-// Whether a symbol of a slot carries something in every cell.
+// Returns whether every cell transmits in a symbol of a slot.
 fn is_carried(slot: usize, symbol: usize) -> bool
     ensures { result ≡ is_carried_at slot symbol }
 {
     symbol == 0 || symbol == 4 || (slot % 10 == 0 && (symbol == 5 || symbol == 6))
 }
 
-// The sum of a symbol, where it carries something and lies in the recording.
+// Returns the sum for a symbol, if every cell transmits in it and it lies in the recording.
 fn symbol_sum(turned: &Turned, start: usize, slot: usize, symbol: usize) -> Cpx
     requires start { start < half_frame_length }
     requires slot { slot < 160 }
@@ -122,7 +122,8 @@ fn symbol_sum(turned: &Turned, start: usize, slot: usize, symbol: usize) -> Cpx
     }
 }
 
-// Whether a symbol, whose useful part begins at u, carries something in every cell and lies in the recording.
+// Returns whether every cell transmits in the symbol with its useful part at `u`, and the symbol lies in the
+// recording.
 fn counts(turned: &Turned, u: usize, slot: usize, symbol: usize) -> bool
     requires { u < 170000 }
     ensures { result ≡ (is_carried_at slot symbol && nat_le (u + 128) (length turned.now)) }
@@ -130,7 +131,7 @@ fn counts(turned: &Turned, u: usize, slot: usize, symbol: usize) -> bool
     is_carried(slot, symbol) && u + 128 <= turned.len()
 }
 
-// What the last nine samples of the prefix before place u give.
+// Returns the sum for the last nine samples in the cyclic prefix before `u`.
 fn repeat_sum(turned: &Turned, u: usize) -> Cpx
     requires first { 9 ≤ u }
     requires few { u < 170000 }
@@ -145,7 +146,7 @@ fn repeat_sum(turned: &Turned, u: usize) -> Cpx
     sum
 }
 
-// What one of the nine samples of a prefix gives.
+// Returns the product for one sample in a cyclic prefix.
 fn repeat_term(turned: &Turned, u: usize, i: usize) -> Cpx
     requires first { 9 ≤ u }
     requires few { u < 170000 }

@@ -1,4 +1,4 @@
-//! Fractions of hits.
+//! Energy fractions of hits.
 
 ghost use Rattle.std.specs.Prelude.{◌≡◌, All, fold};
 ghost use Rattle.frequency_offset.specs.Fractions.{fraction_of as fraction_of_hit, whole as whole_of, is_less as is_less_than};
@@ -11,16 +11,16 @@ use pss_search::signal_power;
 /// The fraction `peak / (energy * power)` of a hit. (own)
 #[derive(Clone, Copy, Debug, PartialEq, Eq)]
 pub struct Fraction {
-    /// The square of the size of the correlation with the signal.
+    /// The squared magnitude of the correlation with the signal.
     pub peak: u64,
-    /// The energy of the 128 samples of the hit.
+    /// The energy of the hit's 128 samples.
     pub energy: u64,
-    /// The power of the signal.
+    /// The signal's power.
     pub power: u64,
 }
 
 impl Fraction {
-    // What the peak is divided by.
+    // Returns the denominator.
     fn whole(&self) -> u64
         requires { IsSmall self.now }
         ensures { result ≡ whole_of self.now }
@@ -29,7 +29,7 @@ impl Fraction {
     }
 }
 
-// Whether the first fraction is less than the second.
+// Returns whether the first fraction is less than the second.
 pub(crate) fn is_less(a: &Fraction, b: &Fraction) -> bool
     requires first { IsSmall a.now }
     requires second { IsSmall b.now }
@@ -39,7 +39,7 @@ pub(crate) fn is_less(a: &Fraction, b: &Fraction) -> bool
     here < (b.peak as u128) * (a.whole() as u128)
 }
 
-// How much of the energy at a hit the primary signal is.
+// Returns how much of the energy at a hit belongs to the PSS.
 pub(crate) fn fraction_of(hit: &Hit) -> Fraction
     requires { IsSmallHit hit.now }
     ensures value { result ≡ fraction_of_hit hit.now }
@@ -52,7 +52,7 @@ pub(crate) fn fraction_of(hit: &Hit) -> Fraction
     }
 }
 
-// The hit of greatest fraction, and of equals the first.
+// Returns the hit with the largest fraction; on a tie, the first.
 pub(crate) fn best_hit(hits: &[Hit]) -> Option<Hit>
     requires { All IsSmallHit hits.now }
     ensures { result ≡ greatest fraction_of_hit hits.now }
@@ -63,7 +63,7 @@ pub(crate) fn best_hit(hits: &[Hit]) -> Option<Hit>
     }
 }
 
-// The hit of greatest fraction: found by a fold, so that of equals the first stays.
+// Folds to the hit with the largest fraction; on a tie, the first stays.
 fn best_of(first: &Hit, rest: &[Hit]) -> Hit
     requires first { IsSmallHit first.now }
     requires rest { All IsSmallHit rest.now }
@@ -76,7 +76,7 @@ fn best_of(first: &Hit, rest: &[Hit]) -> Hit
     best
 }
 
-// The one of greater fraction, and of equals the first.
+// Returns the hit with the larger fraction; on a tie, the first.
 fn stronger_hit(first: &Hit, second: &Hit) -> Hit
     requires first { IsSmallHit first.now }
     requires second { IsSmallHit second.now }

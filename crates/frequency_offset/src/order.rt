@@ -1,9 +1,9 @@
-//! The order in which turns are tried.
+//! The order in which offsets are tried.
 
 ghost use Rattle.std.specs.Prelude.{◌≡◌, ◌<◌, ◌≤◌, ◌+◌, ◌*◌, nat_abs};
 ghost use Rattle.frequency_offset.specs.Order.{by_size as by_size_of};
 
-// Number k of the whole numbers by size, of two of one size the negative one first.
+// Returns number `k` in the order 0, -1, 1, -2, 2, ..
 pub(crate) fn by_size(k: usize) -> i16
     requires { k < 128 }
     ensures value { result ≡ by_size_of k }

@@ -1,4 +1,4 @@
-//! Which candidates are taken.
+//! The selected candidates.
 
 ghost use Rattle.std.specs.Prelude.{◌≡◌, All, IfOk, fold, filter};
 ghost use Rattle.frequency_offset.specs.Fractions.{greater, greatest as greatest_of};
@@ -9,7 +9,7 @@ use crate::candidate::Candidate;
 use crate::fraction::is_less;
 use std::alloc::{AllocError, Global};
 
-// The candidates that are taken of these, in their order.
+// Returns the selected candidates, in order.
 pub(crate) fn taken(alloc: Global, candidates: Vec<Candidate>) -> Result<Vec<Candidate>, AllocError>
     requires { All IsSmallCandidate candidates.items }
     ensures { IfOk result (λ taken. taken.items ≡ first_taken 4 candidates.items) }
@@ -28,7 +28,7 @@ pub(crate) fn taken(alloc: Global, candidates: Vec<Candidate>) -> Result<Vec<Can
     Ok(taken)
 }
 
-// The candidates that are far from this one.
+// Returns the candidates that are far from `best`.
 fn far_from(
     alloc: Global,
     best: &Candidate,
@@ -48,7 +48,7 @@ fn far_from(
     Ok(far)
 }
 
-// Whether the second turn is more than 64 from the first.
+// Returns whether the second offset is more than 64 steps from the first.
 fn is_far(first: &Candidate, second: &Candidate) -> bool
     requires first { IsSmallCandidate first.now }
     requires second { IsSmallCandidate second.now }
@@ -57,7 +57,7 @@ fn is_far(first: &Candidate, second: &Candidate) -> bool
     (second.turn - first.turn).unsigned_abs() > 64
 }
 
-// The candidate of greatest fraction, and of equals the first.
+// Returns the candidate with the largest fraction; on a tie, the first.
 fn greatest(candidates: &[Candidate]) -> Option<Candidate>
     requires { All IsSmallCandidate candidates.now }
     ensures { result ≡ greatest_of (λ c. c.fraction) candidates.now }
@@ -68,7 +68,7 @@ fn greatest(candidates: &[Candidate]) -> Option<Candidate>
     }
 }
 
-// The candidate of greatest fraction: found by a fold, so that of equals the first stays.
+// Folds to the candidate with the largest fraction; on a tie, the first stays.
 fn greatest_by(first: &Candidate, rest: &[Candidate]) -> Candidate
     requires first { IsSmallCandidate first.now }
     requires rest { All IsSmallCandidate rest.now }
@@ -81,7 +81,7 @@ fn greatest_by(first: &Candidate, rest: &[Candidate]) -> Candidate
     best
 }
 
-// The one of greater fraction, and of equals the first.
+// Returns the candidate with the larger fraction; on a tie, the first.
 fn better_turn(first: &Candidate, second: &Candidate) -> Candidate
     requires first { IsSmallCandidate first.now }
     requires second { IsSmallCandidate second.now }

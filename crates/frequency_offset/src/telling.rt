@@ -1,4 +1,4 @@
-//! The turn that is told, and recordings turned.
+//! The estimated frequency offset, and corrected recordings.
 
 ghost use Rattle.std.specs.Prelude.{◌≡◌, IfOk, IfSome};
 ghost use Rattle.sample_file.specs.Recording.{IsRecording};
@@ -14,28 +14,28 @@ use explain::{EntryList, Workspace, explain};
 use sample_file::Recording;
 use std::alloc::{AllocError, Global};
 
-/// What is told of a recording's offset. (own)
+/// The estimate of a recording's frequency offset. (own)
 #[derive(Clone, Copy, Debug, PartialEq, Eq)]
 pub struct Told {
-    /// The turn that takes the offset off, in steps of 117.1875 Hz: -576 to 575.
+    /// The frequency offset to correct, in steps of 117.1875 Hz: -576 to 575.
     pub turn: i16,
-    /// The count of hits at the coarse turn.
+    /// The hit count at the coarse offset.
     pub hits: usize,
-    /// The count of entries in the list of the recording turned by `turn`.
+    /// The length of the cell list after correction by `turn`.
     pub cells: usize,
 }
 
-/// What is told of a recording's offset, and by which candidates. (own)
+/// The estimate of a recording's frequency offset, with its candidates. (own)
 #[derive(Drop)]
 pub struct Telling {
-    /// What is told, where one of the 33 coarse turns gives a hit.
+    /// The estimate, if one of the 33 coarse offsets gives a hit.
     pub told: Option<Told>,
-    /// The candidates that are taken, in their order: at most four.
+    /// The selected candidates, in order: at most four.
     pub candidates: Vec<Candidate>,
 }
 
-/// The recording turned by `m`: its samples without their mean, each turned back by `m` times 117.1875 Hz, rounded
-/// and clamped to 16 bits. Only memory can be wanting. (own)
+/// Corrects a recording by `m`: subtracts the mean, shifts the frequency by `-m` times 117.1875 Hz, rounds, and clamps
+/// to 16 bits. Fails only if an allocation fails. (own)
 pub fn turned(alloc: Global, recording: &Recording, m: i16) -> Result<Recording, AllocError>
     ensures value { IfOk result (λ samples. samples ≡ turned_by recording.now m) }
     ensures valid { IfOk result IsRecording }
@@ -43,10 +43,8 @@ pub fn turned(alloc: Global, recording: &Recording, m: i16) -> Result<Recording,
     Centred::new(recording).turned(m).whole(alloc)
 }
 
-/// What is told of a recording's offset; nothing where none of the 33 coarse turns, up to 60 kHz, gives a hit. Of the
-/// candidates, one for each of these turns that give hits, the one of greatest fraction of energy is taken, then that
-/// of those whose turn is more than 64 from its, and so on, at most four; the first of them whose turn gives cells is
-/// told, and where none does the first. Only memory can be wanting. (own)
+/// Estimates a recording's frequency offset; `None` if none of the 33 coarse offsets, up to 60 kHz, gives a hit. Fails
+/// only if an allocation fails. (own)
 pub fn tell(alloc: Global, recording: &Recording) -> Result<Option<Told>, AllocError>
     ensures told { IfOk result (IsTold recording.now) }
     ensures range { IfOk result (λ told. IfSome told IsTurnInRange) }
@@ -55,7 +53,8 @@ pub fn tell(alloc: Global, recording: &Recording) -> Result<Option<Told>, AllocE
     told_with(alloc, &centred)
 }
 
-/// What `tell` tells of a recording's offset, and the candidates that it takes. Only memory can be wanting. (own)
+/// Estimates a recording's frequency offset as `tell` does, and returns the selected candidates too. Fails only if an
+/// allocation fails. (own)
 pub fn tell_with_candidates(alloc: Global, recording: &Recording) -> Result<Telling, AllocError>
     ensures told { IfOk result (λ telling. IsTold recording.now telling.told) }
     ensures candidates { IfOk result (λ telling. telling.candidates.items ≡ all_taken recording.now) }
@@ -66,7 +65,8 @@ pub fn tell_with_candidates(alloc: Global, recording: &Recording) -> Result<Tell
     Ok(Telling { told, candidates })
 }
 
-/// The recording turned by the turn that is told of it, and by 0 where none is. Only memory can be wanting. (own)
+/// Corrects a recording by its estimated frequency offset, or by 0 without an estimate. Fails only if an allocation
+/// fails. (own)
 pub fn applied(alloc: Global, recording: &Recording) -> Result<Recording, AllocError>
     ensures value { IfOk result (IsApplied recording.now) }
     ensures valid { IfOk result IsRecording }
@@ -76,7 +76,7 @@ pub fn applied(alloc: Global, recording: &Recording) -> Result<Recording, AllocE
     centred.turned(turn_of(&told)).whole(alloc)
 }
 
-// What is told of a recording whose mean is at hand.
+// Returns the estimate for a recording and its mean.
 fn told_with(alloc: Global, centred: &Centred) -> Result<Option<Told>, AllocError>
     ensures { IfOk result (IsTold centred.now) }
 {
@@ -84,7 +84,7 @@ fn told_with(alloc: Global, centred: &Centred) -> Result<Option<Told>, AllocErro
     told_among(alloc, centred, &taken)
 }
 
-// The turn that is told, and 0 where none is.
+// Returns the estimated offset; 0 without an estimate.
 fn turn_of(told: &Option<Told>) -> i16
     ensures { result ≡ turn_that_is told.now }
 {
@@ -94,7 +94,7 @@ fn turn_of(told: &Option<Told>) -> i16
     }
 }
 
-// The candidates of a recording that are taken, in their order.
+// Returns the selected candidates in a recording, in order.
 fn taken_of(alloc: Global, centred: &Centred) -> Result<Vec<Candidate>, AllocError>
     ensures { IfOk result (λ taken. taken.items ≡ all_taken centred.now) }
 {
@@ -102,7 +102,7 @@ fn taken_of(alloc: Global, centred: &Centred) -> Result<Vec<Candidate>, AllocErr
     taken(alloc, candidates)
 }
 
-// What candidates tell.
+// Returns the estimate from a list of candidates.
 fn told_among(
     alloc: Global,
     centred: &Centred,
@@ -123,7 +123,7 @@ fn told_among(
     Ok(first)
 }
 
-// What a candidate tells.
+// Returns the estimate from a candidate.
 fn turn_told_of(
     alloc: Global,
     centred: &Centred,

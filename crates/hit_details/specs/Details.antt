@@ -13,7 +13,7 @@ use Rattle.hit_details.specs.declared.hits.IdentifiedHit.{IdentifiedHit}
 use Rattle.hit_details.specs.declared.hits.MeasuredHit.{MeasuredHit}
 use Rattle.hit_details.specs.declared.hits.MeasuredId.{MeasuredId}
 
--- a hit with the identity of its cell, the half that it is in, and the frame start, by its group and this half
+-- a hit with its cell identity, half frame and frame start, given the SSS group and half frame
 abbrev pub identified_by : Hit → ℕ × Half → IdentifiedHit
 identified_by hit pair = record {
   hit = hit;
@@ -22,12 +22,11 @@ identified_by hit pair = record {
   start = start_by_hit hit.t pair.1;
 }
 
--- a hit of a recording with the identity of its cell, the half that it is in, and the frame start
+-- a hit in a recording with its cell identity, half frame and frame start
 abbrev pub identified : List Sample → Hit → IdentifiedHit
 identified samples hit = identified_by hit (identity_of samples hit)
 
--- a hit with the numbers of its metric, and a hit with these, its identity, and the best and the second pair of a
--- group and a half with their scores
+-- a hit with its metric's numbers
 abbrev pub measured : Hit → MeasuredHit
 measured hit = record { hit = hit; peak = hit.peak; energy = hit.energy; power = wave_power hit.n2 }
 

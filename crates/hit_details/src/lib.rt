@@ -1,7 +1,7 @@
-//! PSS detections (hits) with their details: the physical cell identity and the frame start that the secondary signal
-//! gives for each, the ranking of its groups and halves, and the three numbers of its metric.
+//! PSS detections (hits) with details: the physical cell identity and frame start that the SSS gives, the ranking of
+//! its group and half frame pairs, and the metric's three numbers.
 //!
-//! Tests: `sent_tests/src/texts.rt`, `top_tests/src/hits.rt`, `top_tests/src/ids.rt`.
+//! Tests: the crates `sent_tests`, in `texts.rt`, and `top_tests`, in `hits.rt` and `ids.rt`.
 #![tactic(auto)]
 
 mod hits;

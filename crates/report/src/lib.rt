@@ -1,6 +1,6 @@
-//! The cell list as text and as JSON, under their published names. All reports are in `report_text` and `report_json`.
+//! The cell list as text and as JSON, under the published names. All reports are in `report_text` and `report_json`.
 //!
-//! Tests: `published_calls/src/texts.rt`.
+//! Tests: the crate `published_calls`, in `texts.rt`.
 #![tactic(auto)]
 
 pub use report_json::json;

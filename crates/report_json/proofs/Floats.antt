@@ -1,4 +1,4 @@
--- The values that are written have whole numbers alone.
+-- The values in JSON reports contain only whole numbers.
 use Rattle.std.proofs.Common.{◌≡◌, ◌∙◌, Bool, ℤ, pos, negsuc, refl, ap, List, [], ◌∷◌, ◌++◌, map, length, ◌/◌, false, Option, Some, None, string_bytes}
 use Rattle.std.specs.List.{flat_map}
 use Rattle.std.specs.Simd.{first_chunks}
@@ -28,7 +28,7 @@ use Rattle.report_json.specs.Cells.{plmn_value, message_value, tdd_value, sib1_v
 use Rattle.report_json.specs.All.{ruled_value, ruled_values, all_value}
 use Rattle.report_json.specs.Evidence.{complex_value, port_value, pairs_value, bits_value, support_value}
 
--- a value without floats has its text
+-- a value without floats has a text
 pub written : (seen value : Data) (r : Result (String Global) AllocError) → seen ≡ value → has_float value ≡ false →
     IfOk r (λ text. has_float seen ≡ false → string_bytes text ≡ compact_text seen) → IfOk r (λ text. string_bytes text ≡ compact_text value)
 written seen value (Ok text) e whole h = h (ap has_float e ∙ whole) ∙ ap compact_text e

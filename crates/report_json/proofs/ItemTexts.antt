@@ -6,7 +6,7 @@ use Rattle.serde_json.specs.View.{items_of}
 use Rattle.serde_json.specs.Written.{compact_text, items_text}
 use Rattle.report_json.specs.Values.{list_of, after_comma}
 
--- behind the first item each has a comma before it, and a bracket ends them
+-- each item after the first is preceded by a comma, and a bracket ends the array
 pub rest_text : {A : Type 0} (value : A → Data) (xs : List A) → items_text true (items_of (map value xs)) ≡ flat_map (after_comma value) xs ++ (93 ∷ [])
 rest_text value [] = refl
 rest_text value (x ∷ xs) =

@@ -1,4 +1,4 @@
--- The JSON of what is told has whole numbers alone.
+-- The JSON of an estimate contains only whole numbers.
 use Rattle.std.proofs.Common.{◌≡◌, List, Option, false, refl}
 use Rattle.std.proofs.lemmas.Bool.{or_from}
 use Rattle.serde_json.specs.Written.{has_float}

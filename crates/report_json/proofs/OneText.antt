@@ -1,4 +1,4 @@
--- A recording has one JSON of its rounds.
+-- The JSON of a recording's rounds is unique.
 use Rattle.std.proofs.Common.{◌∙◌, sym, List, ℕ, Bool}
 use Rattle.std.specs.Prelude.{codes}
 use Rattle.serde_json.specs.Data.{boolean, object, member, no_members}

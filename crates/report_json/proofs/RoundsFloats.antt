@@ -1,4 +1,4 @@
--- The JSON of rounds has whole numbers alone.
+-- The JSON of rounds contains only whole numbers.
 use Rattle.std.proofs.Common.{◌≡◌, false, refl}
 use Rattle.std.proofs.lemmas.Bool.{or_from}
 use Rattle.serde_json.specs.Written.{has_float}

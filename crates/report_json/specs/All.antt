@@ -1,4 +1,4 @@
--- The lists of a recording by every rule, as JSON. (own)
+-- A recording's lists by every rule, as JSON. (own)
 use Rattle.std.specs.Prelude.{ℕ, List, map, codes}
 use Rattle.std.specs.List.{flat_map}
 use Rattle.serde_json.specs.Data.{Data, string, array, object, put}
@@ -10,17 +10,17 @@ use Rattle.lte_types.specs.Carrier.{carriers}
 use Rattle.report_parts.specs.Words.{rule_word}
 use Rattle.report_json.specs.Cells.{entry_members}
 
--- a cell with its rule
+-- the object for a cell, with its rule
 abbrev pub ruled_value : Carrier → Entry → Data
 ruled_value carrier entry = object (put (codes "rule") (string (rule_word carrier)) (entry_members entry))
 
 abbrev pub ruled_values : Carrier → List Entry → List Data
 ruled_values carrier entries = map (ruled_value carrier) entries
 
--- the cells of the list of each carrier in one array
+-- an array with the cells in the lists for all transmission schemes
 abbrev pub all_value : (Carrier → List Entry) → Data
 all_value lists = array (items_of (flat_map (λ carrier. ruled_values carrier (lists carrier)) carriers))
 
--- the JSON of the cells of the list of each carrier, without spaces
+-- the JSON of the lists for all transmission schemes, without spaces
 unfoldable pub all_json : (Carrier → List Entry) → List ℕ
 all_json lists = compact_text (all_value lists)

@@ -1,5 +1,5 @@
--- The report as JSON: the list as one value, an array of an object for each cell. The keys of an object stand in the
--- order of their bytes, each once. (own; the names are those of TS 36.331 sections 6.2.2 and 6.3)
+-- The cell list as JSON: an array with an object for each cell, with its keys in byte order. (own; the names come from
+-- TS 36.331 sections 6.2.2 and 6.3)
 use Rattle.std.specs.Prelude.{ℕ, List, [], ◌∷◌, Result, Ok, Err, codes}
 use Rattle.serde_json.specs.Data.{Data, boolean, string, object, Members, member, no_members, put}
 use Rattle.serde_json.specs.Written.{compact_text}
@@ -16,14 +16,14 @@ use Rattle.report_parts.specs.Words.{mnc_word}
 use Rattle.report_json.specs.Values.{natural, integer, or_null, list_of}
 use Rattle.report_parts.specs.Words.{digits_word}
 
--- the identity of a network, whose digits are a text, so that leading zeros stay
+-- a network identity; its digits are strings, to keep leading zeros
 abbrev pub plmn_value : Plmn → Data
 plmn_value plmn = object (
     member (codes "mcc") (or_null (λ digits. string (digits_word digits)) plmn.mcc) (
     member (codes "mnc") (string (mnc_word plmn.mnc)) (
     member (codes "reserved") (boolean plmn.reserved) no_members)))
 
--- an entry of the schedule: its period in frames, and the codes of its blocks
+-- a schedule entry: its period in frames, and its block codes
 abbrev pub message_value : SiMessage → Data
 message_value message = object (
     member (codes "period") (natural (period_frames message.period)) (
@@ -32,7 +32,7 @@ message_value message = object (
 abbrev pub tdd_value : ℕ × ℕ → Data
 tdd_value config = list_of natural (config.0 ∷ config.1 ∷ [])
 
--- the networks and identities of a cell, added to other members
+-- other members with a cell's networks and identities added
 abbrev pub identity_members : Sib1 → Members → Members
 identity_members sib1 members =
     put (codes "csg_identity") (or_null natural sib1.csg_identity) (
@@ -41,7 +41,7 @@ identity_members sib1 members =
     put (codes "tac") (natural sib1.tac) (
     put (codes "plmns") (list_of plmn_value sib1.plmns) members))))
 
--- who may camp on a cell, the levels to choose it, and its band
+-- other members with the access fields, the levels for cell selection and the band added
 abbrev pub access_members : Sib1 → Members → Members
 access_members sib1 members =
     put (codes "band") (natural sib1.band) (
@@ -51,7 +51,8 @@ access_members sib1 members =
     put (codes "intra") (boolean sib1.intra) (
     put (codes "barred") (boolean sib1.barred) members)))))
 
--- the schedule of system information: the window in milliseconds, and whether an extension follows
+-- other members with the schedule for system information added: the window in milliseconds, and whether an extension
+-- follows
 abbrev pub schedule_members : Sib1 → Members → Members
 schedule_members sib1 members =
     put (codes "extension") (boolean sib1.extended) (
@@ -60,16 +61,16 @@ schedule_members sib1 members =
     put (codes "window") (natural (window_length sib1.window)) (
     put (codes "scheduling") (list_of message_value sib1.scheduling) members))))
 
--- all fields of system information, each at its place
+-- all fields in system information
 abbrev pub sib1_value : Sib1 → Data
 sib1_value sib1 = object (schedule_members sib1 (access_members sib1 (identity_members sib1 no_members)))
 
--- the fields of system information, or the reason why there are none
+-- the fields in system information, or the reason why there is none
 abbrev pub system_value : Result Sib1 Sib1Reason → Data
 system_value (Ok sib1) = sib1_value sib1
 system_value (Err reason) = object (member (codes "none") (string (reason_words reason)) no_members)
 
--- what tells a cell from others: its identity and place, and its antenna ports, added to other members
+-- other members with a cell's identity, timing and antenna ports added
 abbrev pub cell_members : Entry → Members → Members
 cell_members entry members =
     put (codes "ports") (natural entry.ports) (
@@ -77,7 +78,7 @@ cell_members entry members =
     put (codes "at") (natural entry.start) (
     put (codes "identity") (natural entry.id) members)))
 
--- the master information block of a cell
+-- other members with a cell's MIB added
 abbrev pub block_members : Mib → Members → Members
 block_members mib members =
     put (codes "spare") (natural (rest mib)) (
@@ -86,7 +87,7 @@ block_members mib members =
     put (codes "duration") (string (duration_word mib.duration)) (
     put (codes "bandwidth") (string (bandwidth_word mib.bandwidth)) members))))
 
--- a cell: what its line in the report tells, and its system information
+-- a cell: its identity, timing and MIB, and its system information
 abbrev pub entry_members : Entry → Members
 entry_members entry =
     put (codes "sib1") (system_value entry.sib1) (block_members entry.mib (cell_members entry no_members))

@@ -1,5 +1,5 @@
--- What supports the entries of a list as JSON: one array with an object for each, whose keys are the names of its
--- numbers, of what its slot shows, and of the bits of its blocks, in the order of their bytes. (own)
+-- A list's evidence as JSON: an array with an object for each entry, with its numbers by name, its slot, and the bits
+-- in its blocks, with its keys in byte order. (own)
 use Rattle.std.specs.Prelude.{ℕ, ◌/◌, Bool, List, [], ◌∷◌, length, codes, ℤ}
 use Rattle.std.specs.Simd.{first_chunks}
 use Rattle.serde_json.specs.Data.{Data, null, string, object, Members, no_members, put}
@@ -12,44 +12,44 @@ use Rattle.report_json.specs.Values.{integer, list_of, put_each}
 use Rattle.report_parts.specs.Numbers.{numbers_in, place_in}
 use Rattle.report_parts.specs.Words.{hex_word}
 
--- ---- what the slot of an entry shows
+-- ---- an entry's slot
 
--- a complex number, as a pair
+-- a complex number as a pair
 abbrev pub complex_value : Cpx → Data
 complex_value z = list_of integer (z.re ∷ z.im ∷ [])
 
--- the pilots of an antenna port
+-- an antenna port's pilots
 abbrev pub port_value : SeenLine → Data
 port_value line = list_of complex_value line.pilots
 
--- soft values two by two, those of each resource element
+-- soft values in pairs, one for each resource element
 abbrev pub pairs_value : List ℤ → Data
 pairs_value values = list_of (list_of integer) (first_chunks 2 (length values / 2) values)
 
--- the pilots of each port, and the values of the broadcast channel
+-- other members with each port's pilots and the PBCH soft values added
 abbrev pub slot_members : SlotShown → Members → Members
 slot_members slot members =
     put (codes "values") (pairs_value slot.values) (put (codes "channel") (list_of port_value slot.channel) members)
 
--- ---- the bits of its blocks
+-- ---- the bits in an entry's blocks
 
--- bits in hexadecimal, and null where there are none
+-- bits in hexadecimal, or null if there are none
 abbrev pub bits_value : List Bool → Data
 bits_value [] = null
 bits_value (bit ∷ bits) = string (hex_word (bit ∷ bits))
 
--- the bits of the master block, and those of the block that told system information
+-- other members with the MIB bits and the bits that SIB1 was read from added
 abbrev pub block_members : List Bool → List Bool → Members → Members
 block_members master block members =
     put (codes "sib1_block") (bits_value block) (put (codes "mib") (string (hex_word master)) members)
 
--- an entry: which it is and the numbers that support it, each under its name; what its slot shows; and its blocks
+-- an entry: the numbers that identify and support it, its slot, and its blocks
 abbrev pub support_value : Shown → Data
 support_value shown = object (
     block_members shown.master shown.block (
     slot_members shown.slot (
     put_each (numbers_in shown.numbers) (put_each (place_in shown.numbers) no_members))))
 
--- the JSON of what supports the entries of a list, without spaces
+-- the JSON of a list's evidence, without spaces
 unfoldable pub evidence_json : List Shown → List ℕ
 evidence_json list = compact_text (list_of support_value list)

@@ -1,4 +1,4 @@
--- Hits as JSON: one array with an object for each, whose keys stand in the order of their bytes. (own)
+-- Hits as JSON: an array with an object for each hit, with its keys in byte order. (own)
 use Rattle.std.specs.Prelude.{ℕ, List, codes}
 use Rattle.serde_json.specs.Data.{Data, object, Members, no_members, put}
 use Rattle.serde_json.specs.Written.{compact_text}
@@ -11,47 +11,48 @@ use Rattle.hit_details.specs.declared.hits.IdentifiedHit.{IdentifiedHit}
 use Rattle.hit_details.specs.declared.hits.MeasuredHit.{MeasuredHit}
 use Rattle.hit_details.specs.declared.hits.MeasuredId.{MeasuredId}
 
--- the place of a hit and its identity within the group, added to other members
+-- other members with a hit's sample and its identity within the group added
 abbrev pub hit_members : Hit → Members → Members
 hit_members hit members = put (codes "n2") (natural hit.n2) (put (codes "t") (natural hit.t) members)
 
--- the numbers of a hit's metric
+-- other members with the numbers of a hit's metric added
 abbrev pub metric_members : ℕ → ℕ → ℕ → Members → Members
 metric_members peak energy power members =
     put (codes "power") (natural power) (
     put (codes "energy") (natural energy) (
     put (codes "peak") (natural peak) members))
 
--- what a hit tells of its cell: the subframe is the first of the half that the hit stands in
+-- other members with a hit's cell identity, frame start and subframe added; the subframe is the first in the half
+-- frame
 abbrev pub identity_members : IdentifiedHit → Members → Members
 identity_members found members =
     put (codes "at") (natural found.start) (
     put (codes "subframe") (natural (subframe_of found.half)) (
     put (codes "identity") (natural found.id) members))
 
--- a hit
+-- the object for a hit
 abbrev pub hit_value : MeasuredHit → Data
 hit_value measured =
     object (metric_members measured.peak measured.energy measured.power (hit_members measured.hit no_members))
 
--- the text of hits, without spaces
+-- the JSON of hits, without spaces
 unfoldable pub hits_json : List MeasuredHit → List ℕ
 hits_json hits = compact_text (list_of hit_value hits)
 
--- a pair of a group and a half with its score
+-- the object for a group and a half frame with their score
 abbrev pub choice_value : Choice → Data
 choice_value choice = object (
     put (codes "subframe") (natural (subframe_of choice.half)) (
     put (codes "score") (integer choice.score) (
     put (codes "group") (natural choice.n1) no_members)))
 
--- the two best pairs
+-- the object for the two best pairs
 abbrev pub ranking_value : Ranking → Data
 ranking_value ranking = object (
     put (codes "second") (choice_value ranking.second) (
     put (codes "best") (choice_value ranking.best) no_members))
 
--- a hit with the identity of its cell, and the pairs of its secondary signal
+-- the object for a hit with its cell identity and the ranking of its SSS
 abbrev pub id_value : MeasuredId → Data
 id_value measured = object (
     metric_members measured.peak measured.energy measured.power (

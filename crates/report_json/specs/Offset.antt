@@ -1,4 +1,4 @@
--- What is told of a frequency offset as JSON. The keys of an object stand in the order of their bytes. (own)
+-- The frequency offset estimate as JSON. An object's keys are in byte order. (own)
 use Rattle.std.specs.Prelude.{◌≡◌, ℕ, List, Option, codes}
 use Rattle.serde_json.specs.Data.{Data, object, member, no_members}
 use Rattle.serde_json.specs.Written.{compact_text}
@@ -9,14 +9,14 @@ use Rattle.frequency_offset.specs.Candidates.{taken_of}
 use Rattle.frequency_offset.specs.Telling.{IsTold}
 use Rattle.report_json.specs.Values.{natural, integer, or_null, list_of}
 
--- what is told: how many cells, how many hits, and the turn
+-- the estimate: the number of cells, the number of hits, and the offset as `turn`
 abbrev pub told_value : Told → Data
 told_value told = object (
     member (codes "cells") (natural told.cells) (
     member (codes "hits") (natural told.hits) (
     member (codes "turn") (integer told.turn) no_members)))
 
--- a candidate: its coarse turn in steps of 3.75 kHz, its turn, and the fraction of its best hit
+-- a candidate: its coarse offset in steps of 3.75 kHz, its offset, and the numbers of its best hit's fraction
 abbrev pub candidate_value : Candidate → Data
 candidate_value candidate = object (
     member (codes "coarse") (integer candidate.coarse) (
@@ -25,17 +25,17 @@ candidate_value candidate = object (
     member (codes "power") (natural candidate.fraction.power) (
     member (codes "turn") (integer candidate.turn) no_members)))))
 
--- what is told, null where nothing is, and the candidates that were taken
+-- the estimate, or null, with the selected candidates
 abbrev pub telling_value : Option Told → List Candidate → Data
 telling_value told taken = object (
     member (codes "candidates") (list_of candidate_value taken) (
     member (codes "told") (or_null told_value told) no_members))
 
--- the JSON of what is told, without spaces
+-- the JSON of an estimate, without spaces
 unfoldable pub telling_json : Option Told → List Candidate → List ℕ
 telling_json told taken = compact_text (telling_value told taken)
 
--- the JSON of what is told of a recording
+-- the JSON of a recording's estimate
 pub record IsTellJson (recording : List Sample) (text : List ℕ) : Type 0 where
   pub told : Option Told
   pub is_told : IsTold recording told

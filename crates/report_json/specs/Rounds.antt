@@ -1,4 +1,4 @@
--- A search that takes found cells off, as JSON. The keys of an object stand in the order of their bytes. (own)
+-- Interference cancellation as JSON. An object's keys are in byte order. (own)
 use Rattle.std.specs.Prelude.{◌≡◌, ℕ, List, [], ◌∷◌, codes}
 use Rattle.serde_json.specs.Data.{Data, boolean, object, member, no_members}
 use Rattle.serde_json.specs.Written.{compact_text}
@@ -12,12 +12,12 @@ use Rattle.report_json.specs.Cells.{report_value}
 use Rattle.report_json.specs.Evidence.{complex_value}
 use Rattle.report_parts.specs.Words.{power_word}
 
--- two powers
+-- a pair of powers
 abbrev pub powers_value : ℕ → ℕ → Data
 powers_value before after = list_of natural (before ∷ after ∷ [])
 
--- a round: the cell that was taken off, its gain, the greatest size of a component that was left, the power of the
--- recording with the cell and without it, and the list of what is left
+-- a round: the cancelled cell, its gain, the residual's largest component magnitude, the power with the cell and
+-- without it, and the residual's list
 abbrev pub round_value : Round → Data
 round_value round = object (
     member (codes "cells") (report_value round.list) (
@@ -26,7 +26,7 @@ round_value round = object (
     member (codes "power") (powers_value (power_word round.taken.before) (power_word round.taken.after)) (
     member (codes "residue") (natural round.taken.greatest) no_members)))))
 
--- the list of the recording, its rounds, and whether a round took off none
+-- the recording's list, its rounds, and whether the last round cancels no cell
 abbrev pub rounds_value : Rounds → Data
 rounds_value rounds = object (
     member (codes "cells") (report_value rounds.first) (
@@ -37,7 +37,7 @@ rounds_value rounds = object (
 unfoldable pub rounds_json : Rounds → List ℕ
 rounds_json rounds = compact_text (rounds_value rounds)
 
--- the JSON of a recording
+-- a recording's JSON
 pub record IsCancelJson (recording : List Sample) (text : List ℕ) : Type 0 where
   pub rounds : Rounds
   pub are : IsCancelled recording rounds

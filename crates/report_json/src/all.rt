@@ -1,4 +1,4 @@
-//! The lists of a recording by every rule, as JSON.
+//! A recording's lists by every rule, as JSON.
 
 ghost use Rattle.std.specs.Prelude.{◌≡◌, ◌++◌, IfOk, OnOk, List, length, map, string_bytes};
 ghost use Rattle.serde_json.specs.View.{view};
@@ -12,9 +12,8 @@ use report_parts::rule_word;
 use serde_json::{ToValue, Value, put};
 use std::alloc::{AllocError, Global};
 
-/// Returns the lists of all carriers, one for each in the order of `Carrier::ALL`, as JSON in one line, without a line
-/// feed: one array with an object for each cell as `json` writes it, with its rule as a further key. Fails only if an
-/// allocation fails. (own)
+/// Returns the lists for all transmission schemes, in the order of `Carrier::ALL`, as one JSON array; each cell's
+/// object is as in `json`, with a key for its rule. Fails only if an allocation fails. (own)
 pub fn json_of_all(alloc: Global, lists: &[EntryList]) -> Result<String, AllocError>
     requires { length lists.now ≡ length carriers }
     ensures { (of : Carrier → List Entry) → lists.now ≡ map of carriers →
@@ -24,7 +23,7 @@ pub fn json_of_all(alloc: Global, lists: &[EntryList]) -> Result<String, AllocEr
     all.to_string(alloc)
 }
 
-// The cells of the lists of all carriers in one array.
+// Returns an array with the cells in the lists for all transmission schemes.
 fn value_of_all(alloc: Global, lists: &[EntryList]) -> Result<Value, AllocError>
     ensures { (of : Carrier → List Entry) → lists.now ≡ map of carriers →
         IfOk result (λ value. view value ≡ all_value of) }
@@ -51,7 +50,7 @@ fn add_ruled(
     Ok(())
 }
 
-// The value of a cell with its rule.
+// Returns the value of a cell with its rule.
 fn ruled_value(alloc: Global, rule: Carrier, entry: &Entry) -> Result<Value, AllocError>
     ensures { IfOk result (λ value. view value ≡ value_of rule entry.now) }
 {

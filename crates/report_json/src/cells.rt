@@ -1,4 +1,4 @@
-//! The report as JSON.
+//! The cell list as JSON.
 
 ghost use Rattle.std.specs.Prelude.{◌≡◌, IfOk, OnOk, string_bytes};
 ghost use Rattle.serde_json.specs.Data.{string};
@@ -17,15 +17,15 @@ use serde_json::{Map, ToValue, Value, json, put};
 use std::alloc::{AllocError, Global};
 use std::fmt::Write;
 
-/// Returns the cell list as JSON in one line, without a line feed: an array with one object for each cell, whose keys
-/// are in the order of their bytes. Fails only if an allocation fails. (own)
+/// Returns the cell list as JSON in one line, without a line feed: an array with one object for each cell, with its
+/// keys in byte order. Fails only if an allocation fails. (own)
 pub fn json(alloc: Global, entries: &[Entry]) -> Result<String, AllocError>
     ensures { IfOk result (λ text. string_bytes text ≡ json_text entries.now) }
 {
     list_text(alloc, entries)
 }
 
-// A cell.
+// The object for a cell.
 impl ToJson for Entry {
     ghost json_of = { entry_of };
 
@@ -35,7 +35,7 @@ impl ToJson for Entry {
     }
 }
 
-/// The members of a cell's object.
+/// Returns the members of a cell's object.
 pub(crate) fn members_of(alloc: Global, entry: &Entry) -> Result<Map<String, Value>, AllocError>
     ensures { IfOk result (λ members. members_view members.entries ≡ entry_members entry.now) }
 {
@@ -47,7 +47,7 @@ pub(crate) fn members_of(alloc: Global, entry: &Entry) -> Result<Map<String, Val
     Ok(members)
 }
 
-// Adds what tells a cell from others.
+// Adds a cell's identity, timing and antenna ports.
 fn put_cell(
     alloc: Global,
     entry: &Entry,
@@ -62,7 +62,7 @@ fn put_cell(
     put(members, alloc, "ports", Value::from(entry.ports))
 }
 
-// Adds the master information block of a cell.
+// Adds a cell's MIB.
 fn put_block(alloc: Global, mib: &Mib, members: &mut Map<String, Value>) -> Result<(), AllocError>
     ensures { OnOk result (members_view members.new.entries
         ≡ block_members mib.now (members_view members.old.entries)) }
@@ -89,7 +89,7 @@ fn put_block(alloc: Global, mib: &Mib, members: &mut Map<String, Value>) -> Resu
     put(members, alloc, "spare", Value::from(mib.rest()))
 }
 
-// The value of its system information, or of the reason why there is none.
+// Returns the value of system information, or of the reason why there is none.
 fn system_value(alloc: Global, sib1: &Result<Sib1, Sib1Reason>) -> Result<Value, AllocError>
     ensures { IfOk result (λ value. view value ≡ system_of sib1.now) }
 {
@@ -102,7 +102,7 @@ fn system_value(alloc: Global, sib1: &Result<Sib1, Sib1Reason>) -> Result<Value,
     }
 }
 
-// The value of system information.
+// Returns the value of system information.
 fn sib1_value(alloc: Global, sib1: &Sib1) -> Result<Value, AllocError>
     ensures { IfOk result (λ value. view value ≡ sib1_of sib1.now) }
 {
@@ -113,7 +113,7 @@ fn sib1_value(alloc: Global, sib1: &Sib1) -> Result<Value, AllocError>
     Ok(Value::from(members))
 }
 
-// Adds the networks and identities of a cell.
+// Adds a cell's networks and identities.
 fn put_identities(
     alloc: Global,
     sib1: &Sib1,
@@ -135,7 +135,7 @@ fn put_identities(
     )
 }
 
-// Adds who may camp on it, and its levels and band.
+// Adds the access fields, the levels for cell selection and the band.
 fn put_access(
     alloc: Global,
     sib1: &Sib1,
@@ -152,7 +152,7 @@ fn put_access(
     put(members, alloc, "band", Value::from(sib1.band))
 }
 
-// Adds the schedule of system information.
+// Adds the schedule for system information.
 fn put_schedule(
     alloc: Global,
     sib1: &Sib1,
@@ -175,7 +175,7 @@ fn put_schedule(
     put(members, alloc, "extension", Value::from(sib1.extended))
 }
 
-// A network.
+// The object for a network.
 impl ToJson for Plmn {
     ghost json_of = { plmn_of };
 
@@ -186,7 +186,7 @@ impl ToJson for Plmn {
     }
 }
 
-// Three digits as a text, or null.
+// Returns three digits as a string, or null.
 fn mcc_value(alloc: Global, mcc: &Option<[u8; 3]>) -> Result<Value, AllocError>
     ensures { IfOk result (λ value. view value ≡ or_null (λ digits. string (digits_of digits)) mcc.now) }
 {
@@ -196,7 +196,7 @@ fn mcc_value(alloc: Global, mcc: &Option<[u8; 3]>) -> Result<Value, AllocError>
     }
 }
 
-// An entry of the schedule.
+// The object for a schedule entry.
 impl ToJson for SiMessage {
     ghost json_of = { message_of };
 
@@ -206,7 +206,7 @@ impl ToJson for SiMessage {
     }
 }
 
-// Both numbers of a TDD configuration, or null.
+// Returns both numbers of a TDD configuration, or null.
 fn tdd_value(alloc: Global, tdd: Option<(u8, u8)>) -> Result<Value, AllocError>
     ensures { IfOk result (λ value. view value ≡ or_null tdd_of tdd) }
 {

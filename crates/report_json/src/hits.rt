@@ -12,16 +12,16 @@ use serde_json::{Map, Value, put};
 use sss_detect::{Choice, Ranking};
 use std::alloc::{AllocError, Global};
 
-/// Returns `hits` as JSON in one line, without a line feed: an array with one object for each hit, whose keys are in
-/// the order of their bytes. Fails only if an allocation fails. (own)
+/// Returns `hits` as JSON in one line, without a line feed: an array with one object for each hit, with its keys in
+/// byte order. Fails only if an allocation fails. (own)
 pub fn json_of_hits(alloc: Global, hits: &[MeasuredHit]) -> Result<String, AllocError>
     ensures { IfOk result (λ text. string_bytes text ≡ hits_json hits.now) }
 {
     list_text(alloc, hits)
 }
 
-/// Returns `hits` with the identities of their cells as JSON, in the form of `json_of_hits`; the two best pairs of a
-/// hit are under `secondary`. Fails only if an allocation fails. (own)
+/// Returns identified `hits` as JSON, in the form of `json_of_hits`; the two best pairs for a hit are under
+/// `secondary`. Fails only if an allocation fails. (own)
 pub fn json_of_ids(alloc: Global, hits: &[MeasuredId]) -> Result<String, AllocError>
     ensures { IfOk result (λ text. string_bytes text ≡ ids_json hits.now) }
 {
@@ -53,7 +53,7 @@ impl ToJson for MeasuredId {
     }
 }
 
-// A pair of a group and a half with its score.
+// The object for a group and a half frame with their score.
 impl ToJson for Choice {
     ghost json_of = { choice_value };
 
@@ -67,7 +67,7 @@ impl ToJson for Choice {
     }
 }
 
-// The two best pairs.
+// The object for the two best pairs.
 impl ToJson for Ranking {
     ghost json_of = { ranking_value };
 
@@ -81,7 +81,7 @@ impl ToJson for Ranking {
     }
 }
 
-// Adds the place of a hit, and its identity within the group.
+// Adds a hit's sample and its identity within the group.
 fn put_hit(alloc: Global, hit: &Hit, members: &mut Map<String, Value>) -> Result<(), AllocError>
     ensures { OnOk result (members_view members.new.entries
         ≡ hit_members hit.now (members_view members.old.entries)) }
@@ -90,7 +90,7 @@ fn put_hit(alloc: Global, hit: &Hit, members: &mut Map<String, Value>) -> Result
     put(members, alloc, "n2", Value::from(hit.n2))
 }
 
-// Adds what a hit tells of its cell.
+// Adds a hit's cell identity, frame start and subframe.
 fn put_identity(
     alloc: Global,
     found: &IdentifiedHit,

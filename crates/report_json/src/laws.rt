@@ -1,8 +1,8 @@
-//! Laws of JSON.
+//! Laws of JSON reports.
 
 ghost use Rattle.report_json.specs.Rounds.{IsOneCancelJson};
 
-/// States that a recording has one JSON of its rounds.
+/// A law: the JSON of a recording's rounds is unique.
 pub fn one_cancel_json()
     ensures { IsOneCancelJson }
 {}

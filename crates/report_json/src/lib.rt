@@ -1,7 +1,7 @@
-//! The JSON reports: the cell list, PSS detections (hits), evidence, rounds of interference cancellation, and the
-//! estimate of a frequency offset. Each is one line without a line feed; an object's keys are in the order of their bytes.
+//! JSON reports: the cell list, PSS detections (hits), evidence, interference cancellation, and the frequency offset
+//! estimate. Each is one line without a line feed, and an object's keys are in byte order.
 //!
-//! Tests: `sent_tests/src/texts.rt`, and the commands with `--json` in `top_tests`.
+//! Tests: the crates `sent_tests`, in `texts.rt`, and `top_tests`, where commands have `--json`.
 #![tactic(auto)]
 
 mod all;

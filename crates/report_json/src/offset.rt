@@ -1,4 +1,9 @@
-//! What is told of a frequency offset, as JSON.
+//! The frequency offset estimate as JSON, an object with these keys:
+//!
+//! - `candidates`: an array with one object for each selected candidate, in order: `coarse`, the coarse offset in
+//!   steps of 3.75 kHz; `turn`, the offset; and `peak`, `energy` and `power`, the numbers of its best hit's fraction
+//!   `peak / (energy * power)`.
+//! - `told`: an object with `cells`, `hits` and `turn` as in `tell_text`, or null.
 
 ghost use Rattle.std.specs.Prelude.{◌≡◌, IfOk, string_bytes};
 ghost use Rattle.serde_json.specs.View.{view};
@@ -12,10 +17,8 @@ use sample_file::Recording;
 use serde_json::{Value, json};
 use std::alloc::{AllocError, Global};
 
-/// Returns the frequency offset estimate for `recording` as JSON in one line, without a line feed. Under `told` is
-/// null, or an object with `cells`, `hits` and `turn` as in `tell_text`. Under `candidates` is an array with one object
-/// for each candidate, in their order: `coarse`, the coarse offset in steps of 3.75 kHz, `turn`, and `peak`, `energy`
-/// and `power` of the maximum fraction `peak / (energy * power)` of its hits. Fails only if an allocation fails. (own)
+/// Returns a recording's frequency offset estimate as JSON in one line, without a line feed: an object with
+/// `candidates` and `told`. Fails only if an allocation fails. (own)
 pub fn tell_json(alloc: Global, recording: &Recording) -> Result<String, AllocError>
     ensures { IfOk result (λ text. IsTellJson recording.now (string_bytes text)) }
 {
@@ -23,7 +26,7 @@ pub fn tell_json(alloc: Global, recording: &Recording) -> Result<String, AllocEr
     json_of(alloc, &telling.told, &telling.candidates)
 }
 
-// The text of what is told, and of the candidates.
+// Returns the JSON of an estimate and its candidates.
 fn json_of(alloc: Global, told: &Option<Told>, taken: &[Candidate]) -> Result<String, AllocError>
     ensures { IfOk result (λ text. string_bytes text ≡ telling_json told.now taken.now) }
 {
@@ -31,7 +34,7 @@ fn json_of(alloc: Global, told: &Option<Told>, taken: &[Candidate]) -> Result<St
     telling.to_string(alloc)
 }
 
-// The JSON value of what is told, and of the candidates.
+// Returns the value of an estimate and its candidates.
 fn telling_value(
     alloc: Global,
     told: &Option<Told>,
@@ -44,7 +47,7 @@ fn telling_value(
     json!(in alloc; {"candidates": candidates, "told": told})
 }
 
-// The value of what is told, or null.
+// Returns the value of an estimate, or null.
 fn told_value(alloc: Global, told: &Option<Told>) -> Result<Value, AllocError>
     ensures { IfOk result (λ value. view value ≡ or_null told_of told.now) }
 {
@@ -61,7 +64,7 @@ fn value_of_told(alloc: Global, told: &Told) -> Result<Value, AllocError>
     json!(in alloc; {"cells": told.cells, "hits": told.hits, "turn": turn})
 }
 
-// A candidate.
+// The object for a candidate.
 impl ToJson for Candidate {
     ghost json_of = { candidate_value };
 

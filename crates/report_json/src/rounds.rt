@@ -1,4 +1,10 @@
-//! A search that takes found cells off, as JSON.
+//! Interference cancellation as JSON, an object with these keys:
+//!
+//! - `cells`: the recording's list, as `json` writes it.
+//! - `ended`: whether the last round cancels no cell.
+//! - `rounds`: an array with one object for each cancelled cell: `identity`; `gain`, an array with both components;
+//!   `residue`, the residual's largest component magnitude; `power`, an array with the power before and after; and
+//!   `cells`, the residual's list.
 
 ghost use Rattle.std.specs.Prelude.{◌≡◌, IfOk, string_bytes};
 ghost use Rattle.serde_json.specs.View.{view};
@@ -12,11 +18,8 @@ use serde_json::{Value, json};
 use std::alloc::{AllocError, Global};
 use successive_cancel::{Round, Rounds, cancel_rounds};
 
-/// Returns interference cancellation in `recording` as JSON in one line, without a line feed: an object with `cells`,
-/// the list as `json` writes it, `ended`, whether a last round cancels no cell, and `rounds`, an array with one object
-/// for each cancelled cell: `identity`, `gain`, an array of its two components, `residue`, the maximum magnitude of a
-/// component afterwards, `power`, an array of the power before and after, and `cells`, the list of the remaining
-/// samples. Fails only if an allocation fails. (own)
+/// Returns the rounds of interference cancellation in `recording` as JSON in one line, without a line feed: an object
+/// with `cells`, `ended` and `rounds`. Fails only if an allocation fails. (own)
 pub fn cancel_json(alloc: Global, recording: &Recording) -> Result<String, AllocError>
     ensures { IfOk result (λ text. IsCancelJson recording.now (string_bytes text)) }
 {
@@ -33,7 +36,7 @@ pub fn json_of_rounds(alloc: Global, rounds: &Rounds) -> Result<String, AllocErr
     all.to_string(alloc)
 }
 
-// The value of rounds.
+// Returns the value of rounds.
 fn rounds_value(alloc: Global, rounds: &Rounds) -> Result<Value, AllocError>
     ensures { IfOk result (λ value. view value ≡ rounds_of rounds.now) }
 {
@@ -42,7 +45,7 @@ fn rounds_value(alloc: Global, rounds: &Rounds) -> Result<Value, AllocError>
     json!(in alloc; {"cells": cells, "ended": rounds.ended, "rounds": taken})
 }
 
-// A round.
+// The object for a round.
 impl ToJson for Round {
     ghost json_of = { round_value };
 
@@ -62,7 +65,7 @@ impl ToJson for Round {
     }
 }
 
-// The power before and after.
+// Returns the power before and after as a pair.
 fn power_value(alloc: Global, before: u64, after: u64) -> Result<Value, AllocError>
     ensures { IfOk result (λ value. view value ≡ powers_value before after) }
 {

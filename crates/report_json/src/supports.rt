@@ -1,4 +1,8 @@
-//! What supports the entries of a list, as JSON.
+//! A list's evidence as JSON, an array with one object for each entry. Its keys, in byte order, are:
+//!
+//! - the names in `place_in` and `numbers_in`;
+//! - `channel` and `values`: the pilots and the soft values of the entry's slot;
+//! - `mib` and `sib1_block`: the bits in its blocks.
 
 ghost use Rattle.std.specs.Prelude.{◌≡◌, IfOk, OnOk, string_bytes};
 ghost use Rattle.serde_json.specs.View.{view, members_view};
@@ -16,10 +20,8 @@ use serde_json::{Map, Value, put};
 use soft_bits::Pilots;
 use std::alloc::{AllocError, Global};
 
-/// Returns the evidence for the entries of a list as JSON in one line, without a line feed: an array with one object
-/// for each entry. Its keys, in the order of their bytes, are the names of `place_in` and `numbers_in`; `channel` and
-/// `values`, the pilots and the soft values of the entry's slot; and `mib` and `sib1_block`, the bits of its blocks.
-/// Fails only if an allocation fails. (own)
+/// Returns a list's evidence as JSON in one line, without a line feed: an array with one object for each entry. Fails
+/// only if an allocation fails. (own)
 pub fn json_of_evidence(alloc: Global, list: &[Support]) -> Result<String, AllocError>
     ensures { IfOk result (λ text. string_bytes text ≡ evidence_json list.now) }
 {
@@ -40,7 +42,7 @@ impl ToJson for Support {
     }
 }
 
-// A complex number.
+// A complex number as a pair.
 impl ToJson for Cpx {
     ghost json_of = { complex_value };
 
@@ -49,7 +51,7 @@ impl ToJson for Cpx {
     }
 }
 
-// The pilots of an antenna port.
+// An antenna port's pilots.
 impl ToJson for Pilots {
     ghost json_of = { port_value };
 
@@ -58,7 +60,7 @@ impl ToJson for Pilots {
     }
 }
 
-// A soft value.
+// A soft value as a number.
 impl ToJson for i16 {
     ghost json_of = { integer };
 
@@ -67,7 +69,7 @@ impl ToJson for i16 {
     }
 }
 
-// The soft values of a resource element.
+// A resource element's soft values.
 impl ToJson for [i16; 2] {
     ghost json_of = { list_of integer };
 
@@ -76,7 +78,7 @@ impl ToJson for [i16; 2] {
     }
 }
 
-// Adds what the slot of an entry shows.
+// Adds the pilots and the soft values of an entry's slot.
 fn put_slot(
     alloc: Global,
     slot: &SlotShown,
@@ -91,7 +93,7 @@ fn put_slot(
     put(members, alloc, "values", list_value(alloc, pairs)?)
 }
 
-// Adds the bits of its blocks.
+// Adds the bits in an entry's blocks.
 fn put_blocks(
     alloc: Global,
     master: &[bool],
@@ -110,7 +112,7 @@ fn put_blocks(
     put(members, alloc, "sib1_block", bits_value(alloc, block)?)
 }
 
-// Bits in hexadecimal, or null where there are none.
+// Returns bits in hexadecimal, or null if there are none.
 fn bits_value(alloc: Global, bits: &[bool]) -> Result<Value, AllocError>
     ensures { IfOk result (λ value. view value ≡ bits_value_of bits.now) }
 {

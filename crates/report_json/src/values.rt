@@ -10,16 +10,16 @@ ghost use Rattle.report_json.specs.Values.{natural, list_of, HasNoFloat, after_c
 use serde_json::{Value, json};
 use std::alloc::{AllocError, Global};
 
-/// What has a value in JSON. (own)
+/// A type whose values have a JSON form. (own)
 pub(crate) trait ToJson {
     ghost json_of: { Self → Data };
 
-    /// The value. Only memory can be wanting.
+    /// Returns the JSON value. Fails only if an allocation fails.
     fn to_json(&self, alloc: Global) -> Result<Value, AllocError>
         ensures { IfOk result (λ value. view value ≡ json_of self.now) };
 }
 
-/// The array of the values of a list. Only memory can be wanting. (own)
+/// Returns the array with the values of a list. Fails only if an allocation fails. (own)
 pub(crate) fn list_value<T: ToJson>(alloc: Global, items: &[T]) -> Result<Value, AllocError>
     ensures { IfOk result (λ value. view value ≡ list_of T.json_of items.now) }
 {
@@ -30,7 +30,8 @@ pub(crate) fn list_value<T: ToJson>(alloc: Global, items: &[T]) -> Result<Value,
     Ok(Value::from(list))
 }
 
-/// The JSON of a list, without spaces. The value of one item is held at a time. Fails only if an allocation fails. (own)
+/// Returns the JSON of a list, without spaces, and holds one item's value at a time. Fails only if an allocation
+/// fails. (own)
 pub(crate) fn list_text<T: ToJson>(alloc: Global, items: &[T]) -> Result<String, AllocError>
     ensures { HasNoFloat T.json_of →
         IfOk result (λ text. string_bytes text ≡ compact_text (list_of T.json_of items.now)) }
@@ -41,7 +42,7 @@ pub(crate) fn list_text<T: ToJson>(alloc: Global, items: &[T]) -> Result<String,
     }
 }
 
-// The JSON of a list that is not empty.
+// Returns the JSON of a list that is not empty.
 fn some_text<T: ToJson>(alloc: Global, first: &T, rest: &[T]) -> Result<String, AllocError>
     ensures { HasNoFloat T.json_of →
         IfOk result (λ text. string_bytes text ≡ compact_text (list_of T.json_of (first.now ∷ rest.now))) }
@@ -53,7 +54,7 @@ fn some_text<T: ToJson>(alloc: Global, first: &T, rest: &[T]) -> Result<String, 
     Ok(text)
 }
 
-// Appends the JSON of items, each after a comma.
+// Appends the JSON of items, each preceded by a comma.
 fn add_rest<T: ToJson>(alloc: Global, items: &[T], text: &mut String) -> Result<(), AllocError>
     ensures { HasNoFloat T.json_of →
         OnOk result (string_bytes text.new ≡ string_bytes text.old ++ flat_map (after_comma T.json_of) items.now) }
@@ -75,14 +76,14 @@ fn add_text<T: ToJson>(alloc: Global, item: &T, text: &mut String) -> Result<(),
     text.push_str(&json)
 }
 
-/// The array of two values. Only memory can be wanting. (own)
+/// Returns the array with two values. Fails only if an allocation fails. (own)
 pub(crate) fn pair_value(alloc: Global, first: Value, second: Value) -> Result<Value, AllocError>
     ensures { IfOk result (λ value. view value ≡ array (item (view first) (item (view second) no_items))) }
 {
     json!(in alloc; [first, second])
 }
 
-// The code of a block.
+// A block code as a number.
 impl ToJson for u8 {
     ghost json_of = { natural };
 

@@ -1,17 +1,16 @@
--- The numbers of an entry's evidence, each with its name. The line of text and the JSON object of an entry are made of
--- these lists, so a number stands here once. (own)
+-- The named numbers in an entry's evidence. The text line and the JSON object are both built from these lists. (own)
 use Rattle.std.specs.Prelude.{ℕ, List, [], ◌∷◌, codes}
 use Rattle.lte_types.specs.declared.evidence.Evidence.{Evidence}
 
--- which entry it is
+-- the cell identity, frame start and frame number
 abbrev pub place_in : Evidence → List (List ℕ × ℕ)
 place_in entry =
     (codes "identity", entry.id) ∷
     (codes "at", entry.start) ∷
     (codes "sfn", entry.sfn) ∷ []
 
--- the place of the hit, the fraction there in thousandths, the cost and the total of the word, how many frames were
--- summed, the first of them, its number modulo 4, and the power and the noise of the pilots
+-- the hit's sample, its energy fraction in thousandths, the cost and total of the MIB codeword, the number of summed
+-- frames, the first of these, its number modulo 4, and the power and noise of the pilots
 abbrev pub numbers_in : Evidence → List (List ℕ × ℕ)
 numbers_in entry =
     (codes "t", entry.t) ∷

@@ -1,4 +1,4 @@
--- The words that text and JSON share. (own; the names are those of TS 36.331 sections 6.2.2 and 6.3)
+-- The words that text and JSON share. (own; the names come from TS 36.331 sections 6.2.2 and 6.3)
 use Rattle.std.specs.Prelude.{ℕ, ◌+◌, ◌-◌, ◌*◌, ◌/◌, ◌^◌, nat_le, if◌then◌else◌, Bool, List, [], ◌∷◌, length, slice_index_or, codes}
 use Rattle.std.specs.List.{flat_map}
 use Rattle.std.specs.Fmt.{decimal}
@@ -9,7 +9,7 @@ use Rattle.lte_types.specs.declared.carrier.Carrier.TheVariants.{OnePort, TwoPor
 use Rattle.lte_types.specs.declared.mnc.Mnc.{Mnc}
 use Rattle.lte_types.specs.declared.mnc.Mnc.TheVariants.{Two, Three}
 
--- digits, one after the other
+-- digits in order
 abbrev pub digits_word : List ℕ → List ℕ
 digits_word digits = flat_map decimal digits
 
@@ -18,7 +18,7 @@ abbrev pub mnc_word : Mnc → List ℕ
 mnc_word (Two digits) = digits_word digits
 mnc_word (Three digits) = digits_word digits
 
--- bits as numbers of four each, with zeros behind the last bit up to a whole byte
+-- bits as 4-bit numbers, padded with zeros to a whole byte
 abbrev pub nibble : List Bool → ℕ → ℕ
 nibble bits i = field bits (4 * i) 4
 
@@ -31,17 +31,17 @@ hex_digit n = slice_index_or (
     codes "0" ∷ codes "1" ∷ codes "2" ∷ codes "3" ∷ codes "4" ∷ codes "5" ∷ codes "6" ∷ codes "7" ∷ codes "8"
     ∷ codes "9" ∷ codes "a" ∷ codes "b" ∷ codes "c" ∷ codes "d" ∷ codes "e" ∷ codes "f" ∷ []) n []
 
--- bits in hexadecimal: a digit for four of them
+-- bits in hexadecimal, one digit for four bits
 unfoldable pub hex_word : List Bool → List ℕ
 hex_word bits = flat_map hex_digit (nibbles bits)
 
--- the word of the rule by which a list is made: how its cells send their broadcast channel
+-- the name of the rule that produces a list, by the transmission scheme of its cells
 abbrev pub rule_word : Carrier → List ℕ
 rule_word OnePort = codes "one-port"
 rule_word TwoPorts = codes "two-ports"
 rule_word LongPrefix = codes "long-prefix"
 rule_word FourPorts = codes "four-ports"
 
--- a power as it is reported, in 64 bits, in which that of each recording has room
+-- a power as reported, in 64 bits; every recording's power fits
 abbrev pub power_word : ℕ → ℕ
 power_word power = if nat_le power (2 ^ 64 - 1) then power else 2 ^ 64 - 1

@@ -1,7 +1,7 @@
-//! What the text reports and the JSON reports share: the words for digits, bits and rules, and the named numbers of an
-//! entry's evidence.
+//! Parts that the text and JSON reports share: the words for digits, bits and rules, and the named numbers in a cell's
+//! evidence.
 //!
-//! Tests: `sent_tests/src/texts.rt`, `top_tests/src/evidence_of_cells.rt`.
+//! Tests: the crates `sent_tests`, in `texts.rt`, and `top_tests`, in `evidence_of_cells.rt`.
 #![tactic(auto)]
 
 mod numbers;

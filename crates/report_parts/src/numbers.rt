@@ -1,4 +1,4 @@
-//! The numbers of an entry's evidence, each with its name.
+//! The named numbers in an entry's evidence.
 
 ghost use Rattle.std.specs.Prelude.{◌≡◌, ℕ, List};
 ghost use Rattle.report_parts.specs.Numbers.{numbers_in as numbers_of, place_in as place_of};
@@ -6,7 +6,7 @@ ghost use Rattle.report_parts.specs.Numbers.{numbers_in as numbers_of, place_in 
 use lte_types::Evidence;
 use std::marker::Model;
 
-/// A number with the name that reports give it. Contracts see it as this pair. (own)
+/// A number with its name in reports. Contracts see it as a pair. (own)
 #[derive(Drop)]
 pub struct Named {
     name: &'static str,
@@ -20,21 +20,21 @@ impl Model for Named {
 }
 
 impl Named {
-    /// A number with a name.
+    /// Creates a named number.
     pub fn new(name: &'static str, value: u64) -> Named
         ensures { result ≡ (name.now, value) }
     {
         Named { name, value }
     }
 
-    /// The name.
+    /// Returns the name.
     pub fn name(&self) -> &'static str
         ensures { result.now ≡ self.now.0 }
     {
         self.name
     }
 
-    /// The number.
+    /// Returns the number.
     pub fn value(&self) -> u64
         ensures { result ≡ self.now.1 }
     {
@@ -42,7 +42,7 @@ impl Named {
     }
 }
 
-/// Returns the numbers that say which entry the evidence belongs to. (own)
+/// Returns the cell identity, frame start and frame number. (own)
 pub fn place_in(evidence: &Evidence) -> [Named; 3]
     ensures { result ≡ place_of evidence.now }
 {

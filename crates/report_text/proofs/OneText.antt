@@ -1,4 +1,4 @@
--- A recording has one text of its rounds.
+-- The text of a recording's rounds is unique.
 use Rattle.std.proofs.Common.{◌∙◌, sym, List, ◌++◌, ℕ, Bool}
 use Rattle.std.specs.List.{flat_map}
 use Rattle.std.specs.Prelude.{if◌then◌else◌, []}

@@ -5,7 +5,7 @@ use Rattle.std.specs.List.{flat_map}
 use Rattle.report_text.specs.Lines.{entry_lines, head_line, report_text}
 use Rattle.report_text.specs.Pieces.{IsPiece, ListedLinesStand}
 
--- a piece of a text is one of a longer text
+-- a piece of a text is a piece of a longer text
 further : (front piece text : List ℕ) → IsPiece piece text → IsPiece piece (front ++ text)
 further front piece text p = record {
   before = front ++ p.before;
@@ -13,7 +13,7 @@ further front piece text p = record {
   split = ap (λ t. front ++ t) p.split ∙ sym (append_assoc front (p.before ++ piece) p.after) ∙ ap (λ l. l ++ p.after) (sym (append_assoc front p.before piece));
 }
 
--- the lines of an item are a piece of those of all
+-- an item's lines are a piece of the lines for all items
 item_stands : {A : Type 0} (f : A → List ℕ) (xs : List A) (x : A) (k : ℕ) → k < length xs → slice_index_or xs k x ≡ x → IsPiece (f x) (flat_map f xs)
 item_stands f [] x k below at = absurd (omega (arith, below))
 item_stands f (y ∷ rest) x zero below at = record { before = []; after = flat_map f rest; split = ap (λ z. f z ++ flat_map f rest) at }

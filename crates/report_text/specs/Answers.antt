@@ -6,11 +6,11 @@ abbrev pub answer_word : Bool → List ℕ
 answer_word true = codes "yes"
 answer_word false = codes "no"
 
--- the line of a certificate: its number from 0, and whether it is accepted
+-- a certificate's line: its index from 0, and whether it is accepted
 abbrev pub answer_line : ℕ → Bool → List ℕ
 answer_line number answer = decimal number ++ codes " " ++ answer_word answer ++ codes "\n"
 
--- the lines of answers, from this number on
+-- the lines of answers, starting with this index
 unfoldable pub answer_lines : ℕ → List Bool → List ℕ
 answer_lines number [] = []
 answer_lines number (answer ∷ rest) = answer_line number answer ++ answer_lines (suc number) rest
@@ -18,6 +18,6 @@ answer_lines number (answer ∷ rest) = answer_line number answer ++ answer_line
 abbrev pub check_head : ℕ → List ℕ
 check_head count = codes "certificates " ++ decimal count ++ codes "\n"
 
--- the number of certificates, and then a line for each
+-- the number of certificates, followed by a line for each
 unfoldable pub check_text : List Bool → List ℕ
 check_text answers = check_head (length answers) ++ answer_lines 0 answers

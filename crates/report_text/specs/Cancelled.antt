@@ -1,24 +1,24 @@
--- The lines of cells that are taken off a recording. (own)
+-- The lines for a cancelled cell. (own)
 use Rattle.std.specs.Prelude.{ℕ, List, ◌++◌, codes}
 use Rattle.std.specs.Fmt.{decimal, signed_decimal}
 use Rattle.cs_num.specs.declared.Cpx.{Cpx}
 
--- the gain with which the cell was taken off
+-- the gain used to cancel the cell
 abbrev pub gain_part : Cpx → List ℕ
 gain_part gain = codes " gain " ++ signed_decimal gain.re ++ codes " " ++ signed_decimal gain.im
 
--- the cell's identity, the gain, and the greatest size of a component that was left
+-- the cell identity, the gain, and the largest component magnitude of the residual
 abbrev pub cancelled_line : ℕ → Cpx → ℕ → List ℕ
 cancelled_line id gain greatest =
     codes "cancelled " ++ decimal id ++ gain_part gain ++ codes " residue " ++ decimal greatest ++ codes "\n"
 
--- the power of the recording with the cell, and without it
+-- the power with the cell, and without it
 abbrev pub power_line : ℕ → ℕ → List ℕ
 power_line before after = codes "power " ++ decimal before ++ codes " " ++ decimal after ++ codes "\n"
 
 abbrev pub cancelled_lines : ℕ → Cpx → ℕ → ℕ → ℕ → List ℕ
 cancelled_lines id gain greatest before after = cancelled_line id gain greatest ++ power_line before after
 
--- no cell of a list can be taken off
+-- no cell can be cancelled
 abbrev pub cancelled_none : List ℕ
 cancelled_none = codes "cancelled none\n"

@@ -1,27 +1,27 @@
--- The text of the evidence for the entries of a list. Numbers are decimal, and every line ends with a line feed. (own)
+-- The text of the evidence for a list. Numbers are decimal, and every line ends with a line feed. (own)
 use Rattle.std.specs.Prelude.{ℕ, List, ◌++◌, length, codes}
 use Rattle.std.specs.List.{flat_map}
 use Rattle.std.specs.Fmt.{decimal}
 use Rattle.lte_types.specs.declared.evidence.Evidence.{Evidence}
 use Rattle.report_parts.specs.Numbers.{numbers_in}
 
--- which entry it is: its identity, start and frame number
+-- the cell identity, frame start and frame number
 abbrev pub entry_part : ℕ → ℕ → ℕ → List ℕ
 entry_part id start sfn = decimal id ++ codes " " ++ decimal start ++ codes " " ++ decimal sfn
 
--- a number after its name
+-- a number preceded by its name
 abbrev pub number_part : List ℕ × ℕ → List ℕ
 number_part named = codes " " ++ named.0 ++ codes " " ++ decimal named.1
 
--- the line of an entry: which it is, and each number that supports it
+-- an entry's line: the cell, and each number that supports it
 abbrev pub evidence_line : Evidence → List ℕ
 evidence_line entry =
     entry_part entry.id entry.start entry.sfn ++ flat_map number_part (numbers_in entry) ++ codes "\n"
 
--- the first line, with the count of entries
+-- the first line, with the number of entries
 abbrev pub evidence_head : ℕ → List ℕ
 evidence_head count = codes "evidence " ++ decimal count ++ codes "\n"
 
--- the text: the first line, and then a line for each entry
+-- the first line, followed by a line for each entry
 unfoldable pub evidence_text : List Evidence → List ℕ
 evidence_text list = evidence_head (length list) ++ flat_map evidence_line list

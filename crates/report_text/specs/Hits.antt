@@ -1,4 +1,4 @@
--- The texts of hits. Numbers are decimal, and every line ends with a line feed. (own)
+-- The text of hits. Numbers are decimal, and every line ends with a line feed. (own)
 use Rattle.std.specs.Prelude.{ℕ, List, ◌++◌, length, codes}
 use Rattle.std.specs.List.{flat_map}
 use Rattle.std.specs.Fmt.{decimal}
@@ -6,36 +6,36 @@ use Rattle.lte_types.specs.declared.hit.Hit.{Hit}
 use Rattle.lte_types.specs.Numerology.{subframe_of}
 use Rattle.hit_details.specs.declared.hits.IdentifiedHit.{IdentifiedHit}
 
--- a line of a sample and an identity within the group
+-- a line with a sample and an identity within the group
 abbrev pub root_line : ℕ → ℕ → List ℕ
 root_line t n2 = decimal t ++ codes " " ++ decimal n2 ++ codes "\n"
 
--- the line of a hit
+-- a hit's line
 abbrev pub hit_line : Hit → List ℕ
 hit_line hit = root_line hit.t hit.n2
 
--- the first line, which tells how many hits there are
+-- the first line, with the number of hits
 abbrev pub hits_head : ℕ → List ℕ
 hits_head count = codes "hits " ++ decimal count ++ codes "\n"
 
--- the text: the first line, and then a line for each hit
+-- the first line, followed by a line for each hit
 unfoldable pub hits_text : List Hit → List ℕ
 hits_text hits = hits_head (length hits) ++ flat_map hit_line hits
 
--- ---- hits with the identity of each
+-- ---- hits with their identities
 
--- the line of a place: the place, the identity, the subframe and the frame start
+-- a line with a sample, a cell identity, a subframe and a frame start
 abbrev pub place_line : ℕ → ℕ → ℕ → ℕ → List ℕ
 place_line t id subframe start =
     decimal t ++ codes " " ++ decimal id ++ codes " " ++ decimal subframe ++ codes " " ++ decimal start ++ codes "\n"
 
--- the line of a hit with its identity: the subframe is the first of the half that the hit stands in
+-- an identified hit's line; its subframe is the first in the half frame
 abbrev pub id_line : IdentifiedHit → List ℕ
 id_line found = place_line found.hit.t found.id (subframe_of found.half) found.start
 
 abbrev pub ids_head : ℕ → List ℕ
 ids_head count = codes "ids " ++ decimal count ++ codes "\n"
 
--- the number of hits, and then a line for each
+-- the number of hits, followed by a line for each
 unfoldable pub ids_text : List IdentifiedHit → List ℕ
 ids_text hits = ids_head (length hits) ++ flat_map id_line hits

@@ -1,4 +1,4 @@
--- The lines of a report. Numbers are decimal, and every line ends with a line feed. (own)
+-- The lines of a cell list. Numbers are decimal, and every line ends with a line feed. (own)
 use Rattle.std.specs.Prelude.{ℕ, ℤ, List, ◌++◌, length, codes, Result, Ok, Err}
 use Rattle.std.specs.List.{flat_map}
 use Rattle.std.specs.Fmt.{decimal, signed_decimal}
@@ -16,13 +16,13 @@ use Rattle.report_text.specs.Words.{or_dash, bit_word, barred_word, intra_word, 
 use Rattle.report_parts.specs.Words.{digits_word}
 use Rattle.report_text.specs.Words.{tdd_word, sibs_word}
 
--- the place of a cell: its identity, start and frame number, and how many antenna ports it has
+-- a cell's identity, frame start, frame number and antenna port count
 abbrev pub place_part : ℕ → ℕ → ℕ → ℕ → List ℕ
 place_part id start sfn ports =
     codes "cell " ++ decimal id ++ codes " at " ++ decimal start ++ codes " sfn " ++ decimal sfn ++ codes " ports "
     ++ decimal ports
 
--- the master block of a cell: schedulingInfoSIB1-BR stands before the bits that are still spare
+-- a cell's MIB; schedulingInfoSIB1-BR precedes the bits that are still spare
 abbrev pub block_part : List ℕ → List ℕ → List ℕ → ℕ → ℕ → List ℕ
 block_part bandwidth duration resource br spare =
     codes " " ++ bandwidth ++ codes " phich " ++ duration ++ codes " " ++ resource ++ codes " br " ++ decimal br
@@ -36,13 +36,13 @@ block_part_of mib =
 abbrev pub cell_line : Entry → List ℕ
 cell_line entry = place_part entry.id entry.start entry.sfn entry.ports ++ block_part_of entry.mib
 
--- why a cell has no system information
+-- the line with the reason why a cell has no system information
 abbrev pub none_line : Sib1Reason → List ℕ
 none_line reason = codes "sib1 none " ++ reason_words reason ++ codes "\n"
 
 -- ---- system information
 
--- tracking area and identity of the cell, and whether a terminal may camp on it and on others of its frequency
+-- the cell's tracking area and identity, and whether a terminal may camp on it and on others on its frequency
 abbrev pub access_part : ℕ → ℕ → List ℕ → List ℕ → List ℕ
 access_part tac cell barred intra =
     codes "sib1 tac " ++ decimal tac ++ codes " cell " ++ decimal cell ++ codes " " ++ barred ++ codes " " ++ intra
@@ -50,14 +50,14 @@ access_part tac cell barred intra =
 abbrev pub access_part_of : Sib1 → List ℕ
 access_part_of sib1 = access_part sib1.tac sib1.cell (barred_word sib1.barred) (intra_word sib1.intra)
 
--- the closed subscriber group of a cell
+-- the cell's closed subscriber group
 abbrev pub group_part : List ℕ → List ℕ → List ℕ
 group_part csg identity = codes " csg " ++ csg ++ codes " " ++ identity
 
 abbrev pub group_part_of : Sib1 → List ℕ
 group_part_of sib1 = group_part (bit_word sib1.csg) (or_dash decimal sib1.csg_identity)
 
--- the levels to choose a cell, and its band
+-- the levels for cell selection, and the band
 abbrev pub level_part : ℤ → List ℕ → List ℕ → ℕ → List ℕ
 level_part level offset power band =
     codes " rx " ++ signed_decimal level ++ codes " offset " ++ offset ++ codes " pmax " ++ power ++ codes " band "
@@ -67,7 +67,7 @@ abbrev pub level_part_of : Sib1 → List ℕ
 level_part_of sib1 =
     level_part sib1.q_rx (or_dash decimal sib1.q_offset) (or_dash signed_decimal sib1.p_max) sib1.band
 
--- when system information is sent, and whether it changed
+-- the window for system information, systemInfoValueTag, the TDD configuration, and whether an extension follows
 abbrev pub window_part : List ℕ → ℕ → List ℕ → List ℕ → List ℕ
 window_part window tag tdd extension =
     codes " window " ++ window ++ codes " tag " ++ decimal tag ++ codes " tdd " ++ tdd
@@ -80,14 +80,14 @@ window_part_of sib1 =
 abbrev pub sib1_line : Sib1 → List ℕ
 sib1_line sib1 = access_part_of sib1 ++ group_part_of sib1 ++ level_part_of sib1 ++ window_part_of sib1
 
--- a network
+-- a network's line
 abbrev pub network_line : List ℕ → List ℕ → List ℕ → List ℕ
 network_line mcc mnc reserved = codes "plmn " ++ mcc ++ codes " " ++ mnc ++ codes " " ++ reserved ++ codes "\n"
 
 abbrev pub plmn_line : Plmn → List ℕ
 plmn_line plmn = network_line (or_dash digits_word plmn.mcc) (mnc_word plmn.mnc) (reserved_word plmn.reserved)
 
--- an entry of the schedule
+-- a schedule entry's line
 abbrev pub schedule_line : List ℕ → List ℕ → List ℕ
 schedule_line period sibs = codes "si " ++ period ++ codes " " ++ sibs ++ codes "\n"
 
@@ -97,27 +97,27 @@ message_line message = schedule_line (period_word message.period) (sibs_word mes
 abbrev pub sib1_lines : Sib1 → List ℕ
 sib1_lines sib1 = sib1_line sib1 ++ flat_map plmn_line sib1.plmns ++ flat_map message_line sib1.scheduling
 
--- ---- the report
+-- ---- the cell list
 
--- the lines on system information, or the one on why there is none
+-- the lines for system information, or the reason why there is none
 abbrev pub system_lines : Result Sib1 Sib1Reason → List ℕ
 system_lines (Ok sib1) = sib1_lines sib1
 system_lines (Err reason) = none_line reason
 
--- the lines of a cell
+-- a cell's lines
 abbrev pub entry_lines : Entry → List ℕ
 entry_lines entry = cell_line entry ++ system_lines entry.sib1
 
 abbrev pub head_line : ℕ → List ℕ
 head_line count = codes "cells " ++ decimal count ++ codes "\n"
 
--- the number of cells, and then the lines of each
+-- the number of cells, followed by the lines of each
 unfoldable pub report_text : List Entry → List ℕ
 report_text entries = head_line (length entries) ++ flat_map entry_lines entries
 
--- ---- a recording by number
+-- ---- synthetic recordings
 
--- the cell of the recording, where its first frame begins, that frame's number, and how often the list holds it
+-- the transmitted cell, its first frame's start and number, and how many list entries equal it
 abbrev pub made_line : ℕ → ℕ → ℕ → ℕ → List ℕ
 made_line id start sfn held =
     codes "made " ++ decimal id ++ codes " at " ++ decimal start ++ codes " sfn " ++ decimal sfn ++ codes " held "

@@ -4,13 +4,13 @@ use Rattle.std.specs.List.{Contains}
 use Rattle.lte_types.specs.declared.entry.Entry.{Entry}
 use Rattle.report_text.specs.Lines.{entry_lines, report_text}
 
--- the piece stands somewhere in the text
+-- the piece occurs in the text
 pub record IsPiece (piece text : List ℕ) : Type 0 where
   pub before : List ℕ
   pub after : List ℕ
   pub split : text ≡ before ++ piece ++ after
 
--- a law: the lines of each listed cell, with those on its system information, stand together in the text of the list
+-- a law: each listed cell's lines are one contiguous piece of the list's text
 abbrev pub ListedLinesStand : Type 0
 ListedLinesStand =
     (entries : List Entry) (entry : Entry) → Contains entries entry → IsPiece (entry_lines entry) (report_text entries)

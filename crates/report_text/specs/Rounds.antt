@@ -1,4 +1,4 @@
--- The text of a search that takes found cells off. (own)
+-- The text of interference cancellation. (own)
 use Rattle.std.specs.Prelude.{◌≡◌, ℕ, if◌then◌else◌, List, [], ◌++◌}
 use Rattle.std.specs.List.{flat_map}
 use Rattle.cs_num.specs.declared.Sample.{Sample}
@@ -10,19 +10,19 @@ use Rattle.report_parts.specs.Words.{power_word}
 use Rattle.report_text.specs.Lines.{report_text}
 use Rattle.report_text.specs.Cancelled.{cancelled_lines, cancelled_none}
 
--- the lines of the cell that a round took off, and the list of what is left
+-- the lines for the cancelled cell, followed by the residual's list
 abbrev pub round_text : Round → List ℕ
 round_text round =
     cancelled_lines round.id (gain_of round.taken.gain) round.taken.greatest (power_word round.taken.before)
     (power_word round.taken.after)
     ++ report_text round.list
 
--- the list of the recording, its rounds, and a line where a round took off none
+-- the recording's list, its rounds, and a line if the last round cancels no cell
 abbrev pub rounds_text : Rounds → List ℕ
 rounds_text rounds =
     report_text rounds.first ++ flat_map round_text rounds.taken.items ++ (if rounds.ended then cancelled_none else [])
 
--- the text of a recording
+-- a recording's text
 pub record IsCancelText (recording : List Sample) (text : List ℕ) : Type 0 where
   pub rounds : Rounds
   pub are : IsCancelled recording rounds

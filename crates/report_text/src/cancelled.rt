@@ -1,4 +1,4 @@
-//! The lines of a cell that was taken off a recording.
+//! The lines for a cancelled cell.
 
 ghost use Rattle.std.specs.Prelude.{◌≡◌, IfOk, string_bytes};
 ghost use Rattle.report_text.specs.Cancelled.{cancelled_line as cancelled_of, gain_part as gain_of, power_line as power_of};
@@ -8,8 +8,8 @@ use cs_num::Gain;
 use std::alloc::{AllocError, Global};
 use std::fmt::Write;
 
-/// Returns the two lines of a cancelled cell: its identity, its gain and the residual, `greatest`, which is the maximum
-/// magnitude of a component afterwards; and the power before and after. Fails only if an allocation fails. (own)
+/// Returns the two lines for a cancelled cell: identity, gain and `greatest`, the largest component magnitude of the
+/// residual; and the power before and after. Fails only if an allocation fails. (own)
 pub fn text_of_cancelled(
     alloc: Global,
     id: u16,
@@ -25,7 +25,7 @@ pub fn text_of_cancelled(
     Ok(text)
 }
 
-// Which cell was taken off, with which gain, and the greatest size of a component that was left.
+// Returns the line with the cell identity, the gain and the largest component magnitude of the residual.
 fn cancelled_line(alloc: Global, id: u16, gain: Gain, greatest: u32) -> Result<String, AllocError>
     ensures { IfOk result (λ line. string_bytes line ≡ cancelled_of id gain greatest) }
 {
@@ -44,7 +44,7 @@ fn gain_part(alloc: Global, gain: Gain) -> Result<String, AllocError>
     format!(in alloc; " gain {re} {im}")
 }
 
-// The sums of the squares of the samples' sizes.
+// Returns the line with the power before and after.
 fn power_line(alloc: Global, before: u64, after: u64) -> Result<String, AllocError>
     ensures { IfOk result (λ line. string_bytes line ≡ power_of before after) }
 {

@@ -1,4 +1,4 @@
-//! The lines of the items of a list.
+//! The lines for the items of a list.
 
 ghost use Rattle.std.specs.Prelude.{◌≡◌, ◌++◌, ℕ, List, IfOk, OnOk, string_bytes};
 ghost use Rattle.std.specs.List.{flat_map};

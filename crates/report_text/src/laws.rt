@@ -1,15 +1,15 @@
-//! Laws of texts.
+//! Laws of text reports.
 
 ghost use Rattle.report_text.specs.Pieces.{ListedLinesStand};
 ghost use Rattle.report_text.specs.Rounds.{IsOneCancelText};
 
-/// States that the lines of each listed cell, its own and those on its system information, are one contiguous piece of
-/// the list's text.
+/// A law: each listed cell's lines, its own and those for its system information, are one contiguous piece of the
+/// list's text.
 pub fn listed_lines_stand()
     ensures { ListedLinesStand }
 {}
 
-/// States that a recording has one text of its rounds.
+/// A law: the text of a recording's rounds is unique.
 pub fn one_cancel_text()
     ensures { IsOneCancelText }
 {}

@@ -1,8 +1,8 @@
-//! The text reports: the cell list, PSS detections (hits), evidence, answers to certificates, rounds of interference
-//! cancellation, and the estimate of a frequency offset.
+//! Text reports: the cell list, PSS detections (hits), evidence, answers to certificates, interference cancellation,
+//! and the frequency offset estimate. `docs/FORMATS.md` describes their lines.
 //!
-//! Tests: `sent_tests/src/texts.rt`, `list_tests/src/told.rt`, `list_tests/src/rounds_of_recordings.rt`, and the commands
-//! in `top_tests`.
+//! Tests: the crates `sent_tests`, in `texts.rt`, `list_tests`, in `told.rt` and `rounds_of_recordings.rt`, and
+//! `top_tests`.
 #![tactic(auto)]
 
 mod all;

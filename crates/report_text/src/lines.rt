@@ -1,4 +1,4 @@
-//! The lines of a report.
+//! The lines of a cell list.
 
 ghost use Rattle.std.specs.Prelude.{◌≡◌, ℕ, List, IfOk, string_bytes};
 ghost use Rattle.report_text.specs.Lines.{cell_line as cell_line_of, block_part_of, none_line as none_line_of};
@@ -17,7 +17,7 @@ use report_parts::mnc_word;
 use std::alloc::{AllocError, Global};
 use std::fmt::Write;
 
-/// The place of a cell and its master block.
+/// Returns the line with a cell's identity, timing and MIB.
 pub(crate) fn cell_line(alloc: Global, entry: &Entry) -> Result<String, AllocError>
     ensures { IfOk result (λ line. string_bytes line ≡ cell_line_of entry.now) }
 {
@@ -38,14 +38,14 @@ fn mib_part(alloc: Global, mib: &Mib) -> Result<String, AllocError>
     block_part(alloc, bandwidth, duration, resource, mib.br(), mib.rest())
 }
 
-/// Why a cell has no system information.
+/// Returns the line with the reason why a cell has no system information.
 pub(crate) fn none_line(alloc: Global, reason: Sib1Reason) -> Result<String, AllocError>
     ensures { IfOk result (λ line. string_bytes line ≡ none_line_of reason) }
 {
     format!(in alloc; "sib1 none {reason}\n")
 }
 
-/// The lines of a cell's system information.
+/// Returns the lines for a cell's system information.
 pub(crate) fn sib1_lines(alloc: Global, sib1: &Sib1) -> Result<String, AllocError>
     ensures { IfOk result (λ text. string_bytes text ≡ sib1_lines_of sib1.now) }
 {
@@ -101,7 +101,7 @@ fn timing_of_cell(alloc: Global, sib1: &Sib1) -> Result<String, AllocError>
     window_part(alloc, window, sib1.tag, tdd.as_str(), extension)
 }
 
-// The line of a network.
+// A network's line.
 impl ToLines for Plmn {
     ghost lines_of = { plmn_line_of };
 
@@ -113,7 +113,7 @@ impl ToLines for Plmn {
     }
 }
 
-// The line of an entry of the schedule.
+// A schedule entry's line.
 impl ToLines for SiMessage {
     ghost lines_of = { message_line_of };
 

@@ -1,4 +1,4 @@
-//! The report.
+//! The cell list.
 
 ghost use Rattle.std.specs.Prelude.{◌≡◌, ℕ, List, IfOk, string_bytes};
 ghost use Rattle.report_text.specs.Lines.{report_text, entry_lines, system_lines as system_lines_of};
@@ -9,9 +9,8 @@ use lte_types::Entry;
 use std::alloc::{AllocError, Global};
 use std::fmt::Write;
 
-/// Returns the text of a cell list: a line with the count of cells, and for each cell a line with its identity, timing
-/// and MIB, followed by the lines of its SIB1, its networks and its schedule, or by one line with the reason why there is
-/// no SIB1. Fails only if an allocation fails. (own)
+/// Returns the text of a cell list: the number of cells, then each cell's lines with its identity, timing, MIB and
+/// SIB1, or why SIB1 is missing. Fails only if an allocation fails. (own)
 pub fn text(alloc: Global, entries: &[Entry]) -> Result<String, AllocError>
     ensures { IfOk result (λ text. string_bytes text ≡ report_text entries.now) }
 {
@@ -20,7 +19,7 @@ pub fn text(alloc: Global, entries: &[Entry]) -> Result<String, AllocError>
     Ok(text)
 }
 
-// The lines of a cell.
+// A cell's lines.
 impl ToLines for Entry {
     ghost lines_of = { entry_lines };
 
@@ -32,7 +31,7 @@ impl ToLines for Entry {
     }
 }
 
-// The lines on the system information of a cell.
+// Returns the lines for a cell's system information.
 fn system_lines(alloc: Global, entry: &Entry) -> Result<String, AllocError>
     ensures { IfOk result (λ text. string_bytes text ≡ system_lines_of entry.now.sib1) }
 {

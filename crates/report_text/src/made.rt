@@ -1,4 +1,4 @@
-//! The line of a recording by number.
+//! The line for a synthetic recording.
 
 ghost use Rattle.std.specs.Prelude.{◌≡◌, IfOk, string_bytes};
 ghost use Rattle.report_text.specs.Lines.{made_line};
@@ -6,9 +6,8 @@ ghost use Rattle.report_text.specs.Lines.{made_line};
 use std::alloc::{AllocError, Global};
 use std::fmt::Write;
 
-/// Returns the line of a synthetic recording: the identity of the sent cell, the sample at which its first frame
-/// begins, the number of that frame, and the count of list entries that equal the sent cell. Fails only if an
-/// allocation fails. (own)
+/// Returns a synthetic recording's line: the transmitted cell's identity, its first frame's start and number, and how
+/// many list entries equal it. Fails only if an allocation fails. (own)
 pub fn line_of_made(
     alloc: Global,
     id: u16,

@@ -1,4 +1,4 @@
-//! The text of what is told of a frequency offset.
+//! The text of the frequency offset estimate.
 
 ghost use Rattle.std.specs.Prelude.{◌≡◌, IfOk, string_bytes};
 ghost use Rattle.report_text.specs.Hits.{hits_head};
@@ -10,9 +10,8 @@ use sample_file::Recording;
 use std::alloc::{AllocError, Global};
 use std::fmt::Write;
 
-/// Returns the text of the frequency offset estimate for `recording`: the count of hits at the coarse offset, the
-/// offset, and the count of cells in the list of the corrected recording. If there is no estimate, it is `hits 0`
-/// alone. Fails only if an allocation fails. (own)
+/// Returns the text of a recording's frequency offset estimate: hit count at the coarse offset, offset, and cell count
+/// after correction. Without an estimate it is `hits 0`. Fails only if an allocation fails. (own)
 pub fn tell_text(alloc: Global, recording: &Recording) -> Result<String, AllocError>
     ensures { IfOk result (λ text. IsTellText recording.now (string_bytes text)) }
 {
@@ -20,7 +19,7 @@ pub fn tell_text(alloc: Global, recording: &Recording) -> Result<String, AllocEr
     text_of(alloc, &told)
 }
 
-// The text of what is told.
+// Returns the text of an estimate.
 fn text_of(alloc: Global, told: &Option<Told>) -> Result<String, AllocError>
     ensures { IfOk result (λ text. string_bytes text ≡ told_text told.now) }
 {
@@ -30,7 +29,7 @@ fn text_of(alloc: Global, told: &Option<Told>) -> Result<String, AllocError>
     }
 }
 
-// The lines of what is told: hits, turn, cells.
+// Returns the estimate's lines: hits, offset, cells.
 fn text_of_turn(alloc: Global, told: &Told) -> Result<String, AllocError>
     ensures { IfOk result (λ text. string_bytes text ≡ told_text (Some told.now)) }
 {

@@ -1,4 +1,4 @@
-//! The parts of a report's lines, made of plain words and numbers.
+//! Parts of a report's lines, built from words and numbers.
 
 ghost use Rattle.std.specs.Prelude.{◌≡◌, IfOk, string_bytes};
 ghost use Rattle.report_text.specs.Lines.{place_part as place_of, block_part as block_of, access_part as access_of};
@@ -8,7 +8,7 @@ ghost use Rattle.report_text.specs.Lines.{network_line as network_of, schedule_l
 use std::alloc::{AllocError, Global};
 use std::fmt::Write;
 
-/// The place of a cell.
+/// Returns a cell's identity, frame start, frame number and antenna port count.
 pub(crate) fn place_part(
     alloc: Global,
     id: u16,
@@ -21,7 +21,7 @@ pub(crate) fn place_part(
     format!(in alloc; "cell {id} at {start} sfn {sfn} ports {ports}")
 }
 
-/// The master block of a cell.
+/// Returns a cell's MIB.
 pub(crate) fn block_part(
     alloc: Global,
     bandwidth: &str,
@@ -36,7 +36,7 @@ pub(crate) fn block_part(
     format!(in alloc; " {bandwidth} phich {duration} {resource} br {br} spare {spare}\n")
 }
 
-/// Tracking area and identity of a cell, and whether a terminal may camp on it and on others of its
+/// Returns the cell's tracking area and identity, and whether a terminal may camp on it and on others on its
 /// frequency.
 pub(crate) fn access_part(
     alloc: Global,
@@ -50,14 +50,14 @@ pub(crate) fn access_part(
     format!(in alloc; "sib1 tac {tac} cell {cell} {barred} {intra}")
 }
 
-/// The closed subscriber group of a cell.
+/// Returns the cell's closed subscriber group.
 pub(crate) fn group_part(alloc: Global, csg: &str, identity: &str) -> Result<String, AllocError>
     ensures { IfOk result (λ part. string_bytes part ≡ group_of csg.now identity.now) }
 {
     format!(in alloc; " csg {csg} {identity}")
 }
 
-/// Levels and band.
+/// Returns the levels for cell selection, and the band.
 pub(crate) fn level_part(
     alloc: Global,
     level: i8,
@@ -70,7 +70,8 @@ pub(crate) fn level_part(
     format!(in alloc; " rx {level} offset {offset} pmax {power} band {band}")
 }
 
-/// When system information is sent, and whether it changed.
+/// Returns the window for system information, systemInfoValueTag, the TDD configuration, and whether an extension
+/// follows.
 pub(crate) fn window_part(
     alloc: Global,
     window: &str,
@@ -83,7 +84,7 @@ pub(crate) fn window_part(
     format!(in alloc; " window {window} tag {tag} tdd {tdd} extension {extension}\n")
 }
 
-/// The line of a network.
+/// Returns a network's line.
 pub(crate) fn network_line(
     alloc: Global,
     mcc: &str,
@@ -95,7 +96,7 @@ pub(crate) fn network_line(
     format!(in alloc; "plmn {mcc} {mnc} {reserved}\n")
 }
 
-/// The line of an entry of the schedule.
+/// Returns a schedule entry's line.
 pub(crate) fn schedule_line(alloc: Global, period: &str, sibs: &str) -> Result<String, AllocError>
     ensures { IfOk result (λ line. string_bytes line ≡ schedule_of period.now sibs.now) }
 {

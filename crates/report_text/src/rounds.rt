@@ -1,4 +1,4 @@
-//! The text of a search that takes found cells off.
+//! The text of interference cancellation.
 
 ghost use Rattle.std.specs.Prelude.{◌≡◌, ℕ, List, IfOk, string_bytes};
 ghost use Rattle.report_text.specs.Rounds.{round_text, rounds_text, IsCancelText};
@@ -12,9 +12,8 @@ use sample_file::Recording;
 use std::alloc::{AllocError, Global};
 use successive_cancel::{Round, Rounds, cancel_rounds};
 
-/// Returns the text of interference cancellation in `recording`: the list as `text` writes it; for each round the two
-/// lines of the cancelled cell and the list of the remaining samples; and `cancelled none` if a last round cancels no
-/// cell. Fails only if an allocation fails. (own)
+/// Returns the text of interference cancellation: the recording's list, each round's lines and list, and `cancelled
+/// none` if the last round cancels no cell. Fails only if an allocation fails. (own)
 pub fn cancel_text(alloc: Global, recording: &Recording) -> Result<String, AllocError>
     ensures { IfOk result (λ text. IsCancelText recording.now (string_bytes text)) }
 {
@@ -36,7 +35,7 @@ pub fn text_of_rounds(alloc: Global, rounds: &Rounds) -> Result<String, AllocErr
     Ok(all)
 }
 
-// The lines of the cancelled cell, and the list of the rest.
+// The lines for the cancelled cell, and the residual's list.
 impl ToLines for Round {
     ghost lines_of = { round_text };
 

@@ -1,4 +1,4 @@
-//! The words of a report.
+//! The words in a text report.
 
 ghost use Rattle.std.specs.Prelude.{◌≡◌, ◌∷◌, ℕ, List, Some, IfOk, string_bytes};
 ghost use Rattle.report_parts.specs.Words.{digits_word as digits_of};
@@ -9,14 +9,14 @@ use report_parts::digits_word;
 use std::alloc::{AllocError, Global};
 use std::fmt::{Display, Write};
 
-/// One word of two.
+/// Returns one word or the other.
 pub(crate) fn either(flag: bool, yes: &'static str, no: &'static str) -> &'static str
     ensures { result.now ≡ either_of flag yes.now no.now }
 {
     if flag { yes } else { no }
 }
 
-/// The value, or a dash.
+/// Returns the value, or a dash.
 pub(crate) fn or_dash<T: Display + Drop>(
     alloc: Global,
     value: Option<T>,
@@ -30,7 +30,7 @@ pub(crate) fn or_dash<T: Display + Drop>(
     }
 }
 
-/// Both numbers of a TDD configuration, or a dash.
+/// Returns both numbers of a TDD configuration, or a dash.
 pub(crate) fn tdd_or_dash(alloc: Global, tdd: Option<(u8, u8)>) -> Result<String, AllocError>
     ensures { IfOk result (λ text. string_bytes text ≡ word_or_dash config_of tdd) }
 {
@@ -40,7 +40,7 @@ pub(crate) fn tdd_or_dash(alloc: Global, tdd: Option<(u8, u8)>) -> Result<String
     }
 }
 
-/// Three digits, or a dash.
+/// Returns three digits, or a dash.
 pub(crate) fn mcc_or_dash(alloc: Global, mcc: &Option<[u8; 3]>) -> Result<String, AllocError>
     ensures { IfOk result (λ text. string_bytes text ≡ word_or_dash digits_of mcc.now) }
 {
@@ -50,7 +50,7 @@ pub(crate) fn mcc_or_dash(alloc: Global, mcc: &Option<[u8; 3]>) -> Result<String
     }
 }
 
-/// The codes of blocks with commas between them, and a dash where there are none.
+/// Returns block codes separated by commas, or a dash if there are none.
 pub(crate) fn sibs_word(alloc: Global, sibs: &[u8]) -> Result<String, AllocError>
     ensures { IfOk result (λ text. string_bytes text ≡ sibs_of sibs.now) }
 {
@@ -60,7 +60,7 @@ pub(crate) fn sibs_word(alloc: Global, sibs: &[u8]) -> Result<String, AllocError
     }
 }
 
-// A code and those after it.
+// Returns a code and those that follow it, separated by commas.
 fn joined(alloc: Global, first: u8, rest: &[u8]) -> Result<String, AllocError>
     ensures { IfOk result (λ text. string_bytes text ≡ sibs_of (first ∷ rest.now)) }
 {

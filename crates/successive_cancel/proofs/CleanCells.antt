@@ -1,4 +1,4 @@
--- Rounds on a recording that is clean of a cell.
+-- Rounds on a clean recording.
 use Rattle.std.proofs.Common.{◌≡◌, ◌∙◌, ℕ, zero, suc, ◌<◌, ◌⊎◌, inl, inr, arith, refl, sym, ap, subst, Bool, List, [], ◌∷◌, ◌++◌, length, get_or, Option, Some, None}
 use Rattle.std.specs.List.{Contains}
 use Rattle.cs_num.specs.declared.Cpx.{Cpx}
@@ -23,9 +23,9 @@ use Rattle.successive_cancel.specs.Rounds.{IsTakenOff, NoneIsTakenOff, IsRound, 
 use Rattle.successive_cancel.specs.Clean.{IsOfCell, TakesCell, IsTakenFirst, CleanCellIsTakenFirst, LoadedCellIsTakenFirst, CleanCellIsTakenNext}
 use Rattle.successive_cancel.proofs.Front.{at_front, behind, heads, tails}
 
--- ---- the entry that a round takes
+-- ---- the entry that a round cancels
 
--- the first that can be taken off is an entry that can be, or stands before it
+-- the first entry that can be cancelled is this one or precedes it
 stands : (recording : List Sample) (front : List Entry) (a : Entry) (rest before : List Entry) (entry : Entry) (after : List Entry) (taken : Subtracted) →
     front ++ a ∷ rest ≡ before ++ entry ∷ after → NoneIsTakenOff recording front → IsTakenOff recording entry taken → (a ≡ entry) ⊎ Contains before a
 stands recording [] a rest [] entry after taken e none is = inl (heads a entry rest after e)
@@ -40,7 +40,7 @@ stands recording (x ∷ front) a rest (y ∷ before) entry after taken e none is
       | inr inside ↦ inr (behind y a before inside)
     ]
 
--- the entries before one that the list has, and those after it
+-- the entries before a listed entry, and the entries after it
 record IsParted (list : List Entry) (entry : Entry) : Type 0 where
   before : List Entry
   after : List Entry
@@ -57,14 +57,14 @@ parted list entry inside = at list inside.0 inside.1 inside.2
     at (x ∷ xs) zero low e = record { before = []; after = xs; split = ap (λ (y : Entry). y ∷ xs) e }
     at (x ∷ xs) (suc i) low e = more x xs (at xs i (omega (arith, low)) e)
 
--- ---- rounds on a recording of a cell
+-- ---- rounds on a clean recording
 
 same_plan : (a b : CellPlan) → ◌≡◌ {A = Option CellPlan} (Some a) (Some b) → a ≡ b
 same_plan a b e = cc
 
--- the laws of the plan and of the answer
+-- the laws for the plan and for the answer
 module _ (one_plan : IsOnePlan) (has_plan : SentEntryHasPlan) (some_answer : IsSomeSubtraction) where
-  -- and a recording that is loaded of a cell, of whose answers it is known what they leave
+  -- a loaded recording, with a bound on the residual
   module _ (recording : List Sample) (plan : CellPlan) (grid : Elements) (sfn offset : ℕ) (gain : Cpx) (eps most : ℕ) (long : IsRecording recording) (sendable : IsSendable plan)
       (loaded : IsLoaded recording plan grid sfn offset gain eps)
       (leaves : (taken : Subtracted) → IsSubtracted recording plan (start_of offset) (number_at_start sfn offset) taken → IsLeftWithin most taken)
@@ -79,7 +79,7 @@ module _ (one_plan : IsOnePlan) (has_plan : SentEntryHasPlan) (some_answer : IsS
     planned list entry is inside of =
         has_plan recording entry plan grid sfn offset gain eps long (record { list = list; explained = is.explained; inside = inside }) sendable loaded of.id of.start of.sfn
 
-    -- the cell of its entry can be taken off
+    -- the entry's cell can be cancelled
     record CanBeTaken (entry : Entry) : Type 0 where
       taken : Subtracted
       is : IsTakenOff recording entry taken
@@ -100,7 +100,7 @@ module _ (one_plan : IsOnePlan) (has_plan : SentEntryHasPlan) (some_answer : IsS
           };
         }
 
-    -- a round that takes its entry takes the cell
+    -- a round that cancels the entry cancels the cell
     takes_cell : (entry : Entry) (round : Round) → IsOfCell plan start number entry → IsPlanned recording entry plan → round.id ≡ entry.id → IsTakenOff recording entry round.taken →
         TakesCell recording plan start number most round
     takes_cell entry round of is id taken =

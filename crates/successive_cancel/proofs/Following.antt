@@ -1,4 +1,4 @@
--- Rounds one after the other.
+-- Rounds in succession.
 use Rattle.std.proofs.Common.{◌≡◌, ℕ, zero, suc, ◌-◌, ◌<◌, arith, sym, subst, List, ◌∷◌, Bool, Option, Some}
 use Rattle.cs_num.specs.declared.Sample.{Sample}
 use Rattle.lte_types.specs.declared.entry.Entry.{Entry}
@@ -17,6 +17,6 @@ next_round (suc n) recording list round found others rest rounds ended some is s
       subst (λ m. AreRounds m round.taken.residue round.list rest ended) less (subst (λ (l : List Entry). AreRounds (suc n - 1) round.taken.residue l rest ended) its more),
     )
 
--- a round that was found
+-- a found round is the next round
 pub round_found : (recording : List Sample) (list : List Entry) (round : Round) (found : Option Round) → IsNextRound recording list found → found ≡ Some round → IsRound recording list round
 round_found recording list round found is same = subst (IsNextRound recording list) same is

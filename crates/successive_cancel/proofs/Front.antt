@@ -1,4 +1,4 @@
--- The first entry of a list that can be taken off.
+-- The first entry in a list that can be cancelled.
 use Rattle.std.proofs.Common.{◌≡◌, suc, arith, refl, List, ◌∷◌}
 use Rattle.std.specs.List.{Contains}
 use Rattle.lte_types.specs.declared.entry.Entry.{Entry}

@@ -1,12 +1,12 @@
--- One cell taken off.
+-- Cancellation of one cell.
 pub mod Taking
--- Rounds one after the other.
+-- Rounds in succession.
 pub mod Following
--- The first entry that can be taken off.
+-- The first entry that can be cancelled.
 pub mod Front
--- A recording that is clean of a cell.
+-- A clean recording.
 pub mod CleanCells
--- There are rounds of one kind.
+-- A recording's rounds are unique.
 pub mod Once
 -- Rounds in plain words.
 pub mod Plain

@@ -1,4 +1,4 @@
--- A recording has its rounds in one way.
+-- A recording's rounds are unique.
 use Rattle.std.proofs.Common.{◌≡◌, ◌∙◌, ℕ, zero, suc, refl, sym, ap, subst, List, [], ◌∷◌, ◌++◌, Bool}
 use Rattle.std.specs.List.{Contains}
 use Rattle.cs_num.specs.declared.Sample.{Sample}
@@ -13,7 +13,7 @@ use Rattle.successive_cancel.specs.Rounds.{IsTakenOff, NoneIsTakenOff, IsRound, 
 use Rattle.successive_cancel.proofs.Front.{at_front, behind, heads, tails}
 use Rattle.successive_cancel.proofs.Taking.{one_taken}
 
--- ---- the first entry that can be taken off
+-- ---- the first entry that can be cancelled
 
 one_first : (recording : List Sample) (front before : List Entry) (a b : Entry) (after rest : List Entry) (s t : Subtracted) →
     front ++ a ∷ after ≡ before ++ b ∷ rest → NoneIsTakenOff recording front → NoneIsTakenOff recording before → IsTakenOff recording a s → IsTakenOff recording b t → a ≡ b
@@ -26,7 +26,7 @@ one_first recording (x ∷ front) (y ∷ before) a b after rest s t e none free 
     one_first recording front before a b after rest s t (tails x y (front ++ a ∷ after) (before ++ b ∷ rest) e)
     (λ entry taken inside. none entry taken (behind x entry front inside)) (λ entry taken inside. free entry taken (behind y entry before inside)) p q
 
--- a list has one round
+-- a list's round is unique
 one_round : (recording : List Sample) (list : List Entry) (a b : Round) → IsRound recording list a → IsRound recording list b → a ≡ b
 one_round recording list a b p q = built a.id b.id a.taken b.taken a.list b.list (p.id ∙ ap (λ (e : Entry). e.id) entry ∙ sym q.id) taken lists
   where
@@ -42,7 +42,7 @@ one_round recording list a b p q = built a.id b.id a.taken b.taken a.list b.list
     built : (i j : ℕ) (s t : Subtracted) (x y : List Entry) → i ≡ j → s ≡ t → x ≡ y → ◌≡◌ {A = Round} (record { id = i; taken = s; list = x }) (record { id = j; taken = t; list = y })
     built i j s t x y e f g = rw (e, f, g) refl
 
--- a list where none can be taken off has none
+-- a list without an entry that can be cancelled has no round
 no_round : (recording : List Sample) (list : List Entry) (round : Round) → NoneIsTakenOff recording list → IsRound recording list round → ⊥
 no_round recording list round none is =
     none is.entry round.taken (subst (λ (l : List Entry). Contains l is.entry) (sym is.split) (inside is.before)) is.taken
@@ -67,7 +67,7 @@ one_rounds (suc n) recording list (x ∷ xs) (y ∷ ys) e f p q =
     let rest = one_rounds n y.taken.residue y.list xs ys e f (subst (λ (r : Round). AreRounds n r.taken.residue r.list xs e) same p.1) q.1 in
     record { rounds = ap (λ (r : Round). r ∷ xs) same ∙ ap (λ (rs : List Round). y ∷ rs) rest.rounds; ended = rest.ended }
 
--- so what is made of them is one
+-- anything computed from the rounds is unique
 pub one_made : {A : Type 0} (made : List Entry → List Round → Bool → A) (recording : List Sample) (p q : Rounds) → IsCancelled recording p → IsCancelled recording q →
     made p.first p.taken.items p.ended ≡ made q.first q.taken.items q.ended
 one_made made recording p q a b =

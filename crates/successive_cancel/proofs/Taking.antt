@@ -1,4 +1,4 @@
--- One cell taken off.
+-- Cancellation of one cell.
 use Rattle.std.proofs.Common.{◌≡◌, ◌∙◌, ℕ, zero, suc, ◌+◌, ◌<◌, inl, inr, arith, sym, ap, subst, List, [], ◌∷◌, ◌++◌, length, take, drop, get_or, Option, Some, None, Result, Ok, Err}
 use Rattle.std.specs.Prelude.{IfOk}
 use Rattle.std.specs.declared.alloc.AllocError.{AllocError}
@@ -22,7 +22,7 @@ use Rattle.successive_cancel.specs.Steps.{IsTakenIf}
 
 -- ---- an entry
 
--- with its plan it is taken off as the plan's cell is
+-- an entry with a plan is cancelled as the plan's cell is
 pub taken_if : (recording : List Sample) (entry : Entry) (plan : CellPlan) (answer : Option Subtracted) → IsPlanned recording entry plan →
     IsSubtraction recording plan entry.start entry.sfn answer → IsTakenIf recording entry answer
 taken_if recording entry plan (Some taken) planned is = record { plan = plan; planned = planned; subtracted = is }
@@ -31,7 +31,7 @@ taken_if recording entry plan None planned is = λ taken other.
     let subtracted = subst (λ (p : CellPlan). IsSubtracted recording p entry.start entry.sfn taken) same other.subtracted in
     is (gain_of taken.gain) subtracted.gain.candidate
 
--- without one it cannot be
+-- an entry without a plan cannot be cancelled
 pub not_taken : (recording : List Sample) (entry : Entry) → IsPlanOf recording entry None → (taken : Subtracted) → IsTakenOff recording entry taken → ⊥
 not_taken recording entry none taken is = none is.plan is.planned
 
@@ -52,7 +52,7 @@ only_one x y inside = at inside.0 inside.1 inside.2
     at zero low e = e
     at (suc k) low e = absurd (omega (arith, low))
 
--- where none before an entry can be taken off, and it cannot, none with it can
+-- if neither an entry nor any before it can be cancelled, none up to it can
 pub none_with : (recording : List Sample) (before : List Entry) (entry : Entry) → NoneIsTakenOff recording before →
     ((taken : Subtracted) → IsTakenOff recording entry taken → ⊥) → NoneIsTakenOff recording (before ++ entry ∷ [])
 none_with recording before entry none not other taken inside is = elim (Contains-append_cases before (entry ∷ []) other inside) [
@@ -65,9 +65,9 @@ pub answer_if : (recording : List Sample) (entry : Entry) (plan : CellPlan) (ans
 answer_if recording entry plan (Ok found) planned is = taken_if recording entry plan found planned is
 answer_if recording entry plan (Err wanting) planned is = tt
 
--- ---- an entry's place in a list
+-- ---- an entry's index in a list
 
--- where none to a place can be taken off, and the one there is, it is the round's entry
+-- if an entry can be cancelled and none before it can, it is the round's entry
 pub round_at : (recording : List Sample) (list : List Entry) (i : ℕ) (entry d : Entry) (round : Round) (found : Option Subtracted) → entry ≡ get_or list i d → i < length list →
     NoneIsTakenOff recording (take i list) → IsTakenIf recording entry found → found ≡ Some round.taken → round.id ≡ entry.id → IsListOfCells round.taken.residue round.list → IsRound recording list round
 round_at recording list i entry d round found is inside none taken same id listed = record {
@@ -81,7 +81,7 @@ round_at recording list i entry d round found is inside none taken same id liste
   listed = listed;
 }
 
--- and where it cannot be, none up to it can
+-- if an entry cannot be cancelled and none before it can, none up to it can
 pub none_more : (recording : List Sample) (list : List Entry) (i : ℕ) (entry d : Entry) (found : Option Subtracted) → entry ≡ get_or list i d → i < length list →
     NoneIsTakenOff recording (take i list) → IsTakenIf recording entry found → found ≡ None → NoneIsTakenOff recording (take (i + 1) list)
 none_more recording list i entry d found is inside none taken same =

@@ -1,4 +1,4 @@
--- Which cells the rounds cancel in a recording that is clean of a cell. (own)
+-- The cells that the rounds cancel in a clean recording. (own)
 use Rattle.std.specs.Prelude.{◌≡◌, ◌⊎◌, ℕ, suc, ◌<◌, ◌≤◌, Bool, List, ◌∷◌, ◌++◌, length}
 use Rattle.std.specs.List.{Contains}
 use Rattle.cs_num.specs.declared.Cpx.{Cpx}
@@ -18,13 +18,13 @@ use Rattle.successive_cancel.specs.declared.round.Round.{Round}
 use Rattle.successive_cancel.specs.declared.round.Rounds.{Rounds}
 use Rattle.successive_cancel.specs.Rounds.{IsTakenOff, NoneIsTakenOff, AreRounds, IsCancelled}
 
--- the entry is of the cell that has a frame beginning at this sample with this number
+-- the entry belongs to the cell that has a frame with this number at this sample
 pub record IsOfCell (plan : CellPlan) (first number : ℕ) (entry : Entry) : Type 0 where
   pub id : entry.id ≡ plan.identity
   pub start : entry.start ≡ first
   pub sfn : entry.sfn ≡ number
 
--- a round cancels that cell, and no component of the residual has a larger magnitude
+-- a round cancels the cell, and no component of the residual is larger than `most`
 pub record TakesCell (recording : List Sample) (plan : CellPlan) (start number most : ℕ) (round : Round) : Type 0 where
   pub id : round.id ≡ plan.identity
   pub subtracted : IsSubtracted recording plan start number round.taken
@@ -37,8 +37,8 @@ pub record TakesOneOf (recording : List Sample) (entries : List Entry) (round : 
   pub id : round.id ≡ entry.id
   pub taken : IsTakenOff recording entry round.taken
 
--- the list has an entry of the cell, and a round follows, the first of these, which cancels the cell or that of an
--- entry listed before it; if no cell listed before it can be cancelled, it cancels the cell
+-- the list has an entry for the cell, and the first round cancels the cell or one listed before it; if no cell before
+-- it can be cancelled, the round cancels the cell
 pub record IsTakenFirst (recording : List Sample) (list : List Entry) (rounds : List Round) (plan : CellPlan)
     (start number most : ℕ) : Type 0 where
   pub before : List Entry
@@ -54,8 +54,8 @@ pub record IsTakenFirst (recording : List Sample) (list : List Entry) (rounds : 
 
 -- ---- laws
 
--- the first round of a recording that is clean of a cell that can be sent cancels it and leaves no more than the
--- errors, unless a cell that is listed before it is cancelled
+-- if the recording is clean and its cell can be sent, the first round cancels it and leaves at most the errors, unless
+-- it cancels a cell listed before it
 abbrev pub CleanCellIsTakenFirst : Type 0
 CleanCellIsTakenFirst =
     (recording : List Sample) (rounds : Rounds) (plan : CellPlan) (sfn offset : ℕ) (gain : Cpx) (eps : ℕ) →
@@ -63,7 +63,7 @@ CleanCellIsTakenFirst =
     IsClean recording plan sfn offset gain eps →
     IsTakenFirst recording rounds.first rounds.taken.items plan (start_of offset) (number_at_start sfn offset) eps
 
--- whatever else the cell sends, it leaves no more than the true gain leaves, if that is at most 32767
+-- if the cell also carries load, the round leaves at most the residual for the true gain, if that is at most 32,767
 abbrev pub LoadedCellIsTakenFirst : Type 0
 LoadedCellIsTakenFirst =
     (recording : List Sample) (rounds : Rounds) (plan : CellPlan) (grid : Elements) (sfn offset : ℕ) (gain : Cpx)
@@ -73,7 +73,7 @@ LoadedCellIsTakenFirst =
     IsWithin most (left_at recording plan (start_of offset) (number_at_start sfn offset) gain i)) →
     IsTakenFirst recording rounds.first rounds.taken.items plan (start_of offset) (number_at_start sfn offset) most
 
--- each later round does as the first if the residual before it is clean of a cell
+-- each later round does the same if the previous residual is clean
 abbrev pub CleanCellIsTakenNext : Type 0
 CleanCellIsTakenNext =
     (most : ℕ) (recording : List Sample) (list : List Entry) (rounds : List Round) (ended : Bool) (plan : CellPlan)

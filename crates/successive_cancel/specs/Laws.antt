@@ -19,7 +19,7 @@ list_after zero list rounds = list
 list_after (suc n) list [] = list
 list_after (suc n) list (round ∷ rest) = list_after n round.list rest
 
--- round n cancels the cell of an entry of the list before it, and has the list of the residual
+-- round n cancels the cell of an entry in the previous list, and holds the residual's list
 pub record IsRoundIn (recording : List Sample) (list : List Entry) (rounds : List Round) (n : ℕ) : Type 0 where
   pub entry : Entry
   pub round : Round
@@ -28,8 +28,8 @@ pub record IsRoundIn (recording : List Sample) (list : List Entry) (rounds : Lis
   pub residue : recording_after (suc n) recording rounds ≡ round.taken.residue
   pub listed : IsListOfCells round.taken.residue (list_after (suc n) list rounds)
 
--- the rounds in plain words: at most `most` cancel a cell, and fewer exactly if a round follows that cancels none,
--- since no entry of the last list can be cancelled
+-- the rounds in plain words: at most `most` rounds cancel a cell. They are fewer exactly if the next round cancels
+-- none, because no entry in the last list can be cancelled
 pub record AreInPlainWords (most : ℕ) (recording : List Sample) (list : List Entry) (rounds : List Round)
     (ended : Bool) : Type 0 where
   pub few : length rounds ≤ most

@@ -1,4 +1,4 @@
--- Listed cells are cancelled one after the other, and the residual is searched again. (own)
+-- Cancellation of listed cells one after the other, each followed by a search of the residual. (own)
 use Rattle.std.specs.Prelude.{◌≡◌, ℕ, zero, suc, Bool, true, false, List, [], ◌∷◌, ◌++◌}
 use Rattle.std.specs.List.{Contains}
 use Rattle.cs_num.specs.declared.Sample.{Sample}
@@ -11,20 +11,19 @@ use Rattle.cancel.specs.Residue.{IsSubtracted}
 use Rattle.successive_cancel.specs.declared.round.Round.{Round}
 use Rattle.successive_cancel.specs.declared.round.Rounds.{Rounds}
 
--- the cell of an entry is cancelled: the entry has a plan, and the plan's cell is subtracted from the recording where
--- its first frame begins, with that frame's number
+-- an entry's cell is cancelled: the entry has a plan, and the plan's cell is subtracted where its first frame begins,
+-- with that frame's number
 pub record IsTakenOff (recording : List Sample) (entry : Entry) (taken : Subtracted) : Type 0 where
   pub plan : CellPlan
   pub planned : IsPlanned recording entry plan
   pub subtracted : IsSubtracted recording plan entry.start entry.sfn taken
 
--- no entry of a list has a cell that can be cancelled
+-- no entry in the list has a cell that can be cancelled
 abbrev pub NoneIsTakenOff : List Sample → List Entry → Type 0
 NoneIsTakenOff recording entries =
     (entry : Entry) (taken : Subtracted) → Contains entries entry → IsTakenOff recording entry taken → ⊥
 
--- a round on a recording with this list: it cancels the first entry whose cell can be cancelled, and this is the list
--- of the residual
+-- a round: it cancels the first entry whose cell can be cancelled, and lists the residual
 pub record IsRound (recording : List Sample) (list : List Entry) (round : Round) : Type 0 where
   pub before : List Entry
   pub entry : Entry
@@ -35,15 +34,15 @@ pub record IsRound (recording : List Sample) (list : List Entry) (round : Round)
   pub id : round.id ≡ entry.id
   pub listed : IsListOfCells round.taken.residue round.list
 
--- the rounds on a recording with this list, at most as many as the number says: each works on the residual of the one
--- before and on its list. A round without an entry that can be cancelled is the last, and sets `ended`
+-- at most `most` rounds, each on the previous residual and its list. A round without an entry that can be cancelled is
+-- the last, and sets `ended`
 abbrev pub AreRounds : ℕ → List Sample → List Entry → List Round → Bool → Type 0
 AreRounds zero recording list rounds ended = (rounds ≡ []) × (ended ≡ false)
 AreRounds (suc most) recording list [] ended = (ended ≡ true) × NoneIsTakenOff recording list
 AreRounds (suc most) recording list (round ∷ rest) ended =
     IsRound recording list round × AreRounds most round.taken.residue round.list rest ended
 
--- the list of a recording, and its rounds: at most four
+-- a recording's list and its rounds: at most four
 pub record IsCancelled (recording : List Sample) (rounds : Rounds) : Type 0 where
   pub listed : IsListOfCells recording rounds.first
   pub follow : AreRounds 4 recording rounds.first rounds.taken.items rounds.ended

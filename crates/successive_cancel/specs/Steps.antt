@@ -11,7 +11,7 @@ abbrev pub IsTakenIf : List Sample → Entry → Option Subtracted → Type 0
 IsTakenIf recording entry (Some taken) = IsTakenOff recording entry taken
 IsTakenIf recording entry None = (taken : Subtracted) → IsTakenOff recording entry taken → ⊥
 
--- a round on a recording with this list, or none if none can be made
+-- the next round, or none if no entry can be cancelled
 abbrev pub IsNextRound : List Sample → List Entry → Option Round → Type 0
 IsNextRound recording list (Some round) = IsRound recording list round
 IsNextRound recording list None = NoneIsTakenOff recording list

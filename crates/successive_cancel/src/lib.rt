@@ -1,7 +1,11 @@
-//! Successive interference cancellation: listed cells are cancelled one after the other, and what is left is searched
-//! again.
+//! Successive interference cancellation: cancels listed cells one after the other, and searches the residual again.
 //!
-//! Tests: `list_tests/src/rounds_of_recordings.rt`.
+//! If the recording is clean and its cell can be sent, the first round cancels this cell or one listed before it. If
+//! it cancels this cell, the residual does not exceed the errors (`clean`). If the cell also carries load, the
+//! residual does not exceed the residual for the true gain, if that is at most 32,767 (`loaded`). Later rounds do the
+//! same if the previous residual is clean (`later`).
+//!
+//! Tests: the crate `list_tests`, in `rounds_of_recordings.rt`.
 #![tactic(auto)]
 
 mod laws;

@@ -1,4 +1,4 @@
-//! The rounds of a recording.
+//! A recording's rounds.
 
 ghost use Rattle.std.specs.Prelude.{◌≡◌, IfOk, IfSome};
 ghost use Rattle.std.specs.List.{AllZip};
@@ -19,12 +19,11 @@ use lte_types::{Cfi, Entry};
 use sample_file::Recording;
 use std::alloc::{AllocError, Global};
 
-// No more rounds are made.
+// The maximum number of rounds.
 const MOST_ROUNDS: u8 = 4;
 
-/// Returns the cell list of `recording` and its rounds. Each round cancels the first entry of the last list whose cell
-/// can be cancelled (`plan_granted`, `subtract_from`), and lists the residual. At most four rounds are made; they end
-/// early if no entry can be cancelled. Fails only if an allocation fails. (own)
+/// Returns the cell list of `recording` and at most four rounds. Each cancels the first cell that can be cancelled and
+/// lists the residual; without such a cell they end early. Fails only if an allocation fails. (own)
 pub fn cancel_rounds(
     alloc: Global,
     recording: &Recording,
@@ -42,7 +41,7 @@ pub fn cancel_rounds(
     })
 }
 
-// The list of a recording. The workspace then has how its entries were read.
+// Lists a recording's cells, and leaves the readings of the entries in the workspace.
 fn list_of(
     alloc: Global,
     recording: &Recording,
@@ -56,8 +55,8 @@ fn list_of(
     Ok(list)
 }
 
-// The rounds on a recording with this power and list, at most `most`, and whether one without an entry is the last.
-// The workspace has how the entries of the list were read.
+// Runs at most `most` rounds from this power and list, and returns whether the last found no entry. The workspace
+// holds the readings of the list's entries.
 fn rounds_on(
     alloc: Global,
     most: u8,
@@ -91,8 +90,8 @@ fn rounds_on(
     }
 }
 
-// A round on a recording with this power and list; `None` exactly where no entry's cell can be taken off. The workspace
-// has how the entries of the list were read, and then those of the round's list.
+// Runs a round from this power and list, or returns `None` if no cell can be cancelled. The workspace holds the
+// readings of the list's entries, afterwards of the new list's.
 fn round_on(
     alloc: Global,
     recording: &Recording,
@@ -124,7 +123,7 @@ fn round_on(
     Ok(None)
 }
 
-// A recording of this power without an entry's cell; `None` exactly where it cannot be taken off.
+// Cancels an entry's cell in a recording with this power, or returns `None` if it cannot be cancelled.
 fn taken_off(
     alloc: Global,
     recording: &Recording,

@@ -1,4 +1,4 @@
-//! Rounds.
+//! One round, and all rounds of a recording.
 
 use cancel::Subtracted;
 use explain::EntryList;

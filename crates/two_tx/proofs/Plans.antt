@@ -1,4 +1,4 @@
--- The plan of each number can be sent with two antenna ports.
+-- Every plan can be sent with two antenna ports.
 use Rattle.std.proofs.Common.{ℕ}
 use Rattle.lte_types.specs.declared.carrier.Carrier.TheVariants.{TwoPorts}
 use Rattle.capture_make.specs.Recipe.{plan}

@@ -1,4 +1,4 @@
--- The samples of recording number n.
+-- The samples of recording n.
 use Rattle.std.proofs.Common.{◌≡◌, ℕ, List, sym, subst}
 use Rattle.std.specs.Prelude.{nat_abs}
 use Rattle.cs_num.specs.declared.Cpx.{Cpx}
@@ -11,7 +11,7 @@ use Rattle.capture_make.proofs.Samples.{NumbersAreClean, one_of_number}
 use Rattle.two_tx.specs.declared.made.TwoMade.{TwoMade}
 use Rattle.two_tx.specs.Made.{IsMade, IsCleanlyMade}
 
--- each is clean of what both ports send
+-- every recording is clean at both ports
 pub is_clean : NumbersAreClean → (n : ℕ) (made : TwoMade) → IsMade n made → IsCleanlyMade made
 is_clean law n made m =
     let eps = nat_abs made.bound in
@@ -26,6 +26,6 @@ is_clean law n made m =
     (subst (λ s. IsCleanOfPorts (samples_by TwoPorts n eps) (plan n) s made.offset (first_gain n) (second_gain n) eps) (sym m.number_is)
     (subst (λ o. IsCleanOfPorts (samples_by TwoPorts n eps) (plan n) (number n) o (first_gain n) (second_gain n) eps) (sym m.offset_is) whole))))
 
--- a number has one recording
+-- two recordings with the same number are equal
 pub one_recording : (n : ℕ) (a b : TwoMade) → IsMade n a → IsMade n b → a.recording ≡ b.recording
 one_recording n a b p q = one_of_number TwoPorts n a.bound b.bound a.recording b.recording p.bound q.bound p.samples_are q.samples_are

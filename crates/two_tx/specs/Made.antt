@@ -1,4 +1,4 @@
--- Recording number n with two antenna ports: the case of two ports of the recipe of any carrier. (own)
+-- Recording n with two antenna ports: the recipe for any transmission scheme, at two ports. (own)
 use Rattle.std.specs.Prelude.{◌≡◌, ℕ, nat_abs, [], ◌∷◌, map}
 use Rattle.cs_num.specs.declared.Cpx.{Cpx}
 use Rattle.cs_num.specs.Complex.{value_at}
@@ -9,7 +9,7 @@ use Rattle.capture_make.specs.Recipe.{plan, number, offset, first_gain, second_g
 use Rattle.capture_make.specs.Made.{samples_by}
 use Rattle.two_tx.specs.declared.made.TwoMade.{TwoMade}
 
--- what was sent, the gains, the bound of the errors, and the samples are those of recording number n
+-- the transmission, the gains, the error bound and the samples are those of recording n
 pub record IsMade (n : ℕ) (made : TwoMade) : Type 0 where
   pub plan_is : made.plan ≡ plan n
   pub number_is : made.sfn ≡ number n
@@ -18,11 +18,11 @@ pub record IsMade (n : ℕ) (made : TwoMade) : Type 0 where
   pub bound : IsBound TwoPorts n made.bound
   pub samples_are : made.recording ≡ samples_by TwoPorts n (nat_abs made.bound)
 
--- the gain of a port
+-- a port's gain
 abbrev pub gain_at : TwoMade → ℕ → Cpx
 gain_at made port = value_at (map gain_of made.gains) port
 
--- the recording is a clean one of what was sent, with these gains and with errors within the bound
+-- a clean recording of its transmission, with its gains and errors up to its bound
 abbrev pub IsCleanlyMade : TwoMade → Type 0
 IsCleanlyMade made =
     IsCleanOfPorts made.recording made.plan made.sfn made.offset (gain_at made 0) (gain_at made 1)

@@ -26,8 +26,8 @@ impl Model for Cell2 {
 }
 
 impl Cell2 {
-    /// Accepts a plan whose SystemInformationBlockType1 is in its ranges, or returns the first failed condition: those
-    /// of `Cell::of` with two antenna ports.
+    /// Accepts a plan whose SystemInformationBlockType1 is in its ranges, or returns the first failed condition of
+    /// `Cell::of` with two antenna ports.
     pub fn new(plan: CellPlan) -> Result<Cell2, CellError>
         requires { IsValid plan.sib1 }
         ensures refusal { MatchResult result (λ _. refusal_of_two plan ≡ None)
@@ -47,7 +47,7 @@ impl Cell2 {
         self.cell.plan()
     }
 
-    // The cell of `cell_tx` that sends the plan.
+    // Returns the cell that transmits the plan.
     pub(crate) fn cell(&self) -> &Cell
         ensures { result.now ≡ self.now }
     {

@@ -1,7 +1,7 @@
-//! A cell with two antenna ports: the plans that it accepts, the samples of each port, and synthetic recordings (TS
-//! 36.211 sections 6.3.3.3 and 6.3.4.3).
+//! A cell with two antenna ports: the plans that it accepts, each port's samples, and synthetic recordings (TS 36.211
+//! sections 6.3.3.3 and 6.3.4.3).
 //!
-//! Tests: `sent_tests/src/two_antenna_ports.rt`.
+//! Tests: the crate `sent_tests`, in `two_antenna_ports.rt`.
 #![tactic(auto)]
 
 mod cell;

@@ -23,9 +23,9 @@ pub struct TwoMade {
     pub plan: CellPlan,
     /// The number of the first frame.
     pub sfn: Sfn,
-    /// The first sample of that frame which is sent, 0 to 19,199.
+    /// The first transmitted sample in that frame, 0 to 19,199.
     pub offset: u32,
-    /// The gains of ports 0 and 1, real part first; that of port 1 may be 0.
+    /// The gains of ports 0 and 1, real part first; the gain of port 1 may be 0.
     pub gains: [(i16, i16); 2],
     /// The maximum magnitude of an error component: the largest bound that a clean recording with these gains allows.
     pub bound: i16,
@@ -33,7 +33,7 @@ pub struct TwoMade {
     pub recording: Recording,
 }
 
-// The gains of the first and of the second antenna port.
+// Returns the gains of both antenna ports.
 fn pairs(n: u32) -> [(i16, i16); 2]
     ensures { map gain_of result ≡ first_gain n ∷ second_gain n ∷ [] }
 {
@@ -41,7 +41,7 @@ fn pairs(n: u32) -> [(i16, i16); 2]
     [pair_of(gains[0]), pair_of(gains[1])]
 }
 
-// What was made with two antenna ports.
+// Returns a recording with two antenna ports.
 fn of_two_ports(n: u32, made: MadeBy) -> TwoMade
     requires made { IsMadeBy TwoPorts n made }
     requires valid { IsRecording made.recording }
@@ -59,7 +59,7 @@ fn of_two_ports(n: u32, made: MadeBy) -> TwoMade
     }
 }
 
-/// Makes recording `n` with two antenna ports, 10 to 99 frames long: that of `capture_make::make_by`. Fails only if an
+/// Makes recording `n` with two antenna ports, 10 to 99 frames long, as `capture_make::make_by` does. Fails only if an
 /// allocation fails. (own)
 pub fn make(alloc: Global, n: u32) -> Result<TwoMade, AllocError>
     ensures made { IfOk result (IsMade n) }
@@ -72,7 +72,7 @@ pub fn make(alloc: Global, n: u32) -> Result<TwoMade, AllocError>
     Ok(of_two_ports(n, made))
 }
 
-/// A law: each recording is a clean recording of its transmission.
+/// A law: every recording is a clean recording of its transmission.
 pub fn made_is_clean()
     ensures { (n : ℕ) (made : MadeValue) → IsMade n made → IsCleanlyMade made }
 {

@@ -1,4 +1,4 @@
-//! The samples of a cell.
+//! A cell's samples.
 
 ghost use Rattle.std.specs.Prelude.{◌≡◌, ◌*◌, ◌<◌, ◌≤◌};
 ghost use Rattle.cs_num.specs.Complex.{square, sample_of};

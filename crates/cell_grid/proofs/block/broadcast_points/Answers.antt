@@ -6,7 +6,7 @@ use Rattle.cell_grid.specs.Points.{point_of}
 use Rattle.cell_grid.specs.Block.{scrambled_bit, port_word, port_bit, port_point}
 use Rattle.cell_grid.proofs.block.broadcast_points.Goals as goal
 
--- the points of some bits of a word
+-- a word's QPSK symbols from bit `first`
 points_from : ℕ → List Bool → ℕ → List Cpx
 points_from identity word first = values_below 240 (point_of (λ i. scrambled_bit identity word (first + i)))
 

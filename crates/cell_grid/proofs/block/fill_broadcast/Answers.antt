@@ -12,7 +12,7 @@ use Rattle.cell_grid.specs.Points.{point_of}
 use Rattle.cell_grid.specs.Block.{scrambled_bit}
 use Rattle.cell_grid.proofs.block.fill_broadcast.Goals as goal
 
--- a scrambled bit, from the coded word and the scrambling bits
+-- a scrambled bit, from the encoded word and the scrambling sequence
 bit_is : (c_init size count n : ℕ) (word : List Bool) (coded : List (List Bool)) (scrambling : List Bool) → length word ≡ size → coded ≡ coded_word word →
     scrambling ≡ gold_bits c_init count → n < count → xor (bit_of_item coded (item_of size n)) (get_or scrambling n false) ≡ scrambled_bit c_init word n
 bit_is c_init size count n word coded scrambling e f g inside = rw (sym e, f, g, get_or-gold_bits c_init count n false inside) refl

@@ -6,7 +6,7 @@ use Rattle.cs_bits.specs.Checks.{crc16_of}
 use Rattle.cell_grid.specs.Block.{master_bits, master_word}
 use Rattle.cell_grid.proofs.block.master_word.Goals as goal
 
--- bits after other bits
+-- bits appended to other bits
 next : (width number value : ℕ) (front more whole : List Bool) → whole ≡ front ++ bits_of width number → number ≡ value → front ≡ more → whole ≡ more ++ bits_of width value
 next width number value front more whole e f g = rw (e, f, g) refl
 

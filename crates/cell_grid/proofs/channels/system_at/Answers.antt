@@ -3,7 +3,7 @@ use Rattle.cs_num.specs.declared.Cpx.{Cpx}
 use Rattle.cell_grid.proofs.Elements.{first_of, system_found}
 use Rattle.cell_grid.proofs.channels.system_at.Goals as goal
 
--- an option that is there is the first, and one that is not leaves what comes after it
+-- `Some` ends a chain of options, and `None` passes to the rest
 is_first : (value : Cpx) (result option other : Option Cpx) → result ≡ Some value → result ≡ option → Some value ≡ first_of option other
 is_first value result option other e f = ap (λ o. first_of o other) (sym e ∙ f)
 

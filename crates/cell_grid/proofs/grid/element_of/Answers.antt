@@ -24,11 +24,11 @@ returns-in-Some c =
     let row = read_row signals.port c.args.references.now plan.identity (port_slot signals.port c.args.subframe c.args.symbol) (c.args.symbol % port_symbols signals.port) c.args.k c.requires.k c.requires.references in
     sent_of_reference signals.port plan signals.sfn c.args.subframe c.args.symbol c.args.k signals.load c.in-Some.value (sym row ∙ c.in-Some.is)
 
--- where no row of the references has the place
+-- the row of reference signals has no value at the resource element
 none_at : (port : Port) (row : List (Option Cpx)) (identity slot symbol k : ℕ) → k < 72 → row ≡ values_below 72 (port_reference_if port identity slot symbol) → get_or row k None ≡ None → port_reference_if port identity slot symbol k ≡ None
 none_at port row identity slot symbol k inside is none = sym (read_row port row identity slot symbol k inside is) ∙ none
 
--- the last symbol of a slot, and the one before it
+-- `is_synchronised` for a slot's last symbol, by its number
 last_is : (symbols n last subframe symbol k : ℕ) → symbols ≡ n → last ≡ symbols - 1 → is_synchronised last subframe symbol k ≡ is_synchronised (n - 1) subframe symbol k
 last_is symbols n last subframe symbol k e f = rw (f, e) refl
 

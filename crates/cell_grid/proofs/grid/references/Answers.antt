@@ -31,7 +31,7 @@ returns-after-loop-k c =
     fill_by_all (port_reference_if c.args.port c.args.id c.args.slot c.args.symbol) c.loop-k.row 72 None c.loop-k.invariant.whole
     (λ k inside. c.loop-k.invariant.each k (omega arith))
 
--- other symbols have no reference places
+-- only symbols 0 and 1 and the pattern's later symbol have reference positions
 pub returns-else-symbol-pattern : goal.returns-else-symbol-pattern
 returns-else-symbol-pattern c =
     let e : nat_eq c.args.symbol 0 ≡ false = let other = c.if-symbol-eq0.false in grind (arith, nat_tests) in

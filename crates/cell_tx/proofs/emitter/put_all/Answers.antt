@@ -5,7 +5,7 @@ use Rattle.cell_tx.specs.Emitting.{Progress, piece_end, piece_of}
 use Rattle.cell_tx.proofs.Advancing.{grows, ends_within, reaches, front_is}
 use Rattle.cell_tx.proofs.emitter.put_all.Goals as goal
 
--- a further piece, where samples were made up to a place
+-- the next piece, after the samples so far
 record IsStep (samples : List Sample) (at : ℕ) (q : Progress) : Type 0 where
   more : at < q.at
   within : q.at ≤ length samples

@@ -14,7 +14,7 @@ use Rattle.cell_tx.proofs.Symbols.{value_there, first-mono}
 use Rattle.cell_tx.proofs.Changes.{between, after, kept_there, set_changed}
 use Rattle.cell_tx.proofs.frame_symbols.add_symbol.Goals as goal
 
--- the value that is added
+-- the value to add
 value_is : (s : Signals) (symbol i last : ℕ) (useful : List Cpx)
     → useful ≡ useful_part (elements_of s s.sfn (symbol / port_symbols s.port / 2) (port_symbols s.port * (symbol / port_symbols s.port % 2) + symbol % port_symbols s.port))
     → last ≡ symbol_start s (symbol + 1) → symbol_start s symbol ≤ i → i < last → value_at useful ((i + 256 - last) % 128) ≡ sample_in s i

@@ -10,7 +10,7 @@ use Rattle.cell_tx.proofs.Symbols.{first-mono}
 use Rattle.cell_tx.proofs.Changes.{before, after, is_from, is_below, room_left, changed_both}
 use Rattle.cell_tx.proofs.frame_symbols.add_symbols.Goals as goal
 
--- the first ones, and the others
+-- the first range and the second range
 abbrev early : Signals → Symbols → ℕ → Bool
 early s symbols = is_between (symbol_start s symbols.first) (symbol_start s symbols.last)
 

@@ -8,7 +8,7 @@ use Rattle.cell_grid.specs.Grid.{element}
 use Rattle.cell_tx.specs.Sent.{sent}
 use Rattle.cell_tx.proofs.samples.send_all.Goals as goal
 
--- what is sent from a sample on, times a gain
+-- the transmission from a sample, times a gain
 abbrev part : Transmission → ℕ → ℕ → Cpx → ℕ → Cpx
 part t sfn offset gain i = times gain (sent (element t.cell) sfn (i + offset))
 

@@ -8,7 +8,7 @@ use Rattle.frequency_offset.specs.Telling.{Tells}
 use Rattle.frequency_offset.proofs.ToldSoFar.{ToldSoFar, none_told, one_silent, one_heard, none_heard}
 use Rattle.frequency_offset.proofs.telling.told_among.Goals as goal
 
--- a candidate of the list tells this
+-- the estimate from a candidate in the list
 tells_at : (recording : List Sample) (taken : List Candidate) (n : ℕ) (here : Candidate) (told : Told) → n < length taken → Tells recording (get_or taken n here) told →
     HoldsAt (λ candidate. Tells recording candidate told) taken n
 tells_at recording taken n here told inside is d = subst (λ (x : Candidate). Tells recording x told) (get_or_default taken n here d inside) is

@@ -11,11 +11,11 @@ use Rattle.cell_tx.specs.Emitting.{is_made_anew, AreChanged, AreSilent}
 use Rattle.cell_tx.proofs.Mixing.{heard, room_alone, alone_made}
 use Rattle.cell_tx.proofs.emitter.FrameMaker.add_all.Goals as goal
 
--- the symbols are silent by the carrier of these ports
+-- the symbols are silent for the ports' transmission scheme
 abbrev AreSilentBy : Symbols → List Sample → Ports → Type 0
 AreSilentBy symbols samples ports = AreSilent (is_made_anew (prefix_of (carrier_by ports)) symbols) samples
 
--- and made
+-- the symbols hold the sum for the ports' transmission scheme
 abbrev AreMadeBy : Source → ℕ → Symbols → List Sample → List Sample → Ports → Type 0
 AreMadeBy s n symbols old new ports = AreChanged (is_made_anew (prefix_of (carrier_by ports)) symbols) (λ i before. sample_of (mixed_by ports (λ port. heard s n port i) s.gains)) old new
 
@@ -36,7 +36,7 @@ returns-in-Alone c =
     (alone_made s c.args.sfn (is_made_anew (port_prefix port) c.args.symbols.now) port c.args.frame.now c.add.new.frame
     (subst (AreSilentBy c.args.symbols.now c.args.frame.now) c.in-Alone.is c.requires.silent) c.add.ensures)
 
--- by the source's own ports
+-- the symbols hold the sum for the source's own ports
 abbrev AreMadeAs : Source → ℕ → Symbols → List Sample → List Sample → Ports → Type 0
 AreMadeAs s n symbols old new ports = AreChanged (is_made_anew (prefix_of (carrier_by ports)) symbols) (λ i before. sample_of (mixed_by s.ports (λ port. heard s n port i) s.gains)) old new
 

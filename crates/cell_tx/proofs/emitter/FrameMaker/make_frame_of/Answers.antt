@@ -13,7 +13,7 @@ use Rattle.cell_tx.specs.Emitting.{framed, AreOwn, is_made_anew}
 use Rattle.cell_tx.proofs.Mixing.{framed_same}
 use Rattle.cell_tx.proofs.emitter.FrameMaker.make_frame_of.Goals as goal
 
--- made anew it is the frame's sample, and else it was that already
+-- a recomputed sample belongs to the frame, and the others already did
 pub returns : goal.returns
 returns c n held i inside = c.make.ensures i inside ∙ by (is_made_anew (prefix_of (carrier_by s.ports)) symbols i) refl
   where
