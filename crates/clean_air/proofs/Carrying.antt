@@ -1,4 +1,4 @@
--- The values of elements that carry a plan, in the resource elements of its signals and channels.
+-- Elements that carry a plan: their values where the plan has signals and channels.
 use Rattle.std.proofs.Common.{◌≡◌, ℕ, ◌-◌, ◌%◌, ◌<◌, ◌≤◌, Bool, true, false, not, ◌&&◌, ◌||◌, nat_eq, None, List, length, get_or, arith, refl, sym, subst, ap₂, ◌∙◌}
 use Rattle.std.specs.Prelude.{if◌then◌else◌}
 use Rattle.std.proofs.lemmas.Bool.{lt-ltb, or_left, or_right, or_parts}
@@ -156,7 +156,7 @@ module _ (port : Port) (plan : CellPlan) (grid : Elements) (carries : CarriesPla
   pub of_secondary_symbol : (half : Half) (sfn k : ℕ) → grid sfn (subframe_of half) (port_symbols port - 2) k ≡ port_element port plan sfn (subframe_of half) (port_symbols port - 2) k
   of_secondary_symbol half sfn k = carries.taken sfn (subframe_of half) (port_symbols port - 2) k (secondary_taken port plan half sfn k)
 
-  -- channels of subframe 5 in even frames: the control format indicator
+  -- channels of subframe 5 in even-numbered frames: the control format indicator
   module _ {Enough : Type 0} (sendable : IsSendableWith Enough plan) (control : has_control port ≡ true) (own : port.number < ports_of port.carrier) (number : ℕ) where
     of_system : (symbol k : ℕ) → has_system_place port plan number 5 symbol k ≡ true → grid number 5 symbol k ≡ port_element port plan number 5 symbol k
     of_system symbol k e = of_channel number 5 symbol k (or_right (has_broadcast port plan.identity 5 symbol k) _ (rw control e))
@@ -191,7 +191,7 @@ no_signal true true c m e = absurd cc
 no_signal true false true m e = absurd cc
 no_signal true false false m e = (refl, refl)
 
--- no channel's element is sent where none of the channels is
+-- an element that belongs to no channel is zero
 no_channels : (there here indicator control shared : Bool) (x y z : Cpx) → (there && ((here && indicator) || (control || shared))) ≡ false → (there && indicator) ≡ false →
     (if there then (if indicator then x else (if control then y else (if shared then z else nothing))) else nothing) ≡ nothing
 no_channels false here indicator control shared x y z e none = refl
@@ -203,7 +203,7 @@ no_channels true true false true shared x y z e none = absurd cc
 no_channels true false false false true x y z e none = absurd cc
 no_channels true true false false true x y z e none = absurd cc
 
--- an element that is not the port's own reference signal, and not another port's, holds none
+-- if a reference signal is neither the port's own nor another port's, there is none
 pub left_false : (own any : Bool) → own ≡ false → (not own && any) ≡ false → any ≡ false
 left_false false any e f = f
 left_false true any e f = absurd cc

@@ -1,4 +1,4 @@
--- The correct slots of a one-port cell that is received through channels: those with its MIB and its SIB1.
+-- A one-port cell that is received through channels has correct soft values in the slots with its MIB and its SIB1.
 use Rattle.std.proofs.Common.{◌≡◌, ℕ, ◌+◌, ◌/◌, ◌%◌, ◌<◌, ◌≤◌, List, subst}
 use Rattle.cs_num.specs.declared.Cpx.{Cpx}
 use Rattle.cs_num.specs.declared.Sample.{Sample}

@@ -66,7 +66,7 @@ use Rattle.clean_air.proofs.Signals.{signals_shown}
 use Rattle.clean_air.proofs.FaithfulCells.{faithful_is_through}
 use Rattle.clean_air.proofs.TruePlaces.{AreNear, true_hit, true_start, near_true, near_starts, same_numbers}
 
--- the search key of a cell with this offset
+-- the identity and start of a cell with this offset
 abbrev pub sent_place : ℕ → ℕ → Place
 sent_place identity offset = record { id = identity; start = start_of offset }
 
@@ -98,7 +98,7 @@ pub record IsPlaced (carrier : Carrier) (recording : List Sample) (identity sfn 
   pub within : offset < 19200
   pub signals : ShowsSignals carrier recording identity offset
 
--- a recording is faithful to a cell, or receives it through channels if the laws on channels cover the scheme
+-- a recording is faithful to a cell or, if the laws on channels cover the scheme, the cell is received through channels
 abbrev pub IsSentIn : Carrier → List Sample → CellPlan → (Port → Elements) → ℕ → ℕ → List Cpx → Type 0
 IsSentIn carrier recording plan grids sfn offset gains =
     MatchBool (is_seen_through carrier) (IsCellThrough recording plan (grids only_port) sfn offset) (IsFaithfulBy carrier recording plan grids sfn offset gains)
@@ -114,7 +114,8 @@ ShowsCells receiver =
 pub number_fits : (sfn offset : ℕ) → sfn ≤ 1023 → offset < 19200 → number_at_start sfn offset ≤ 1023
 number_fits sfn offset known within = let e = (first_frame sfn offset known within).number in omega (arith, e)
 
--- if the first even frame is decoded to these fields by the soft values of subframe 5, they are the SIB1 result
+-- if the first even-numbered frame is decoded to these fields by the soft values of subframe 5, they are the SIB1
+-- result
 pub told_by_frames : (carrier : Carrier) (values : Subframes) (recording : List Sample) (place : Place) (number : ℕ) (mib : Mib) (fields : Sib1) → 57600 ≤ length recording →
     place.start < 19200 → mib.bandwidth ≡ N6 → FrameAnswers values recording place mib (even_frame number 0) (Ok fields) →
     IsSystemWith carrier (Ok values) recording place number (ports_of carrier) mib (Ok fields)
@@ -348,7 +349,7 @@ first_of : (P Q : Type 0) (test : Bool) → MatchBool test P ⊥ → MatchBool t
 first_of P Q true p = p
 first_of P Q false p = absurd p
 
--- any gains will do if the cell is received through channels
+-- the gains are not used if the cell is received through channels
 through_is_sent : (carrier : Carrier) (recording : List Sample) (plan : CellPlan) (grids : Port → Elements) (sfn offset : ℕ) (gains : List Cpx) →
     IsSeenThroughBy carrier recording plan grids sfn offset → IsSentIn carrier recording plan grids sfn offset gains
 through_is_sent carrier recording plan grids sfn offset gains through = first_of _ _ (is_seen_through carrier) through

@@ -18,7 +18,7 @@ pub mod Controls
 pub mod SharedBlocks
 -- The broadcast channel of a slot determines the MIB that was sent.
 pub mod Masters
--- The described cell's elements, in the resource elements that the carried plan uses.
+-- The elements of a cell that carries a plan, where the plan uses them.
 pub mod Carrying
 -- The plan sends a point in each resource element that it uses.
 pub mod Taken
@@ -35,13 +35,13 @@ pub mod TruePlaces
 pub mod SentSlots
 -- A cell to which a recording is faithful is received through one gain.
 pub mod FaithfulCells
--- Slots with correct soft values of a cell that is received through channels.
+-- A cell that is received through channels has slots with correct soft values.
 pub mod HeardCells
 -- A cell with a slowly varying gain is received through channels.
 pub mod FadingCells
 -- A cell that arrives over several paths is received through channels.
 pub mod EchoCells
--- The transport block has the plan's fields, so the cell's first even frame is decoded to them.
+-- The transport block has the plan's fields, so the cell's first even-numbered frame is decoded to them.
 pub mod SentFields
 pub mod SentSystem
 -- A list contains each cell that the recording shows to its receiver.

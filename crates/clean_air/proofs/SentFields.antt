@@ -19,7 +19,7 @@ use Rattle.clean_air.specs.Carried.{AreHeard}
 use Rattle.clean_air.proofs.SharedBlocks.{heard_block_is_told}
 
 module _ {Enough : Type 0} (plan : CellPlan) (sendable : IsSendableWith Enough plan) (number count : ℕ) (values : List ℤ) (heard : AreHeard 1 count (shared_bit plan number) values) where
-  -- the bits are the word's, as its row of the interleaver table matches them
+  -- the bits are the word's after rate matching
   matched_heard : (row : Row) → row ≡ row_with (checked_size plan) → row.k ≡ checked_size plan → AreHeard 1 count (matched_bit row (version_of number) (shared_word plan)) values
   unfolding shared_coded
   matched_heard row same k =

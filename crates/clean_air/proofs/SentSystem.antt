@@ -1,5 +1,5 @@
--- The SIB1 of a one-port cell with correct slots, whatever else the cell sends: the first even frame is decoded to the
--- plan's fields.
+-- SIB1 of a one-port cell whose slots have correct soft values, whatever else the cell sends: the first even-numbered
+-- frame is decoded to the plan's fields.
 use Rattle.std.proofs.Common.{◌≡◌, ℕ, ◌+◌, ◌*◌, ◌%◌, List, length, Ok, refl, ap, sym, subst, arith}
 use Rattle.std.proofs.Math.Path.{fun_ext}
 use Rattle.cs_num.specs.declared.Sample.{Sample}
@@ -35,7 +35,7 @@ use Rattle.clean_air.proofs.SentSlots.{slot_grid}
 use Rattle.clean_air.proofs.HeardCells.{IsCellHeard}
 
 module _ (recording : List Sample) (plan : CellPlan) (grid : Elements) (sfn offset : ℕ) (sendable : IsSendable plan) (heard : IsCellHeard recording plan grid sfn offset) where
-  -- the first whole even frame, and its number
+  -- the first whole even-numbered frame, and its number
   abbrev j : ℕ
   j = even_frame (number_at_start sfn offset) 0
 

@@ -97,7 +97,7 @@ either : (b : Bool) → (if b then nothing else nothing) ≡ nothing
 either true = refl
 either false = refl
 
--- a port sends the middle of a symbol, or nothing
+-- the port sends a synchronisation signal in the middle of the symbol, or nothing
 in_signal : (port : Port) (k : ℕ) (z : Cpx) → (if nat_le 5 k && nat_lt k 67 then sent_signal port z else nothing) ≡ sent_signal port (if nat_lt k 5 then nothing else if nat_lt k 67 then z else nothing)
 in_signal port k z = by (nat_eq port.number 0)
   where

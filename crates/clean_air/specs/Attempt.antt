@@ -42,7 +42,7 @@ pub record IsReadWith (values : Subframe) (indicator : ℕ) (grant : Grant) : Ty
   pub reads : (answer : Result Sib1 Sib1Reason) →
       Tells (values.shared indicator grant.start grant.blocks) grant answer → Reads values answer
 
--- a law: a subframe is read with the indicator and the grant if its soft values have the signs of their bits
+-- a law: a subframe is read with the indicator and the grant if the subframe's soft values have the signs of their bits
 abbrev pub SpokenGrantIsRead : Type 0
 SpokenGrantIsRead = (values : Subframe) (indicator : ℕ) (grant : Grant) → SpeakOfGrant values indicator grant →
     IsReadWith values indicator grant

@@ -46,7 +46,7 @@ system_of_carrier carrier sib1 =
 
 -- ---- the entry of a cell
 
--- the list has an entry with this identity, start and frame number that is as sent, and no other entry with these three
+-- the list has exactly one entry with this identity, start and frame number, and it has the sent fields
 pub record HoldsOne (list : List Entry) (identity first number : ℕ) (is_sent : Entry → Type 0) : Type 0 where
   pub entry : Entry
   pub inside : Contains list entry
@@ -69,7 +69,7 @@ pub record IsSentEntryBy (count : ℕ) (lasting : Duration) (share : Resource) (
   pub frames : entry.frames ≡ 1
   pub frame : entry.frame ≡ 0
 
--- the entry is as the plan was sent by this transmission scheme
+-- the entry has the fields that this transmission scheme sends of the plan
 abbrev pub IsSentEntryOf : Carrier → CellPlan → ℕ → Entry → Type 0
 IsSentEntryOf carrier plan number =
     IsSentEntryBy (ports_of carrier) plan.duration plan.resource plan.spare (system_of_carrier carrier plan.sib1) number
@@ -89,8 +89,8 @@ HoldsFaithfulBy carrier recording list =
     IsKnownBy carrier plan → IsFaithfulBy carrier recording plan grids sfn offset gains →
     HoldsCellBy carrier list plan (start_of offset) (number_at_start sfn offset)
 
--- the list contains each cell of a scheme that the recording receives through channels, for any plan, elements sent
--- elsewhere, first frame number, offset and channels
+-- the list contains each cell of a scheme that is received through channels, for any plan, elements sent elsewhere,
+-- first frame number, offset and channels
 abbrev pub HoldsThroughBy : Carrier → List Sample → List Entry → Type 0
 HoldsThroughBy carrier recording list =
     (plan : CellPlan) (grids : Port → Elements) (sfn offset : ℕ) →
@@ -114,7 +114,7 @@ HoldsCleanBy carrier recording list =
     HoldsCellBy carrier list plan (start_of offset) (number_at_start sfn offset)
 
 -- the receiver's list of a recording, which contains each cell of the receiver's scheme that is received through
--- channels, or for which the recording is faithful or clean, whatever else the cell sends
+-- channels, to which the recording is faithful, or for which it is clean, whatever else the cell sends
 pub record IsListBy (receiver : Receiver) (recording : List Sample) (list : List Entry) : Type 0 where
   pub explained : IsListFor receiver recording list
   pub through : HoldsThroughBy receiver.carrier recording list
@@ -131,7 +131,8 @@ pub record HoldsSeenBy (carrier : Carrier) (recording : List Sample) (list : Lis
   pub through : HoldsThroughBy carrier recording list
   pub faithful : HoldsFaithfulBy carrier recording list
 
--- a law: this receiver's list of any recording contains all such cells of its scheme
+-- a law: this receiver's list contains its scheme's cells that are received through channels, and those to which the
+-- recording is faithful
 abbrev pub HoldsCells : Receiver → Type 0
 HoldsCells receiver =
     (recording : List Sample) (list : List Entry) → least_samples ≤ length recording →

@@ -29,7 +29,7 @@ SlotOverIsThrough =
     (slot : SeenSlot) → AreFaint sizes paths → IsSlotReceivedOver paths port_0 7 recording starts grids slot →
     IsSlotThrough path_bounds (square paths.first) (over paths) grids slot
 
--- the error energy of the 128 samples from `start`, compared with the elements' signal over these paths
+-- the energy of the difference between the 128 samples from `start` and the elements' signal over these paths
 abbrev pub errors_over : List Sample → Elements → ℕ → ℕ → Paths → ℕ → ℕ
 errors_over recording grid sfn offset paths start =
     energy_below 128
@@ -57,7 +57,7 @@ EchoesAreThrough =
     (sfn offset : ℕ) → plan.identity ≤ 503 → IsEchoedBy sizes paths recording plan grids sfn offset →
     IsSeenThroughBy OnePort recording plan grids sfn offset
 
--- a law: a clean recording of a cell receives it over one path, with the gain in units of 2^-14
+-- a law: in a clean recording, the cell arrives over one path, with the gain in units of 2^-14
 abbrev pub LoadedIsEchoed : Type 0
 LoadedIsEchoed =
     (recording : List Sample) (plan : CellPlan) (grid : Elements) (sfn offset : ℕ) (gain : Cpx) (eps : ℕ) →

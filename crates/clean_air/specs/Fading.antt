@@ -71,7 +71,7 @@ FadingSlotIsThrough =
 
 -- ---- cells
 
--- the symbols that are read: slot 1 of the first frame, and subframe 5 of the first even frame
+-- the symbols that are read: slot 1 of the first frame, and subframe 5 of the first even-numbered frame
 abbrev pub IsRead : ℕ → ℕ → ℕ → ℕ → Type 0
 IsRead sfn offset frame slot = IsOfMaster offset frame slot ⊎ IsOfSystem OnePort sfn offset frame slot
 

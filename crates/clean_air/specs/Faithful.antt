@@ -46,7 +46,7 @@ IsLittle carrier gains energy =
 
 -- ---- the symbols that the receiver reads
 
--- number of the first sent frame that begins in the recording, and of the first such frame with an even frame number
+-- the index of the first sent frame that begins in the recording, and of the first even-numbered one
 abbrev pub first_frame_of : ℕ → ℕ
 first_frame_of offset = if nat_eq offset 0 then 0 else 1
 
@@ -57,8 +57,8 @@ even_frame_of sfn offset = first_frame_of offset + number_at_start sfn offset % 
 abbrev pub IsOfMaster : ℕ → ℕ → ℕ → Type 0
 IsOfMaster offset frame slot = (frame ≡ first_frame_of offset) × (slot ≡ 1)
 
--- a symbol of subframe 5 of the first even frame, which carries SIB1 (TS 36.331 section 5.2.1.2), if the scheme sends
--- it
+-- a symbol of subframe 5 of the first even-numbered frame, which carries SIB1 (TS 36.331 section 5.2.1.2), if the
+-- scheme sends it
 abbrev pub IsOfSystem : Carrier → ℕ → ℕ → ℕ → ℕ → Type 0
 IsOfSystem carrier sfn offset frame slot =
     MatchBool (has_control_by carrier) ((frame ≡ even_frame_of sfn offset) × (slot / 2 ≡ 5)) ⊥
@@ -73,7 +73,7 @@ pub record IsOfPrimary (carrier : Carrier) (slot symbol start : ℕ) : Type 0 wh
   pub to_last : start ≤ last_place + 9
 
 -- the symbol of the secondary signal, if the primary signal after it begins in the later half frame of the PSS search
--- range: one of a frame's two is enough (TS 36.211 section 6.11.2)
+-- range: one of the two signals in a frame is enough (TS 36.211 section 6.11.2)
 pub record IsOfSecondary (carrier : Carrier) (slot symbol start : ℕ) : Type 0 where
   pub half : Half
   pub slot_is : slot ≡ 2 * subframe_of half
@@ -90,7 +90,7 @@ IsLookedAt carrier sfn offset frame slot symbol start =
 
 -- ---- recordings
 
--- the error energy of the 128 samples from `start`, compared with the sum of all ports' signals times their gains
+-- the energy of the difference between the 128 samples from `start` and the sum of all ports' signals times their gains
 abbrev pub errors_from : Carrier → List Sample → (Port → Elements) → ℕ → ℕ → List Cpx → ℕ → ℕ
 errors_from carrier recording grids sfn offset gains start =
     energy_below 128

@@ -56,7 +56,7 @@ IsFaithfulPlan recording entry answer =
     entry.id ≡ plan.identity → entry.start ≡ start_of offset → entry.sfn ≡ number_at_start sfn offset →
     answer ≡ Some plan
 
--- if the recording is clean for a cell that can be sent, the entry's plan is the sent one
+-- if the recording is clean for a cell that can be sent, and the entry is the cell's, the plan is the sent one
 abbrev pub IsSentPlan : List Sample → Entry → Option CellPlan → Type 0
 IsSentPlan recording entry answer =
     (plan : CellPlan) (grid : Elements) (sfn offset : ℕ) (gain : Cpx) (eps : ℕ) → IsSendable plan →

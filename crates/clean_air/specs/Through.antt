@@ -92,10 +92,10 @@ IsFrameSlotThrough recording identity grid sfn offset j slot =
     IsThrough (slot_elements grid ((number_at_start sfn offset + j) % 1024) slot)
     (seen_slot recording (frame_at (start_of offset) j) slot identity)
 
--- a recording receives a cell of one port, whose elements carry the plan, from frame number `sfn`. It contains the
+-- a cell of one port, whose elements carry the plan, is received from frame number `sfn`. The recording contains the
 -- cell's synchronisation signals, and these slots are received through a channel each: slot 1 of the first frame, with
--- the broadcast channel (TS 36.211 section 6.6), and both slots of subframe 5 of the first even frame, with SIB1 (TS
--- 36.331 section 5.2.1.2).
+-- the broadcast channel (TS 36.211 section 6.6), and both slots of subframe 5 of the first even-numbered frame, with
+-- SIB1 (TS 36.331 section 5.2.1.2).
 pub record IsCellThrough (recording : List Sample) (plan : CellPlan) (grid : Elements) (sfn offset : ℕ) : Type 0 where
   pub number : sfn ≤ 1023
   pub within : IsOffset offset

@@ -17,8 +17,8 @@ pub record SupportBoth (least : ℕ) (first second : Bool) (values : List ℤ) :
   pub re : Supports least first (slice_index_or values 0 (pos 0))
   pub im : Supports least second (slice_index_or values 1 (pos 0))
 
--- a slot's 24 pilots, by this pattern, are observed with one gain of magnitude at least 1, in units of 2^-14; each is
--- off by at most `most` times the gain's magnitude
+-- a slot's 24 pilots, by this pattern, are observed with one gain, in units of 2^-14 and of magnitude at least 1; each
+-- is off by at most `most` times the gain's magnitude
 pub record ArePatternSeen (most : ℕ) (pattern : Pattern) (gain : Cpx) (slot : SeenSlot) : Type 0 where
   pub sounds : 2 ^ 28 ≤ square gain
   pub pilot : (i : ℕ) → i < 24 →

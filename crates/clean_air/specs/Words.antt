@@ -29,7 +29,7 @@ pub record SpeakByReading (reading : ℕ → Item) (word : List Bool) (values : 
   pub value : (i : ℕ) → i < length values →
       Supports 1 (bit_of_item (coded_word word) (reading i)) (slice_index_or values i (pos 0))
 
--- a law: sums by coded bit of such values have the signs of the word's coded bits
+-- a law: if soft values in reading order have the signs of the word's coded bits, so have their sums by coded bit
 abbrev pub SumsSpeakByReading : Type 0
 SumsSpeakByReading = (reading : ℕ → Item) (word : List Bool) (values : List ℤ) →
     SpeakByReading reading word values → Speaks (summed_by reading (length word) values) word

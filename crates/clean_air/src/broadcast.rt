@@ -2,8 +2,8 @@
 
 ghost use Rattle.clean_air.specs.Broadcast.{SpokenWordIsTold, SentWordIsTold, HeardSlotTells};
 
-/// A law: the broadcast channel returns the sent 40-bit word, a MIB and its CRC, if each soft value has the sign of its
-/// coded bit and the word's bandwidth code is valid.
+/// A law: the broadcast channel's decoder returns the sent 40-bit word, a MIB and its CRC, if each soft value has the
+/// sign of its coded bit and the word's bandwidth code is valid.
 pub fn sent_master_is_told()
     ensures spoken { SpokenWordIsTold }
     ensures told { SentWordIsTold }

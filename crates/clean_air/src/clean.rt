@@ -6,7 +6,7 @@
 //! - is faithful to the cell (`faithful`, `specs/Faithful.antt`): each symbol that the receiver reads is what the
 //!   antenna ports send, each times one gain, up to errors whose energy is small compared with the gains;
 //! - is clean for the cell, whatever else the cell sends (`loaded`), or with a numbered load or none (`holds`);
-//! - with one antenna port and the normal cyclic prefix, receives the cell through channels (`through`,
+//! - with one antenna port and the normal cyclic prefix, shows the cell through channels (`through`,
 //!   `specs/Through.antt`), such as a slowly varying gain (`specs/Fading.antt`) or faint echoes (`specs/Echo.antt`).
 
 ghost use Rattle.std.specs.Prelude.{◌≡◌, All, IfOk, IfSome};

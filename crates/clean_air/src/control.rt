@@ -25,8 +25,8 @@ pub fn sent_grant_is_told()
     ensures carried { CarriedGrantIsTold }
 {}
 
-/// A law: an attempt on a subframe returns the sent indicator and grant, and the answer of the grant's resource blocks,
-/// if its values have the sent bits' signs and there are at least four control channel elements.
+/// A law: an attempt on a subframe returns the sent indicator and grant, and the result from the grant's resource
+/// blocks, if its values have the sent bits' signs and there are at least four control channel elements.
 pub fn sent_grant_is_read()
     ensures spoken { SpokenGrantIsRead }
     ensures heard { HeardGrantIsRead }

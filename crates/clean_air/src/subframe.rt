@@ -1,7 +1,7 @@
 //! The soft values of a subframe.
 //!
-//! It is enough that the resource elements are received, each in its slot (`blocks`), or that both slots are received
-//! and the elements carry two bits each (`carried`, `carried_blocks`).
+//! The resource elements are received each in its slot (`blocks`), or both slots are received and the elements carry
+//! two bits each (`carried`, `carried_blocks`).
 
 ghost use Rattle.clean_air.specs.Subframe.{ValuesOfBlocksAreHeard};
 ghost use Rattle.clean_air.specs.Subframe.{CarriedSubframeIsHeard, CarriedBlocksAreHeard};

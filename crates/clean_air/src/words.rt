@@ -6,8 +6,8 @@
 ghost use Rattle.clean_air.specs.Words.{FourSpeakTogether, DescramblingKeeps, SumsSpeakByReading, SumsSpeakFrom};
 ghost use Rattle.clean_air.specs.Words.{SumsSpeak, SpokenWordIsOnly};
 
-/// A law: the sent word is the only one of minimum cost if each soft value has the sign of its coded bit and there is
-/// at least one value per bit, in sending order from any bit on.
+/// A law: the sent word is the only one of minimum cost if each soft value has the sign of its coded bit, with at least
+/// one value per coded bit in sending order.
 pub fn spoken_word_is_the_least()
     ensures together { FourSpeakTogether }
     ensures descrambled { DescramblingKeeps }

@@ -16,14 +16,14 @@ tells_size false bit z h = ap (λ n. positive (nat_abs n)) h
 tells_size true false z h = positive_from (nat_abs z) (omega (arith, ints, h))
 tells_size true true z h = positive_from (nat_abs z) (omega (arith, ints, h))
 
--- such a value never has the sign of the opposite bit
+-- such a value never has the wrong sign
 pub tells_allows : (there bit : Bool) (z : ℤ) → Tells there bit z → Supports 0 bit z
 tells_allows false false z h = omega (arith, ints, h)
 tells_allows false true z h = omega (arith, ints, h)
 tells_allows true false z h = omega (arith, ints, h)
 tells_allows true true z h = omega (arith, ints, h)
 
--- a value without the opposite bit's sign has the bit's sign if it is not 0
+-- a value without the wrong sign has the bit's sign if it is not 0
 pub allows_tells : (bit : Bool) (z : ℤ) → Supports 0 bit z → Tells (positive (nat_abs z)) bit z
 allows_tells false (pos zero) h = refl
 allows_tells false (pos (suc n)) h = omega (arith, ints)
@@ -65,7 +65,7 @@ tells_below true false (negsuc n) h = absurd (omega (arith, ints, h))
 tells_below true true (pos n) h = absurd (omega (arith, ints, h))
 tells_below true true (negsuc n) h = refl
 
--- ---- the loss by changing a value's bit
+-- ---- the loss from changing a value's bit
 
 pub taken_loses : (there bit changed : Bool) (z : ℤ) → Tells there bit z → taken z bit ≡ taken z (xor bit changed) +ℤ pos (cond changed (nat_abs z) 0)
 taken_loses there false false z h = omega (arith, ints)

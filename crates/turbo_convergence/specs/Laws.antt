@@ -14,7 +14,7 @@ use Rattle.turbo_convergence.specs.Tells.{Tells, AllAllow, AllTell, SumsSupport,
 
 -- ---- one decoder
 
--- a law: if no value and no prior of a constituent decoder has the sign opposite to a word's bit, neither has any
+-- a law: if no value and no prior of a constituent decoder has the wrong sign for a word's bit, neither has any
 -- extrinsic value
 abbrev pub ExtrinsicsSpeak : Type 0
 ExtrinsicsSpeak =
@@ -48,8 +48,8 @@ IterationsTell =
 
 -- ---- the block of sums
 
--- a law: a block with its CRC is decoded if no sum has the sign opposite to its coded bit, and no systematic bit has
--- the sum 0
+-- a law: a block with its CRC is decoded if no sum has the wrong sign for its coded bit, and no systematic bit has the
+-- sum 0
 abbrev pub SpokenBlockIsTold : Type 0
 SpokenBlockIsTold =
     (row : Row) (word : List Bool) (sums : List (List ℤ)) → IsAnyRow row → length word ≡ row.k →
@@ -65,7 +65,7 @@ ResolvableBlockIsTold =
 
 -- ---- the sums of the values received
 
--- a law: if no value has the sign opposite to its sent bit, neither has any sum
+-- a law: if no value has the wrong sign for its sent bit, neither has any sum
 abbrev pub ReceivedSumsAllow : Type 0
 ReceivedSumsAllow =
     (row : Row) (word : List Bool) (rv : ℕ) (values : List ℤ) → IsAnyRow row → ValuesSupport 0 row word rv values →

@@ -1,4 +1,4 @@
-//! Convergence of the turbo decoder on clean values. If no received value has the sign of the opposite bit, neither has
+//! Convergence of the turbo decoder on clean values. If no received value has the wrong sign for its bit, neither has
 //! any extrinsic value; if the received coded bits are enough to resolve the block, the decoder returns it. Only the
 //! signs of the values matter, not their magnitudes. Each law is the contract of a function without a body: it states
 //! all its premises, and uses only the decoder's definitions.
