@@ -48,7 +48,7 @@ row_of_size k (r, is, size) =
     let same : r ≡ row_with k = sym (row_with_is r is) ∙ ap row_with size in
     subst (IsRowOf k) same (record { is = is; size = size })
 
--- ---- schemes with a size
+-- ---- modulation and coding schemes with a size
 
 length-columns : (length column_2 ≡ 22) × (length column_3 ≡ 17)
 unfolding column_2 column_3

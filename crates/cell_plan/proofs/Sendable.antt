@@ -68,7 +68,7 @@ has_its_block plan duplex extension text =
     (and_from (is_none plan.sib1.tdd) (not plan.sib1.extended) ((is_absent plan.sib1.tdd).1 duplex) ((is_not plan.sib1.extended).1 extension))
     ((fits (text_of plan.sib1) (block_size plan)).1 text)
 
--- a test that implies `Enough` for each plan with a size, and that each plan with a block passes
+-- a test that implies `Enough` for each plan with a size, and follows from it for each plan with a block
 module _ (enough : Bool) (Enough : Type 0) (plan : CellPlan) (is_enough : IsSome (size_of plan.mcs plan.column) → enough ≡ true → Enough)
     (is_passed : has_block plan ≡ true → Enough → enough ≡ true) where
   sized : Decides ((nat_eq plan.column 2 || nat_eq plan.column 3) && is_some (size_of plan.mcs plan.column)) (((plan.column ≡ 2) ⊎ (plan.column ≡ 3)) × IsSome (size_of plan.mcs plan.column))

@@ -1,4 +1,4 @@
--- Plans whose block can be resolved; these include all whose coded bits are all sent.
+-- Plans whose block can be resolved; it always can if each coded bit is sent.
 use Rattle.std.proofs.Common.{◌≡◌, ℕ, ◌+◌, ◌*◌, ◌≤◌, ◌<◌, Bool, true, false, List, ◌&&◌, ◌||◌, Option, Some, None, inl, refl, ap, subst, sym, ◌∙◌, arith}
 use Rattle.std.specs.Prelude.{IsSome}
 use Rattle.std.specs.Option.{unwrap_or}

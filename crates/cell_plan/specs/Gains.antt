@@ -51,7 +51,7 @@ pub record IsAllowedOfFour (gains : List Cpx) (eps : ℕ) : Type 0 where
   pub pairs : HavePairs gains
   pub quiet : 64 * (eps * eps) ≤ power_of_four gains
 
--- ---- a carrier: what is asked hangs on its count of ports
+-- ---- any scheme, by its port count
 
 -- one of three types, by the scheme's port count of 1, 2 or 4
 abbrev pub ByPorts : Carrier → Type 0 → Type 0 → Type 0 → Type 0
@@ -62,8 +62,7 @@ ByPorts carrier One Two Four =
 abbrev pub power_of : Carrier → List Cpx → ℕ
 power_of carrier gains = total_below (ports_of carrier) (λ port. square (value_at gains port))
 
--- gains of clean recordings: port 0's is not 0, and the power is at most 784 divided by the port count, which is 784,
--- 392 or 196
+-- gains of clean recordings: port 0's is not 0, and the power is at most 784, 392 or 196 with 1, 2 or 4 ports
 abbrev pub AreGainsOf : Carrier → List Cpx → Type 0
 AreGainsOf carrier gains =
     ByPorts carrier (IsGain (value_at gains 0)) (AreGains (value_at gains 0) (value_at gains 1)) (AreGainsOfFour gains)

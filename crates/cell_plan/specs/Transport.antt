@@ -44,14 +44,14 @@ shared_word plan = with_check_24 (filled (block_size plan) (system_text plan))
 unfoldable pub row_with : ℕ → Row
 row_with k = slice_index_or rows (position_or_len (λ r. nat_eq r.k k) rows) (row k 0 0)
 
--- a plan has a block: SIB1 has neither TDD-Config nor extension, and its text fits
+-- the text of SIB1 fits the block; a plan has a block if, also, SIB1 has neither TDD-Config nor extension
 abbrev pub text_fits : CellPlan → Bool
 text_fits plan = option_map_or (λ text. nat_le (length text) (block_size plan)) (text_of plan.sib1) false
 
 abbrev pub has_block : CellPlan → Bool
 has_block plan = (is_none plan.sib1.tdd && not plan.sib1.extended) && text_fits plan
 
--- ---- the coded block
+-- ---- the encoded block
 
 -- the turbo code of the transport block with its CRC
 unfoldable pub shared_coded : CellPlan → List (List Bool)
@@ -63,7 +63,7 @@ pub record IsCoded (plan : CellPlan) (word : Coded) : Type 0 where
   pub k : word.k ≡ checked_size plan
   pub d : word.d ≡ shared_coded plan
 
--- ---- what is sent of the block
+-- ---- the sent part of the block
 
 -- the bits that the assigned resource blocks carry, two per resource element
 abbrev pub assigned_bits_of : Carrier → CellPlan → ℕ

@@ -6,7 +6,8 @@ pub mod SoftValues
 pub mod SlowGains
 -- Words: if all soft values have the signs of one word's bits, only this word costs 0.
 pub mod SpokenWords
--- The soft values of resource elements that carry bits have their signs; a word's bits determine the word.
+-- The soft values of resource elements that carry bits have their signs; if the bits are a word's, the values determine
+-- it.
 pub mod Speaking
 -- Positions of the channels' resource elements.
 pub mod Placed

@@ -52,7 +52,7 @@ unfolding coded_word
 at_index word k t l = ap (λ xs. get_or xs t false) (values_below_at (coded_bits word) (length word) k [] l)
 
 module _ (reading : ℕ → Item) (word : List Bool) (values : List ℤ) (speak : SpeakByReading reading word values) where
-  -- at least one value belongs to each coded bit, and all that do have its sign
+  -- each coded bit has at least one value, and all its values have its sign
   sum_at_supports : (k t : ℕ) → k < length word → t < 3 → Supports 1 (bit_of_item (coded_word word) (item t k)) (summed_at reading values (length values) t k)
   sum_at_supports k t inside stream =
       let (i, below, is) = speak.enough k t inside stream in

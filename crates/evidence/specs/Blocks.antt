@@ -18,7 +18,7 @@ use Rattle.explain.specs.System.{even_frame, IsTried}
 use Rattle.explain.specs.Entries.{place_of}
 use Rattle.evidence.specs.Receivers.{receiver_of}
 
--- ---- the master block
+-- ---- the MIB
 
 -- the 24 bits of a MIB as a number: dl-Bandwidth, phich-Duration, phich-Resource, the frame number's upper 8 bits, and
 -- the 10 spare bits (TS 36.331 section 6.2.2)
@@ -82,7 +82,7 @@ abbrev pub IsSystemBlock : Carrier → List Sample → Entry → List Bool → T
 IsSystemBlock carrier recording entry =
     IsToldWith entry.sib1 (IsBlockWith (receiver_of carrier).subframe recording (place_of entry) entry.sfn entry.mib)
 
--- ---- the code's way
+-- ---- the program's computation
 
 -- a subframe's block, or `None`
 abbrev pub IsBlockAt : Subframe → Option (List Bool) → Type 0

@@ -15,7 +15,7 @@ use Rattle.evidence.specs.Evidence.{IsEvidence}
 use Rattle.clean_air.specs.Load.{IsLoaded}
 use Rattle.clean_air.specs.Faithful.{IsFaithful}
 
--- ---- the numbers
+-- ---- the measurements
 
 -- the MIB was read at cost 0 from the first whole frame alone, and the PSS explains at least 0.999 of the energy at its
 -- detection

@@ -1,6 +1,6 @@
 //! The measurements of a cell list's entries.
 //!
-//! They are: the earliest PSS detection with the entry's identity and start, and the energy fraction that the PSS
+//! Each entry has: the earliest PSS detection with its identity and start, and the energy fraction that the PSS
 //! explains there; the total magnitude of its MIB's soft values; and, over all antenna ports, the energy of its slot's
 //! pilots and the differences between pilots in one symbol.
 

@@ -1,4 +1,4 @@
--- The extrinsic values after each iteration, for sums with the signs of a block's sent bits, and the decoded block.
+-- Extrinsic values and the decoded block after each iteration, for sums with the sent bits' signs.
 use Rattle.std.proofs.Common.{◌≡◌, ◌≢◌, ℕ, zero, suc, ◌+◌, ◌*◌, ◌<◌, Bool, true, false, List, length, map, Some, ℤ, pos, negsuc, refl, ap, sym, subst, ◌∙◌, arith}
 use Rattle.std.specs.Prelude.{◌&&◌, ◌||◌, not, nat_abs}
 use Rattle.std.specs.Option.{option_map}
@@ -29,7 +29,7 @@ use Rattle.turbo_convergence.proofs.BothDecoders.{length-stream, first_tells, se
 
 -- ---- one constituent decoder, signs only
 
--- values without wrong signs are those of a word whose bits are sent exactly where they are not 0
+-- the sent bits: those whose value is not 0
 told_by_values : Values → Sent
 told_by_values v = record {
   information = λ k. positive (nat_abs (at v.systematic k));

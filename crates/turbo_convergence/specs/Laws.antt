@@ -12,7 +12,7 @@ use Rattle.turbo_dec.specs.Block.{prior_after, first_extrinsics, second_after, w
 use Rattle.erasure.specs.Known.{Sent, found, first_found, known_after, word_after, resolvable, sent_of}
 use Rattle.turbo_convergence.specs.Tells.{Tells, AllAllow, AllTell, SumsSupport, SumsTell, ValuesSupport}
 
--- ---- one decoder
+-- ---- one constituent decoder
 
 -- a law: if no value and no prior of a constituent decoder has the wrong sign for a word's bit, neither has any
 -- extrinsic value
@@ -46,7 +46,7 @@ IterationsTell =
     (row : Row) (word : List Bool) (sent : ℕ → ℕ → Bool) (sums : List (List ℤ)) → IsAnyRow row → length word ≡ row.k →
     SumsTell row word sent sums → (n : ℕ) → IterationTells row word sent sums n
 
--- ---- the block of sums
+-- ---- decoding sums
 
 -- a law: a block with its CRC is decoded if no sum has the wrong sign for its coded bit, and no systematic bit has the
 -- sum 0
@@ -63,7 +63,7 @@ ResolvableBlockIsTold =
     has_check_24 word ≡ true → SumsTell row word sent sums → resolvable row sent word ≡ true →
     block row sums ≡ Some (message_of 24 word)
 
--- ---- the sums of the values received
+-- ---- sums of received values
 
 -- a law: if no value has the wrong sign for its sent bit, neither has any sum
 abbrev pub ReceivedSumsAllow : Type 0
@@ -84,7 +84,7 @@ WholeSumsSpeak =
     (row : Row) (word : List Bool) (rv : ℕ) (values : List ℤ) → IsAnyRow row → rv < 4 → ValuesSupport 1 row word rv values →
     3 * (row.k + 4) ≤ length values → SumsSupport 1 row word (summed row.k rv values)
 
--- ---- the block of the values received
+-- ---- decoding received values
 
 -- a law: at least as many values as coded bits, each with the sign of its sent bit, decode to a block with its CRC
 abbrev pub SentBlockIsTold : Type 0

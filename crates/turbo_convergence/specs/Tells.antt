@@ -15,7 +15,7 @@ abbrev pub Tells : Bool → Bool → ℤ → Type 0
 Tells false bit z = z ≡ pos 0
 Tells true bit z = Supports 1 bit z
 
--- ---- one decoder
+-- ---- one constituent decoder
 
 -- each value and prior of a constituent decoder is 0 or has the sign of its bit in a word or its tail
 pub record AllAllow (word : List Bool) (v : Values) : Type 0 where
@@ -47,7 +47,7 @@ abbrev pub SumsTell : Row → List Bool → (ℕ → ℕ → Bool) → List (Lis
 SumsTell row word sent sums =
     (t p : ℕ) → t < 3 → p < row.k + 4 → Tells (sent t p) (bit_of (coded row word) (item t p)) (sum_at sums t p)
 
--- ---- the values received
+-- ---- received values
 
 -- each value has the sign of the coded bit that this redundancy version sends at its position, with magnitude at least
 -- `least`

@@ -84,7 +84,7 @@ some_energy ports weight most n q few sounds energy =
     let k : ports * (2 * (most * most)) * n ≤ 66355199 * n = mul-le-mul_right n (omega (arith, few)) in
     omega (arith, sounds, least, k)
 
--- the pilot energy is at most e times M
+-- 2^28 times the pilot energy is at most e times M
 most_energy : (ports weight most part whole e n m q : ℕ) → 1 ≤ part → 1 ≤ weight → (24 * ((weight + 1) * 66355200) + ports * (24 * (weight * (weight + 1) * (most * most)))) * whole ≤ e * weight * part →
     part * n ≤ whole * m → AreEnergies ports weight most n q → 2 ^ 28 * q ≤ e * m
 most_energy ports weight most part whole e n m q some weighs fits share energy =

@@ -15,7 +15,7 @@ use Rattle.soft_bits.specs.Pairs.{Pairing, over_two, seen_by, pair_values}
 use Rattle.soft_bits.specs.Soft.{SeenSlot}
 use Rattle.budget.specs.Received.{AreAmplitudes, IsReceivedBy, IsSeenBy, samples_from}
 
--- ---- what the ports send
+-- ---- the elements that the ports send
 
 -- one port sends z, and the others nothing
 abbrev pub only : ℕ → Cpx → ℕ → Cpx
@@ -33,7 +33,7 @@ first_sent pairing i x y = over (pairing.lower i) (pairing.upper i) x (negated (
 abbrev pub second_sent : Pairing → ℕ → Cpx → Cpx → ℕ → Cpx
 second_sent pairing i x y = over (pairing.lower i) (pairing.upper i) y (conjugate x)
 
--- ---- seen
+-- ---- received resource elements
 
 -- all ports' pilots are received in a slot, each port's with its gain, in units of 2^-14, and without other ports'
 -- signals; the gains' total square is at least 1
