@@ -53,7 +53,7 @@ has_block plan = (is_none plan.sib1.tdd && not plan.sib1.extended) && text_fits 
 
 -- ---- the encoded block
 
--- the turbo code of the transport block with its CRC
+-- the turbo-encoded transport block with its CRC
 unfoldable pub shared_coded : CellPlan → List (List Bool)
 shared_coded plan = coded (row_with (checked_size plan)) (shared_word plan)
 

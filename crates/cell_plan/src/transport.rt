@@ -1,4 +1,4 @@
-//! The transport block, which carries SIB1: its CRC and its turbo code.
+//! The transport block, which carries SIB1: its CRC and its turbo encoding.
 
 ghost use Rattle.std.specs.Prelude.{◌≡◌, ℕ, ◌+◌, ◌≤◌, ◌++◌, length, take, drop};
 ghost use Rattle.cs_bits.specs.Checks.{with_check_24};
@@ -48,7 +48,7 @@ fn checked_block(text: &[bool], size: u16) -> [bool; 1024]
     word
 }
 
-/// Returns the turbo code of a transport block of `size` bits, a text followed by zeros (TS 36.212 section 5.3.2). The
+/// Returns the turbo-encoded transport block of `size` bits, a text followed by zeros (TS 36.212 section 5.3.2). The
 /// interleaver table has a row for `size` + 24.
 pub(crate) fn coded_block(text: &[bool], size: u16) -> Coded
     requires size { IsSize (size + 24) }

@@ -76,7 +76,7 @@ sent_mib plan range number =
     record { bandwidth = N6; duration = plan.duration; resource = plan.resource; upper = number / 4; spare = plan.spare; spare_range = range }
 
 -- what the recording shows to a receiver of a cell whose first whole frame has this number: the broadcast channel's
--- word, whose coded bits' signs all soft values have, and the SIB1 result
+-- word, with soft values that all have its coded bits' signs, and the SIB1 result
 pub record IsShown (receiver : Receiver) (recording : List Sample) (plan : CellPlan) (offset number : ℕ) (range : plan.spare ≤ 1023) : Type 0 where
   pub word : List Bool
   pub block : IsBlockOf (ports_of receiver.carrier) plan number word

@@ -1,6 +1,6 @@
 -- A recording is faithful to a cell: each symbol that the receiver reads is what the cell's antenna ports send, each
--- times a gain in units of 2^-14, up to errors of small energy. These symbols are those of the slots that the receiver
--- of the cell's scheme reads, the primary signals in its search range, and one secondary signal. Other samples are
+-- times a gain in units of 2^-14, up to errors of small energy. These symbols belong to the slots that the scheme's
+-- receiver decodes, or carry a primary signal in its search range or one secondary signal. Other samples are
 -- unconstrained. (own; frames, slots and symbols are those of TS 36.211 sections 4.1 and 6.2)
 use Rattle.std.specs.Prelude.{◌≡◌, ℕ, ◌+◌, ◌*◌, ◌^◌, ◌/◌, ◌%◌, ◌<◌, ◌≤◌, ◌⊎◌, nat_eq, if◌then◌else◌, MatchBool}
 use Rattle.std.specs.Prelude.{List, [], ◌∷◌, length, map}

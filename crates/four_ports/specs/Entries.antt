@@ -1,4 +1,4 @@
--- A recording's list of cells with four antenna ports, by transmit diversity pairs, up to the MIB. (own)
+-- A recording's cell list for four antenna ports, by transmit diversity pairs, up to the MIB. (own)
 use Rattle.std.specs.Prelude.{List, Some, Err}
 use Rattle.cs_num.specs.declared.Sample.{Sample}
 use Rattle.lte_types.specs.declared.carrier.Carrier.TheVariants.{FourPorts}

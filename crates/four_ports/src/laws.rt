@@ -1,4 +1,4 @@
-//! Laws on the soft values of pairs with transmit diversity.
+//! Laws on soft values with transmit diversity.
 //!
 //! Let P be the sum of all gains' squares, at least 1; each pair of ports has at least three eighths of P. All four
 //! ports' pilots and the pair's two resource elements are each received with an error of at most 900 / 64, about 14,

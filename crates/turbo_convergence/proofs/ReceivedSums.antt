@@ -47,7 +47,7 @@ item_tells reading values bit given t p (suc m) each =
 -- ---- the sums of a block
 
 module _ (row : Row) (word : List Bool) (rv : ℕ) (values : List ℤ) (is_row : IsAnyRow row) where
-  -- the sums by which values are not 0
+  -- the sums have the signs of the coded bits with a value that is not 0
   sums_tell : (given : ℕ → Bool) → ((i : ℕ) → i < length values → Tells (given i) (bit_of (coded row word) (item_of row.k rv i)) (at values i)) →
       SumsTell row word (λ t p. any_below (length values) (λ i. is_at t p (item_of row.k rv i) && given i)) (summed row.k rv values)
   sums_tell given each t p stream inside =

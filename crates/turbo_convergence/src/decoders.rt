@@ -19,8 +19,8 @@ pub fn extrinsics_tell()
     ensures { ExtrinsicsTell }
 {}
 
-/// A law: given the signs of the sent coded bits and 0 elsewhere, after each iteration exactly the bits found so far
-/// have extrinsic values with their signs, and the other values are 0.
+/// A law: if the sums have the signs of the sent coded bits and are 0 elsewhere, after each iteration exactly the bits
+/// found so far have extrinsic values other than 0, each with its bit's sign.
 pub fn iterations_tell()
     ensures { IterationsTell }
 {}

@@ -100,7 +100,7 @@ module _ (recording : List Sample) (plan : CellPlan) (grids : Port → Elements)
         rw (e, n) refl
   ]
 
-  -- a port's elements, by the symbols of their slot
+  -- the slot of a symbol in subframe 5, and the symbol's index there
   in_slot : (symbol : ℕ) → symbol < 14 → ((10 + symbol / 7) / 2 ≡ 5) × (7 * ((10 + symbol / 7) % 2) + symbol % 7 ≡ symbol)
   in_slot symbol few = (omega (arith, few), omega (arith, few))
 

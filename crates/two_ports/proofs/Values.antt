@@ -35,14 +35,14 @@ whole_times carrier (suc (suc n)) scale slot three six = let e = six (omega arit
 -- The margins for a pairing's soft values. N is the total square of all gains, and M that of a pair's gains. Errors are
 -- squared, in units of 2^-14.
 pub record Margins : Type 0 where
-  -- each observed symbol is off by at most `most` squared times N
+  -- each observed symbol's squared error is at most `most` squared times N
   pub most : ℕ
   -- how the pilot energy is split between signal and errors: any number from 1
   pub weight : ℕ
   -- M is at least `part` / `whole` times N
   pub part : ℕ
   pub whole : ℕ
-  -- a channel estimate is off by at most `estimate` times M, and an observed symbol by at most `seen` times M
+  -- a channel estimate's squared error is at most `estimate` times M, and an observed symbol's at most `seen` times M
   pub estimate : ℕ
   pub seen : ℕ
   -- rounded-up roots: of twice `seen`, 64800 times `estimate`, and four times their product
