@@ -1,4 +1,4 @@
--- The row of a size, and the size in a table's entry.
+-- Rows of the interleaver table, and the sizes in the transport block size table.
 use Rattle.std.proofs.Common.{◌≡◌, ℕ, ◌+◌, ◌≤◌, Bool, true, false, length, Option, Some, None, inl, refl, ap, sym, subst, ◌∙◌, arith}
 use Rattle.std.specs.Prelude.{if◌then◌else◌, ◌&&◌, nat_eq, slice_get, IfSome}
 use Rattle.std.specs.List.{list_all}
@@ -12,7 +12,7 @@ use Rattle.turbo_code.proofs.TableFacts.{row_passes, is_small_size}
 use Rattle.turbo_code.proofs.OneRow.{same_row}
 use Rattle.cell_plan.specs.Transport.{row_with}
 
--- in a table's entry, where there is one
+-- the table's entry, if there is one, has a row
 pub entries_fit : (mcs column : ℕ) (entry : Option ℕ) → entry ≡ size_of mcs column → IfSome entry (λ size. IsSize (size + 24))
 entries_fit mcs column None is = cc
 entries_fit mcs column (Some size) is = size_fits mcs column size (sym is)
@@ -21,7 +21,7 @@ pub entries_small : (entry : Option ℕ) → IfSome entry (λ size. IsSize (size
 entries_small None fits = cc
 entries_small (Some size) fits = omega (arith, (is_small_size (size + 24) (inl fits)).high)
 
--- ---- a row is that of its K
+-- ---- rows by K
 
 is_itself : Row → Bool
 is_itself r = nat_eq (row_with r.k).k r.k && nat_eq (row_with r.k).f1 r.f1 && nat_eq (row_with r.k).f2 r.f2
@@ -38,7 +38,7 @@ row_with_is r h =
     let fronts = and_parts (nat_eq s.k r.k) (nat_eq s.f1 r.f1) parts.0 in
     same_row s.k r.k s.f1 r.f1 s.f2 r.f2 (eqb-true s.k r.k fronts.0) (eqb-true s.f1 r.f1 fronts.1) (eqb-true s.f2 r.f2 parts.1)
 
--- the row of its K is one of the table
+-- this is the interleaver table's row for k
 pub record IsRowOf (k : ℕ) (row : Row) : Type 0 where
   pub is : IsRow row
   pub size : row.k ≡ k
@@ -48,7 +48,7 @@ row_of_size k (r, is, size) =
     let same : r ≡ row_with k = sym (row_with_is r is) ∙ ap row_with size in
     subst (IsRowOf k) same (record { is = is; size = size })
 
--- ---- schemes with a size
+-- ---- modulation and coding schemes with a size
 
 length-columns : (length column_2 ≡ 22) × (length column_3 ≡ 17)
 unfolding column_2 column_3

@@ -1,4 +1,4 @@
--- What the steps of a plan's acceptance say together.
+-- The steps of a plan's acceptance taken together.
 use Rattle.std.proofs.Common.{◌≡◌, ◌⊎◌, ℕ, ◌+◌, ◌≤◌, Bool, true, false, ◌&&◌, ◌||◌, nat_eq, nat_le, List, [], length, Option, Some, None, if◌then◌else◌, refl, ap, sym, subst, ◌∙◌, arith}
 use Rattle.std.specs.Prelude.{not, is_some, is_none, IsSome, IsSomeAnd}
 use Rattle.std.specs.Option.{unwrap_or}
@@ -98,7 +98,7 @@ accepted_can_be_sent carrier plan size text a = accepted_with carrier plan size 
     by true e = e
     by false e = enough_is_resolvable plan (there (size_of plan.mcs plan.column) size a.sized.entry) e
 
--- ---- a plan of which the text alone does not fit
+-- ---- a plan of which only the text does not fit
 
 pub sized_is : (plan : CellPlan) (size : ℕ) → HasSize plan size → ((nat_eq plan.column 2 || nat_eq plan.column 3) && is_some (size_of plan.mcs plan.column)) ≡ true
 sized_is plan size of =
@@ -121,7 +121,7 @@ refused_text carrier plan a b c d e f g h i =
     (pass (is_none plan.sib1.tdd) _ _ g
     (pass (not plan.sib1.extended) _ _ h (fails Sib1Long None (text_fits plan) i))))))))
 
--- ---- its coded block
+-- ---- the encoded block
 
 pub accepted_is_coded : (carrier : Carrier) (plan : CellPlan) (size : ℕ) (text : List Bool) (word : Coded) → IsAccepted carrier plan size text → IsSize (size + 24) → word.k ≡ size + 24
     → word.d ≡ coded (row_with (size + 24)) (with_check_24 (filled size text)) → IsCoded plan word

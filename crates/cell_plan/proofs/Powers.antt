@@ -1,4 +1,4 @@
--- The sum of the squares of the sizes of the gains of a carrier's ports, and its bound.
+-- The power of a scheme's gains, and its bound.
 use Rattle.std.proofs.Common.{◌≡◌, ℕ, ◌+◌, ◌≤◌, ◌/◌, arith, List}
 use Rattle.std.specs.Prelude.{nat_lt, if◌then◌else◌}
 use Rattle.finite.specs.Sums.{total_below}
@@ -10,7 +10,7 @@ use Rattle.lte_types.specs.Carrier.{ports_of}
 use Rattle.cell_plan.specs.Gains.{AreGainsOf, power_of}
 use Rattle.cell_plan.specs.Laws.{GainsAreTogether}
 
--- the square of the size of a port's gain, and 0 where the carrier has no such port
+-- the square of a port's gain, or 0 if the scheme does not have the port
 abbrev pub part : Carrier → List Cpx → ℕ → ℕ
 part carrier gains port = if nat_lt port (ports_of carrier) then square (value_at gains port) else 0
 

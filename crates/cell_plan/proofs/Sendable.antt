@@ -1,4 +1,4 @@
--- The plans in which no condition fails are those that can be sent.
+-- The plans that fail no condition are those that can be sent.
 use Rattle.std.proofs.Common.{◌≡◌, ◌⊎◌, ℕ, ◌+◌, ◌*◌, ◌≤◌, Bool, true, false, not, ◌&&◌, ◌||◌, nat_eq, nat_le, List, length, Option, Some, None, if◌then◌else◌, refl, arith, le_refl, le_trans, mul-le-mul}
 use Rattle.std.specs.Prelude.{is_some, is_none, IsSome, IsSomeAnd, ◌↔◌}
 use Rattle.std.specs.Bool.{Decides}
@@ -34,7 +34,7 @@ pub pass : {to : Option CellError} (holds : Bool) (cause : CellError) (rest : Op
 pass true cause rest h e = e
 pass false cause rest h e = absurd cc
 
--- ---- what each condition says
+-- ---- the meaning of each condition
 
 le_decides : (a b : ℕ) → Decides (nat_le a b) (a ≤ b)
 le_decides a b = (leb-le a b, le-leb a b)
@@ -61,14 +61,14 @@ indicated plan = Decides-and _ _ (le_decides 2 plan.cfi) (le_decides plan.cfi 3)
 pub assigned : (plan : CellPlan) → Decides (nat_le 1 plan.blocks && nat_le (plan.start + plan.blocks) 6) ((1 ≤ plan.blocks) × (plan.start + plan.blocks ≤ 6))
 assigned plan = Decides-and _ _ (le_decides 1 plan.blocks) (le_decides (plan.start + plan.blocks) 6)
 
--- a plan has a block
+-- a plan whose text fits has a block
 has_its_block : (plan : CellPlan) → plan.sib1.tdd ≡ None → plan.sib1.extended ≡ false → IsSomeAnd (text_of plan.sib1) (λ text. length text ≤ block_size plan) → has_block plan ≡ true
 has_its_block plan duplex extension text =
     and_from (is_none plan.sib1.tdd && not plan.sib1.extended) (text_fits plan)
     (and_from (is_none plan.sib1.tdd) (not plan.sib1.extended) ((is_absent plan.sib1.tdd).1 duplex) ((is_not plan.sib1.extended).1 extension))
     ((fits (text_of plan.sib1) (block_size plan)).1 text)
 
--- a test that says what is enough of each plan that has a size, and is passed by each that has a block
+-- a test that implies `Enough` for each plan with a size, and follows from it for each plan with a block
 module _ (enough : Bool) (Enough : Type 0) (plan : CellPlan) (is_enough : IsSome (size_of plan.mcs plan.column) → enough ≡ true → Enough)
     (is_passed : has_block plan ≡ true → Enough → enough ≡ true) where
   sized : Decides ((nat_eq plan.column 2 || nat_eq plan.column 3) && is_some (size_of plan.mcs plan.column)) (((plan.column ≡ 2) ⊎ (plan.column ≡ 3)) × IsSome (size_of plan.mcs plan.column))
@@ -115,7 +115,7 @@ module _ (enough : Bool) (Enough : Type 0) (plan : CellPlan) (is_enough : IsSome
         (pass (text_fits plan) _ _ ((fits (text_of plan.sib1) (block_size plan)).1 s.text) refl)))))))),
   )
 
--- where the test decides it by itself
+-- the test alone decides whether the plan can be sent
 pub accepted_is_sendable_with : (whole : Bool) (Whole : Type 0) (whole_is : Decides whole Whole) (plan : CellPlan) → (IsValid plan.sib1 × (first_failed (conditions_with whole plan) ≡ None)) ↔ IsSendableWith Whole plan
 accepted_is_sendable_with whole Whole whole_is plan = (
   sendable whole Whole plan (λ sized e. whole_is.0 e) (λ block w. whole_is.1 w),
@@ -134,7 +134,7 @@ accepted_is_sendable plan =
       accepted test (is_resolvable plan ≡ true) plan (enough_is_resolvable plan) (passes plan),
     )
 
--- ---- by each carrier
+-- ---- for each scheme
 
 accepted_by : (each : Bool) (carrier : Carrier) (plan : CellPlan) →
     (IsValid plan.sib1 × (first_failed (conditions_with (if each then is_whole_of carrier plan else (is_whole plan || (has_block plan && is_resolvable plan))) plan) ≡ None))
@@ -145,7 +145,7 @@ accepted_by false carrier plan = accepted_is_sendable plan
 pub accepted_is_sendable_by : AcceptedAreSendable
 accepted_is_sendable_by carrier plan = accepted_by (needs_each_bit carrier) carrier plan
 
--- the same plan where enough is said otherwise
+-- the same plan with another statement of what is enough
 pub with_enough : (Enough Other : Type 0) (plan : CellPlan) → IsSendableWith Enough plan → Other → IsSendableWith Other plan
 with_enough Enough Other plan s other = record {
   valid = s.valid;
@@ -161,7 +161,7 @@ with_enough Enough Other plan s other = record {
   text = s.text;
 }
 
--- no carrier has more room than one port with the normal prefix
+-- no scheme has more room than one port with the normal cyclic prefix
 less_bits : (carrier : Carrier) (plan : CellPlan) → assigned_bits_of carrier plan ≤ assigned_bits_of OnePort plan
 less_bits carrier plan = doubled _ _ (mul-le-mul (are_few carrier plan.cfi).most (le_refl plan.blocks))
   where

@@ -1,4 +1,4 @@
--- The system information of a plan that can be sent: its block, and the text in it.
+-- The transport block of a plan that can be sent, and the SIB1 text in it.
 use Rattle.std.proofs.Common.{◌≡◌, ◌-◌, ◌≤◌, Bool, true, false, List, [], length, replicate, Option, Some, None, Ok, refl, ap, sym, subst, ◌∙◌, arith}
 use Rattle.std.specs.Prelude.{IsSomeAnd}
 use Rattle.std.specs.Option.{unwrap_or}
@@ -19,29 +19,29 @@ use Rattle.cell_plan.specs.Plan.{IsSendableWith}
 use Rattle.dci.proofs.SizeRows.{size_fits}
 use Rattle.cell_plan.proofs.BlockRows.{IsRowOf, row_of_size}
 
--- a plan can be sent, whatever says that what is sent of its block is enough
+-- for a plan that can be sent, whichever statement says that enough of its block is sent
 module _ {Enough : Type 0} (plan : CellPlan) (sendable : IsSendableWith Enough plan) where
   -- the table has a size
   pub sized : size_of plan.mcs plan.column ≡ Some (block_size plan)
   sized = some_is (size_of plan.mcs plan.column) sendable.mcs
 
-  -- its size has a row
+  -- the interleaver table has a row for the size
   pub row_is : IsRowOf (checked_size plan) (row_with (checked_size plan))
   row_is = row_of_size (checked_size plan) (size_fits plan.mcs plan.column (block_size plan) sized)
 
-  -- its check passes
+  -- the block's CRC passes
   pub word_checked : has_check_24 (shared_word plan) ≡ true
   unfolding shared_word
   word_checked = checked_24 (filled (block_size plan) (system_text plan))
 
-  -- before its check stands the text, followed by zeros
+  -- the block without its CRC is the text, followed by zeros
   pub word_message : message_of 24 (shared_word plan) ≡ filled (block_size plan) (system_text plan)
   unfolding shared_word
   word_message =
       message_is 24 (filled (block_size plan) (system_text plan)) (bits_of 24 (crc24a_of (filled (block_size plan) (system_text plan))))
       (length-bits_of 24 (crc24a_of (filled (block_size plan) (system_text plan))))
 
-  -- the text of the plan's fields, which fits
+  -- the text of the plan's fields exists and fits
   record HasText : Type 0 where
     is : text_of plan.sib1 ≡ Some (system_text plan)
     fits : length (system_text plan) ≤ block_size plan
@@ -53,7 +53,7 @@ module _ {Enough : Type 0} (plan : CellPlan) (sendable : IsSendableWith Enough p
       there (Some text) e fits = let is : system_text plan ≡ text = ap (λ o. unwrap_or o []) e in record { is = e ∙ ap (λ (t : List Bool). Some t) (sym is); fits = rw is fits }
       there None e none = absurd none
 
-  -- the word has the size of its row
+  -- the block has the size of its row
   pub word_size : length (shared_word plan) ≡ checked_size plan
   unfolding shared_word
   word_size =
@@ -66,7 +66,7 @@ module _ {Enough : Type 0} (plan : CellPlan) (sendable : IsSendableWith Enough p
       let fits = has_text.fits in
       omega (arith, a, b, c, d, fits)
 
-  -- what is read of it are the fields
+  -- the block is decoded to the fields
   pub word_says : Says (message_of 24 (shared_word plan)) (Ok plan.sib1)
   word_says =
       let text : List Bool = system_text plan in

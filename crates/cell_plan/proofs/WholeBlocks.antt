@@ -1,4 +1,4 @@
--- Plans whose block can be resolved: always where each coded bit is sent.
+-- Plans whose block can be resolved; it always can if each coded bit is sent.
 use Rattle.std.proofs.Common.{◌≡◌, ℕ, ◌+◌, ◌*◌, ◌≤◌, ◌<◌, Bool, true, false, List, ◌&&◌, ◌||◌, Option, Some, None, inl, refl, ap, subst, sym, ◌∙◌, arith}
 use Rattle.std.specs.Prelude.{IsSome}
 use Rattle.std.specs.Option.{unwrap_or}
@@ -37,7 +37,7 @@ pub whole_blocks_are_resolvable : WholeBlocksAreResolvable
 whole_blocks_are_resolvable plan sized whole =
     whole_is_resolvable plan sized (leb-le (3 * (checked_size plan + 4)) (assigned_bits plan) whole)
 
--- so either part of the condition says that the block can be resolved
+-- each part of the condition implies that the block can be resolved
 either : (whole block enough : Bool) → (whole ≡ true → enough ≡ true) → (whole || (block && enough)) ≡ true → enough ≡ true
 either true block enough by h = by refl
 either false block enough by h = (and_parts block enough h).1
@@ -46,7 +46,7 @@ pub enough_is_resolvable : (plan : CellPlan) → IsSome (size_of plan.mcs plan.c
 enough_is_resolvable plan sized h =
     either (is_whole plan) (has_block plan) (is_resolvable plan) (whole_blocks_are_resolvable plan sized) h
 
--- from each redundancy version on
+-- the block can be resolved for each redundancy version
 pub resolvable_at : (plan : CellPlan) (rv count : ℕ) (row : Row) → is_resolvable plan ≡ true → rv < 4 → row ≡ row_with (checked_size plan) → row.k ≡ checked_size plan
     → assigned_bits plan ≡ count → resolvable row (sent_of row.k rv count) (shared_word plan) ≡ true
 unfolding is_resolvable_by

@@ -1,5 +1,5 @@
--- Counts of samples, and gains of the antenna ports, with which a cell is sent, and the errors that clean recordings
--- with such gains allow. (own)
+-- Sample counts and antenna port gains with which a cell is sent, and the errors that clean recordings with such gains
+-- allow. (own)
 use Rattle.std.specs.Prelude.{ℕ, ◌+◌, ◌*◌, ◌≤◌, List, nat_eq, nat_lt, MatchBool}
 use Rattle.std.specs.Bool.{OnTrue}
 use Rattle.std.proofs.Props.{props}
@@ -12,63 +12,62 @@ use Rattle.lte_types.specs.declared.carrier.Carrier.{Carrier}
 use Rattle.lte_types.specs.Carrier.{ports_of}
 use Rattle.lte_types.specs.Numerology.{least_samples, most_samples}
 
--- how many samples a transmission may have
+-- the range of a transmission's sample count
 pub record IsCount (samples : ℕ) : Type 0 where
   pub least : least_samples ≤ samples
   pub most : samples ≤ most_samples
 
 -- ---- two antenna ports
 
--- the gains of both ports: that of the first is not 0, and the squares of their sizes are together at most 392
+-- two ports' gains: the first is not 0, and the squared magnitudes add up to at most 392
 pub record AreGains (first second : Cpx) : Type 0 where
   pub least : 1 ≤ square first
   pub most : square first + square second ≤ 392
 
--- errors may have components of size eps: its square is at most a quarter of the sum of the squares of both gains'
--- sizes, and at most four times the square of the first gain's size
+-- error components of magnitude eps are allowed: its square is at most a quarter of both gains' squares together, and
+-- at most four times the first gain's square
 pub record IsAllowed (first second : Cpx) (eps : ℕ) : Type 0 where
   pub both : 4 * (eps * eps) ≤ square first + square second
   pub one : eps * eps ≤ 4 * square first
 
 -- ---- four antenna ports
 
--- the sum of the squares of the sizes of four gains
+-- the power of four gains: the sum of their squared magnitudes
 abbrev pub power_of_four : List Cpx → ℕ
 power_of_four gains = squares_of_four (value_at gains)
 
--- the gain of port 0 is not 0, and the squares of the sizes of all four are together at most 196
+-- four ports' gains: port 0's is not 0, and their power is at most 196
 pub record AreGainsOfFour (gains : List Cpx) : Type 0 where
   pub least : 1 ≤ square (value_at gains 0)
   pub most : power_of_four gains ≤ 196
 
--- each pair of ports over which points are sent has at least three eighths of the sum of the gains' squares
+-- each pair of ports with transmit diversity has at least three eighths of the power
 abbrev pub HavePairs : List Cpx → Type 0
 HavePairs gains = ArePaired (value_at gains)
 
--- no pair of ports is weak, and errors may have components of size eps: its square is at most a 64th of the sum of
--- the gains' squares, so that it is 0 or 1
+-- no pair of ports is weak, and error components of magnitude eps are allowed: its square is at most 1/64 of the power,
+-- so that eps is 0 or 1
 pub record IsAllowedOfFour (gains : List Cpx) (eps : ℕ) : Type 0 where
   pub pairs : HavePairs gains
   pub quiet : 64 * (eps * eps) ≤ power_of_four gains
 
--- ---- a carrier: what is asked hangs on its count of ports
+-- ---- any scheme, by its port count
 
--- one of three, by a carrier's count of ports, 1, 2 or 4
+-- one of three types, by the scheme's port count of 1, 2 or 4
 abbrev pub ByPorts : Carrier → Type 0 → Type 0 → Type 0 → Type 0
 ByPorts carrier One Two Four =
     MatchBool (nat_eq (ports_of carrier) 1) One (MatchBool (nat_eq (ports_of carrier) 2) Two Four)
 
--- the sum of the squares of the sizes of the gains of a carrier's ports
+-- the power of a scheme's gains: the sum of their squared magnitudes
 abbrev pub power_of : Carrier → List Cpx → ℕ
 power_of carrier gains = total_below (ports_of carrier) (λ port. square (value_at gains port))
 
--- the gains of a carrier's ports are those of clean recordings: that of port 0 is not 0, and their power is at most 784
--- by the count of ports, which is 784, 392 or 196
+-- gains of clean recordings: port 0's is not 0, and the power is at most 784, 392 or 196 with 1, 2 or 4 ports
 abbrev pub AreGainsOf : Carrier → List Cpx → Type 0
 AreGainsOf carrier gains =
     ByPorts carrier (IsGain (value_at gains 0)) (AreGains (value_at gains 0) (value_at gains 1)) (AreGainsOfFour gains)
 
--- a law: that gains are those of clean recordings is a proposition
+-- a law: being gains of clean recordings is a proposition
 pub are_gains_prop : (carrier : Carrier) (gains : List Cpx) → IsProp (AreGainsOf carrier gains)
 are_gains_prop carrier gains = hlevel props
 
@@ -78,6 +77,6 @@ IsAllowedBy carrier gains eps =
     ByPorts carrier (eps * eps ≤ 4 * square (value_at gains 0)) (IsAllowed (value_at gains 0) (value_at gains 1) eps)
     (IsAllowedOfFour gains eps)
 
--- what a recording needs beside its gains so that what is sent is found: with more than two ports no pair is weak
+-- a condition on the gains for detection: with more than two ports no pair is weak
 abbrev pub ArePairedBy : Carrier → List Cpx → Type 0
 ArePairedBy carrier gains = OnTrue (nat_lt 2 (ports_of carrier)) (HavePairs gains)

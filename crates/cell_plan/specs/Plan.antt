@@ -1,5 +1,5 @@
--- Which plans of a cell can be sent. (own, with the ranges of TS 36.211 sections 6.11 and 6.7, TS 36.213 section 7.1
--- and TS 36.331 section 6.2.2)
+-- Cell plans that can be sent. (own, with the ranges of TS 36.211 sections 6.11 and 6.7, TS 36.213 section 7.1 and TS
+-- 36.331 section 6.2.2)
 use Rattle.std.specs.Prelude.{◌≡◌, ◌⊎◌, ◌+◌, ◌≤◌, Bool, true, false, not, ◌&&◌, ◌||◌, nat_eq, nat_le, if◌then◌else◌, List, [], ◌∷◌}
 use Rattle.std.specs.Prelude.{length, Option, None, is_some, is_none, IsSome, IsSomeAnd}
 use Rattle.lte_types.specs.declared.carrier.Carrier.{Carrier}
@@ -17,8 +17,8 @@ use Rattle.cell_plan.specs.Conditions.{Condition, condition, first_failed}
 use Rattle.cell_plan.specs.Transport.{block_size, text_fits, has_block, is_whole_of}
 use Rattle.cell_plan.specs.Transport.{is_whole, is_resolvable}
 
--- a plan can be sent, where `Enough` says that what is sent of its block is enough: the conditions that do not depend
--- on the antenna ports, and that one. Its master block has bandwidth n6
+-- a plan can be sent: the conditions that do not depend on the antenna ports hold, and `Enough`, which says that the
+-- sent part of its block is enough. The MIB has bandwidth n6.
 pub record IsSendableWith (Enough : Type 0) (plan : CellPlan) : Type 0 where
   pub valid : IsValid plan.sib1
   pub identity : plan.identity ≤ 503
@@ -32,23 +32,22 @@ pub record IsSendableWith (Enough : Type 0) (plan : CellPlan) : Type 0 where
   pub extension : plan.sib1.extended ≡ false
   pub text : IsSomeAnd (text_of plan.sib1) (λ text. length text ≤ block_size plan)
 
--- a plan can be sent with one antenna port: the bits that are sent of its block are enough to resolve it, as they are
--- wherever each coded bit is sent
+-- a plan can be sent with one antenna port: the sent bits resolve its block, which they do if each coded bit is sent
 abbrev pub IsSendable : CellPlan → Type 0
 IsSendable plan = IsSendableWith (is_resolvable plan ≡ true) plan
 
--- each coded bit of a block has to be sent, beside the reference signals of both ports: with two antenna ports. With
--- the extended cyclic prefix, or four ports, no block is sent
+-- each coded bit of a block has to be sent with two antenna ports, in the resource elements that both ports' reference
+-- signals leave. With the extended cyclic prefix, or four ports, no block is sent.
 abbrev pub needs_each_bit : Carrier → Bool
 needs_each_bit carrier = has_control_by carrier && nat_eq (ports_of carrier) 2
 
--- a plan can be sent by a carrier: each coded bit is sent where that is needed, and otherwise the plan is one of one
--- antenna port, though no block of it may be sent
+-- a scheme can send a plan: each coded bit is sent if that is needed, and otherwise the plan can be sent with one
+-- antenna port, though its block may not be sent at all
 abbrev pub IsSendableBy : Carrier → CellPlan → Type 0
 IsSendableBy carrier plan =
     IsSendableWith ((if needs_each_bit carrier then is_whole_of carrier plan else is_resolvable plan) ≡ true) plan
 
--- the conditions on a plan, in their order, where it is known whether enough of its block is sent
+-- the conditions on a plan, in order, given whether enough of its block is sent
 abbrev pub conditions_with : Bool → CellPlan → List Condition
 conditions_with enough plan =
     condition (nat_le plan.identity 503) Identity
@@ -62,21 +61,21 @@ conditions_with enough plan =
     ∷ condition (text_fits plan) Sib1Long
     ∷ []
 
--- enough is sent of the block of a plan. Where not every coded bit has to be sent, nor is with one antenna port, this
--- asks for a block that can be resolved; a plan that has none fails it
+-- enough of the plan's block is sent. If the scheme need not send every coded bit, and one antenna port does not, the
+-- plan must have a block that is resolved.
 abbrev pub is_enough : Carrier → CellPlan → Bool
 is_enough carrier plan =
     if needs_each_bit carrier then is_whole_of carrier plan
     else is_whole plan || (has_block plan && is_resolvable plan)
 
--- the conditions of a plan that is sent by a carrier
+-- the conditions on a plan that this scheme sends
 abbrev pub conditions_of : Carrier → CellPlan → List Condition
 conditions_of carrier plan = conditions_with (is_enough carrier plan) plan
 
--- the cause of the first condition that fails, of a plan that is sent by a carrier
+-- the error of the first failed condition for this scheme
 abbrev pub refusal_of : Carrier → CellPlan → Option CellError
 refusal_of carrier plan = first_failed (conditions_of carrier plan)
 
--- the cause of the first condition that fails, of a plan that is sent with one antenna port
+-- the error of the first failed condition for one antenna port
 abbrev pub plan_refusal : CellPlan → Option CellError
 plan_refusal plan = refusal_of OnePort plan

@@ -1,5 +1,5 @@
--- The transport block of a plan, which carries SystemInformationBlockType1, and whether the bits that are sent of it
--- are enough (TS 36.212 section 5.3.2, TS 36.213 section 7.1.7).
+-- A plan's transport block, which carries SIB1, and whether enough bits are sent (TS 36.212 section 5.3.2, TS 36.213
+-- section 7.1.7).
 use Rattle.std.specs.Prelude.{◌≡◌, ℕ, ◌+◌, ◌-◌, ◌*◌, Bool, false, not, ◌&&◌, nat_eq, nat_le, is_none, List, [], ◌++◌}
 use Rattle.std.specs.Prelude.{length, replicate, slice_index_or}
 use Rattle.std.specs.List.{position_or_len}
@@ -20,52 +20,52 @@ use Rattle.cell_plan.specs.declared.cell.CellPlan.{CellPlan}
 
 -- ---- the block
 
--- the size of the transport block, without its check; 0 where the table has none
+-- the transport block size without CRC; 0 if the table has none
 abbrev pub block_size : CellPlan → ℕ
 block_size plan = unwrap_or (size_of plan.mcs plan.column) 0
 
--- the block and its check of 24 bits
+-- the size with the 24-bit CRC
 abbrev pub checked_size : CellPlan → ℕ
 checked_size plan = block_size plan + 24
 
--- the text of SystemInformationBlockType1
+-- the text of SIB1
 abbrev pub system_text : CellPlan → List Bool
 system_text plan = unwrap_or (text_of plan.sib1) []
 
--- bits and then zeros, as many in all as the number says
+-- bits followed by zeros, `size` bits in all
 abbrev pub filled : ℕ → List Bool → List Bool
 filled size bits = bits ++ replicate (size - length bits) false
 
--- the transport block and its check: the text, followed by zeros
+-- the transport block with its CRC: the text, followed by zeros
 unfoldable pub shared_word : CellPlan → List Bool
 shared_word plan = with_check_24 (filled (block_size plan) (system_text plan))
 
--- the row of the turbo code's table for a block of K bits
+-- the row for k bits in the turbo code's interleaver table
 unfoldable pub row_with : ℕ → Row
 row_with k = slice_index_or rows (position_or_len (λ r. nat_eq r.k k) rows) (row k 0 0)
 
--- a plan has a block: SystemInformationBlockType1 is without TDD-Config and extension, and its text fits
+-- the text of SIB1 fits the block; a plan has a block if, also, SIB1 has neither TDD-Config nor extension
 abbrev pub text_fits : CellPlan → Bool
 text_fits plan = option_map_or (λ text. nat_le (length text) (block_size plan)) (text_of plan.sib1) false
 
 abbrev pub has_block : CellPlan → Bool
 has_block plan = (is_none plan.sib1.tdd && not plan.sib1.extended) && text_fits plan
 
--- ---- the coded block
+-- ---- the encoded block
 
--- the coded word of the transport block and its check
+-- the turbo-encoded transport block with its CRC
 unfoldable pub shared_coded : CellPlan → List (List Bool)
 shared_coded plan = coded (row_with (checked_size plan)) (shared_word plan)
 
--- K and the three streams are those of the coded word of a plan
+-- the block size K and the three streams are those of the plan's encoded block
 pub record IsCoded (plan : CellPlan) (word : Coded) : Type 0 where
   pub size : IsSize word.k
   pub k : word.k ≡ checked_size plan
   pub d : word.d ≡ shared_coded plan
 
--- ---- what is sent of the block
+-- ---- the sent part of the block
 
--- the bits that the assigned resource blocks of a carrier carry: two in each place
+-- the bits that the assigned resource blocks carry, two per resource element
 abbrev pub assigned_bits_of : Carrier → CellPlan → ℕ
 assigned_bits_of carrier plan = 2 * (block_places_of carrier plan.cfi * plan.blocks)
 
@@ -73,23 +73,22 @@ assigned_bits_of carrier plan = 2 * (block_places_of carrier plan.cfi * plan.blo
 abbrev pub assigned_bits : CellPlan → ℕ
 assigned_bits plan = assigned_bits_of OnePort plan
 
--- how many coded bits the block has: three streams, each with four bits of its tails
+-- the coded bit count: three streams, each with four tail bits
 abbrev pub coded_count : CellPlan → ℕ
 coded_count plan = 3 * (checked_size plan + 4)
 
--- each coded bit of the block is sent at least once by a carrier
+-- this scheme sends each coded bit of the block at least once
 abbrev pub is_whole_of : Carrier → CellPlan → Bool
 is_whole_of carrier plan = nat_le (coded_count plan) (assigned_bits_of carrier plan)
 
--- each coded bit of the block is sent at least once, with one antenna port
+-- one antenna port sends each coded bit of the block at least once
 abbrev pub is_whole : CellPlan → Bool
 is_whole plan = is_whole_of OnePort plan
 
--- a word of K bits can be resolved by the first bits of the reading, as many as the count says, from each redundancy
--- version on
+-- a word of k bits is resolved by the first `count` bits after rate matching, for each redundancy version
 unfoldable pub is_resolvable_by : ℕ → ℕ → List Bool → Bool
 is_resolvable_by k count word = every_below 4 (λ rv. resolvable (row_with k) (sent_of k rv count) word)
 
--- the plan's block and its check can be resolved by the bits that are sent
+-- the sent bits resolve the plan's block and its CRC
 abbrev pub is_resolvable : CellPlan → Bool
 is_resolvable plan = is_resolvable_by (checked_size plan) (assigned_bits plan) (shared_word plan)

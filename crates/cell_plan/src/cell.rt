@@ -1,4 +1,4 @@
-//! Plans of cells, and the cells that can be sent.
+//! Cell plans, and the cells that can be sent.
 
 ghost use Rattle.std.specs.Prelude.{◌≡◌, ◌+◌, ◌≤◌, ◌&&◌, ◌||◌, nat_eq, nat_le, false, if◌then◌else◌, length, Some};
 ghost use Rattle.std.specs.Prelude.{true, None, MatchOption, MatchResult, IfSome, IfOk};
@@ -20,9 +20,9 @@ use std::marker::Model;
 use turbo_code::Coded;
 use uper::Writer;
 
-/// The content of a cell, for any carrier. Its MIB has bandwidth n6 and the upper bits of the frame number; its CRC
-/// mask gives the antenna ports. With the extended cyclic prefix or four antenna ports only the identity, the PHICH
-/// fields and the spare bits are sent, without control region and system information (own).
+/// The content of a cell, for any transmission scheme. Its MIB has bandwidth n6 and the upper bits of the frame number;
+/// its CRC mask gives the antenna port count. With the extended cyclic prefix or four antenna ports, only the identity,
+/// the PHICH fields and the spare bits are sent, without control region and SIB1 (own).
 #[derive(Debug, Drop)]
 pub struct CellPlan {
     /// The physical-layer cell identity, 0 to 503 (TS 36.211 section 6.11).
@@ -35,27 +35,27 @@ pub struct CellPlan {
     pub spare: u16,
     /// The control format indicator, 2 or 3 (TS 36.212 section 5.3.4).
     pub cfi: u8,
-    /// The first resource block of SystemInformationBlockType1, 0 to 5.
+    /// The first resource block of SIB1, 0 to 5.
     pub start: u8,
-    /// The count of resource blocks of SystemInformationBlockType1, 1 to 6; with `start` at most 6.
+    /// SIB1's resource block count, 1 to 6; with `start` at most 6.
     pub blocks: u8,
-    /// The modulation and coding scheme of SystemInformationBlockType1, of which `column` has a size.
+    /// The modulation and coding scheme of SIB1, for which `column` has a transport block size.
     pub mcs: u8,
-    /// The column of the table of sizes, 2 or 3.
+    /// The column of the transport block size table (TS 36.213 section 7.1.7.2), 2 or 3.
     pub column: u8,
-    /// The block itself, without TDD-Config and extension.
+    /// SIB1 itself, without TDD-Config and extension.
     pub sib1: Sib1,
 }
 
-/// A plan that was accepted. Contracts see it as the plan.
+/// An accepted plan. Contracts see it as the plan.
 #[derive(Drop)]
 pub struct Cell {
     plan: CellPlan,
-    // The plan's identity, its assignment and the size of its transport block, as values in their ranges.
+    // The plan's identity, assignment and transport block size, as values in their ranges.
     id: CellId,
     assignment: Assignment,
     size: u16,
-    // The coded word of the plan's transport block, made once.
+    // The plan's encoded transport block, computed once.
     coded: Coded,
 }
 
@@ -63,8 +63,8 @@ impl CellPlan {
     ghost use Rattle.std.specs.Prelude.{◌*◌};
     ghost use Rattle.grid_map.specs.Shared.{block_places_of};
 
-    /// Returns how many resource elements the assigned blocks have for the shared channel of `carrier`; six blocks have
-    /// at most 612.
+    /// Returns how many resource elements the assigned blocks have for the shared channel of `carrier`; at most 612 for
+    /// six blocks.
     pub fn assigned_places(&self, carrier: Carrier) -> usize
         ensures value { result ≡ block_places_of carrier self.now.cfi * self.now.blocks }
         ensures bound { self.now.blocks ≤ 6 → result ≤ 612 }
@@ -73,7 +73,7 @@ impl CellPlan {
     }
 }
 
-// The control format indicator of a plan, where it is 2 or 3.
+// Returns a plan's control format indicator if it is 2 or 3.
 fn indicator_of(plan: &CellPlan) -> Option<Cfi>
     ensures { MatchOption result ((nat_le 2 plan.now.cfi && nat_le plan.now.cfi 3) ≡ false)
         (λ cfi. ((nat_le 2 plan.now.cfi && nat_le plan.now.cfi 3) ≡ true) × (cfi ≡ plan.now.cfi)) }
@@ -85,7 +85,7 @@ fn indicator_of(plan: &CellPlan) -> Option<Cfi>
     }
 }
 
-// The assigned resource blocks of a plan, where they are some of the six, one after the other.
+// Returns a plan's resource blocks if they are consecutive and among the six.
 fn assignment_of(plan: &CellPlan, cfi: Cfi) -> Option<Assignment>
     requires indicator { cfi ≡ plan.now.cfi }
     requires wide { 2 ≤ plan.now.cfi }
@@ -96,7 +96,7 @@ fn assignment_of(plan: &CellPlan, cfi: Cfi) -> Option<Assignment>
     Assignment::new(cfi, plan.start, plan.blocks)
 }
 
-// The size of the transport block, where the plan's column is one of the table and has one.
+// Returns the transport block size if the plan's column is in the table and has one.
 fn size_of(plan: &CellPlan) -> Option<u16>
     ensures value { result ≡ (if nat_eq plan.now.column 2 || nat_eq plan.now.column 3
         then size_of plan.now.mcs plan.now.column else None) }
@@ -110,7 +110,7 @@ fn size_of(plan: &CellPlan) -> Option<u16>
     }
 }
 
-// The text of a block without an extension, which has at most `size` bits; `None` exactly where it has more.
+// Returns the text of a SIB1 without extension, or `None` if it has more than `size` bits.
 fn text_of(fields: &Sib1, size: u16) -> Option<Writer>
     requires valid { IsValid fields.now }
     requires plain { fields.now.extended ≡ false }
@@ -127,8 +127,8 @@ fn text_of(fields: &Sib1, size: u16) -> Option<Writer>
     }
 }
 
-// Whether the assigned resource blocks of a carrier carry each coded bit of the transport block and its check: three
-// streams, each with four bits of its tails.
+// Returns whether the assigned resource blocks carry each coded bit of the transport block and its CRC: three streams,
+// each with four tail bits.
 fn is_sent_whole(carrier: Carrier, plan: &CellPlan, size: u16) -> bool
     requires blocks { plan.now.blocks ≤ 6 }
     requires size { block_size plan.now ≡ size }
@@ -137,7 +137,7 @@ fn is_sent_whole(carrier: Carrier, plan: &CellPlan, size: u16) -> bool
     3 * (size as usize + 24 + 4) <= 2 * plan.assigned_places(carrier)
 }
 
-// Whether the plan has a transport block that can be resolved by the bits which these blocks carry.
+// Returns whether the plan has a transport block that is resolved by the bits that its resource blocks carry.
 fn has_resolvable_block(plan: &CellPlan, size: u16) -> bool
     requires valid { IsValid plan.now.sib1 }
     requires blocks { plan.now.blocks ≤ 6 }
@@ -159,14 +159,14 @@ fn has_resolvable_block(plan: &CellPlan, size: u16) -> bool
     }
 }
 
-// Whether a carrier has to send each coded bit of a block.
+// Returns whether a transmission scheme has to send each coded bit of a block.
 fn needs_each_bit(carrier: Carrier) -> bool
     ensures { result ≡ needs_each_bit carrier }
 {
     carrier.has_control() && carrier.ports() == 2
 }
 
-// Whether the bits that a carrier sends of the transport block are enough.
+// Returns whether the transport block's bits that a transmission scheme sends are enough.
 fn is_sent_enough(carrier: Carrier, plan: &CellPlan, size: u16) -> bool
     requires valid { IsValid plan.now.sib1 }
     requires blocks { plan.now.blocks ≤ 6 }
@@ -195,7 +195,7 @@ impl Model for Cell {
     ghost invariant = { λ c. IsSendable c.plan × ArePartsOf c.plan c.id c.assignment c.size × IsCoded c.plan c.coded };
 }
 
-// A cell is told as its plan.
+// A cell is printed as its plan.
 impl Debug for Cell {
     fn fmt<W: Write>(&self, f: &mut Formatter<W>) -> fmt::Result {
         self.plan.fmt(f)
@@ -207,24 +207,8 @@ impl Cell {
     ghost use Rattle.cell_plan.specs.Plan.{IsSendable, IsSendableBy, plan_refusal, refusal_of};
     ghost use Rattle.cell_plan.specs.Transport.{IsCoded};
 
-    /// Accepts a plan for `carrier`, or returns the first failed condition:
-    ///
-    /// - `Identity`: at most 503.
-    /// - `Spare`: at most 1023.
-    /// - `Cfi`: 2 or 3.
-    /// - `Assignment`: `blocks` is at least 1, and `start` + `blocks` at most 6.
-    /// - `Mcs`: `column` is 2 or 3, and its table has a size for `mcs`.
-    /// - `Punctured`: the assigned blocks carry each coded bit at least once, or, but for two antenna ports, a
-    ///   transport block that can be resolved by the bits which they carry, from each redundancy version on
-    ///   (`erasure::fills`). They carry 204 bits each with `cfi` 2 and 180 with 3, and beside the reference signals
-    ///   of two ports 192 and 168; a block of so many bits and its check has three bits for each of them and twelve
-    ///   more. There is a block to be resolved where the last three conditions hold.
-    /// - `Duplex`: there is no TDD-Config.
-    /// - `Extension`: there is no extension.
-    /// - `Sib1Long`: the text of SystemInformationBlockType1 fits the size.
-    ///
-    /// With the extended cyclic prefix or four antenna ports the conditions are those of one antenna port, though
-    /// system information is not sent. (own)
+    /// Accepts a plan for `carrier`, or returns the first failed condition, in the order of `CellError`'s variants.
+    /// With the extended cyclic prefix or four antenna ports, the conditions are those for one port. (own)
     pub fn of(carrier: Carrier, plan: CellPlan) -> Result<Cell, CellError>
         requires { IsValid plan.sib1 }
         ensures refusal { MatchResult result (λ _. refusal_of carrier plan ≡ None)
@@ -318,7 +302,7 @@ impl Cell {
         self.size
     }
 
-    /// Returns the codeword of the transport block with its CRC (TS 36.212 section 5.3.2).
+    /// Returns the encoded transport block with its CRC (TS 36.212 section 5.3.2).
     pub fn coded(&self) -> &Coded
         ensures { IsCoded self.now result.now }
     {

@@ -1,4 +1,4 @@
-//! A cell with the carrier, the timing, the count of samples, the gains and the load that are sent.
+//! A cell with the transmission scheme, timing, sample count, gains and load with which it is sent.
 
 ghost use Rattle.std.specs.Prelude.{◌≡◌, None};
 ghost use Rattle.cell_plan.specs.Gains.{IsCount, AreGainsOf, are_gains_prop};
@@ -8,21 +8,21 @@ use crate::Cell;
 use cs_num::Cpx;
 use lte_types::{Carrier, Timing};
 
-/// What is sent of a cell by a carrier: `samples` samples from where `timing` says on, those of each antenna port times
-/// the gain of the port. (own)
+/// A cell's transmission: `samples` samples from `timing`, the sum over the antenna ports of their signals times their
+/// gains. (own)
 #[derive(Debug, Drop)]
 pub struct Emission {
-    /// The cell. With the extended cyclic prefix or four antenna ports its system information is not sent.
+    /// The cell. With the extended cyclic prefix or four antenna ports its SIB1 is not sent.
     pub cell: Cell,
-    /// The carrier.
+    /// The transmission scheme: cyclic prefix and antenna ports.
     pub carrier: Carrier,
-    /// The first frame and the first sample of it which is sent.
+    /// The first frame number, and the first sample sent within this frame.
     pub timing: Timing,
     /// The number of samples, 57,600 to 1,920,000.
     pub samples: u32,
-    /// The gains of the antenna ports; that of a port which the carrier has not is not used.
+    /// One gain per antenna port. Entries beyond the scheme's ports are ignored.
     pub gains: [Cpx; 4],
-    /// The number of the load that stands at each place which the plan leaves open, where there is one.
+    /// The number of the load in the resource elements that the plan leaves open, if there is one.
     pub load: Option<u32>,
     pub ghost samples_range: { IsCount samples },
     pub ghost gains_are: { AreGainsOf carrier gains } by { are_gains_prop carrier gains },

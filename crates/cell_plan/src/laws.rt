@@ -1,18 +1,20 @@
-//! Laws of the plans that can be sent, and of the gains.
+//! Laws on sendable plans and on gains.
+//!
+//! A block whose resource blocks carry each coded bit can always be resolved (`whole`), so the first part of the
+//! condition `Punctured` implies the second.
 
 ghost use Rattle.cell_plan.specs.Laws.{AcceptedAreSendable, OnePortSendsAll, WholeBlocksAreResolvable};
 ghost use Rattle.cell_plan.specs.Laws.{GainsAreTogether};
 
-/// The plans that `Cell::of` accepts for a carrier are those that it can send, and what any carrier can send one
-/// antenna port can. The block of a plan whose resource blocks carry each coded bit can always be resolved, so that
-/// the first part of `Punctured` is a case of the second.
+/// A law: `Cell::of` accepts exactly the plans that a scheme can send, and what any scheme can send, one antenna port
+/// can.
 pub fn accepted_are_sendable()
     ensures accepted { AcceptedAreSendable }
     ensures one { OnePortSendsAll }
     ensures whole { WholeBlocksAreResolvable }
 {}
 
-/// The gains of clean recordings have one bound for any count of antenna ports.
+/// A law: the gains of clean recordings satisfy one bound for any antenna port count.
 pub fn gains_are_together()
     ensures { GainsAreTogether }
 {}

@@ -1,6 +1,5 @@
-//! Which cells can be sent: plans with their conditions, the transport block of SystemInformationBlockType1, and the
-//! gains, the timing and the count of samples with which a cell is sent (TS 36.212 section 5.3.2, TS 36.213 section
-//! 7.1.7, and own).
+//! Cells that can be sent: plans with their conditions, the transport block of SIB1, and the timing, sample count and
+//! gains of a transmission (TS 36.212 section 5.3.2, TS 36.213 section 7.1.7, and own).
 //!
 //! Tests: `sent_tests/src/transmissions.rt`.
 #![tactic(auto)]

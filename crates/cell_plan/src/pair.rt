@@ -1,4 +1,4 @@
-//! Gains as pairs of numbers of 16 bits, real before imaginary.
+//! Gains as pairs of 16-bit numbers, real part first.
 
 ghost use Rattle.std.specs.Prelude.{◌≡◌};
 ghost use Rattle.cs_num.specs.Complex.{IsWithin};

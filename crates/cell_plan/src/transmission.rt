@@ -1,4 +1,4 @@
-//! A cell with the frame, the offset, the count of samples and the gain that are sent.
+//! A cell with the frame number, offset, sample count and gain with which it is sent, for one antenna port.
 
 ghost use Rattle.std.specs.Prelude.{◌≡◌};
 ghost use Rattle.cs_num.specs.Gain.{IsGain};
@@ -10,19 +10,18 @@ use crate::{Cell, Emission, gain_of_pair, pair_of};
 use cs_num::Gain;
 use lte_types::{Sfn, Timing};
 
-/// What is sent of a cell: `samples` samples from sample `offset` of the frame numbered `sfn` on, each times the gain.
-/// (own)
+/// A cell's transmission: `samples` samples from sample `offset` of frame number `sfn`, each times the gain. (own)
 #[derive(Debug, Drop)]
 pub struct Transmission {
     /// The cell.
     pub cell: Cell,
-    /// The number of the first frame.
+    /// The first frame number.
     pub sfn: Sfn,
-    /// The first sample of that frame which is sent, 0 to 19,199.
+    /// The first sample sent within this frame, 0 to 19,199.
     pub offset: u32,
     /// The number of samples, 57,600 to 1,920,000.
     pub samples: u32,
-    /// The gain, real before imaginary; the square of its size is 1 to 784.
+    /// The gain, real part first; the square of its magnitude is 1 to 784.
     pub gain: (i16, i16),
     pub ghost offset_range: { IsOffset offset },
     pub ghost samples_range: { IsCount samples },
@@ -34,7 +33,7 @@ impl Transmission {
     ghost use Rattle.cs_num.specs.Complex.{value_at};
     ghost use Rattle.lte_types.specs.declared.carrier.Carrier.TheVariants.{OnePort};
 
-    /// The transmission that an emission of one antenna port with the normal cyclic prefix and without load is.
+    /// Returns `emission`, which has one antenna port, the normal cyclic prefix and no load, as a transmission.
     pub fn of(emission: Emission) -> Transmission
         requires carrier { emission.carrier ≡ OnePort }
         requires load { emission.load ≡ None }
@@ -53,7 +52,7 @@ impl Transmission {
         }
     }
 
-    /// The first frame and the first sample of it which is sent.
+    /// Returns the first frame number and the first sample sent within this frame.
     pub fn timing(&self) -> Timing
         ensures sfn { result.sfn ≡ self.now.sfn }
         ensures offset { result.offset ≡ self.now.offset }
@@ -64,7 +63,7 @@ impl Transmission {
         }
     }
 
-    /// The gain as a number.
+    /// Returns the gain as a complex number.
     pub fn gain(&self) -> Gain
         ensures { result ≡ gain_of self.now.gain }
     {

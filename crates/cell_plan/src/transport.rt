@@ -1,4 +1,4 @@
-//! The transport block, which carries SystemInformationBlockType1: its check and its coded word.
+//! The transport block, which carries SIB1: its CRC and its turbo encoding.
 
 ghost use Rattle.std.specs.Prelude.{◌≡◌, ℕ, ◌+◌, ◌≤◌, ◌++◌, length, take, drop};
 ghost use Rattle.cs_bits.specs.Checks.{with_check_24};
@@ -10,7 +10,7 @@ use cs_bits::{crc24a, put_number};
 use erasure::fills;
 use turbo_code::{Coded, encode, row_of};
 
-// Writes a text over the first bits.
+// Writes a text over the first bits of a word.
 fn put_text(word: &mut [bool; 1024], text: &[bool])
     requires { length text.now ≤ 1000 }
     ensures { word.new ≡ text.now ++ drop (length text.now) word.old }
@@ -18,7 +18,7 @@ fn put_text(word: &mut [bool; 1024], text: &[bool])
     word[..text.len()].copy_from_slice(text);
 }
 
-// A text, followed by zeros.
+// Returns a text followed by zeros.
 fn filled(text: &[bool]) -> [bool; 1024]
     requires { length text.now ≤ 1000 }
     ensures { (size : ℕ) → length text.now ≤ size → size ≤ 1024 → take size result ≡ filled size text.now }
@@ -28,7 +28,7 @@ fn filled(text: &[bool]) -> [bool; 1024]
     word
 }
 
-// Writes the check of the first bits behind them.
+// Writes the CRC of the first `size` bits after them.
 fn put_check(word: &mut [bool; 1024], size: usize)
     requires { size ≤ 1000 }
     ensures { take (size + 24) word.new ≡ with_check_24 (take size word.old) }
@@ -37,7 +37,7 @@ fn put_check(word: &mut [bool; 1024], size: usize)
     put_number(check as u64, &mut word[size..size + 24]);
 }
 
-// A transport block of this size and its check: a text, followed by zeros.
+// Returns a transport block of this size with its CRC: a text, followed by zeros.
 fn checked_block(text: &[bool], size: u16) -> [bool; 1024]
     requires room { size ≤ 1000 }
     requires fits { length text.now ≤ size }
@@ -48,8 +48,8 @@ fn checked_block(text: &[bool], size: u16) -> [bool; 1024]
     word
 }
 
-/// The coded word of a transport block of this size (TS 36.212 section 5.3.2): a text, followed by zeros.
-/// The size and 24 bits are a K of the table.
+/// Returns the turbo-encoded transport block of `size` bits, a text followed by zeros (TS 36.212 section 5.3.2). The
+/// interleaver table has a row for `size` + 24.
 pub(crate) fn coded_block(text: &[bool], size: u16) -> Coded
     requires size { IsSize (size + 24) }
     requires room { size ≤ 1000 }
@@ -63,8 +63,8 @@ pub(crate) fn coded_block(text: &[bool], size: u16) -> Coded
     encode(&checked_block(text, size)[..size as usize + 24], row)
 }
 
-/// Whether a transport block of this size and its check can be resolved by so many bits, from each redundancy
-/// version on: a text, followed by zeros. The size and 24 bits are a K of the table.
+/// Returns whether `count` bits resolve a transport block of `size` bits, a text followed by zeros, and its CRC for
+/// each redundancy version. The interleaver table has a row for `size` + 24.
 pub(crate) fn block_fills(text: &[bool], size: u16, count: u16) -> bool
     requires size { IsSize (size + 24) }
     requires room { size ≤ 1000 }

@@ -1,4 +1,4 @@
--- Elements that carry a plan: what they are at the places of its signals and channels.
+-- Elements that carry a plan: their values where the plan has signals and channels.
 use Rattle.std.proofs.Common.{◌≡◌, ℕ, ◌-◌, ◌%◌, ◌<◌, ◌≤◌, Bool, true, false, not, ◌&&◌, ◌||◌, nat_eq, None, List, length, get_or, arith, refl, sym, subst, ap₂, ◌∙◌}
 use Rattle.std.specs.Prelude.{if◌then◌else◌}
 use Rattle.std.proofs.lemmas.Bool.{lt-ltb, or_left, or_right, or_parts}
@@ -34,9 +34,9 @@ use Rattle.cell_grid.proofs.Bounds.{sent_element-square}
 use Rattle.cell_grid.proofs.Elements.{sent_of_taken}
 use Rattle.cell_grid.proofs.SystemPlaces.{indicator_indexed, control_indexed, assigned_indexed, indicator_sent, control_sent, shared_sent}
 
--- ---- what the plan itself sends
+-- ---- the plan's own elements
 
--- it carries the plan, with load or without
+-- the plan's elements carry it, with or without load
 pub sent_elements_carry : SentElementsCarry
 sent_elements_carry load port plan = record {
   taken = λ sfn subframe symbol k e. sent_of_taken port plan sfn subframe symbol k load e;
@@ -48,11 +48,11 @@ own_elements_carry = sent_elements_carry None
 
 -- ---- a recording of a cell's only port
 
--- the only port of a carrier with one
+-- a statement for all ports of a one-port scheme follows from that for its only port
 pub of_only : (P : Port → Type 0) → P only_port → (port : Port) → IsPortOf OnePort port → P port
 of_only P at port is = let number : port.number ≡ 0 = omega (arith, is.1) in subst P (sym (ap₂ port_by is.0 number)) at
 
--- a recording that is clean of elements by one port is so of those of this port
+-- a recording that is clean for elements of all ports, with one port, is clean for that port's elements
 pub only_loaded : (recording : List Sample) (plan : CellPlan) (grids : Port → Elements) (sfn offset : ℕ) (gains : List Cpx) (eps : ℕ) →
     IsLoadedBy OnePort recording plan grids sfn offset gains eps → IsLoaded recording plan (grids only_port) sfn offset (value_at gains 0) eps
 only_loaded recording plan grids sfn offset gains eps clean = record {
@@ -64,7 +64,7 @@ only_loaded recording plan grids sfn offset gains eps clean = record {
   near = clean.near;
 }
 
--- and one that is clean of a sequence of elements that carry the plan is loaded
+-- a recording that is clean for a sequence of elements that carry the plan is clean with load
 pub loaded_of : (recording : List Sample) (plan : CellPlan) (grid : Elements) (sfn offset : ℕ) (gain : Cpx) (eps : ℕ) → sfn ≤ 1023 → CarriesPlan only_port plan grid →
     IsCleanOf (sent grid sfn) recording offset gain eps → IsLoaded recording plan grid sfn offset gain eps
 loaded_of recording plan grid sfn offset gain eps known carries samples = record {
@@ -76,15 +76,15 @@ loaded_of recording plan grid sfn offset gain eps known carries samples = record
   near = samples.near;
 }
 
--- so a clean recording is one without load
+-- a clean recording is a clean recording with load
 pub clean_is_loaded : (recording : List Sample) (plan : CellPlan) (sfn offset : ℕ) (gain : Cpx) (eps : ℕ) → IsClean recording plan sfn offset gain eps →
     IsLoaded recording plan (port_element only_port plan) sfn offset gain eps
 clean_is_loaded recording plan sfn offset gain eps clean =
     loaded_of recording plan (port_element only_port plan) sfn offset gain eps clean.number (own_elements_carry only_port plan) clean.samples
 
--- ---- which places are taken
+-- ---- resource elements that the plan uses
 
--- a place of a list is one of the channel's
+-- each resource element of a channel's list belongs to the channel
 among : (count : ℕ) (places : List Place) (i : ℕ) → IsIndexed count places → i < count → is_one_of places (get_or places i (place 0 0)) ≡ true
 among count places i indexed l =
     let at = indexed.index i l in
@@ -94,7 +94,7 @@ among count places i indexed l =
 in_even_frame : (number : ℕ) (here : Bool) → number % 2 ≡ 0 → here ≡ true → (has_system_information number 5 && here) ≡ true
 in_even_frame number here even e = rw (even, e) refl
 
--- the symbols of the synchronisation signals are
+-- the plan uses the synchronisation signals' symbols
 primary_by : (carrier : Carrier) (number : ℕ) (plan : CellPlan) (half : Half) (sfn k : ℕ) → is_taken (port_by carrier number) plan sfn (subframe_of half) (symbols_of_slot (prefix_of carrier) - 1) k ≡ true
 unfolding is_taken
 primary_by OnePort number plan Zero sfn k = refl
@@ -123,7 +123,7 @@ secondary_by FourPorts number plan Five sfn k = refl
 secondary_taken : (port : Port) (plan : CellPlan) (half : Half) (sfn k : ℕ) → is_taken port plan sfn (subframe_of half) (port_symbols port - 2) k ≡ true
 secondary_taken port plan half sfn k = secondary_by port.carrier port.number plan half sfn k
 
--- what the elements are there
+-- the carried elements in resource elements that the plan uses
 module _ (port : Port) (plan : CellPlan) (grid : Elements) (carries : CarriesPlan port plan grid) where
   pub of_own_reference : (sfn subframe symbol k : ℕ) → is_own_reference port plan.identity (port_slot port subframe symbol) (symbol % port_symbols port) k ≡ true → grid sfn subframe symbol k ≡ port_element port plan sfn subframe symbol k
   unfolding is_taken
@@ -156,7 +156,7 @@ module _ (port : Port) (plan : CellPlan) (grid : Elements) (carries : CarriesPla
   pub of_secondary_symbol : (half : Half) (sfn k : ℕ) → grid sfn (subframe_of half) (port_symbols port - 2) k ≡ port_element port plan sfn (subframe_of half) (port_symbols port - 2) k
   of_secondary_symbol half sfn k = carries.taken sfn (subframe_of half) (port_symbols port - 2) k (secondary_taken port plan half sfn k)
 
-  -- the channels of subframe 5 in frames of even number: the indicator
+  -- channels of subframe 5 in even-numbered frames: the control format indicator
   module _ {Enough : Type 0} (sendable : IsSendableWith Enough plan) (control : has_control port ≡ true) (own : port.number < ports_of port.carrier) (number : ℕ) where
     of_system : (symbol k : ℕ) → has_system_place port plan number 5 symbol k ≡ true → grid number 5 symbol k ≡ port_element port plan number 5 symbol k
     of_system symbol k e = of_channel number 5 symbol k (or_right (has_broadcast port plan.identity 5 symbol k) _ (rw control e))
@@ -168,7 +168,7 @@ module _ (port : Port) (plan : CellPlan) (grid : Elements) (carries : CarriesPla
         (in_even_frame number _ even (among 16 (pcfich_places plan.identity) i (indicator_indexed port plan sendable) l)))
         ∙ indicator_sent port plan sendable control own number i l
 
-    -- the candidate and the shared channel
+    -- the control channel's candidate and the shared channel
     pub control_carried : number % 2 ≡ 0 → (i : ℕ) → i < 144 → let p = get_or (control_places plan) i (place 0 0) in grid number 5 p.symbol p.k ≡ sent_point port (control_point plan number) i
     control_carried even i l =
         let p = get_or (control_places plan) i (place 0 0) in
@@ -183,7 +183,7 @@ module _ (port : Port) (plan : CellPlan) (grid : Elements) (carries : CarriesPla
         (or_right (is_control plan number 5 p.symbol p.k) _ (in_even_frame number _ even (among (length (assigned_places port.carrier plan)) (assigned_places port.carrier plan) i (assigned_indexed port plan sendable) l))))
         ∙ shared_sent port plan sendable control own number even i l
 
--- ---- open places
+-- ---- open resource elements
 
 pub no_signal : (a b c m : Bool) → (a && (b || c)) ≡ false → (((a && c) && m) ≡ false) × (((a && b) && m) ≡ false)
 no_signal false b c m e = (refl, refl)
@@ -191,7 +191,7 @@ no_signal true true c m e = absurd cc
 no_signal true false true m e = absurd cc
 no_signal true false false m e = (refl, refl)
 
--- no channel is there, where none of them is sent
+-- an element that belongs to no channel is zero
 no_channels : (there here indicator control shared : Bool) (x y z : Cpx) → (there && ((here && indicator) || (control || shared))) ≡ false → (there && indicator) ≡ false →
     (if there then (if indicator then x else (if control then y else (if shared then z else nothing))) else nothing) ≡ nothing
 no_channels false here indicator control shared x y z e none = refl
@@ -203,12 +203,12 @@ no_channels true true false true shared x y z e none = absurd cc
 no_channels true false false false true x y z e none = absurd cc
 no_channels true true false false true x y z e none = absurd cc
 
--- where it is not the port's own reference signal, and not another's, it is none
+-- if a reference signal is neither the port's own nor another port's, there is none
 pub left_false : (own any : Bool) → own ≡ false → (not own && any) ≡ false → any ≡ false
 left_false false any e f = f
 left_false true any e f = absurd cc
 
--- there the plan sends nothing
+-- the plan sends nothing in an open resource element
 pub open_is_silent : (port : Port) (plan : CellPlan) (sfn subframe symbol k : ℕ) → is_taken port plan sfn subframe symbol k ≡ false → (has_control port && is_indicator plan symbol k) ≡ false →
     port_element port plan sfn subframe symbol k ≡ nothing
 unfolding is_taken port_element port_channel_value

@@ -1,4 +1,5 @@
--- The control region of a subframe whose values speak for an indicator and a grant: it tells them, and the attempt has them.
+-- If a subframe's control region has the signs of an indicator's and a grant's bits, it determines both, and the
+-- attempt returns them.
 use Rattle.std.proofs.Common.{◌≡◌, ℕ, ◌*◌, ◌/◌, ◌≤◌, arith, refl, ap, sym, ◌∙◌, subst, Bool, List, ◌++◌, length, get_or, pos, Option, None, Some, Result, Ok, Err}
 use Rattle.std.specs.Result.{result_ok}
 use Rattle.std.proofs.lemmas.Option.{none-some}
@@ -110,7 +111,7 @@ sent_grant_is_told count candidate grant is enough speak = record {
       says = subst (λ bits. Carries bits grant) (sym (grant_parts grant).message) (sent_carries grant is).carries;
     }
 
--- with indicator 2 or 3 there are four elements at least
+-- with indicator 2 or 3 there are at least four control channel elements
 pub four_elements : (identity indicator : ℕ) (duration : Duration) (resource : Resource) → 2 ≤ indicator → indicator ≤ 3 → 4 ≤ element_count indicator duration resource
 four_elements identity indicator duration resource low high =
     enough (group_count indicator duration resource) (subst (λ n. 36 ≤ n) (pdcch_count identity indicator duration resource (omega (arith, low)) high) (pdcch_carry identity indicator duration resource low high).enough)
@@ -178,7 +179,7 @@ spoken_grant_is_read values indicator grant speak = record {
     only : IsOnlyGrant (values.elements indicator) (values.candidate indicator) grant
     only = sent_grant_is_told (values.elements indicator) (values.candidate indicator) grant speak.is_grant speak.enough speak.of_control
 
--- so it is where the first slot tells both
+-- an attempt returns both if the first slot determines them
 told_grant_is_read : (first second : SeenSlot) (indicator : ℕ) (duration : Duration) (resource : Resource) (grant : Grant) → 2 ≤ indicator → indicator ≤ 3 → IsGrant grant →
     TellsIndicator first indicator → TellsGrant first indicator duration resource grant → IsReadWith (one_port first second duration resource) indicator grant
 told_grant_is_read first second indicator duration resource grant low high is told granted =

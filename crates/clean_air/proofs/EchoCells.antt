@@ -1,4 +1,5 @@
--- A cell that arrives over several paths is seen through their channel, where the later ones are faint: each symbol with its prefix is received over them.
+-- A cell that arrives over several paths is received through their channel if the later paths are faint: each symbol
+-- with its cyclic prefix is received over these paths.
 use Rattle.std.proofs.Common.{◌≡◌, ℕ, ◌+◌, ◌-◌, ◌*◌, ◌^◌, ◌/◌, ◌%◌, ◌<◌, ◌≤◌, List, [], ◌∷◌, inl, inr, arith, refl, ap, ap₂, sym, subst, ◌∙◌}
 use Rattle.finite.specs.Sums.{sum_below, total_below}
 use Rattle.std.proofs.Math.Path.{fun_ext}
@@ -59,7 +60,7 @@ slot_over_is_through sizes paths recording starts grids slot faint is =
 
 -- ---- a symbol
 
--- before its useful part stand the last 9 samples of it
+-- the last 9 samples of a symbol's useful part precede it as part of the cyclic prefix
 has_prefix : (grid : Elements) (sfn frame slot symbol : ℕ) → slot < 20 → symbol < 7 →
     HasPrefix (useful_at (slot_grid grid ((sfn + frame) % 1024) slot symbol)) (19200 * frame + (useful_start normal 0 slot symbol - 9)) (λ i. sent grid sfn i)
 has_prefix grid sfn frame slot symbol few row =

@@ -1,4 +1,4 @@
--- The pilots of a slot that is seen with one gain: each is near a multiple of the gain.
+-- Pilots of a slot that is observed with one gain: each is close to a multiple of the gain.
 use Rattle.std.proofs.Common.{ℕ, ◌*◌, ◌<◌, ◌≤◌, arith}
 use Rattle.cs_num.specs.declared.Cpx.{Cpx}
 use Rattle.cs_num.specs.Complex.{square}
@@ -16,7 +16,7 @@ clean_pilots most pattern gain slot seen i l = record {
   seen = deviation-sized most (square gain) gain (pattern_sent pattern slot.identity slot.number i) (pattern_seen pattern slot i) (seen.pilot i l);
 }
 
--- 16200 is below the square of 128
+-- a point's square magnitude, 16200, is below 128^2
 in_gain : (n : ℕ) (gain : Cpx) (c t : ℕ) (z : Cpx) → IsNear (16200 * n) gain c t z → IsNear n gain c (128 * t) z
 in_gain n gain c t z near = record {
   off = near.off;

@@ -1,4 +1,4 @@
--- A cell whose gain turns and fades slowly is seen through channels: in each slot that is read, through the gains of its symbols.
+-- A cell with a slowly varying gain is received through channels: each slot that is read, through its symbols' gains.
 use Rattle.std.proofs.Common.{◌≡◌, ℕ, ◌+◌, ◌-◌, ◌*◌, ◌/◌, ◌%◌, ◌<◌, ◌≤◌, List, [], ◌∷◌, inl, inr, arith, refl, ℤ, pos, ◌-ℤ◌}
 use Rattle.std.proofs.lemmas.Int.{ints}
 use Rattle.cs_num.specs.declared.Cpx.{Cpx}
@@ -31,7 +31,7 @@ module _ (quota bend : ℕ) (recording : List Sample) (plan : CellPlan) (grids :
     (fading : IsFadingBy quota bend recording plan grids sfn offset gains signal_gains) where
   -- ---- slots
 
-  -- a slot that is read has its symbols received, each with its gain
+  -- the symbols of a slot that is read are received, each with its own gain
   slot_fading : (j slot : ℕ) → slot < 20 → IsRead sfn offset (first_frame_of offset + j) slot →
       IsSlotFading quota bend recording (useful_start normal (frame_at (start_of offset) j) slot) (gains (first_frame_of offset + j) slot)
       (slot_grid (grids only_port) ((number_at_start sfn offset + j) % 1024) slot) (seen_slot recording (frame_at (start_of offset) j) slot plan.identity)

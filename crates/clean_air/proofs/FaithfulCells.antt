@@ -1,4 +1,4 @@
--- A cell of one port to which a recording is faithful is seen through channels: one gain in each slot.
+-- A cell of one port to which a recording is faithful is received through channels, with one gain in each slot.
 use Rattle.std.proofs.Common.{ℕ, ◌+◌, ◌%◌, ◌^◌, ◌<◌, ◌≤◌, ◌⊎◌, List, inl, inr, arith, refl, subst}
 use Rattle.cs_num.specs.declared.Cpx.{Cpx}
 use Rattle.cs_num.specs.declared.Sample.{Sample}
@@ -40,7 +40,7 @@ received_slot_is_through recording starts grids slot is =
     some n h = omega (arith, h)
 
 module _ (recording : List Sample) (plan : CellPlan) (grids : Port → Elements) (sfn offset : ℕ) (gains : List Cpx) (faithful : IsFaithfulBy OnePort recording plan grids sfn offset gains) where
-  -- a slot that is looked at
+  -- each slot that is read is received through a channel
   slot_through : (j slot : ℕ) → slot < 20 → IsOfMaster offset (first_frame_of offset + j) slot ⊎ IsOfSystem OnePort sfn offset (first_frame_of offset + j) slot →
       IsFrameSlotThrough recording plan.identity (grids only_port) sfn offset j slot
   slot_through j slot few read =

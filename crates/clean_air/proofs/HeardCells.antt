@@ -1,4 +1,4 @@
--- What is heard of a cell of one port that is seen through channels: the slots that carry its master block and its system information.
+-- A one-port cell that is received through channels has correct soft values in the slots with its MIB and its SIB1.
 use Rattle.std.proofs.Common.{◌≡◌, ℕ, ◌+◌, ◌/◌, ◌%◌, ◌<◌, ◌≤◌, List, subst}
 use Rattle.cs_num.specs.declared.Cpx.{Cpx}
 use Rattle.cs_num.specs.declared.Sample.{Sample}

@@ -1,5 +1,5 @@
--- A list holds each cell that a recording shows to its receiver: whose signals stand at their places, and whose first frame tells
--- a master block of its number, and its system information.
+-- A list contains each cell that the recording shows to its receiver: the synchronisation signals are in place, and the
+-- first frame determines the MIB, with its frame number, and the SIB1 result.
 use Rattle.std.proofs.Common.{◌≡◌, ℕ, ◌*◌, ◌/◌, ◌%◌, ◌<◌, ◌≤◌, inl, inr, arith, refl, ap, sym, subst, ◌∙◌, append-nil, Bool, List, [], length, map, Ok, nat_eq, nat_le, true, false}
 use Rattle.std.specs.Prelude.{◌&&◌, MatchBool, Result}
 use Rattle.std.specs.List.{Contains}
@@ -66,17 +66,17 @@ use Rattle.clean_air.proofs.Signals.{signals_shown}
 use Rattle.clean_air.proofs.FaithfulCells.{faithful_is_through}
 use Rattle.clean_air.proofs.TruePlaces.{AreNear, true_hit, true_start, near_true, near_starts, same_numbers}
 
--- the place of a cell that begins at this offset
+-- the identity and start of a cell with this offset
 abbrev pub sent_place : ℕ → ℕ → Place
 sent_place identity offset = record { id = identity; start = start_of offset }
 
--- the block of a plan in the frame with this number
+-- the MIB of a plan in the frame with this number
 abbrev pub sent_mib : (plan : CellPlan) → plan.spare ≤ 1023 → ℕ → Mib
 sent_mib plan range number =
     record { bandwidth = N6; duration = plan.duration; resource = plan.resource; upper = number / 4; spare = plan.spare; spare_range = range }
 
--- what a recording shows to a receiver of a cell of its carrier whose first whole frame begins there and has this number: the word that its
--- broadcast channel carries, for whose bits all values speak, and what is told of its system information
+-- what the recording shows to a receiver of a cell whose first whole frame has this number: the broadcast channel's
+-- word, with soft values that all have its coded bits' signs, and the SIB1 result
 pub record IsShown (receiver : Receiver) (recording : List Sample) (plan : CellPlan) (offset number : ℕ) (range : plan.spare ≤ 1023) : Type 0 where
   pub word : List Bool
   pub block : IsBlockOf (ports_of receiver.carrier) plan number word
@@ -85,42 +85,43 @@ pub record IsShown (receiver : Receiver) (recording : List Sample) (plan : CellP
   pub taken : is_wanted receiver.ports (ports_of receiver.carrier) ≡ true
   pub system : IsSystemFor receiver recording (sent_place plan.identity offset) number (ports_of receiver.carrier) (sent_mib plan range number) (system_of_carrier receiver.carrier plan.sib1)
 
--- what can be told of a plan is in its ranges
+-- a plan that the scheme can send has its fields in range
 pub plan_known : (carrier : Carrier) (plan : CellPlan) → IsKnownBy carrier plan → IsKnownPlan plan
 plan_known OnePort plan known = record { identity = known.identity; spare = known.spare }
 plan_known TwoPorts plan known = record { identity = known.identity; spare = known.spare }
 plan_known LongPrefix plan known = known
 plan_known FourPorts plan known = known
 
--- where the frames of a cell begin and which numbers they have is in range, and its signals stand in the recording
+-- the frame positions and numbers of a cell are in range, and its synchronisation signals are in the recording
 pub record IsPlaced (carrier : Carrier) (recording : List Sample) (identity sfn offset : ℕ) : Type 0 where
   pub number : sfn ≤ 1023
   pub within : offset < 19200
   pub signals : ShowsSignals carrier recording identity offset
 
--- a recording is faithful to a cell, or the cell is seen in it through channels, which is more where a law of these is known
+-- a recording is faithful to a cell or, if the laws on channels cover the scheme, the cell is received through channels
 abbrev pub IsSentIn : Carrier → List Sample → CellPlan → (Port → Elements) → ℕ → ℕ → List Cpx → Type 0
 IsSentIn carrier recording plan grids sfn offset gains =
     MatchBool (is_seen_through carrier) (IsCellThrough recording plan (grids only_port) sfn offset) (IsFaithfulBy carrier recording plan grids sfn offset gains)
 
--- a recording shows each such cell
+-- a recording shows each such cell to the receiver
 abbrev pub ShowsCells : Receiver → Type 0
 ShowsCells receiver =
     (recording : List Sample) (plan : CellPlan) (grids : Port → Elements) (sfn offset : ℕ) (gains : List Cpx) → 57600 ≤ length recording → (known : IsKnownBy receiver.carrier plan) →
     IsSentIn receiver.carrier recording plan grids sfn offset gains →
     IsShown receiver recording plan offset (number_at_start sfn offset) (plan_known receiver.carrier plan known).spare
 
--- the first whole frame has a number of 10 bits
+-- the first whole frame's number has 10 bits
 pub number_fits : (sfn offset : ℕ) → sfn ≤ 1023 → offset < 19200 → number_at_start sfn offset ≤ 1023
 number_fits sfn offset known within = let e = (first_frame sfn offset known within).number in omega (arith, e)
 
--- where the first frame of even number answers with fields by values of subframe 5, these are what is told
+-- if the first even-numbered frame is decoded to these fields by the soft values of subframe 5, they are the SIB1
+-- result
 pub told_by_frames : (carrier : Carrier) (values : Subframes) (recording : List Sample) (place : Place) (number : ℕ) (mib : Mib) (fields : Sib1) → 57600 ≤ length recording →
     place.start < 19200 → mib.bandwidth ≡ N6 → FrameAnswers values recording place mib (even_frame number 0) (Ok fields) →
     IsSystemWith carrier (Ok values) recording place number (ports_of carrier) mib (Ok fields)
 told_by_frames = told_at_first
 
--- what it says of two entries that they are of one cell
+-- consequences of two entries belonging to one cell
 record IsOneCell (m n gap : ℕ) : Type 0 where
   id : m ≡ n
   near : gap ≤ 9
@@ -158,7 +159,7 @@ module _ (receiver : Receiver) (recording : List Sample) (plan : CellPlan) (sfn 
   abbrev place : Place
   place = sent_place identity offset
 
-  -- the master block of the first whole frame
+  -- the MIB of the first whole frame
   abbrev master : Master
   master = record { ports = count; mib = sent_mib plan known.spare number; cost = 0 }
 
@@ -171,7 +172,7 @@ module _ (receiver : Receiver) (recording : List Sample) (plan : CellPlan) (sfn 
   fits : number ≤ 1023
   fits = number_fits sfn offset placed.number placed.within
 
-  -- it tells the word, and so this block
+  -- the first frame's soft values determine the word, and thus this MIB
   word_told : TellsFreely (sums_by receiver recording place (frames_from 1 0 (number % 4))) shown.word count
   unfolding summed_values
   word_told =
@@ -208,12 +209,12 @@ module _ (receiver : Receiver) (recording : List Sample) (plan : CellPlan) (sfn 
   sent_number : sent_entry.sfn ≡ number
   sent_number = let known = fits in omega (arith, known)
 
-  -- no frames are looked at before the first alone
+  -- no set of frames is tried before the first frame alone
   none_first : (few i : ℕ) → IsInWindow recording (start_of offset) few i → ComeBefore (few, i) (1, 0) → ⊥
   none_first few i window (inl fewer) = let some = window.some in omega (arith, some, fewer)
   none_first few i window (inr (same, below)) = omega (arith, below)
 
-  -- it is one of a listed hit
+  -- the entry belongs to a listed PSS detection
   is_entry : IsOfSome sent_entry
   is_entry =
       let h = true_hit offset placed.within in
@@ -243,8 +244,8 @@ module _ (receiver : Receiver) (recording : List Sample) (plan : CellPlan) (sfn 
         };
       }
 
-  -- an entry of a hit with the cell's identity and a start near the cell's has the cell's start: its hit, which is of
-  -- the cell's root, is near a true place, and no place near that one is a hit of this root
+  -- an entry with the cell's identity and a start near the cell's has the cell's start: its PSS detection, with the
+  -- cell's root, is near a true position, and no other position nearby is a detection with this root
   start_is : (other : Entry) (is : IsOfSome other) → other.id ≡ identity → AreNear other.start (start_of offset) → other.start ≡ start_of offset
   start_is other is id near =
       let hit = is.hit in
@@ -264,11 +265,11 @@ module _ (receiver : Receiver) (recording : List Sample) (plan : CellPlan) (sfn 
   at_place : (other : Entry) → other.id ≡ identity → other.start ≡ start_of offset → place_of other ≡ place
   at_place other id start = ap (λ i. record (place_of other) { id = i }) id ∙ ap (λ s. record place { start = s }) start
 
-  -- what an entry with the cell's identity and start tells, by these
+  -- the MIB of an entry with the cell's identity and start is determined by its frames
   there : (other : Entry) → IsOfSome other → other.id ≡ identity → other.start ≡ start_of offset → Tells place (frames_of other) (master_of other)
   there other is id start = subst (λ p. Tells p (frames_of other) (master_of other)) (at_place other id start) is.is_of.master
 
-  -- it does not come before them, since the first frame alone tells a master block
+  -- an entry's frames are not after the first frame, which alone determines a MIB
   not_after : (other : Entry) → IsOfSome other → other.id ≡ identity → other.start ≡ start_of offset → ComeBefore (1, 0) (other.frames, other.frame) → ⊥
   not_after other is id start before =
       let first : start_of offset < 19200 = omega arith in
@@ -276,8 +277,8 @@ module _ (receiver : Receiver) (recording : List Sample) (plan : CellPlan) (sfn 
       (number % 4) master (omega arith)
       (subst (λ p. Tells p (frames_from 1 0 (number % 4)) master) (sym (at_place other id start)) block_told)
 
-  -- an entry of a hit with the cell's identity, start and number is the cell's entry: it tells the same master block
-  -- of the same frame
+  -- an entry with the cell's identity, start and frame number is the cell's entry: it has the same MIB from the same
+  -- frame
   entry_is : (other : Entry) → IsOfSome other → other.id ≡ identity → other.start ≡ start_of offset → other.sfn ≡ number → other ≡ sent_entry
   entry_is other is id start sfn_is =
       let frames : other.frames ≡ 1 = elim (cases_lt 1 other.frames) [
@@ -300,7 +301,7 @@ module _ (receiver : Receiver) (recording : List Sample) (plan : CellPlan) (sfn 
       same_entry other sent_entry id start (sfn_is ∙ sym sent_number) frames frame phase same
       (one_system receiver recording place number count master.mib other.sib1 told own shown.system)
 
-  -- an entry of the same cell is the same
+  -- an entry of the same cell is equal to it
   same_if_near : (other : Entry) → IsOfSome other → is_same_cell other sent_entry ≡ true → other ≡ sent_entry
   same_if_near other is same =
       let cell = cell_tells other.id identity (distance (epoch other) (epoch sent_entry)) same in
@@ -313,7 +314,7 @@ module _ (receiver : Receiver) (recording : List Sample) (plan : CellPlan) (sfn 
       entry_is other is cell.id start (same_numbers other.start (start_of offset) other.sfn sent_entry.sfn low first fits sent cell.near start ∙ sent_number)
 
   module _ (list : List Entry) (listed : IsListFor receiver recording list) where
-    -- so the list has it
+    -- the list contains the entry
     in_list : Contains list sent_entry
     in_list =
         let (other, stands) = complete_of (IsEntryFor receiver recording) (hits_by receiver.carrier recording) list sent_entry listed is_entry in
@@ -323,7 +324,7 @@ module _ (receiver : Receiver) (recording : List Sample) (plan : CellPlan) (sfn 
         ] in
         subst (Contains list) same stands.inside
 
-    -- and no other with its identity, start and number
+    -- no other entry has its identity, start and frame number
     pub shown_is_held : HoldsCellBy receiver.carrier list plan (start_of offset) number
     shown_is_held = record {
       entry = sent_entry;
@@ -348,7 +349,7 @@ first_of : (P Q : Type 0) (test : Bool) → MatchBool test P ⊥ → MatchBool t
 first_of P Q true p = p
 first_of P Q false p = absurd p
 
--- with any gains, since there it has none
+-- the gains are not used if the cell is received through channels
 through_is_sent : (carrier : Carrier) (recording : List Sample) (plan : CellPlan) (grids : Port → Elements) (sfn offset : ℕ) (gains : List Cpx) →
     IsSeenThroughBy carrier recording plan grids sfn offset → IsSentIn carrier recording plan grids sfn offset gains
 through_is_sent carrier recording plan grids sfn offset gains through = first_of _ _ (is_seen_through carrier) through
@@ -360,7 +361,7 @@ through_is_placed TwoPorts recording plan grids sfn offset through = absurd thro
 through_is_placed LongPrefix recording plan grids sfn offset through = absurd through
 through_is_placed FourPorts recording plan grids sfn offset through = absurd through
 
--- where each cell is shown, each is held
+-- if the recording shows each cell, the list contains each
 pub shown_are_held : (receiver : Receiver) → ShowsCells receiver → HoldsCells receiver
 shown_are_held receiver shows recording list long listed = record {
   through = λ plan grids sfn offset known through.
@@ -373,12 +374,12 @@ shown_are_held receiver shows recording list long listed = record {
       (shows recording plan grids sfn offset gains long known (faithful_is_sent receiver.carrier recording plan grids sfn offset gains ranges.identity faithful)) list listed;
 }
 
--- among them those of which the recording is clean, whatever else they send
+-- the list contains the cells for which the recording is clean, whatever else they send
 pub loaded_are_held : (carrier : Carrier) (recording : List Sample) (list : List Entry) → 57600 ≤ length recording → HoldsFaithfulBy carrier recording list → HoldsBy carrier recording list
 loaded_are_held carrier recording list long holds plan grids sfn offset gains eps known clean =
     holds plan grids sfn offset (map in_parts gains) known (loaded_is_faithful carrier recording plan grids sfn offset gains eps long clean)
 
--- and those that send nothing elsewhere, or load by a number
+-- the list contains the cells that send nothing elsewhere, or a numbered load
 pub clean_are_held : (carrier : Carrier) (recording : List Sample) (list : List Entry) → HoldsBy carrier recording list → HoldsCleanBy carrier recording list
 clean_are_held carrier recording list holds load plan sfn offset gains eps known clean =
     holds plan (λ port. sent_element load port plan) sfn offset gains eps known (record {
@@ -397,7 +398,7 @@ is_list_by receiver holds recording list long listed =
     let loaded = loaded_are_held receiver.carrier recording list long seen.faithful in
     record { explained = listed; through = seen.through; faithful = seen.faithful; loaded = loaded; holds = clean_are_held receiver.carrier recording list loaded }
 
--- what can be sent by a carrier can be told
+-- a plan that a scheme can send is a known plan
 pub sendable_is_known : (carrier : Carrier) (plan : CellPlan) → IsSendableBy carrier plan → IsKnownBy carrier plan
 sendable_is_known OnePort plan sendable = sendable
 sendable_is_known TwoPorts plan sendable = sendable

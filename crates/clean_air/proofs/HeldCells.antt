@@ -1,4 +1,4 @@
--- A cell that is seen through channels is shown to a receiver of one antenna port, whatever else the cell sends.
+-- A cell that is received through channels is shown to a one-port receiver, whatever else the cell sends.
 use Rattle.std.proofs.Common.{ℕ, ◌%◌, ◌≤◌, List, length, arith, refl}
 use Rattle.cs_num.specs.declared.Sample.{Sample}
 use Rattle.lte_types.specs.declared.carrier.Carrier.TheVariants.{OnePort}
@@ -40,6 +40,6 @@ shows_cells : ShowsCells one_port_receiver
 shows_cells recording plan grids sfn offset gains long sendable through =
     heard_is_shown recording plan (grids only_port) sfn offset long sendable (through_is_heard recording plan (grids only_port) sfn offset through)
 
--- so the list holds it
+-- the list contains each such cell
 pub holds_cells : HoldsCells one_port_receiver
 holds_cells = shown_are_held one_port_receiver shows_cells

@@ -1,52 +1,54 @@
--- Soft values. The channel estimate is a multiple of the gain, up to a deviation.
+-- Soft values: the channel estimate is close to a multiple of the gain.
 pub mod Estimates
--- So each soft value has the sign of the sent bit.
+-- Each soft value has the sign of the sent bit.
 pub mod SoftValues
--- Slots whose symbols have gains of their own, which turn and fade slowly, are seen through these.
+-- Slots whose symbols have slowly varying gains are received through these gains.
 pub mod SlowGains
--- Words. Where all values speak for one word, it alone costs nothing.
+-- Words: if all soft values have the signs of one word's bits, only this word costs 0.
 pub mod SpokenWords
--- The values of places that carry bits speak for them; where these are a word's, they tell it.
+-- The soft values of resource elements that carry bits have their signs; if the bits are a word's, the values determine
+-- it.
 pub mod Speaking
--- Where the places of the channels stand.
+-- Positions of the channels' resource elements.
 pub mod Placed
--- So do those of a subframe, each heard in its slot.
+-- Soft values of a subframe, each from its own slot.
 pub mod Subframes
--- The control region tells the indicator and the grant that were sent, and the attempt has them.
+-- The control region determines the indicator and the grant that were sent, and the attempt returns them.
 pub mod Controls
--- And the block that they carry is told.
+-- The transport block that they announce is determined.
 pub mod SharedBlocks
--- And the broadcast channel of a slot tells the master block that was sent.
+-- The broadcast channel of a slot determines the MIB that was sent.
 pub mod Masters
--- The described cell. What elements are at the places that a plan takes, which carry it.
+-- The elements of a cell that carries a plan, where the plan uses them.
 pub mod Carrying
--- At each place that it takes a plan sends a point.
+-- The plan sends a point in each resource element that it uses.
 pub mod Taken
--- Each symbol is received from all ports of a carrier, and the signals as from the first alone.
+-- Each symbol is received from all ports of the scheme, the synchronisation signals as from the first port alone.
 pub mod SentSymbols
 -- A clean recording is faithful, since its errors have little energy.
 pub mod LoadedErrors
 pub mod Signals
--- The word that a cell broadcasts has its fields, and its check passes.
+-- The word that a cell broadcasts has the MIB's fields, and its CRC passes.
 pub mod SentBlock
--- Where its primary signals stand, and what the epochs of its entries are.
+-- Positions of the cell's primary signals, and the epochs of its entries.
 pub mod TruePlaces
--- Its slots that are looked at are heard, and that of the broadcast channel carries the word.
+-- Slots that are read have correct soft values, and the broadcast channel's slot carries the word.
 pub mod SentSlots
--- A cell to which a recording is faithful is seen through one gain.
+-- A cell to which a recording is faithful is received through one gain.
 pub mod FaithfulCells
--- What is heard of a cell that is seen through channels.
+-- A cell that is received through channels has slots with correct soft values.
 pub mod HeardCells
--- A cell whose gain turns and fades slowly is.
+-- A cell with a slowly varying gain is received through channels.
 pub mod FadingCells
--- So is one that arrives over several paths.
+-- A cell that arrives over several paths is received through channels.
 pub mod EchoCells
--- Its block says its fields, so that its first frame of even number answers with them.
+-- The transport block has the plan's fields, so the cell's first even-numbered frame is decoded to them.
 pub mod SentFields
 pub mod SentSystem
--- A list holds each cell that is shown to its receiver.
+-- A list contains each cell that the recording shows to its receiver.
 pub mod Held
--- All together: the list holds each cell of one port that is seen through channels, so each of a faithful recording.
+-- Conclusion: the list contains each one-port cell that is received through channels, thus each cell of a faithful
+-- recording.
 pub mod HeldCells
--- The plan of an entry is that of the sent cell.
+-- The entry's plan is the sent cell's plan.
 pub mod Plans

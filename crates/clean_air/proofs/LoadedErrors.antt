@@ -1,4 +1,5 @@
--- A recording that is clean of a cell, whatever else the cell sends, is faithful to it, with each gain in parts: its errors have little energy.
+-- A recording that is clean for a cell, whatever else the cell sends, is faithful to it, with each gain in units of
+-- 2^-14: its errors have little energy.
 use Rattle.std.proofs.Common.{◌≡◌, ℕ, ◌+◌, ◌*◌, ◌^◌, ◌/◌, ◌<◌, ◌≤◌, Bool, true, false, arith, inl, inr, ap, ap₂, sym, subst, ◌∙◌, List, map}
 use Rattle.std.specs.Prelude.{MatchBool}
 use Rattle.std.proofs.Math.ListN.{get_or-map}
@@ -23,7 +24,7 @@ use Rattle.clean_air.specs.Load.{received_from}
 use Rattle.clean_air.specs.Faithful.{ArePartGains, IsLittle, first_frame_of, even_frame_of, IsOfSystem, IsLookedAt, errors_from, LoadedHasLittleErrors, LoadedIsFaithful}
 use Rattle.clean_air.proofs.SentSymbols.{prefix_known}
 
--- ---- in parts
+-- ---- units of 2^-14
 
 gain_in_parts : (gains : List Cpx) (i : ℕ) → value_at (map in_parts gains) i ≡ in_parts (value_at gains i)
 gain_in_parts gains i = get_or-map in_parts gains i nothing
@@ -45,7 +46,7 @@ module _ (values : Port → Cpx) (gains : List Cpx) where
       plus (times (value_at (map in_parts gains) i) (values port)) (times (value_at (map in_parts gains) m) (values other)) ≡ in_parts (plus (of_port i port) (of_port m other))
   ports_in_parts i m port other = both_in_parts _ _ (of_port i port) (of_port m other) (port_in_parts i port) (port_in_parts m other)
 
-  -- with gains in parts, what is received is so
+  -- with gains in units of 2^-14, so is the received sum
   mixed_in_parts : (carrier : Carrier) → mixed carrier values (map in_parts gains) ≡ in_parts (mixed carrier values gains)
   mixed_in_parts OnePort = port_in_parts 0 only_port
   mixed_in_parts TwoPorts = ports_in_parts 0 1 first_port second_port
@@ -54,7 +55,7 @@ module _ (values : Port → Cpx) (gains : List Cpx) where
       both_in_parts _ _ (plus (of_port 0 (port_of_four 0)) (of_port 1 (port_of_four 1))) (plus (of_port 2 (port_of_four 2)) (of_port 3 (port_of_four 3)))
       (ports_in_parts 0 1 (port_of_four 0) (port_of_four 1)) (ports_in_parts 2 3 (port_of_four 2) (port_of_four 3))
 
--- ---- the energy of errors
+-- ---- the error energy
 
 pub loaded_has_little_errors : LoadedHasLittleErrors
 loaded_has_little_errors carrier recording plan grids sfn offset gains eps start clean inside =
@@ -64,7 +65,7 @@ loaded_has_little_errors carrier recording plan grids sfn offset gains eps start
     (λ n c. ap (minus (in_parts (samples_from recording start n))) (sym (mixed_in_parts (λ port. prefix_sent (port_prefix port) (grids port) sfn (start + n + offset)) gains carrier))))
     (errors_have_energy eps received (samples_from recording start) (λ n c. clean.near (start + n) (omega (arith, inside, c))))
 
--- ---- beside gains, of which each square is 2^28 times as great in parts
+-- ---- relative to the gains, whose squares are 2^28 times as large in units of 2^-14
 
 some_part : (w p : ℕ) → p ≡ 268435456 * w → 1 ≤ w → 2 ^ 28 ≤ p
 some_part w p e some = omega (arith, e, some)
@@ -121,7 +122,7 @@ module _ (gains : List Cpx) where
         (first_of_four (own 0) (own 1) (own 2) (own 3) (part 0) (part 1) (part 2) (part 3) (is 0) (is 1) (is 2) (is 3) (eps * eps) are.least are.most bound.quiet) small,
   )
 
--- ---- symbols that are looked at
+-- ---- symbols that are read
 
 first_small : (offset : ℕ) → first_frame_of offset ≤ 1
 first_small offset = grind (arith, nat_tests)
@@ -133,7 +134,7 @@ frame_small sfn offset frame Rest false is = absurd is
 system_frame : (carrier : Carrier) (sfn offset frame slot : ℕ) → IsOfSystem carrier sfn offset frame slot → frame ≤ 2
 system_frame carrier sfn offset frame slot is = frame_small sfn offset frame (slot / 2 ≡ 5) (has_control_by carrier) is
 
--- they all lie in the first three frames that are sent, and so in the recording
+-- symbols that are read all lie in the first three frames that are sent, and so in the recording
 pub looked_inside : (carrier : Carrier) (sfn offset frame slot symbol start : ℕ) → slot < 20 → symbol < symbols_of_slot (prefix_of carrier) →
     start + offset ≡ 19200 * frame + useful_start (prefix_of carrier) 0 slot symbol → IsLookedAt carrier sfn offset frame slot symbol start → start + 128 ≤ 57600
 looked_inside carrier sfn offset frame slot symbol start few row place looked = elim looked [

@@ -1,4 +1,4 @@
--- A slot that carries the word of a master block tells it.
+-- A slot that carries a MIB's word determines it.
 use Rattle.std.proofs.Common.{◌≡◌, ℕ, ◌+◌, ◌*◌, ◌%◌, ◌<◌, ◌≤◌, arith, sym, subst, ◌∙◌, Bool, not, List, length, append-nil, ℤ, nat_abs, nat_le, nat_lt, nat_eq, true}
 use Rattle.std.specs.Prelude.{◌&&◌, All}
 use Rattle.std.proofs.lemmas.Bool.Decides.{nat_tests}
@@ -37,7 +37,7 @@ heard values word size speaks =
     total_some 40 0 (λ k. total_below 3 (λ t. nat_abs (sum_at values k t))) (omega arith)
     (total_some 3 0 (λ t. nat_abs (sum_at values 0 t)) (omega arith) (speaks_with_size (sum_at values 0 0) (tapped_bit taps_0 word 0) (speaks.place 0 (omega (arith, size))).first))
 
--- values that all speak for a word of 40 bits tell it
+-- soft values that all have the signs of a 40-bit word determine it
 pub spoken_word_is_told : SpokenWordIsTold
 spoken_word_is_told ports word sums size many speaks passes width =
     let only = spoken_word_is_only sums word (omega (arith, many)) (size ∙ sym many) speaks in
@@ -73,7 +73,8 @@ all_below_72 : (identity : ℕ) → All (λ p. p.k < 72) (pbch_places identity)
 unfolding pbch_place
 all_below_72 identity = All-from_get_or (λ (p : Place). p.k < 72) (pbch_places identity) (place 0 0) (λ i l. below_72 identity i (omega (arith, l, length-pbch_places identity)))
 
--- the values of a slot that is heard, and whose broadcast channel carries a word in a frame of this phase, speak of it
+-- the soft values of a slot with correct soft values, whose broadcast channel carries a word in a frame of this phase,
+-- have the word's signs
 pub slot_speaks : (grids : ℕ → ℕ → Cpx) (slot : SeenSlot) (phase : ℕ) (word : List Bool) → IsSlotHeard grids slot →
     length word ≡ 40 → CarryWord grids (pbch_places slot.identity) (pbch_c_init slot.identity) (480 * phase) word → SpeakOfWord (pbch_c_init slot.identity) (480 * phase) word (received_values slot)
 slot_speaks grids slot phase word heard size carry =

@@ -1,4 +1,4 @@
--- Where the places of the control region stand: in the first slot, all in the grid.
+-- The resource elements of the control region are in the first slot, and all within the grid.
 use Rattle.std.proofs.Common.{ℕ, ◌<◌, ◌≤◌, get_or, arith}
 use Rattle.std.specs.Prelude.{All}
 use Rattle.std.proofs.lemmas.List.Elements.{All-from_get_or}
@@ -12,7 +12,7 @@ use Rattle.grid_map.proofs.Pieces.{length-pcfich_places}
 use Rattle.grid_map.proofs.Indexed.{candidate_indexed, pdcch_carry}
 use Rattle.grid_map.proofs.Apart.{IsInRegion, indicator_place, control_place}
 
--- a place of the first slot
+-- a resource element of the first slot
 abbrev pub IsInSlot : Place → Type 0
 IsInSlot p = (p.symbol < 7) × (p.k < 72)
 

@@ -1,4 +1,4 @@
--- The plan of an entry: there is only one, and in a recording that is faithful to a cell that by which the cell was sent.
+-- An entry has at most one plan; in a recording that is faithful to a cell, it is the sent plan.
 use Rattle.std.specs.Prelude.{IfOk}
 use Rattle.std.proofs.Common.{◌≡◌, ℕ, ◌+◌, ◌%◌, ◌<◌, ◌≤◌, arith, refl, ap, sym, subst, ◌∙◌, List, [], ◌∷◌, length, Option, Some, None, Result, Ok}
 use Rattle.cs_num.specs.declared.Cpx.{Cpx}
@@ -63,16 +63,16 @@ one_plan_of recording entry None (Some b) p q = absurd (p b q)
 one_plan_of recording entry (Some a) None p q = absurd (q a p)
 one_plan_of recording entry (Some a) (Some b) p q = ap (λ (plan : CellPlan). Some plan) (one_planned recording entry a b p q)
 
--- ---- what is told of an entry
+-- ---- an entry's fields
 
--- its fields are in their ranges
+-- the fields are in their ranges
 pub valid_fields : (recording : List Sample) (entry : Entry) (fields : Sib1) → IsInList recording entry → entry.sib1 ≡ Ok fields → IsValid fields
 valid_fields recording entry fields listed same =
     let known = is_sound one_port_receiver recording listed.list entry listed.explained listed.inside in
     subst (λ (answer : Result Sib1 Sib1Reason). IfOk answer IsValid) same
     (system_is_valid one_port_receiver recording (place_of entry) entry.sfn entry.ports entry.mib entry.sib1 known.is_of.sib1)
 
--- the plan that is made is the entry's, where it is accepted
+-- the plan that is made is the entry's, if it is accepted
 module _ (recording : List Sample) (entry : Entry) (indicator : ℕ) (grant : Grant) (fields : Sib1) (granted : IsGrantOf recording entry (Some (indicator, grant)))
     (same : entry.sib1 ≡ Ok fields) where
   pub refused_plan : (cause : CellError) → plan_refusal (plan_by entry indicator grant fields) ≡ Some cause → (plan : CellPlan) → IsPlanned recording entry plan → ⊥
@@ -113,7 +113,7 @@ module _ (recording : List Sample) (entry : Entry) (plan : CellPlan) (grid : Ele
       let held = (holds_cells recording listed.list long listed.explained).faithful plan (λ port. grid) sfn offset (gain ∷ []) sendable faithful in
       subst (λ (e : Entry). IsSentEntryOf OnePort plan (number_at_start sfn offset) e) (sym (held.only entry listed.inside id start number)) held.sent
 
-  -- the values of subframe 5 of a frame
+  -- the soft values of a frame's subframe 5
   abbrev values_at : ℕ → ℕ → ℕ → Duration → Resource → Subframe
   values_at identity first k duration resource =
       one_port (seen_slot recording (frame_at first k) 10 identity) (seen_slot recording (frame_at first k) 11 identity) duration resource
@@ -125,7 +125,7 @@ module _ (recording : List Sample) (entry : Entry) (plan : CellPlan) (grid : Ele
   abbrev granted : Grant
   granted = sent_grant plan ((sent_sfn + j) % 1024)
 
-  -- it is read with the plan's indicator and grant, by the places of the cell
+  -- the frame is read with the plan's indicator and grant, by the cell's resource elements
   attempt_read : IsFrameAttempt (subframes_by OnePort placed_values) recording (place_of entry) entry.mib (even_frame entry.sfn 0) (attempt_with plan.cfi granted plan.sib1)
   attempt_read =
       let heard = through_is_heard recording plan grid sfn offset (faithful_is_through recording plan (λ port. grid) sfn offset (gain ∷ []) sendable.identity faithful) in

@@ -1,4 +1,4 @@
--- The word that a cell broadcasts: its fields, and its check.
+-- The fields and the CRC of the word that a cell broadcasts.
 use Rattle.std.proofs.Common.{◌≡◌, ℕ, ◌/◌, ◌≤◌, inl, inr, arith, refl, ap, ◌∙◌, List, ◌++◌, length, Bool, bit_xor}
 use Rattle.cs_bits.specs.Numbers.{number, bits_of, part, field}
 use Rattle.cs_bits.specs.Checks.{crc16_of, with_check_16}
@@ -34,7 +34,7 @@ has_parts : (a b c d e f : ℕ) → HasParts (word_with a b c d e f) a b c d e f
 unfolding word_with
 has_parts a b c d e f = record { size = refl; first = refl; second = refl; third = refl; fourth = refl; fifth = refl }
 
--- the word of a master block in a frame, for so many antenna ports: its size, its check, and its fields
+-- the MIB's word in a frame for this port count: its length, CRC and fields
 pub record IsMasterWord (ports : ℕ) (lasting : Duration) (share : Resource) (sfn spare_bits : ℕ) (word : List Bool) : Type 0 where
   pub size : length word ≡ 40
   pub width : field word 0 3 ≡ 0
@@ -44,7 +44,7 @@ pub record IsMasterWord (ports : ℕ) (lasting : Duration) (share : Resource) (s
   pub spare : field word 14 10 ≡ spare_bits
   pub check : PassesWith ports word
 
--- the count of antenna ports of which a port is one
+-- the port count of a port's scheme
 abbrev pub ports_of : Port → ℕ
 ports_of port = count_of port.carrier
 
@@ -73,7 +73,7 @@ is_master_word port lasting share sfn spare small known =
       check = passes port (master_bits lasting share sfn spare);
     }
 
--- that of a plan
+-- the MIB's word for a plan
 abbrev pub IsBlockOf : ℕ → CellPlan → ℕ → List Bool → Type 0
 IsBlockOf ports plan sfn word = IsMasterWord ports plan.duration plan.resource sfn plan.spare word
 

@@ -1,4 +1,4 @@
--- The system information of a plan as it is sent: values that speak for the bits of its block say the plan's fields.
+-- Soft values with the signs of the bits of a plan's transport block give the plan's SIB1 fields.
 use Rattle.std.proofs.Common.{◌≡◌, ℕ, true, inl, List, Ok, ℤ, refl, sym, subst, ◌∙◌}
 use Rattle.cs_bits.specs.Checks.{message_of}
 use Rattle.turbo_code.specs.declared.rows.Row.{Row}
@@ -19,14 +19,14 @@ use Rattle.clean_air.specs.Carried.{AreHeard}
 use Rattle.clean_air.proofs.SharedBlocks.{heard_block_is_told}
 
 module _ {Enough : Type 0} (plan : CellPlan) (sendable : IsSendableWith Enough plan) (number count : ℕ) (values : List ℤ) (heard : AreHeard 1 count (shared_bit plan number) values) where
-  -- the bits are those of the word, as its row matches them
+  -- the bits are the word's after rate matching
   matched_heard : (row : Row) → row ≡ row_with (checked_size plan) → row.k ≡ checked_size plan → AreHeard 1 count (matched_bit row (version_of number) (shared_word plan)) values
   unfolding shared_coded
   matched_heard row same k =
       subst (λ (r : Row). AreHeard 1 count (λ i. bit_of (coded r (shared_word plan)) (item_of row.k (version_of number) i)) values) (sym same)
       (subst (λ (n : ℕ). AreHeard 1 count (λ i. bit_of (coded (row_with (checked_size plan)) (shared_word plan)) (item_of n (version_of number) i)) values) (sym k) heard)
 
-  -- where they are enough
+  -- the block is decoded to the fields if there are enough bits
   pub fields_said : ((row : Row) → row ≡ row_with (checked_size plan) → IsRowOf (checked_size plan) row → resolvable row (sent_of row.k (version_of number) count) (shared_word plan) ≡ true) →
       BlockSays values (grant_of plan number) (Ok plan.sib1)
   fields_said enough =

@@ -1,5 +1,5 @@
--- The slots of a recording that is faithful to a cell of one port, whatever else the cell sends: each that is looked at is received as it was sent, and the
--- broadcast channel carries the cell's word.
+-- Slots of a recording that is faithful to a one-port cell, whatever else the cell sends: each slot that is read is
+-- received as it was sent, and the broadcast channel carries the cell's word.
 use Rattle.std.proofs.Common.{◌≡◌, ℕ, zero, suc, ◌+◌, ◌-◌, ◌*◌, ◌/◌, ◌%◌, ◌^◌, ◌<◌, ◌≤◌, arith, refl, ap, sym, subst, ◌∙◌, List, [], ◌∷◌, nat_eq, mod-lt, Bool, true, false, Some, None}
 use Rattle.std.specs.Prelude.{if◌then◌else◌, ◌&&◌, slice_index_or}
 use Rattle.std.proofs.lemmas.Bool.Decides.{nat_tests}
@@ -44,13 +44,13 @@ use Rattle.clean_air.proofs.SoftValues.{pattern_pilots_seen}
 use Rattle.clean_air.proofs.LoadedErrors.{loaded_has_little_errors}
 use Rattle.clean_air.proofs.SentSymbols.{symbol_received, first_frame}
 
--- the symbols of slot 0 to 19 of the frame with this number
+-- symbols of slot 0 to 19 of the frame with this number
 abbrev pub slot_grid : Elements → ℕ → ℕ → ℕ → ℕ → Cpx
 slot_grid = slot_elements
 
 -- ---- the reference signals
 
--- each pilot stands at a reference place of symbol 0 or 4
+-- each pilot is at a reference position of symbol 0 or 4
 record IsPilotPlace (identity symbol k : ℕ) : Type 0 where
   is : is_reference identity symbol k ≡ true
   inside : symbol < 7
@@ -93,7 +93,7 @@ references_stand plan grid carries number slot i =
     reference_carried plan grid carries number slot (pilot_symbol plan.identity i) (pilot_subcarrier plan.identity i) p.inside p.is
     ∙ reference_here plan number slot (pilot_symbol plan.identity i) (pilot_subcarrier plan.identity i) p.inside p.is
 
--- ---- the places of the broadcast channel
+-- ---- the broadcast channel's resource elements
 
 record IsBroadcastPlace (identity symbol k : ℕ) : Type 0 where
   low : 7 ≤ symbol
@@ -119,7 +119,7 @@ broadcast_place identity p e = record {
 not_there : (symbol row : ℕ) (a : Bool) → 7 ≤ symbol → row < 7 → (nat_eq symbol row && a) ≡ false
 not_there symbol row a low small = let e : nat_eq symbol row ≡ false = grind (arith, nat_tests) in rw e refl
 
--- no port has a reference signal there
+-- no port has a reference signal in the broadcast channel's resource elements
 upper_free : (number identity slot symbol k : ℕ) → is_upper_reference 2 identity slot symbol k ≡ false → is_upper_reference 3 identity slot symbol k ≡ false → is_upper_reference number identity slot symbol k ≡ false
 unfolding is_upper_reference
 upper_free number identity slot symbol k e f = by (number % 2) (mod-lt number (omega arith))
@@ -133,7 +133,7 @@ none_there : (port : Port) → port_symbols port ≡ 7 → (identity slot symbol
 none_there port normal identity slot symbol k at =
     none_of_four port identity slot (symbol % 7) k normal at.free at.second_free (λ number. upper_free number identity slot (symbol % 7) k (at.third_free slot) (at.fourth_free slot))
 
--- with the normal prefix, whichever the port
+-- with the normal cyclic prefix, for any port
 module _ (port : Port) (normal : port_symbols port ≡ 7) where
   is_there : (identity symbol k : ℕ) → IsBroadcastPlace identity symbol k → has_broadcast port identity 0 symbol k ≡ true
   is_there identity symbol k at = let low = at.low in let high = at.high in broadcast_there port normal identity symbol k low (omega (arith, high)) at.here
@@ -166,7 +166,7 @@ carries_word plan grid carries number i inside = points_stand only_port refl pla
 
 -- ---- the slots
 
--- the number of frame j of the recording, and where it begins in what is sent
+-- the number of frame j of the recording, and its start in the sent signal
 pub record IsFrameOf (sfn offset j : ℕ) (n : ℕ) : Type 0 where
   pub place : frame_at (start_of offset) j + offset ≡ 19200 * n
   pub number : (sfn + n) % 1024 ≡ (number_at_start sfn offset + j) % 1024
@@ -179,7 +179,7 @@ frame_is sfn offset j known within =
 pub first_number : (sfn offset : ℕ) → sfn ≤ 1023 → (number_at_start sfn offset + 0) % 1024 ≡ number_at_start sfn offset
 first_number sfn offset known = grind (arith, nat_tests)
 
--- a symbol of which the errors are at most this share is received
+-- a symbol whose error energy is at most `quota` times the gain's square is received
 pub symbol_with_errors : (quota : ℕ) (recording : List Sample) (grids : Port → Elements) (sfn offset : ℕ) (gains : List Cpx) → sfn ≤ 1023 → offset < 19200 → 2 ^ 28 ≤ square (value_at gains 0) →
     (j slot l : ℕ) → slot < 20 → l < 7 →
     errors_from OnePort recording grids sfn offset gains (useful_start normal (frame_at (start_of offset) j) slot l) ≤ quota * square (value_at gains 0) →
@@ -200,12 +200,12 @@ symbol_with_errors quota recording grids sfn offset gains known within sounds j 
           quiet;
     })
 
--- what is seen of a symbol of a slot
+-- the observed symbol of a slot
 pub symbol_shown : (recording : List Sample) (identity f slot l : ℕ) → l < 7 → slice_index_or (seen_slot recording f slot identity).symbols l [] ≡ seen_symbol recording (useful_start normal f slot l)
 unfolding seen_slot
 symbol_shown recording identity f slot l inside = values_below_at (λ symbol. seen_symbol recording (useful_start normal f slot symbol)) 7 l [] inside
 
--- a slot of which the errors of each symbol are at most this share is received
+-- a slot is received if the error energy of each of its symbols is at most `quota` times the gain's square
 pub slot_with_errors : (quota : ℕ) (recording : List Sample) (plan : CellPlan) (grids : Port → Elements) (sfn offset : ℕ) (gains : List Cpx) → sfn ≤ 1023 → offset < 19200 → CarriesPlan only_port plan (grids only_port) →
     2 ^ 28 ≤ square (value_at gains 0) → (j slot : ℕ) → slot < 20 →
     ((l : ℕ) → l < 7 → errors_from OnePort recording grids sfn offset gains (useful_start normal (frame_at (start_of offset) j) slot l) ≤ quota * square (value_at gains 0)) →
@@ -223,7 +223,7 @@ slot_with_errors quota recording plan grids sfn offset gains known within carrie
     }
 
 module _ (recording : List Sample) (plan : CellPlan) (grids : Port → Elements) (sfn offset : ℕ) (gains : List Cpx) (faithful : IsFaithfulBy OnePort recording plan grids sfn offset gains) where
-  -- a slot of which all symbols are looked at is received
+  -- a slot is received if all its symbols are read
   pub each_slot_received : (j slot : ℕ) → slot < 20 →
       ((l : ℕ) → l < 7 → IsLookedAt OnePort sfn offset (first_frame_of offset + j) slot l (useful_start normal (frame_at (start_of offset) j) slot l)) →
       IsSlotReceived recording (useful_start normal (frame_at (start_of offset) j) slot) (slot_grid (grids only_port) ((number_at_start sfn offset + j) % 1024) slot)
@@ -233,7 +233,8 @@ module _ (recording : List Sample) (plan : CellPlan) (grids : Port → Elements)
       (λ l inside. let frame = frame_is sfn offset j faithful.number faithful.within in
       faithful.near (first_frame_of offset + j) slot l (useful_start normal (frame_at (start_of offset) j) slot l) few inside (omega (arith, frame.place)) (looked l inside))
 
--- of a recording that is clean of the cell the pilots of each whole slot are seen, off by less, since its errors have less energy
+-- in a recording that is clean for the cell, the pilots of each whole slot are observed with smaller errors, since the
+-- errors have less energy
 pub loaded_pilots_seen : (recording : List Sample) (plan : CellPlan) (grid : Elements) (sfn offset : ℕ) (gain : Cpx) (eps : ℕ) → IsLoaded recording plan grid sfn offset gain eps →
     (j slot : ℕ) → IsWhole recording (start_of offset) j → slot < 20 → ArePilotsSeen 1920 (in_parts gain) (seen_slot recording (frame_at (start_of offset) j) slot plan.identity)
 unfolding slot_with_errors

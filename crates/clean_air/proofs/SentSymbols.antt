@@ -1,4 +1,5 @@
--- The symbols that a cell of any carrier sends: each is received from all its ports, and the errors of those that a list looks at are little.
+-- Symbols that a cell of any scheme sends: each is received from all its ports, and those that a receiver reads have
+-- small errors.
 use Rattle.std.proofs.Common.{◌≡◌, ℕ, ◌+◌, ◌*◌, ◌/◌, ◌%◌, ◌<◌, ◌≤◌, arith, inl, inr, refl, ap, ap₂, sym, subst, ◌∙◌, List}
 use Rattle.std.proofs.lemmas.Bool.Decides.{nat_tests}
 use Rattle.cs_num.specs.declared.Cpx.{Cpx}
@@ -28,14 +29,14 @@ use Rattle.clean_air.specs.Through.{IsPrimaryPlace}
 
 -- ---- a symbol
 
--- what is sent of a symbol of a frame, with either prefix
+-- samples of a frame's symbol, with either prefix
 pub prefix_sent_symbol : (prefix : Prefix) (grid : Elements) (sfn j slot l n : ℕ) → IsPrefix prefix → slot < 20 → l < symbols_of_slot prefix → n < 128 →
     prefix_sent prefix grid sfn (19200 * j + (useful_start prefix 0 slot l + n)) ≡ useful_at (grid ((sfn + j) % 1024) (slot / 2) (symbols_of_slot prefix * (slot % 2) + l)) n
 prefix_sent_symbol prefix grid sfn j slot l n known a b c =
     let inside = (in_useful prefix l n known b c).inside in
     frames_follow prefix grid sfn j (useful_start prefix 0 slot l + n) (omega (arith, a, inside)) ∙ useful_parts_stand prefix grid ((sfn + j) % 1024) slot l n known b c
 
--- values that are the same at the ports of a carrier are received as the same
+-- values that are equal at all ports of a scheme are received as equal
 pub mixed_same : (carrier : Carrier) (a b : Port → Cpx) (gains : List Cpx) → ((port : Port) → IsPortOf carrier port → a port ≡ b port) → mixed carrier a gains ≡ mixed carrier b gains
 mixed_same OnePort a b gains same = ap (times (value_at gains 0)) (same only_port (refl, omega arith))
 mixed_same TwoPorts a b gains same = ap₂ (λ (x y : Cpx). plus (times (value_at gains 0) x) (times (value_at gains 1) y)) (same first_port (refl, omega arith)) (same second_port (refl, omega arith))
@@ -53,7 +54,7 @@ prefix_known FourPorts = inl refl
 
 module _ (carrier : Carrier) (grids : Port → Elements) (sfn offset : ℕ) (gains : List Cpx) (frame slot symbol start : ℕ) (few : slot < 20) (row : symbol < symbols_of_slot (prefix_of carrier))
     (place : start + offset ≡ 19200 * frame + useful_start (prefix_of carrier) 0 slot symbol) where
-  -- from where its useful part begins, this is received
+  -- the received samples from the start of the useful part
   pub symbol_received : (n : ℕ) → n < 128 →
       received_from carrier grids sfn offset gains (start + n) ≡ mixed carrier (λ port. useful_at (grids port ((sfn + frame) % 1024) (slot / 2) (symbols_of_slot (prefix_of carrier) * (slot % 2) + symbol)) n) gains
   symbol_received n c =
@@ -73,7 +74,7 @@ module _ (carrier : Carrier) (grids : Port → Elements) (sfn offset : ℕ) (gai
           subst (λ (c : Carrier). prefix_sent (prefix_of c) (grids port) sfn (start + n + offset) ≡ useful_at (grids port ((sfn + frame) % 1024) (slot / 2) (symbols_of_slot (prefix_of carrier) * (slot % 2) + symbol)) n)
           (sym same.0) (own (grids port))
 
--- the errors of a symbol that is looked at are little
+-- the errors of a symbol that is read are small
 pub symbol_off : (carrier : Carrier) (recording : List Sample) (plan : CellPlan) (grids : Port → Elements) (sfn offset : ℕ) (gains : List Cpx) → IsFaithfulBy carrier recording plan grids sfn offset gains →
     (frame slot symbol start : ℕ) → slot < 20 → symbol < symbols_of_slot (prefix_of carrier) → start + offset ≡ 19200 * frame + useful_start (prefix_of carrier) 0 slot symbol →
     IsLookedAt carrier sfn offset frame slot symbol start →
@@ -86,9 +87,9 @@ symbol_off carrier recording plan grids sfn offset gains faithful frame slot sym
     (λ n c. ap (minus (in_parts (samples_from recording start n))) (symbol_received carrier grids sfn offset gains frame slot symbol start few row place n c)))
     (faithful.near frame slot symbol start few row place looked)
 
--- ---- places
+-- ---- positions
 
--- a place of the recording is one at which a primary signal of the cell begins
+-- a position of the recording at which a primary signal of the cell begins
 abbrev pub IsTruePlace : ℕ → ℕ → Half → Type 0
 IsTruePlace = IsPrimaryPlace
 

@@ -1,4 +1,5 @@
--- The system information of a cell of one port that is heard, whatever else the cell sends: the first frame of even number answers with the plan's.
+-- SIB1 of a one-port cell whose slots have correct soft values, whatever else the cell sends: the first even-numbered
+-- frame is decoded to the plan's fields.
 use Rattle.std.proofs.Common.{◌≡◌, ℕ, ◌+◌, ◌*◌, ◌%◌, List, length, Ok, refl, ap, sym, subst, arith}
 use Rattle.std.proofs.Math.Path.{fun_ext}
 use Rattle.cs_num.specs.declared.Sample.{Sample}
@@ -34,7 +35,7 @@ use Rattle.clean_air.proofs.SentSlots.{slot_grid}
 use Rattle.clean_air.proofs.HeardCells.{IsCellHeard}
 
 module _ (recording : List Sample) (plan : CellPlan) (grid : Elements) (sfn offset : ℕ) (sendable : IsSendable plan) (heard : IsCellHeard recording plan grid sfn offset) where
-  -- the first whole frame of even number, and its number
+  -- the first whole even-numbered frame, and its number
   abbrev j : ℕ
   j = even_frame (number_at_start sfn offset) 0
 
@@ -44,11 +45,11 @@ module _ (recording : List Sample) (plan : CellPlan) (grid : Elements) (sfn offs
   even : number % 2 ≡ 0
   even = even_number (number_at_start sfn offset) 0
 
-  -- the slot of subframe 5 with this number, 10 or 11
+  -- slot 10 or 11, the slots of subframe 5
   abbrev slot : ℕ → SeenSlot
   slot s = seen_slot recording (frame_at (start_of offset) j) s plan.identity
 
-  -- they are heard
+  -- both slots have correct soft values
   both_heard : AreSlotsHeard (grid number 5) (slot 10) (slot 11)
   both_heard = record {
     first_slot =
@@ -57,7 +58,7 @@ module _ (recording : List Sample) (plan : CellPlan) (grid : Elements) (sfn offs
     second_slot = heard.system 11 refl;
   }
 
-  -- they carry the indicator and the grant
+  -- the slots carry the indicator and the grant
   carries_indicator : CarryInSubframe (grid number 5) (pcfich_places (slot 10).identity) (indicator_scrambled (slot 10) plan.cfi)
   unfolding seen_slot indicator_point
   carries_indicator i inside = indicator_carried only_port plan grid heard.carries sendable refl (omega arith) number even i (let size = (indicator_indexed only_port plan sendable).size in omega (arith, size, inside))
@@ -66,12 +67,12 @@ module _ (recording : List Sample) (plan : CellPlan) (grid : Elements) (sfn offs
   unfolding seen_slot control_point control_word
   carries_grant i inside = control_carried only_port plan grid heard.carries sendable refl (omega arith) number even i (let size = (control_indexed only_port plan sendable).size in omega (arith, size, inside))
 
-  -- and the block
+  -- the slots carry the transport block
   carries_block : CarryInSubframe (grid number 5) (shared_places plan) (shared_scrambled (slot 10) (shared_bit plan number))
   unfolding seen_slot shared_point
   carries_block i inside = shared_carried only_port plan grid heard.carries sendable refl (omega arith) number even i inside
 
-  -- the values of its resource blocks say the fields
+  -- the soft values of its resource blocks give the fields
   says_fields : BlockSays (shared_values (slot 10) (slot 11) plan.cfi plan.start plan.blocks) (grant_of plan number) (Ok plan.sib1)
   unfolding seen_slot
   says_fields =
@@ -79,12 +80,12 @@ module _ (recording : List Sample) (plan : CellPlan) (grid : Elements) (sfn offs
       (carried_blocks_are_heard (grid number 5) (slot 10) (slot 11) plan.cfi plan.start plan.blocks (shared_bit plan number) both_heard carries_block)
       (λ row same of. resolvable_at plan (version_of number) (2 * length (shared_places plan)) row sendable.enough (version-fits number) same of.size (sym (assigned_bits_are only_port plan sendable)))
 
-  -- so the frame is read with the plan's indicator and grant
+  -- the frame is read with the plan's indicator and grant
   pub grant_read : IsReadWith (one_port (slot 10) (slot 11) plan.duration plan.resource) plan.cfi (grant_of plan number)
   grant_read =
       carried_grant_is_read (grid number 5) (slot 10) (slot 11) plan.cfi plan.duration plan.resource (grant_of plan number)
       sendable.cfi.0 sendable.cfi.1 (grant_is plan sendable number) both_heard.first_slot carries_indicator carries_grant
 
-  -- and answers with its fields
+  -- the frame is decoded to the plan's fields
   pub fields_read : Reads (one_port (slot 10) (slot 11) plan.duration plan.resource) (Ok plan.sib1)
   fields_read = grant_read.reads (Ok plan.sib1) says_fields

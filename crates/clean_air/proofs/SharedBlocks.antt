@@ -1,4 +1,4 @@
--- A transport block that was sent is told by the values of its resource blocks.
+-- The soft values of a transport block's resource blocks determine the block that was sent.
 use Rattle.std.proofs.Common.{◌≡◌, ◌*◌, true, length, sym, subst, arith}
 use Rattle.lte_types.specs.declared.carrier.Carrier.TheVariants.{OnePort}
 use Rattle.grid_map.specs.Shared.{shared_places_of}

@@ -1,5 +1,5 @@
--- The synchronisation signals of a cell of any carrier, whatever else its ports send: they are received as from the first port alone, in a recording that
--- is faithful to it with little errors.
+-- The synchronisation signals of a cell of any scheme, whatever else its ports send: they are received as from the
+-- first port alone, with small errors in a recording that is faithful to the cell.
 use Rattle.std.proofs.Common.{◌≡◌, ℕ, ◌+◌, ◌-◌, ◌*◌, ◌^◌, ◌/◌, ◌%◌, ◌<◌, ◌≤◌, Bool, true, false, ◌⊎◌, inl, inr, None, nat_eq, nat_le, nat_lt, arith, refl, ap, ap₂, sym, subst, ◌∙◌, List}
 use Rattle.std.specs.Prelude.{if◌then◌else◌, ◌&&◌, MatchBool}
 use Rattle.std.proofs.lemmas.Bool.Decides.{nat_tests}
@@ -69,7 +69,7 @@ signal_sent port signal n = by (nat_eq port.number 0)
     by true = refl
     by false = nothing_sent n
 
--- where the ports send a signal in a symbol, it is received as from the first port alone
+-- a symbol in which the ports send a synchronisation signal is received as from the first port alone
 signal_received : (carrier : Carrier) (grids : Port → Elements) (sfn offset : ℕ) (gains : List Cpx) (t j slot l : ℕ) (signal : ℕ → Cpx) → slot < 20 → l < symbols_of_slot (prefix_of carrier) →
     t + offset ≡ 19200 * j + useful_start (prefix_of carrier) 0 slot l →
     ((port : Port) → IsPortOf carrier port → (k : ℕ) → grids port ((sfn + j) % 1024) (slot / 2) (symbols_of_slot (prefix_of carrier) * (slot % 2) + l) k ≡ sent_signal port (signal k)) →
@@ -84,11 +84,11 @@ last_of : (P Q : Type 0) (alone : Bool) → MatchBool alone Q (P × Q) → Q
 last_of P Q true q = q
 last_of P Q false both = both.1
 
--- little errors are so beside the first port's gain
+-- errors that are small are small compared with the first port's gain
 little_beside : (carrier : Carrier) (gains : List Cpx) (energy : ℕ) → IsLittle carrier gains energy → energy ≤ 1800 * square (value_at gains 0)
 little_beside carrier gains energy little = last_of _ _ (nat_eq (ports_of carrier) 1) little
 
--- ---- what a port sends of the signals
+-- ---- the synchronisation signals that a port sends
 
 middle : (k : ℕ) (a b : Cpx) → (if nat_le 5 k && nat_lt k 67 then a else b) ≡ (if nat_lt k 5 then b else if nat_lt k 67 then a else b)
 middle k a b = grind (arith, nat_tests)
@@ -97,7 +97,7 @@ either : (b : Bool) → (if b then nothing else nothing) ≡ nothing
 either true = refl
 either false = refl
 
--- a port sends the middle of a symbol, or nothing
+-- the port sends a synchronisation signal in the middle of the symbol, or nothing
 in_signal : (port : Port) (k : ℕ) (z : Cpx) → (if nat_le 5 k && nat_lt k 67 then sent_signal port z else nothing) ≡ sent_signal port (if nat_lt k 5 then nothing else if nat_lt k 67 then z else nothing)
 in_signal port k z = by (nat_eq port.number 0)
   where
@@ -105,7 +105,7 @@ in_signal port k z = by (nat_eq port.number 0)
     by true = middle k z nothing
     by false = either (nat_le 5 k && nat_lt k 67)
 
--- a symbol of a slot that holds no reference signal, and of the plan's signals one alone, holds it in its middle
+-- a symbol without reference signals and with one of the plan's synchronisation signals holds it in the middle
 in_row : (port : Port) (plan : CellPlan) (sfn subframe symbol k : ℕ) (z : Cpx) → nat_eq symbol 0 ≡ false → nat_eq symbol 1 ≡ false → nat_eq symbol (first_pattern port).later ≡ false →
     symbol % port_symbols port ≡ symbol → (symbol ≡ port_symbols port - 2) ⊎ (symbol ≡ port_symbols port - 1) →
     (if holds_primary port subframe symbol k then sent_signal port (primary_value plan k)
@@ -133,7 +133,7 @@ primary_by FourPorts number plan sfn k Five = in_row (port_by FourPorts number) 
 pub primary_symbol : (port : Port) (plan : CellPlan) (sfn k : ℕ) (half : Half) → port_element port plan sfn (subframe_of half) (port_symbols port - 1) k ≡ sent_signal port (pss_grid (plan.identity % 3) k)
 primary_symbol port plan sfn k half = primary_by port.carrier port.number plan sfn k half
 
--- and the symbol before it the secondary one
+-- the symbol before the primary signal's holds the secondary signal alone
 secondary_by : (carrier : Carrier) (number : ℕ) (plan : CellPlan) (sfn k : ℕ) (half : Half) →
     port_element (port_by carrier number) plan sfn (subframe_of half) (symbols_of_slot (prefix_of carrier) - 2) k ≡ sent_signal (port_by carrier number) (sss_grid (plan.identity / 3) (plan.identity % 3) half k)
 secondary_by OnePort number plan sfn k Zero = in_row (port_by OnePort number) plan sfn 0 5 k (secondary_value plan 0 k) refl refl refl refl (inl refl) refl
@@ -151,7 +151,7 @@ secondary_symbol port plan sfn k half = secondary_by port.carrier port.number pl
 
 -- ---- the synchronisation signals
 
--- where the two symbols stand in a frame
+-- positions of the two symbols in a frame
 pub record AreSignalRows (prefix : Prefix) (half : Half) : Type 0 where
   pub step : symbol_step prefix ≤ 160
   pub many : 2 ≤ symbols_of_slot prefix
@@ -181,7 +181,7 @@ module _ (carrier : Carrier) (plan : CellPlan) (grids : Port → Elements) (carr
   abbrev prefix : Prefix
   prefix = prefix_of carrier
 
-  -- what is received where a primary signal begins
+  -- the received samples at the start of a primary signal
   pub primary_is : (half : Half) → IsTruePlace offset t half → (n : ℕ) → n < 128 → received_from carrier grids sfn offset gains (t + n) ≡ times (value_at gains 0) (useful_at (pss_grid (plan.identity % 3)) n)
   primary_is half at =
       let rows = signal_rows half prefix (prefix_known carrier) in
@@ -193,7 +193,7 @@ module _ (carrier : Carrier) (plan : CellPlan) (grids : Port → Elements) (carr
       ∙ subst (λ (c : Carrier). grids port ((sfn + at.frame) % 1024) (subframe_of half) (symbols_of_slot (prefix_of c) - 1) k ≡ sent_signal port (pss_grid (plan.identity % 3) k)) same.0
       (of_primary_symbol port plan (grids port) (carries port same) half ((sfn + at.frame) % 1024) k ∙ primary_symbol port plan ((sfn + at.frame) % 1024) k half))
 
-  -- and one symbol before it
+  -- the received samples one symbol earlier
   pub secondary_is : (half : Half) → IsTruePlace offset t half → symbol_step prefix ≤ t → (n : ℕ) → n < 128 →
       received_from carrier grids sfn offset gains (t - symbol_step prefix + n) ≡ times (value_at gains 0) (useful_at (sss_grid (plan.identity / 3) (plan.identity % 3) half) n)
   secondary_is half at first =
@@ -206,7 +206,7 @@ module _ (carrier : Carrier) (plan : CellPlan) (grids : Port → Elements) (carr
       ∙ subst (λ (c : Carrier). grids port ((sfn + at.frame) % 1024) (subframe_of half) (symbols_of_slot (prefix_of c) - 2) k ≡ sent_signal port (sss_grid (plan.identity / 3) (plan.identity % 3) half k)) same.0
       (of_secondary_symbol port plan (grids port) (carries port same) half ((sfn + at.frame) % 1024) k ∙ secondary_symbol port plan ((sfn + at.frame) % 1024) k half))
 
--- what is received as of one symbol, with errors of this share
+-- a received symbol with errors of at most this ratio
 pub received_with : (carrier : Carrier) (recording : List Sample) (grids : Port → Elements) (sfn offset : ℕ) (gains : List Cpx) (start : ℕ) (grid : ℕ → Cpx) → 2 ^ 28 ≤ square (value_at gains 0) →
     ((n : ℕ) → n < 128 → received_from carrier grids sfn offset gains (start + n) ≡ times (value_at gains 0) (useful_at grid n)) →
     errors_from carrier recording grids sfn offset gains start ≤ 1800 * square (value_at gains 0) → IsReceived 1800 (value_at gains 0) grid (samples_from recording start)
@@ -218,14 +218,14 @@ received_with carrier recording grids sfn offset gains start grid sounds is quie
       quiet;
 }
 
--- the primary signal is looked at near the places of hits
+-- the receiver reads a primary signal near the PSS search range
 pub is_primary : (carrier : Carrier) (half : Half) (t : ℕ) → symbol_step (prefix_of carrier) ≤ t + 9 → t ≤ 19345 →
     IsOfPrimary carrier (2 * subframe_of half) (symbols_of_slot (prefix_of carrier) - 1) t
 is_primary carrier half t low high =
     let many = (signal_rows half (prefix_of carrier) (prefix_known carrier)).many in
     record { half = half; slot_is = refl; last = omega (arith, many); from_first = low; to_last = high }
 
--- and the secondary one before those in their later half
+-- the receiver reads the secondary signal before a primary one in the range's later half frame
 pub is_secondary : (carrier : Carrier) (half : Half) (t : ℕ) → 9737 ≤ t → t ≤ 19336 →
     IsOfSecondary carrier (2 * subframe_of half) (symbols_of_slot (prefix_of carrier) - 2) (t - symbol_step (prefix_of carrier))
 is_secondary carrier half t low high =
@@ -239,7 +239,7 @@ module _ (carrier : Carrier) (recording : List Sample) (plan : CellPlan) (grids 
   abbrev own_prefix : Prefix
   own_prefix = prefix_of carrier
 
-  -- what is received as of one symbol, with little errors
+  -- a received symbol with small errors
   with_errors : (start : ℕ) (grid : ℕ → Cpx) → ((n : ℕ) → n < 128 → received_from carrier grids sfn offset gains (start + n) ≡ times (value_at gains 0) (useful_at grid n)) →
       IsLittle carrier gains (errors_from carrier recording grids sfn offset gains start) → IsReceived 1800 (value_at gains 0) grid (samples_from recording start)
   with_errors start grid is little =
@@ -269,11 +269,11 @@ module _ (carrier : Carrier) (recording : List Sample) (plan : CellPlan) (grids 
       with_errors (t - symbol_step own_prefix) (sss_grid (plan.identity / 3) (plan.identity % 3) half) (secondary_is carrier plan grids faithful.carries sfn offset gains t half at first)
       (faithful.near at.frame (2 * subframe_of half) (symbols_of_slot own_prefix - 2) (t - symbol_step own_prefix) (slot_few half) rows.before (omega (arith, at.place, place, first)) (secondary_looked half at.frame low high))
 
-  -- a primary signal stands there
+  -- a primary signal is received at its position
   pub primary_at : (half : Half) → IsTruePlace offset t half → symbol_step own_prefix ≤ t + 9 → t ≤ 19345 → IsPrimaryAt recording t (plan.identity % 3)
   primary_at half at low high = record { gain = value_at gains 0; root = omega arith; received = primary_received half at low high }
 
-  -- and with it the secondary one
+  -- the secondary signal before it is received, too
   pub signals_at : (half : Half) → IsTruePlace offset t half → 9737 ≤ t → t ≤ 19336 → plan.identity ≤ 503 → AreSignals own_prefix recording t (plan.identity / 3) (plan.identity % 3) half
   signals_at half at low high known =
       let step = (signal_rows half own_prefix (prefix_known carrier)).step in
@@ -285,7 +285,7 @@ module _ (carrier : Carrier) (recording : List Sample) (plan : CellPlan) (grids 
         secondary = secondary_received half at low high;
       }
 
--- a clean primary signal has no larger errors than several paths may be
+-- a clean primary signal has no larger errors than several paths may cause
 pub primary_within : (recording : List Sample) (t n2 : ℕ) → IsPrimaryAt recording t n2 → IsPrimaryWithin 14000 recording t n2
 primary_within recording t n2 primary = record {
   gain = primary.gain;
@@ -293,7 +293,7 @@ primary_within recording t n2 primary = record {
   received = is_received_by_more 1800 14000 primary.gain (pss_grid n2) (samples_from recording t) (omega arith) primary.received;
 }
 
--- so they stand where they are looked at
+-- the recording contains the synchronisation signals where the receiver reads them
 pub signals_shown : (carrier : Carrier) (recording : List Sample) (plan : CellPlan) (grids : Port → Elements) (sfn offset : ℕ) (gains : List Cpx) → IsFaithfulBy carrier recording plan grids sfn offset gains →
     plan.identity ≤ 503 → ShowsSignals carrier recording plan.identity offset
 signals_shown carrier recording plan grids sfn offset gains faithful known = record {

@@ -1,4 +1,4 @@
--- A slot whose symbols are received each with a gain of its own, which are slow, is seen through these gains.
+-- A slot whose symbols have slowly varying gains is received through these gains.
 use Rattle.std.proofs.Common.{◌≡◌, ℕ, zero, suc, ◌+◌, ◌*◌, ◌^◌, ◌%◌, ◌<◌, ◌≤◌, inl, inr, arith, ap, ap₂, sym, subst, ◌∙◌, List, mul-le-mul, mul-le-mul_left, mul-le-mul_right}
 use Rattle.std.proofs.lemmas.Bool.{cases_lt}
 use Rattle.finite.specs.Sums.{total_below}
@@ -21,7 +21,7 @@ use Rattle.budget.proofs.Seen.{units_are_seen}
 use Rattle.clean_air.specs.Fading.{IsSlotFading, by_symbol, fading_bounds, LeaveFadingRoom, IsThroughGains, FadingSlotIsThrough}
 use Rattle.clean_air.proofs.SoftValues.{place_seen, symbol-few}
 
--- ---- the least of some numbers
+-- ---- the minimum of some numbers
 
 record IsLeast (count : ℕ) (f : ℕ → ℕ) : Type 0 where
   at : ℕ
@@ -67,7 +67,7 @@ multiple-minus : (m : ℕ) (a b : Cpx) → minus (multiple m a) (multiple m b) �
 multiple-minus m a b =
     ap (λ (z : Cpx). minus z (multiple m b)) (ap (multiple m) (sym (plus-minus a b)) ∙ multiple-plus m b (minus a b)) ∙ minus-plus (multiple m b) (multiple m (minus a b))
 
--- a gain, a thousand times, is another one up to what they differ by
+-- 1000 times a gain is 1000 times another one, up to their difference
 module _ (bend : ℕ) (g h : Cpx) (slow : 1000000 * square (minus g h) ≤ bend * bend * square h) where
   difference : Cpx
   difference = multiple 1000 (minus g h)
@@ -83,7 +83,7 @@ module _ (bend : ℕ) (g h : Cpx) (slow : 1000000 * square (minus g h) ≤ bend 
       fits : (s t : ℕ) → t ≡ 1000 * 1000 * s → 1000000 * s ≤ bend * bend * square h → t ≤ bend * bend * square h
       fits s t same l = omega (arith, same, l)
 
-  -- so it is not much greater
+  -- a gain is not much greater than another one
   not-much-greater : 1000000 * square g ≤ (1000 + bend) * (1000 + bend) * square h
   not-much-greater =
       back (square g) (square (multiple 1000 g)) (square-multiple 1000 g)
@@ -105,7 +105,7 @@ module _ (bend : ℕ) (g h : Cpx) (slow : 1000000 * square (minus g h) ≤ bend 
 
 -- ---- the line through the gains of pilots
 
--- where each pilot has a gain near one, the line through them is near it
+-- if each pilot's gain is close to a given one, so is the line through the pilots
 line-straight : (bend : ℕ) (h : Cpx) (pilots : ℕ → Cpx) → ((i : ℕ) → i < 24 → 1000000 * square (minus (pilots i) h) ≤ bend * bend * square h) → (shift k : ℕ) →
     1000000 * square (minus (estimate pilots shift k) (multiple 3 h)) ≤ 9 * (bend * bend) * square h
 line-straight bend h pilots slow shift k =
@@ -153,7 +153,7 @@ module _ (quota bend : ℕ) (leave : LeaveFadingRoom quota bend) (recording : Li
   abbrev size : ℕ
   size = square (gains weak.at)
 
-  -- a place is seen, beside the least gain
+  -- a resource element is observed with bounds relative to the weakest gain
   seen_beside : (l k : ℕ) → l < 7 → k < 72 → IsSeenNear leave.most size (times (gains l) (grids l k)) (seen_at slot l k)
   seen_beside l k few inside = record {
     off = wider (1000 + bend) leave.own leave.most (square (minus (in_parts (seen_at slot l k)) (multiple 64 (times (gains l) (grids l k))))) (square (gains l)) size leave.wider
@@ -215,7 +215,7 @@ fading_slot_is_through quota bend leave recording starts gains grids slot is = t
 
 -- ---- numbers
 
--- a difference of a twentieth
+-- a difference of 1/20
 pub slow_leaves_room : LeaveFadingRoom 1400 50
 slow_leaves_room = record {
   own = 2088;
@@ -225,7 +225,7 @@ slow_leaves_room = record {
   room = record { some = omega arith; high = omega arith; reads = omega arith; room = omega arith };
 }
 
--- what 60 Hz turn in the 822 samples from symbol 0 to symbol 6
+-- the phase change by 60 Hz in the 822 samples from symbol 0 to symbol 6
 pub turning_leaves_room : LeaveFadingRoom 600 162
 turning_leaves_room = record {
   own = 1504;

@@ -1,4 +1,4 @@
--- The soft values of a received slot speak for the bits that were sent: one gain is a channel that leaves room for them.
+-- The soft values of a received slot have the signs of the sent bits: one gain is a channel that leaves room for them.
 use Rattle.std.proofs.Common.{◌≡◌, ℕ, zero, suc, ◌+◌, ◌*◌, ◌^◌, ◌<◌, ◌≤◌, arith, ap, sym, ◌∙◌, subst, Bool, true, false, List, []}
 use Rattle.std.specs.Prelude.{if◌then◌else◌, slice_index_or}
 use Rattle.finite.specs.Sums.{total_below}
@@ -19,7 +19,7 @@ use Rattle.budget.proofs.Seen.{amplitude_is_seen_in_recording, quiet_amplitude_i
 use Rattle.budget.proofs.Through.{values_speak_through, one_gain_leaves_room, quiet_gain_leaves_room, one_gain_is_through, one_gain_is_read}
 use Rattle.clean_air.proofs.Estimates.{clean_pilots}
 
--- ---- a place
+-- ---- a resource element
 
 pair_supports_bits : (most size : ℕ) → LeaveRoom size (level_within most) → SeenPairSupportsBits most size
 pair_supports_bits most size leave pattern gain slot z k first second seen here =
@@ -36,7 +36,7 @@ seen_pair_supports_bits = pair_supports_bits 2316 1 one_gain_leaves_room
 pub quiet_pair_supports_bits : SeenPairSupportsBits 1920 8
 quiet_pair_supports_bits = pair_supports_bits 1920 8 quiet_gain_leaves_room
 
--- of port 0 with the normal prefix
+-- port 0 with the normal cyclic prefix
 place_supports_bits : (most size : ℕ) → SeenPairSupportsBits most size → ValuesSupportBits most size
 unfolding soft_values
 place_supports_bits most size supports gain slot symbol k first second seen here = supports port_0 gain slot (seen_at slot symbol k) k first second seen here
@@ -49,8 +49,8 @@ quiet_values_support_bits = place_supports_bits 1920 8 quiet_pair_supports_bits
 
 -- ---- the energy of the pilots, with one gain
 
--- a sum of squares of pilots, in parts, is not far below 4096 * 16200 times n, which are so many squares of the gain, where each pilot is
--- off by at most t times its size: by a weight of 3
+-- a sum e of the pilots' squares, in units of 2^-14, is not far below 4096 * 16200 n if each pilot is off by at most t
+-- times its magnitude, where n is the gain's square: the bound for a weight of 3
 pub record IsPilotEnergy (t n e : ℕ) : Type 0 where
   pub near : 49766400 * n ≤ 2 ^ 28 * e + 3 * (t * t * n)
 
@@ -80,7 +80,7 @@ pub read_symbol : (recording : List Sample) (start k : ℕ) → k < 72 → value
 unfolding seen_symbol
 read_symbol recording start k l = values_below_at (seen recording start) 72 k nothing l
 
--- a place of a symbol that is received is seen with the symbol's gain
+-- a resource element of a received symbol is observed with the symbol's gain
 pub place_seen : (quota most : ℕ) → AmplitudeIsSeenInRecording quota most → (recording : List Sample) (start : ℕ) (gain : Cpx) (grid : ℕ → Cpx) (slot : SeenSlot) (symbol k : ℕ) →
     slice_index_or slot.symbols symbol [] ≡ seen_symbol recording start → AreAmplitudes grid → IsReceived quota gain grid (samples_from recording start) → k < 72 →
     IsSeenAs most gain (grid k) (seen_at slot symbol k)
@@ -88,7 +88,7 @@ place_seen quota most are_seen recording start gain grid slot symbol k shown amp
     subst (λ (z : Cpx). IsSeenAs most gain (grid k) z) (sym (ap (λ (xs : List Cpx). value_at xs k) shown ∙ read_symbol recording start k inside))
     (are_seen gain grid recording start k amplitudes received inside)
 
--- pilots stand in the first symbol and a later one
+-- the pilots are in the first symbol and a later one
 pub symbol-few : (count : ℕ) (pattern : Pattern) (identity i : ℕ) → pattern.later < count → pattern_symbol pattern identity i < count
 unfolding pattern_symbol
 symbol-few count pattern identity i later = few (is_pattern_place pattern identity 0 (pilot_subcarrier identity i))
@@ -99,12 +99,12 @@ symbol-few count pattern identity i later = few (is_pattern_place pattern identi
 
 module _ (quota most : ℕ) (are_seen : AmplitudeIsSeenInRecording quota most) (pattern : Pattern) (count : ℕ) (recording : List Sample) (starts : ℕ → ℕ) (grids : ℕ → ℕ → Cpx) (slot : SeenSlot)
     (is : IsPatternReceived quota pattern count recording starts grids slot) where
-  -- each place of a received slot is seen with its gain
+  -- each resource element of a received slot is observed with its gain
   pub pattern_place_seen : (symbol k : ℕ) → symbol < count → k < 72 → IsSeenAs most is.gain (grids symbol k) (seen_at slot symbol k)
   pattern_place_seen symbol k few inside =
       place_seen quota most are_seen recording (starts symbol) is.gain (grids symbol) slot symbol k (is.seen symbol few) (is.amplitudes symbol few) (is.received symbol few) inside
 
-  -- so are the pilots, where both of their symbols are there
+  -- the pilots are observed with its gain if both of their symbols are present
   pub pattern_pilots_seen : pattern.later < count → ArePatternSeen most pattern is.gain slot
   unfolding pattern_seen
   pattern_pilots_seen later = record {

@@ -1,5 +1,5 @@
--- The values of places that carry bits: they speak for them. Where these are the scrambled bits of a word, they tell it
--- alone.
+-- The soft values of resource elements that carry bits have the bits' signs; if these are a word's scrambled bits, the
+-- values determine the word.
 use Rattle.std.proofs.Common.{◌≡◌, ℕ, ◌+◌, ◌*◌, ◌/◌, ◌%◌, ◌<◌, ◌≤◌, ◌⊎◌, inl, inr, arith, sym, ◌∙◌, subst, Bool, List, length, get_or, ℤ, pos}
 use Rattle.std.proofs.lemmas.Bool.{cases_lt}
 use Rattle.std.specs.Prelude.{All}
@@ -23,7 +23,7 @@ use Rattle.clean_air.specs.Words.{SpeakInOrderFrom}
 use Rattle.clean_air.specs.Carried.{SpeakOfWord, AreHeard, sums_of, SentWordIsOnly, ArePlacesHeardIn, ArePlacesHeard, ValuesOfPlacesAreHeard, DescrambledBitsAreHeard, CarryBits, CarriedBitsAreHeard}
 use Rattle.clean_air.proofs.SpokenWords.{descrambling_keeps, sums_speak_from, spoken_word_is_only}
 
--- ---- values in the order of the reading
+-- ---- values in reading order
 
 in_order : (c_init first : ℕ) (word : List Bool) (values : List ℤ) → SpeakOfWord c_init first word values → SpeakInOrderFrom first word (descrambled c_init first values)
 in_order c_init first word values s = record {
@@ -34,7 +34,7 @@ in_order c_init first word values s = record {
       (descrambling_keeps 1 (bit_of_item (coded_word word) (item_of (length word) (first + i))) (gold_bit c_init (first + i)) (get_or values i (pos 0)) (s.value i inside));
 }
 
--- values that speak for scrambled bits of a word, and are enough
+-- enough values with the signs of a word's scrambled bits determine it
 pub heard_bits_speak : (least count c_init first : ℕ) (word : List Bool) (values : List ℤ) → 1 ≤ least → 3 * length word ≤ count →
     AreHeard least count (λ n. scrambled_bit c_init word (first + n)) values → SpeakOfWord c_init first word values
 heard_bits_speak least count c_init first word values some enough heard =
@@ -53,7 +53,7 @@ sent_word_is_only c_init first word values low high speaks =
     let size = length-summed_by (λ i. item_of (length word) (first + i)) (length word) (descrambled c_init first values) in
     spoken_word_is_only (sums_of c_init first (length word) values) word (omega (arith, low, size)) (sym size) (sums_speak_all c_init first word values low high speaks)
 
--- ---- the values of places
+-- ---- the soft values of resource elements
 
 even_or_odd : (i : ℕ) → ((i % 2 ≡ 0) × (2 * (i / 2) ≡ i)) ⊎ ((i % 2 ≡ 1) × (2 * (i / 2) + 1 ≡ i))
 even_or_odd i = elim (cases_lt (i % 2) 1) [
@@ -61,7 +61,7 @@ even_or_odd i = elim (cases_lt (i % 2) 1) [
   | inr h ↦ inr (omega arith, omega arith)
 ]
 
--- one of the two values of a place
+-- one of a resource element's two values
 pub one_value : {least : ℕ} (values : List ℤ) (i : ℕ) (bits : ℕ → Bool) → SupportBoth least (bits (2 * (i / 2))) (bits (2 * (i / 2) + 1)) values →
     Supports least (bits i) (get_or values (i % 2) (pos 0))
 one_value {least} values i bits both = elim (even_or_odd i) [
@@ -88,13 +88,13 @@ descrambled_bits_are_heard least count c_init bits values heard = record {
     from_start : (n : ℕ) → n ≡ 0 + n
     from_start n = omega arith
 
--- those of places that are heard with scrambled bits speak for the bits before scrambling
+-- after descrambling, the soft values of resource elements have the signs of the bits before scrambling
 pub scrambled_places_are_heard : (c_init : ℕ) (slot : Place → SeenSlot) (places : List Place) (bits : ℕ → Bool) → ArePlacesHeardIn slot places (scrambled c_init bits) →
     AreHeard 1 (2 * length places) bits (descrambled c_init 0 (placed_values slot places))
 scrambled_places_are_heard c_init slot places bits heard =
     descrambled_bits_are_heard 1 (2 * length places) c_init bits (placed_values slot places) (values_of_places_are_heard slot places (scrambled c_init bits) heard)
 
--- ---- places of a grid
+-- ---- resource elements of a grid
 
 pub carried_places_are_heard : (grids : ℕ → ℕ → Cpx) (slot : SeenSlot) (places : List Place) (bits : ℕ → Bool) → IsSlotHeard grids slot → All (λ p. p.k < 72) places → CarryBits grids places bits →
     ArePlacesHeard slot places bits

@@ -1,4 +1,4 @@
--- Where all values speak for the coded bits of one word, that word costs nothing and every other word costs something.
+-- If all soft values have the signs of one word's coded bits, this word costs 0 and every other word costs more.
 use Rattle.std.proofs.Common.{◌≡◌, ℕ, suc, ◌+◌, ◌-◌, ◌*◌, ◌/◌, ◌%◌, ◌<◌, ◌≤◌, inl, inr, arith, refl, ap, sym, ◌∙◌, subst, Bool, true, false, List, [], length, get_or, ℤ, pos}
 use Rattle.std.proofs.lemmas.Int.{ints}
 use Rattle.std.specs.Prelude.{◌&&◌}
@@ -45,14 +45,14 @@ descrambling_keeps least true false value h = h
 descrambling_keeps least false true value h = omega (arith, ints)
 descrambling_keeps least true true value h = omega (arith, ints)
 
--- ---- the sums by place
+-- ---- the sums by coded bit
 
 at_index : (word : List Bool) (k t : ℕ) → k < length word → bit_of_item (coded_word word) (item t k) ≡ get_or (coded_bits word k) t false
 unfolding coded_word
 at_index word k t l = ap (λ xs. get_or xs t false) (values_below_at (coded_bits word) (length word) k [] l)
 
 module _ (reading : ℕ → Item) (word : List Bool) (values : List ℤ) (speak : SpeakByReading reading word values) where
-  -- one of the values comes from each place, and all from there speak for its bit
+  -- each coded bit has at least one value, and all its values have its sign
   sum_at_supports : (k t : ℕ) → k < length word → t < 3 → Supports 1 (bit_of_item (coded_word word) (item t k)) (summed_at reading values (length values) t k)
   sum_at_supports k t inside stream =
       let (i, below, is) = speak.enough k t inside stream in
@@ -73,7 +73,7 @@ module _ (reading : ℕ → Item) (word : List Bool) (values : List ℤ) (speak 
           (supports-speaks (get_or (coded_bits word k) t false) (summed_at reading values (length values) t k)
           (subst (λ b. Supports 1 b (summed_at reading values (length values) t k)) (at_index word k t inside) (sum_at_supports k t inside stream)))
 
--- from any number on, one of the next m has the rest j by m
+-- from any number on, one of the next m has remainder j modulo m
 next_with_rest : (m first j : ℕ) → j < m → (i : ℕ) × (i < m) × ((first + i) % m ≡ j)
 next_with_rest m first j below =
     let rest = mod_below first m (omega (arith, below)) in
@@ -99,7 +99,7 @@ next_with_rest m first j below =
     within : (whole rest n : ℕ) → whole + rest ≡ n → rest ≤ j → n + (j - rest) ≡ whole + j
     within whole rest n e l = omega (arith, e, l)
 
--- of as many bits of the reading as a word has coded bits, from any one on, there is one for each of these
+-- as many consecutive bits of the reading as the codeword has contain each coded bit once
 each_is_read : (size first k t : ℕ) → 6 ≤ size → size ≤ 64 → k < size → t < 3 → (i : ℕ) × (i < 3 * size) × (item_of size (first + i) ≡ item t k)
 unfolding item_of
 each_is_read size first k t long short inside stream =
@@ -116,7 +116,7 @@ sums_speak_from first word values long short speak = sums_speak_by_reading (λ i
   value = speak.value;
 })
 
--- from bit 0 on
+-- the sums for a reading from bit 0 on
 pub sums_speak : SumsSpeak
 sums_speak word values long short =
     subst (λ reading. SpeakInTurn reading word values → Speaks (summed_by reading (length word) values) word) (fun_ext (λ i. ap (item_of (length word)) (from_start i)))
@@ -127,7 +127,7 @@ sums_speak word values long short =
 
 -- ---- the word
 
--- a word that costs nothing is the one that the values speak for
+-- a word that costs 0 is the word whose signs the values have
 only_free : (values : List (List ℤ)) (other word : List Bool) → 6 ≤ length values → length word ≡ length values → length other ≡ length values → Speaks values word →
     total_below (length values) (cost_at values other) ≡ 0 → other ≡ word
 only_free values other word long size size_too speaks zero_cost =

@@ -1,4 +1,4 @@
--- The values of a subframe's places, each heard in its slot, speak for the bits that the places carry.
+-- The soft values of a subframe's resource elements, each in its slot, have the signs of the bits that they carry.
 use Rattle.std.proofs.Common.{◌≡◌, ℕ, ◌+◌, ◌*◌, ◌%◌, ◌<◌, ◌≤◌, arith, refl, subst, Bool, true, false, List, get_or}
 use Rattle.std.specs.Prelude.{All, nat_lt, if◌then◌else◌}
 use Rattle.std.proofs.lemmas.Bool.{ltb-true, ltb-false}
@@ -25,10 +25,10 @@ unfolding shared_values_by
 values_of_blocks_are_heard first second cfi start blocks bits heard =
     scrambled_places_are_heard (pdsch_c_init first.identity first.number system_information_rnti) (in_subframe first second) (shared_places_of OnePort first.identity cfi start blocks) bits heard
 
--- ---- places of a grid
+-- ---- resource elements of a grid
 
 module _ (grids : ℕ → ℕ → Cpx) (first second : SeenSlot) (heard : AreSlotsHeard grids first second) where
-  -- each place of the subframe is heard in its slot
+  -- each resource element of the subframe has correct soft values in its slot
   element_heard : (symbol k : ℕ) (a b : Bool) → symbol < 14 → k < 72 → grids symbol k ≡ point a b → SupportBoth 1 a b (soft_values (slot_with first second symbol) (symbol % 7) k)
   element_heard symbol k a b few inside carry = settle (nat_lt symbol 7) refl
     where
@@ -57,7 +57,7 @@ carried_blocks_are_heard grids first second cfi start blocks bits heard carry =
     values_of_blocks_are_heard first second cfi start blocks bits
     (carried_subframe grids first second heard (shared_places_of OnePort first.identity cfi start blocks) (shared_scrambled first bits) (shared_symbols OnePort first.identity cfi start blocks) carry)
 
--- ---- places of the first slot
+-- ---- resource elements of the first slot
 
 pub carried_in_slot : (grids : ℕ → ℕ → Cpx) (places : List Place) (bits : ℕ → Bool) → All (λ p. (p.symbol < 7) × (p.k < 72)) places → CarryInSubframe grids places bits → CarryBits grids places bits
 carried_in_slot grids places bits inside carry i l =

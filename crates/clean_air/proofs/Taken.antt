@@ -1,4 +1,5 @@
--- At each place that a plan takes it sends a point, but for the synchronisation signals and what is silent for others.
+-- In each resource element that a plan uses it sends a point, except in the synchronisation signals' symbols and where
+-- it is silent for other ports.
 use Rattle.std.proofs.Common.{◌≡◌, ℕ, ◌+◌, ◌-◌, ◌/◌, ◌%◌, Bool, true, false, ◌&&◌, ◌||◌, nat_eq, nat_lt, not, arith, refl, ◌∙◌, neg_ℤ, nat_abs}
 use Rattle.std.specs.Prelude.{if◌then◌else◌}
 use Rattle.std.proofs.lemmas.Int.{ints}
@@ -35,7 +36,7 @@ crossed-size f full i =
     (square-negated (conjugate (f (i + 1))) ∙ square-conjugate (f (i + 1)) ∙ full-size (f (i + 1)) (full (i + 1)))
     (square-conjugate (f (i - 1)) ∙ full-size (f (i - 1)) (full (i - 1)))
 
--- what is sent in turn has it too, in the own pairs
+-- elements that are sent in turn have a point's magnitude in the port's own pairs
 in-turn-size : (t : Bool) (z : Cpx) → square z ≡ 16200 → not t ≡ false → square (if t then z else nothing) ≡ 16200
 in-turn-size true z size own = size
 in-turn-size false z size own = absurd cc
@@ -43,7 +44,7 @@ in-turn-size false z size own = absurd cc
 paired-size : (half number : ℕ) (f : ℕ → Cpx) → ((i : ℕ) → IsPoint (f i)) → (i : ℕ) → square (paired_point half number f i) ≡ 16200
 paired-size half number f full i = pick (λ z. square z ≡ 16200) (nat_lt number half) _ _ (full-size (f i) (full i)) (crossed-size f full i)
 
--- what a port sends of points has their size, but for the pairs of others
+-- the points that a port sends have a point's magnitude, except in others' pairs
 size-by : (carrier : Carrier) (number : ℕ) (f : ℕ → Cpx) → ((i : ℕ) → IsPoint (f i)) → (i : ℕ) → is_of_others_by carrier number i ≡ false → square (sent_point (port_by carrier number) f i) ≡ 16200
 size-by OnePort number f full i own = full-size (f i) (full i)
 size-by TwoPorts number f full i own = paired-size 1 number f full i
@@ -63,11 +64,11 @@ none_by FourPorts number has i = absurd cc
 none_of_others : (port : Port) → has_control port ≡ true → (i : ℕ) → is_of_others port i ≡ false
 none_of_others port has i = none_by port.carrier port.number has i
 
--- so has its reference signal
+-- the port's reference signal has a point's magnitude
 reference-size : (port : Port) (identity slot symbol k : ℕ) → square (port_reference port identity slot symbol k) ≡ 16200
 reference-size port identity slot symbol k = full-size _ (reference_full port identity slot symbol k)
 
--- the first channel that is there, where one is: broadcast, or, where these are sent, indicator, control or shared
+-- the first channel that has the resource element: broadcast or, where they are sent, indicator, control or shared
 first_there : (b n i h c s : Bool) (x y z w : Cpx) → (b || (n && ((h && i) || (c || s)))) ≡ true → (b ≡ true → square x ≡ 16200) → (n ≡ true → square y ≡ 16200) → (n ≡ true → square z ≡ 16200) →
     (n ≡ true → square w ≡ 16200) → square (if b then x else (if n then (if i then y else (if c then z else (if s then w else nothing))) else nothing)) ≡ 16200
 first_there true n i h c s x y z w e p q r t = p refl

@@ -1,4 +1,4 @@
--- Places of primary signals and epochs of entries, on their circles.
+-- Positions of primary signals and epochs of entries, each modulo its period.
 use Rattle.std.proofs.Common.{◌≡◌, ℕ, ◌+◌, ◌-◌, ◌*◌, ◌/◌, ◌%◌, ◌<◌, ◌≤◌, ◌⊎◌, inl, inr, arith, subst}
 use Rattle.std.proofs.lemmas.Bool.{cases_lt}
 use Rattle.lte_types.specs.declared.frame.Half.{Half}
@@ -8,9 +8,10 @@ use Rattle.sss_detect.specs.Place.{start_by_hit}
 use Rattle.explain.specs.Entries.{distance}
 use Rattle.clean_air.proofs.SentSymbols.{IsTruePlace}
 
--- ---- the true place of the span
+-- ---- the true position in the range
 
--- a place in the later half of the places of hits at which a primary signal of the cell begins, and the start that it tells
+-- a position in the later half frame of the PSS search range at which a primary signal of the cell begins, and the
+-- frame start that it implies
 pub record IsTrueHit (offset t : ℕ) (half : Half) : Type 0 where
   pub low : 9737 ≤ t
   pub high : t ≤ 19336
@@ -54,14 +55,14 @@ true_hit offset within = elim (cases_lt (start_of offset) 8905) [
   ]
 ]
 
--- a true place tells the start of the cell's frames
+-- a true position implies the start of the cell's frames
 pub true_start : (offset t : ℕ) (half : Half) → offset < 19200 → IsTruePlace offset t half → start_by_hit t half ≡ start_of offset
 true_start offset t Zero within p = omega (arith, within, p.place)
 true_start offset t Five within p = omega (arith, within, p.place)
 
--- ---- near places
+-- ---- nearby positions
 
--- two starts are at most 9 samples apart, by the shorter way round a frame
+-- two starts are at most 9 samples apart, modulo the frame length
 abbrev pub AreNear : ℕ → ℕ → Type 0
 AreNear a b = ((a - b) + (b - a) ≤ 9) ⊎ (19191 ≤ (a - b) + (b - a))
 
@@ -89,7 +90,7 @@ near_place offset t p within inside first near = elim (cases_lt ((t + (19200 - p
   ]
 ]
 
--- a place that tells a near start is near a true place
+-- a position that implies a nearby start is near a true position
 pub near_true : (offset t : ℕ) (half : Half) → offset < 19200 → 137 ≤ t → AreNear (start_by_hit t half) (start_of offset) → IsNearTrue offset t half
 near_true offset t Zero within first near =
     let p = near_place offset t 832 within (omega arith) first near in
@@ -100,7 +101,7 @@ near_true offset t Five within first near =
 
 -- ---- epochs
 
--- an epoch by its start and number
+-- an epoch by start and frame number
 epoch_is : (a m : ℕ) → a < 19200 → m < 1024 → (a + (19660800 - 19200 * m)) % 19660800 ≡ a + 19200 * ((1024 - m) % 1024)
 epoch_is a m x y = omega arith
 
@@ -134,14 +135,14 @@ module _ (a b m n : ℕ) (start : a < 19200) (other : b < 19200) (number : m < 1
       (subst (λ x. distance x (b + 19200 * ((1024 - n) % 1024)) ≤ 9) (epoch_is a m start number)
       (subst (λ y. distance ((a + (19660800 - 19200 * m)) % 19660800) y ≤ 9) (epoch_is b n other other_number) near))
 
-  -- near epochs have near starts
+  -- nearby epochs have nearby starts
   pub near_starts : AreNear a b
   near_starts = elim on_circle [
     | inl h ↦ near_by a b ((1024 - m) % 1024) ((1024 - n) % 1024) start other (omega arith) (omega arith) h
     | inr h ↦ near_round a b ((1024 - m) % 1024) ((1024 - n) % 1024) start other (omega arith) (omega arith) h
   ]
 
-  -- and of one start they have one number
+  -- nearby epochs with the same start have the same frame number
   pub same_numbers : a ≡ b → m ≡ n
   same_numbers e =
       let k : (1024 - m) % 1024 ≡ (1024 - n) % 1024 = same_by b ((1024 - m) % 1024) ((1024 - n) % 1024) other (omega arith) (omega arith)

@@ -1,4 +1,4 @@
--- The attempt to read SystemInformationBlockType1 on a subframe whose values speak for an indicator and a grant. (own)
+-- The attempt to read SIB1 from a subframe whose soft values have the signs of an indicator's and a grant's bits. (own)
 use Rattle.std.specs.Prelude.{◌≡◌, ℕ, ◌≤◌, Some, Result}
 use Rattle.cs_num.specs.declared.Cpx.{Cpx}
 use Rattle.lte_types.specs.declared.sib1.Sib1.{Sib1}
@@ -21,7 +21,7 @@ use Rattle.clean_air.specs.Subframe.{CarryInSubframe}
 use Rattle.clean_air.specs.Indicator.{indicator_scrambled}
 use Rattle.clean_air.specs.Grant.{grant_word, grant_places, grant_scrambled}
 
--- the values of the control region speak for an indicator and a grant
+-- the control region's soft values have the signs of the bits of an indicator and a grant
 pub record SpeakOfGrant (values : Subframe) (indicator : ℕ) (grant : Grant) : Type 0 where
   pub range : (1 ≤ indicator) × (indicator ≤ 3)
   pub is_grant : IsGrant grant
@@ -29,25 +29,26 @@ pub record SpeakOfGrant (values : Subframe) (indicator : ℕ) (grant : Grant) : 
   pub of_indicator : Speak values.indicator indicator
   pub of_control : SpeakInOrder (grant_word grant) (values.candidate indicator)
 
--- an attempt with this indicator and this grant, whose answer is what the blocks of the grant tell
+-- an attempt with this indicator and this grant, whose answer is decoded from the grant's resource blocks
 pub record HasGrant (values : Subframe) (indicator : ℕ) (grant : Grant) (attempt : Attempt) : Type 0 where
   pub cfi : attempt.cfi ≡ indicator
   pub granted : attempt.grant ≡ Some grant
   pub tells : Tells (values.shared indicator grant.start grant.blocks) grant attempt.answer
 
--- the subframe is read with an indicator and a grant: each attempt on it has them, and what the blocks of the grant
--- tell is read
+-- the subframe is read with an indicator and a grant: each attempt on it has both, and returns the answer that is
+-- decoded from the grant's resource blocks
 pub record IsReadWith (values : Subframe) (indicator : ℕ) (grant : Grant) : Type 0 where
   pub attempt : (attempt : Attempt) → IsAttempt values attempt → HasGrant values indicator grant attempt
   pub reads : (answer : Result Sib1 Sib1Reason) →
       Tells (values.shared indicator grant.start grant.blocks) grant answer → Reads values answer
 
--- a subframe is read with the indicator and the grant for which its values speak
+-- a law: a subframe is read with the indicator and the grant if the subframe's soft values have the signs of their bits
 abbrev pub SpokenGrantIsRead : Type 0
 SpokenGrantIsRead = (values : Subframe) (indicator : ℕ) (grant : Grant) → SpeakOfGrant values indicator grant →
     IsReadWith values indicator grant
 
--- a subframe is read with the indicator and the grant whose bits are heard in its first slot
+-- a law: a subframe is read with the indicator and the grant if the resource elements of its first slot have soft
+-- values with the signs of their bits
 abbrev pub HeardGrantIsRead : Type 0
 HeardGrantIsRead =
     (first second : SeenSlot) (indicator : ℕ) (duration : Duration) (resource : Resource) (grant : Grant) →
@@ -56,7 +57,7 @@ HeardGrantIsRead =
     ArePlacesHeard first (grant_places first indicator duration resource) (grant_scrambled first grant) →
     IsReadWith (one_port first second duration resource) indicator grant
 
--- a subframe whose first slot is heard is read with the indicator and the grant that it carries
+-- a law: a subframe whose first slot is received is read with the indicator and the grant that it carries
 abbrev pub CarriedGrantIsRead : Type 0
 CarriedGrantIsRead =
     (grids : ℕ → ℕ → Cpx) (first second : SeenSlot) (indicator : ℕ) (duration : Duration) (resource : Resource)

@@ -1,5 +1,5 @@
--- A transport block that was sent is told by the values of its resource blocks (PDSCH, TS 36.211 section 6.4, TS 36.212
--- sections 5.1.3.2 and 5.1.4.1). (own)
+-- The soft values of a subframe's resource blocks determine the transport block that was sent (PDSCH, TS 36.211 section
+-- 6.4, TS 36.212 sections 5.1.3.2 and 5.1.4.1). (own)
 use Rattle.std.specs.Prelude.{◌≡◌, ℕ, ◌+◌, ◌*◌, ◌<◌, ◌≤◌, Bool, true, List, length, ℤ, Some}
 use Rattle.cs_num.specs.declared.Cpx.{Cpx}
 use Rattle.cs_bits.specs.Checks.{message_of, has_check_24}
@@ -17,12 +17,12 @@ use Rattle.turbo_convergence.specs.Tells.{SumsSupport, SumsTell}
 use Rattle.clean_air.specs.Carried.{AreHeard}
 use Rattle.clean_air.specs.Subframe.{IsSubframeHeard, shared_scrambled, AreSlotsHeard, CarryInSubframe}
 
--- bit i of a coded word, as it is matched from a redundancy version on
+-- bit i of a codeword after rate matching with a redundancy version
 abbrev pub matched_bit : Row → ℕ → List Bool → ℕ → Bool
 matched_bit row rv word i = bit_of (coded row word) (item_of row.k rv i)
 
--- a word of the size of a row, whose check passes, and which can be resolved by the first bits of the reading, as
--- many as the count says: always where each coded bit is among them
+-- an information word of this row's size that passes its CRC and is resolved by the first `count` bits after rate
+-- matching; any word is if these contain every coded bit
 pub record IsSentBlock (row : Row) (rv count : ℕ) (word : List Bool) : Type 0 where
   pub is_row : IsAnyRow row
   pub version : rv < 4
@@ -30,21 +30,20 @@ pub record IsSentBlock (row : Row) (rv count : ℕ) (word : List Bool) : Type 0 
   pub passes : has_check_24 word ≡ true
   pub resolvable : resolvable row (sent_of row.k rv count) word ≡ true
 
--- values tell a word: the sums of the coded bits that were sent speak for them, and those of all others are 0, of which
--- there are none where the values are as many as the coded bits; and the block that is decoded is the word before its
--- check
+-- soft values determine a word: the sums of the sent coded bits have their signs, and the other sums are 0. If there
+-- are at least as many values as coded bits, no sum is 0. The decoded block is the word without its CRC.
 pub record TellsBlock (row : Row) (rv : ℕ) (word : List Bool) (values : List ℤ) : Type 0 where
   pub sums : SumsTell row word (sent_of row.k rv (length values)) (summed row.k rv values)
   pub whole : 3 * (row.k + 4) ≤ length values → SumsSupport 1 row word (summed row.k rv values)
   pub told : block row (summed row.k rv values) ≡ Some (message_of 24 word)
 
--- values that each speak for the coded bit of a word that was sent there tell the word
+-- a law: soft values determine the word if each has the sign of the coded bit that was sent at its position
 abbrev pub HeardBlockIsTold : Type 0
 HeardBlockIsTold = (row : Row) (rv count : ℕ) (word : List Bool) (values : List ℤ) → IsSentBlock row rv count word →
     AreHeard 1 count (matched_bit row rv word) values → TellsBlock row rv word values
 
--- the values of resource blocks of a subframe tell a word where the places of the blocks are heard with its scrambled
--- bits
+-- a law: the soft values of a subframe's resource blocks determine the word if the values of each resource element have
+-- the signs of its scrambled bits
 abbrev pub HeardSubframeTells : Type 0
 HeardSubframeTells =
     (first second : SeenSlot) (cfi start blocks : ℕ) (row : Row) (rv : ℕ) (word : List Bool) →
@@ -53,8 +52,8 @@ HeardSubframeTells =
     IsSubframeHeard first second places (shared_scrambled first (matched_bit row rv word)) →
     TellsBlock row rv word (shared_values first second cfi start blocks)
 
--- the values of resource blocks tell a word where both slots are heard, and the places of the blocks carry its
--- scrambled bits
+-- a law: the soft values of resource blocks determine the word if both slots are received and the blocks' resource
+-- elements carry its scrambled bits
 abbrev pub CarriedBlockIsTold : Type 0
 CarriedBlockIsTold =
     (grids : ℕ → ℕ → Cpx) (first second : SeenSlot) (cfi start blocks : ℕ) (row : Row) (rv : ℕ) (word : List Bool) →

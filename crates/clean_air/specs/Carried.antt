@@ -1,6 +1,6 @@
--- Bits that are sent at places of a slot: the soft values of these places speak for them. Where they are the scrambled
--- bits of a coded word, the values tell it alone. (own; the coding is that of TS 36.212 sections 5.1.3.1 and 5.1.4.2,
--- the scrambling that of TS 36.211 section 7.2)
+-- The soft values of bits that are sent in a slot's resource elements have the bits' signs. If they are a codeword's
+-- scrambled bits, the values determine this word only. (own; the coding is that of TS 36.212 sections 5.1.3.1 and
+-- 5.1.4.2, the scrambling that of TS 36.211 section 7.2)
 use Rattle.std.specs.Prelude.{◌≡◌, ℕ, ◌+◌, ◌*◌, ◌%◌, ◌<◌, ◌≤◌, Bool, All, List, length, slice_index_or, ℤ, pos}
 use Rattle.cs_num.specs.declared.Cpx.{Cpx}
 use Rattle.cs_bits.specs.Signs.{Supports}
@@ -16,64 +16,64 @@ use Rattle.clean_air.specs.Words.{IsOnlyWord}
 
 -- ---- words
 
--- each value speaks for a scrambled bit of the word: for bit `first` of the endless reading of the coded word, and the
--- bits after it; there are as many values as coded bits, and any more
+-- each soft value has the sign of a scrambled bit of the codeword, read from bit `first` on; there are at least as many
+-- values as coded bits
 pub record SpeakOfWord (c_init first : ℕ) (word : List Bool) (values : List ℤ) : Type 0 where
   pub enough : 3 * length word ≤ length values
   pub value : (i : ℕ) → i < length values →
       Supports 1 (scrambled_bit c_init word (first + i)) (slice_index_or values i (pos 0))
 
--- the sums by place of a coded word, before scrambling, of values that speak of it
+-- sums by coded bit, after descrambling, of soft values in sending order
 abbrev pub sums_of : ℕ → ℕ → ℕ → List ℤ → List (List ℤ)
 sums_of c_init first size values = summed_from first size (descrambled c_init first values)
 
--- the sums of values that speak of a word of 6 to 64 bits tell the word and no other
+-- a law: the sums of soft values with the signs of a word of 6 to 64 bits determine this word only
 abbrev pub SentWordIsOnly : Type 0
 SentWordIsOnly =
     (c_init first : ℕ) (word : List Bool) (values : List ℤ) → 6 ≤ length word → length word ≤ 64 →
     SpeakOfWord c_init first word values →
     IsOnlyWord (sums_of c_init first (length word) values) word
 
--- ---- places and their values
+-- ---- resource elements and their soft values
 
--- there are as many values as the count says, of which each speaks for its bit with this size and more
+-- `count` soft values, each with the sign of its bit and a magnitude of at least `least`
 pub record AreHeard (least count : ℕ) (bits : ℕ → Bool) (values : List ℤ) : Type 0 where
   pub size : length values ≡ count
   pub value : (i : ℕ) → i < count → Supports least (bits i) (slice_index_or values i (pos 0))
 
--- places are heard, each in the slot that a function says: its two soft values speak for two bits (QPSK, TS 36.211
+-- the two soft values of each resource element, in its own slot, have the signs of its two bits (QPSK, TS 36.211
 -- section 7.1.2)
 abbrev pub ArePlacesHeardIn : (Place → SeenSlot) → List Place → (ℕ → Bool) → Type 0
 ArePlacesHeardIn slot places bits = (i : ℕ) → i < length places →
     let p = slice_index_or places i (place 0 0) in
     SupportBoth 1 (bits (2 * i)) (bits (2 * i + 1)) (values_at (slot p) p)
 
--- places of the subframe of one slot are heard
+-- the soft values of each resource element, all in one slot, have the signs of its bits
 abbrev pub ArePlacesHeard : SeenSlot → List Place → (ℕ → Bool) → Type 0
 ArePlacesHeard slot places bits = ArePlacesHeardIn (λ p. slot) places bits
 
--- the soft values of places that are heard, two of each, speak for the bits
+-- a law: if each resource element's soft values have the signs of its bits, so do all of them in sequence
 abbrev pub ValuesOfPlacesAreHeard : Type 0
 ValuesOfPlacesAreHeard = (slot : Place → SeenSlot) (places : List Place) (bits : ℕ → Bool) →
     ArePlacesHeardIn slot places bits → AreHeard 1 (2 * length places) bits (placed_values slot places)
 
--- values that speak for scrambled bits speak, once they are descrambled, for the bits before scrambling
+-- a law: descrambled soft values have the signs of the bits before scrambling
 abbrev pub DescrambledBitsAreHeard : Type 0
 DescrambledBitsAreHeard = (least count c_init : ℕ) (bits : ℕ → Bool) (values : List ℤ) →
     AreHeard least count (scrambled c_init bits) values → AreHeard least count bits (descrambled c_init 0 values)
 
--- ---- places of a grid
+-- ---- resource elements of a grid
 
--- places of the subframe of a slot carry bits, each two of them
+-- a slot's resource elements carry bits, two in each
 abbrev pub CarryBits : (ℕ → ℕ → Cpx) → List Place → (ℕ → Bool) → Type 0
 CarryBits grids places bits = (i : ℕ) → i < length places →
     let p = slice_index_or places i (place 0 0) in grids (p.symbol % 7) p.k ≡ point_of bits i
 
--- places of the subframe of a slot carry the scrambled bits of a word from bit `first` on
+-- a slot's resource elements carry a codeword's scrambled bits from bit `first` on
 abbrev pub CarryWord : (ℕ → ℕ → Cpx) → List Place → ℕ → ℕ → List Bool → Type 0
 CarryWord grids places c_init first word = CarryBits grids places (λ n. scrambled_bit c_init word (first + n))
 
--- where a slot is heard, the soft values of places that carry bits speak for them
+-- a law: in a slot with correct soft values, the soft values of resource elements that carry bits have their signs
 abbrev pub CarriedBitsAreHeard : Type 0
 CarriedBitsAreHeard =
     (grids : ℕ → ℕ → Cpx) (slot : SeenSlot) (places : List Place) (bits : ℕ → Bool) → IsSlotHeard grids slot →

@@ -1,5 +1,5 @@
--- The list of a recording by any receiver: it holds each cell of the receiver's carrier to which the recording is
--- faithful. (own)
+-- Any receiver's cell list contains each cell of the receiver's transmission scheme to which the recording is faithful.
+-- (own)
 use Rattle.std.specs.Prelude.{◌≡◌, ℕ, ◌/◌, ◌≤◌, nat_lt, if◌then◌else◌, MatchBool, List, length, Option, Result, Ok, Err}
 use Rattle.std.specs.List.{Contains}
 use Rattle.cs_num.specs.declared.Cpx.{Cpx}
@@ -27,18 +27,18 @@ use Rattle.clean_air.specs.Load.{IsLoadedBy}
 use Rattle.clean_air.specs.Faithful.{IsFaithfulBy}
 use Rattle.clean_air.specs.Through.{IsSeenThroughBy}
 
--- ---- what is sent
+-- ---- the plan that is sent
 
--- what is sent of a plan to the master block has its ranges: the identity, and the spare bits of the block
+-- the plan's fields that the MIB uses are in range: the identity, and the MIB's spare bits
 pub record IsKnownPlan (plan : CellPlan) : Type 0 where
   pub identity : plan.identity ≤ 503
   pub spare : plan.spare ≤ 1023
 
--- what a carrier sends of a plan can be sent: the whole plan, or the master block alone
+-- the part of the plan that this transmission scheme sends can be sent: the whole plan, or the MIB alone
 abbrev pub IsKnownBy : Carrier → CellPlan → Type 0
 IsKnownBy carrier plan = MatchBool (has_control_by carrier) (IsSendableBy carrier plan) (IsKnownPlan plan)
 
--- what is told of the system information of a carrier's cell: it is read with the normal prefix, of one or two ports
+-- the SIB1 result of a cell: SIB1 is read only with the normal cyclic prefix and at most two antenna ports
 abbrev pub system_of_carrier : Carrier → Sib1 → Result Sib1 Sib1Reason
 system_of_carrier carrier sib1 =
     if is_extended (prefix_of carrier) then Err IsLong
@@ -46,8 +46,7 @@ system_of_carrier carrier sib1 =
 
 -- ---- the entry of a cell
 
--- the list has an entry with this identity, start and frame number, which is as it was sent; every entry with these
--- three is that one
+-- the list has exactly one entry with this identity, start and frame number, and it has the sent fields
 pub record HoldsOne (list : List Entry) (identity first number : ℕ) (is_sent : Entry → Type 0) : Type 0 where
   pub entry : Entry
   pub inside : Contains list entry
@@ -58,10 +57,9 @@ pub record HoldsOne (list : List Entry) (identity first number : ℕ) (is_sent :
   pub only : (other : Entry) → Contains list other → other.id ≡ identity → other.start ≡ first → other.sfn ≡ number →
       other ≡ entry
 
--- the entry has this count of antenna ports (TS 36.212 section 5.3.1.1), the fields of the master block of a cell in
--- the frame with this number, which holds the upper 8 bits of it (TS 36.331 section 6.2.2), and what is told of its
--- system information; it was read from the cell's first whole frame alone, and each value speaks for its word, so
--- that this costs nothing
+-- the entry has this antenna port count (TS 36.212 section 5.3.1.1), this SIB1 result, and the fields of the cell's MIB
+-- in the frame with this number, of which the MIB holds the upper 8 bits (TS 36.331 section 6.2.2). It was read from
+-- the cell's first whole frame alone, at cost 0.
 pub record IsSentEntryBy (count : ℕ) (lasting : Duration) (share : Resource) (bits : ℕ) (told : Result Sib1 Sib1Reason)
     (number : ℕ) (entry : Entry) : Type 0 where
   pub ports : entry.ports ≡ count
@@ -71,52 +69,52 @@ pub record IsSentEntryBy (count : ℕ) (lasting : Duration) (share : Resource) (
   pub frames : entry.frames ≡ 1
   pub frame : entry.frame ≡ 0
 
--- the entry is as a plan was sent by a carrier
+-- the entry has the fields that this transmission scheme sends of the plan
 abbrev pub IsSentEntryOf : Carrier → CellPlan → ℕ → Entry → Type 0
 IsSentEntryOf carrier plan number =
     IsSentEntryBy (ports_of carrier) plan.duration plan.resource plan.spare (system_of_carrier carrier plan.sib1) number
 
--- the list holds the cell of a carrier of which a frame begins at this sample with this number
+-- the list contains the cell that has a frame with this number at this sample
 abbrev pub HoldsCellBy : Carrier → List Entry → CellPlan → ℕ → ℕ → Type 0
 HoldsCellBy carrier list plan first number =
     HoldsOne list plan.identity first number (IsSentEntryOf carrier plan number)
 
 -- ---- the list
 
--- the list holds each cell of a carrier to which the recording is faithful, whatever its plan is, what its ports send
--- elsewhere, its first frame's number, the offset and the gains
+-- the list contains each cell of a scheme to which the recording is faithful, for any plan, elements sent elsewhere,
+-- first frame number, offset and gains
 abbrev pub HoldsFaithfulBy : Carrier → List Sample → List Entry → Type 0
 HoldsFaithfulBy carrier recording list =
     (plan : CellPlan) (grids : Port → Elements) (sfn offset : ℕ) (gains : List Cpx) →
     IsKnownBy carrier plan → IsFaithfulBy carrier recording plan grids sfn offset gains →
     HoldsCellBy carrier list plan (start_of offset) (number_at_start sfn offset)
 
--- the list holds each cell of a carrier that is seen in the recording through channels, whatever its plan is, what its
--- ports send elsewhere, its first frame's number, the offset and the channels
+-- the list contains each cell of a scheme that is received through channels, for any plan, elements sent elsewhere,
+-- first frame number, offset and channels
 abbrev pub HoldsThroughBy : Carrier → List Sample → List Entry → Type 0
 HoldsThroughBy carrier recording list =
     (plan : CellPlan) (grids : Port → Elements) (sfn offset : ℕ) →
     IsKnownBy carrier plan → IsSeenThroughBy carrier recording plan grids sfn offset →
     HoldsCellBy carrier list plan (start_of offset) (number_at_start sfn offset)
 
--- the list holds each cell of a carrier of which the recording is clean, whatever its plan is, what its ports send
--- elsewhere, its first frame's number, the offset, the gains and the errors
+-- the list contains each cell of a scheme for which the recording is clean, for any plan, elements sent elsewhere,
+-- first frame number, offset, gains and errors
 abbrev pub HoldsBy : Carrier → List Sample → List Entry → Type 0
 HoldsBy carrier recording list =
     (plan : CellPlan) (grids : Port → Elements) (sfn offset : ℕ) (gains : List Cpx) (eps : ℕ) →
     IsKnownBy carrier plan → IsLoadedBy carrier recording plan grids sfn offset gains eps →
     HoldsCellBy carrier list plan (start_of offset) (number_at_start sfn offset)
 
--- the list holds each cell of a carrier of which the recording is clean and whose ports send nothing elsewhere, or the
--- load with a number
+-- the list contains each cell of a scheme for which the recording is clean and whose ports send nothing elsewhere, or a
+-- numbered load
 abbrev pub HoldsCleanBy : Carrier → List Sample → List Entry → Type 0
 HoldsCleanBy carrier recording list =
     (load : Option ℕ) (plan : CellPlan) (sfn offset : ℕ) (gains : List Cpx) (eps : ℕ) →
     IsKnownBy carrier plan → IsCleanBy carrier load recording plan sfn offset gains eps →
     HoldsCellBy carrier list plan (start_of offset) (number_at_start sfn offset)
 
--- the list of a recording by a receiver, which holds each cell of the receiver's carrier that is seen through
--- channels, to which the recording is faithful, or of which it is clean, whatever else that cell sends
+-- the receiver's list of a recording, which contains each cell of the receiver's scheme that is received through
+-- channels, to which the recording is faithful, or for which it is clean, whatever else the cell sends
 pub record IsListBy (receiver : Receiver) (recording : List Sample) (list : List Entry) : Type 0 where
   pub explained : IsListFor receiver recording list
   pub through : HoldsThroughBy receiver.carrier recording list
@@ -124,16 +122,17 @@ pub record IsListBy (receiver : Receiver) (recording : List Sample) (list : List
   pub loaded : HoldsBy receiver.carrier recording list
   pub holds : HoldsCleanBy receiver.carrier recording list
 
--- the list by one antenna port, which holds each cell to which the recording is faithful
+-- the list for one antenna port, with each cell to which the recording is faithful
 abbrev pub IsListOfCells : List Sample → List Entry → Type 0
 IsListOfCells = IsListBy one_port_receiver
 
--- a list holds the cells of a carrier that are seen through channels, and those to which the recording is faithful
+-- the list contains the scheme's cells that are received through channels, and those to which the recording is faithful
 pub record HoldsSeenBy (carrier : Carrier) (recording : List Sample) (list : List Entry) : Type 0 where
   pub through : HoldsThroughBy carrier recording list
   pub faithful : HoldsFaithfulBy carrier recording list
 
--- a law of a receiver: so does the list of a recording by it, of its carrier
+-- a law: this receiver's list contains its scheme's cells that are received through channels, and those to which the
+-- recording is faithful
 abbrev pub HoldsCells : Receiver → Type 0
 HoldsCells receiver =
     (recording : List Sample) (list : List Entry) → least_samples ≤ length recording →

@@ -1,5 +1,5 @@
--- Cells of one port that arrive over several paths: straight, and off walls, as fainter echoes that are up to 9
--- samples late. So late they stay within the cyclic prefix. (own; the prefix is that of TS 36.211 section 6.12)
+-- Cells with one antenna port that arrive over several paths: a direct one, and fainter echoes up to 9 samples later,
+-- within the cyclic prefix. (own; the prefix is that of TS 36.211 section 6.12)
 use Rattle.std.specs.Prelude.{◌≡◌, ℕ, ◌+◌, ◌*◌, ◌^◌, ◌<◌, ◌≤◌, List, length}
 use Rattle.cs_num.specs.declared.Cpx.{Cpx}
 use Rattle.cs_num.specs.declared.Sample.{Sample}
@@ -21,24 +21,23 @@ use Rattle.clean_air.specs.Load.{CarriesPlan, IsLoaded}
 use Rattle.clean_air.specs.Faithful.{IsLookedAt}
 use Rattle.clean_air.specs.Through.{IsSlotThrough, IsSeenThroughBy}
 
--- a law: a slot of seven symbols that are received over the same paths is seen through their channel, where the later
--- ones are faint
+-- a law: a slot whose seven symbols are received over the same paths is received through their channel, if the later
+-- paths are faint
 abbrev pub SlotOverIsThrough : Type 0
 SlotOverIsThrough =
     (sizes : ℕ → ℕ) (paths : Paths) (recording : List Sample) (starts : ℕ → ℕ) (grids : ℕ → ℕ → Cpx)
     (slot : SeenSlot) → AreFaint sizes paths → IsSlotReceivedOver paths port_0 7 recording starts grids slot →
     IsSlotThrough path_bounds (square paths.first) (over paths) grids slot
 
--- the energy of what the 128 samples from `start` on are off by from what arrives over paths of the samples that
--- elements make
+-- the energy of the difference between the 128 samples from `start` and the elements' signal over these paths
 abbrev pub errors_over : List Sample → Elements → ℕ → ℕ → Paths → ℕ → ℕ
 errors_over recording grid sfn offset paths start =
     energy_below 128
     (off_by (samples_from recording start) (λ n. arriving paths (λ i. sent grid sfn i) (start + n + offset)))
 
--- elements of a cell's only port that carry the plan arrive in a recording over several paths, the later ones faint,
--- from the frame numbered sfn on: in each symbol that the list looks at, whose useful part begins at the sample
--- `start`, the errors are little beside the first path. Of all else that the recording holds nothing is asked.
+-- elements of a cell's only port carry the plan and are received over several paths, of which the later ones are faint,
+-- from frame number `sfn`: in each symbol that the receiver reads, whose useful part begins at sample `start`, the
+-- error energy is small compared with the first path. Other samples are unconstrained.
 pub record IsEchoedBy (sizes : ℕ → ℕ) (paths : Paths) (recording : List Sample) (plan : CellPlan)
     (grids : Port → Elements) (sfn offset : ℕ) : Type 0 where
   pub number : sfn ≤ 1023
@@ -51,14 +50,14 @@ pub record IsEchoedBy (sizes : ℕ → ℕ) (paths : Paths) (recording : List Sa
       IsLookedAt OnePort sfn offset frame slot symbol start →
       errors_over recording (grids only_port) sfn offset paths start ≤ 1024 * square paths.first
 
--- a law: such a cell is seen through channels
+-- a law: a cell that arrives over several paths is received through channels
 abbrev pub EchoesAreThrough : Type 0
 EchoesAreThrough =
     (sizes : ℕ → ℕ) (paths : Paths) (recording : List Sample) (plan : CellPlan) (grids : Port → Elements)
     (sfn offset : ℕ) → plan.identity ≤ 503 → IsEchoedBy sizes paths recording plan grids sfn offset →
     IsSeenThroughBy OnePort recording plan grids sfn offset
 
--- a law: a recording that is clean of a cell, with a whole gain, holds it over one path, with the gain in parts
+-- a law: in a clean recording, the cell arrives over one path, with the gain in units of 2^-14
 abbrev pub LoadedIsEchoed : Type 0
 LoadedIsEchoed =
     (recording : List Sample) (plan : CellPlan) (grid : Elements) (sfn offset : ℕ) (gain : Cpx) (eps : ℕ) →

@@ -1,5 +1,4 @@
--- Cells of one port whose gain turns and fades slowly: each symbol of a slot that is read is received with a gain of
--- its own. (own)
+-- Cells with one antenna port and a slowly varying gain: each symbol of a slot that is read has its own gain. (own)
 use Rattle.std.specs.Prelude.{◌≡◌, ℕ, ◌+◌, ◌*◌, ◌^◌, ◌<◌, ◌≤◌, ◌⊎◌, List, [], ◌∷◌, slice_index_or}
 use Rattle.cs_num.specs.declared.Cpx.{Cpx}
 use Rattle.cs_num.specs.declared.Sample.{Sample}
@@ -23,13 +22,13 @@ use Rattle.clean_air.specs.Through.{IsSlotThrough, IsSeenThroughBy}
 
 -- ---- a slot
 
--- each two gains of a slot's seven symbols differ, in thousandths of the size of either, by at most `bend`
+-- any two gains of a slot's seven symbols differ by at most `bend` thousandths of either one's magnitude
 abbrev pub AreSlow : ℕ → (ℕ → Cpx) → Type 0
 AreSlow bend gains = (l m : ℕ) → l < 7 → m < 7 →
     1000000 * square (minus (gains l) (gains m)) ≤ bend * bend * square (gains m)
 
--- the seven symbols of a slot are received in a recording, each from its place on with its gain, and hold the
--- reference signals of the slot's identity and number; the gains are slow
+-- the slot's seven symbols are received, each with its own gain, and contain the slot's reference signals; the gains
+-- vary slowly
 pub record IsSlotFading (quota bend : ℕ) (recording : List Sample) (starts : ℕ → ℕ) (gains : ℕ → Cpx)
     (grids : ℕ → ℕ → Cpx) (slot : SeenSlot) : Type 0 where
   pub shown : (l : ℕ) → l < 7 → slice_index_or slot.symbols l [] ≡ seen_symbol recording (starts l)
@@ -40,16 +39,16 @@ pub record IsSlotFading (quota bend : ℕ) (recording : List Sample) (starts : �
       ≡ pattern_sent port_0 slot.identity slot.number i
   pub slow : AreSlow bend gains
 
--- the gain of each symbol, at all subcarriers
+-- the channel that has each symbol's gain at all subcarriers
 abbrev pub by_symbol : (ℕ → Cpx) → Channel
 by_symbol gains symbol k = gains symbol
 
--- bounds of slow gains, beside the least of them
+-- bounds for slowly varying gains, relative to the weakest
 abbrev pub fading_bounds : ℕ → ℕ → Bounds
 fading_bounds most bend = record { most = most; least = 1000; mean = 1000 + bend; bend = bend }
 
--- numbers that leave room: an amplitude is seen off by at most `own` times the size of its symbol's gain, and so by at
--- most `most` times that of the least
+-- numbers that leave room: an amplitude is observed with an error of at most `own` times the magnitude of its symbol's
+-- gain, and thus of at most `most` times that of the weakest gain
 pub record LeaveFadingRoom (quota bend : ℕ) : Type 0 where
   pub own : ℕ
   pub most : ℕ
@@ -57,13 +56,13 @@ pub record LeaveFadingRoom (quota bend : ℕ) : Type 0 where
   pub wider : own * (1000 + bend) ≤ 1000 * most
   pub room : LeaveRoom 1 (fading_bounds most bend)
 
--- a slot is seen through the gains of its symbols, beside the least of them
+-- a slot is received through its symbols' gains, with bounds relative to the weakest
 pub record IsThroughGains (bounds : Bounds) (gains : ℕ → Cpx) (grids : ℕ → ℕ → Cpx) (slot : SeenSlot) : Type 0 where
   pub weakest : ℕ
   pub few : weakest < 7
   pub through : IsSlotThrough bounds (square (gains weakest)) (by_symbol gains) grids slot
 
--- a law: so is a slot whose gains are slow, where the numbers leave room
+-- a law: a slot with slowly varying gains is received through them, if the numbers leave room
 abbrev pub FadingSlotIsThrough : Type 0
 FadingSlotIsThrough =
     (quota bend : ℕ) (leave : LeaveFadingRoom quota bend) (recording : List Sample) (starts : ℕ → ℕ) (gains : ℕ → Cpx)
@@ -72,13 +71,13 @@ FadingSlotIsThrough =
 
 -- ---- cells
 
--- a symbol of a slot that is read: of slot 1 of the first frame, or of subframe 5 of the first frame of even number
+-- the symbols that are read: slot 1 of the first frame, and subframe 5 of the first even-numbered frame
 abbrev pub IsRead : ℕ → ℕ → ℕ → ℕ → Type 0
 IsRead sfn offset frame slot = IsOfMaster offset frame slot ⊎ IsOfSystem OnePort sfn offset frame slot
 
--- a recording is faithful to elements of a cell's only port that carry the plan, but for its gain: each symbol that
--- is read has its own, by frame, slot and symbol, and those of a slot are slow; the synchronisation signals of a slot
--- have one for both, by frame and slot
+-- a recording is faithful to elements that carry the plan, except for the gain. Each symbol that is read has its own
+-- gain (by frame, slot and symbol), which varies slowly within a slot; the two synchronisation signals of a slot share
+-- a gain (by frame and slot).
 pub record IsFadingBy (quota bend : ℕ) (recording : List Sample) (plan : CellPlan) (grids : Port → Elements)
     (sfn offset : ℕ) (gains : ℕ → ℕ → ℕ → Cpx) (signal_gains : ℕ → ℕ → Cpx) : Type 0 where
   pub number : sfn ≤ 1023
@@ -97,7 +96,7 @@ pub record IsFadingBy (quota bend : ℕ) (recording : List Sample) (plan : CellP
       errors_from OnePort recording grids sfn offset (signal_gains frame slot ∷ []) start
       ≤ 1800 * square (signal_gains frame slot)
 
--- a law: such a cell is seen through channels, where the numbers leave room
+-- a law: a cell with slowly varying gains is received through channels, if the numbers leave room
 abbrev pub FadingIsThrough : Type 0
 FadingIsThrough =
     (quota bend : ℕ) (recording : List Sample) (plan : CellPlan) (grids : Port → Elements) (sfn offset : ℕ)
@@ -105,7 +104,7 @@ FadingIsThrough =
     IsFadingBy quota bend recording plan grids sfn offset gains signal_gains →
     IsSeenThroughBy OnePort recording plan grids sfn offset
 
--- a law: a cell to which the recording is faithful is one whose gains differ by nothing
+-- a law: a cell to which the recording is faithful has constant gains
 abbrev pub FaithfulIsFading : Type 0
 FaithfulIsFading =
     (recording : List Sample) (plan : CellPlan) (grids : Port → Elements) (sfn offset : ℕ) (gains : List Cpx) →

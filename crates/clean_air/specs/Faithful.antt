@@ -1,7 +1,7 @@
--- A recording is faithful to a cell: in each symbol of the slots that the list of the cell's carrier reads, in the
--- primary signals at which it looks and in one of the secondary ones, it is what the cell's antenna ports send, each
--- times a gain in parts of 2^-14, up to errors of little energy. Of all else that the recording holds nothing is
--- asked. (own; frames, slots and symbols are those of TS 36.211 sections 4.1 and 6.2)
+-- A recording is faithful to a cell: each symbol that the receiver reads is what the cell's antenna ports send, each
+-- times a gain in units of 2^-14, up to errors of small energy. These symbols belong to the slots that the scheme's
+-- receiver decodes, or carry a primary signal in its search range or one secondary signal. Other samples are
+-- unconstrained. (own; frames, slots and symbols are those of TS 36.211 sections 4.1 and 6.2)
 use Rattle.std.specs.Prelude.{◌≡◌, ℕ, ◌+◌, ◌*◌, ◌^◌, ◌/◌, ◌%◌, ◌<◌, ◌≤◌, ◌⊎◌, nat_eq, if◌then◌else◌, MatchBool}
 use Rattle.std.specs.Prelude.{List, [], ◌∷◌, length, map}
 use Rattle.cs_num.specs.declared.Cpx.{Cpx}
@@ -26,45 +26,45 @@ use Rattle.clean_air.specs.Load.{CarriesPlan, IsLoadedBy, received_from}
 
 -- ---- gains and errors
 
--- gains of a carrier's ports, in parts: that of the first is of size 1 and more, and no pair of four ports is weak
+-- gains of the ports, in units of 2^-14: the first has magnitude at least 1, and with four ports neither pair is weak
 pub record ArePartGains (carrier : Carrier) (gains : List Cpx) : Type 0 where
   pub sounds : 2 ^ 28 ≤ square (value_at gains 0)
   pub paired : ArePairedBy carrier gains
 
--- the most energy of errors beside the gains of two ports, or of four, together
+-- the maximum error energy relative to the gains of two or four ports together
 abbrev pub most_beside : Carrier → List Cpx → ℕ
 most_beside carrier gains =
     if nat_eq (ports_of carrier) 2 then 400 * (square (value_at gains 0) + square (value_at gains 1))
     else 7 * squares_of_four (value_at gains)
 
--- errors of this energy in a symbol are little beside these gains: beside that of port 0, and, of more ports than one,
--- beside all together
+-- this error energy of a symbol is small compared with the gain of port 0 and, with several ports, with all gains
+-- together
 abbrev pub IsLittle : Carrier → List Cpx → ℕ → Type 0
 IsLittle carrier gains energy =
     MatchBool (nat_eq (ports_of carrier) 1) (energy ≤ 1800 * square (value_at gains 0))
     ((energy ≤ most_beside carrier gains) × (energy ≤ 1800 * square (value_at gains 0)))
 
--- ---- what a list looks at
+-- ---- the symbols that the receiver reads
 
--- which frame of those that are sent is the first that begins in the recording, and the first of these of even number
+-- the index of the first sent frame that begins in the recording, and of the first even-numbered one
 abbrev pub first_frame_of : ℕ → ℕ
 first_frame_of offset = if nat_eq offset 0 then 0 else 1
 
 abbrev pub even_frame_of : ℕ → ℕ → ℕ
 even_frame_of sfn offset = first_frame_of offset + number_at_start sfn offset % 2
 
--- any symbol of slot 1 of the first frame, which holds the broadcast channel (TS 36.211 section 6.6)
+-- a symbol of slot 1 of the first frame, which carries the broadcast channel (TS 36.211 section 6.6)
 abbrev pub IsOfMaster : ℕ → ℕ → ℕ → Type 0
 IsOfMaster offset frame slot = (frame ≡ first_frame_of offset) × (slot ≡ 1)
 
--- any symbol of subframe 5 of the first frame of even number, which holds SIB1 (TS 36.331 section 5.2.1.2), where the
--- carrier sends it
+-- a symbol of subframe 5 of the first even-numbered frame, which carries SIB1 (TS 36.331 section 5.2.1.2), if the
+-- scheme sends it
 abbrev pub IsOfSystem : Carrier → ℕ → ℕ → ℕ → ℕ → Type 0
 IsOfSystem carrier sfn offset frame slot =
     MatchBool (has_control_by carrier) ((frame ≡ even_frame_of sfn offset) × (slot / 2 ≡ 5)) ⊥
 
--- the last symbol of slot 0 or 10, which holds the primary signal, where it begins within 9 samples of a place of hits
--- that has room before it for the secondary one (TS 36.211 section 6.11.1)
+-- the last symbol of slot 0 or 10, which holds the primary signal, if it begins within 9 samples of the PSS search
+-- range and leaves room for the secondary signal before it (TS 36.211 section 6.11.1)
 pub record IsOfPrimary (carrier : Carrier) (slot symbol start : ℕ) : Type 0 where
   pub half : Half
   pub slot_is : slot ≡ 2 * subframe_of half
@@ -72,8 +72,8 @@ pub record IsOfPrimary (carrier : Carrier) (slot symbol start : ℕ) : Type 0 wh
   pub from_first : symbol_step (prefix_of carrier) ≤ start + 9
   pub to_last : start ≤ last_place + 9
 
--- the symbol before it, which holds the secondary signal, where the primary one begins in the later half of the places
--- of hits: one of the two in these places is enough (TS 36.211 section 6.11.2)
+-- the symbol of the secondary signal, if the primary signal after it begins in the later half frame of the PSS search
+-- range: one of the two signals in a frame is enough (TS 36.211 section 6.11.2)
 pub record IsOfSecondary (carrier : Carrier) (slot symbol start : ℕ) : Type 0 where
   pub half : Half
   pub slot_is : slot ≡ 2 * subframe_of half
@@ -81,8 +81,8 @@ pub record IsOfSecondary (carrier : Carrier) (slot symbol start : ℕ) : Type 0 
   pub from_middle : last_place < start + symbol_step (prefix_of carrier) + half_frame_length
   pub to_last : start + symbol_step (prefix_of carrier) ≤ last_place
 
--- the list of a carrier looks at this symbol of a cell, whose useful part begins at this sample: it is of a slot that
--- the list reads, or it is one of these signals
+-- the receiver reads the symbol at this sample: it belongs to a slot that it decodes, or carries a synchronisation
+-- signal
 abbrev pub IsLookedAt : Carrier → ℕ → ℕ → ℕ → ℕ → ℕ → ℕ → Type 0
 IsLookedAt carrier sfn offset frame slot symbol start =
     IsOfMaster offset frame slot ⊎ (IsOfSystem carrier sfn offset frame slot
@@ -90,15 +90,14 @@ IsLookedAt carrier sfn offset frame slot symbol start =
 
 -- ---- recordings
 
--- the energy of what the 128 samples from `start` on are off by from what is received of elements of all ports, with
--- gains in parts
+-- the energy of the difference between the 128 samples from `start` and the sum of all ports' signals times their gains
 abbrev pub errors_from : Carrier → List Sample → (Port → Elements) → ℕ → ℕ → List Cpx → ℕ → ℕ
 errors_from carrier recording grids sfn offset gains start =
     energy_below 128
     (off_by (samples_from recording start) (λ n. received_from carrier grids sfn offset gains (start + n)))
 
--- a recording is faithful to elements of each port of a carrier that carry the plan, from the frame numbered sfn on:
--- in each symbol that the list looks at, whose useful part begins at the sample `start`, the errors are little
+-- a recording is faithful to elements of each port that carry the plan, from frame number `sfn`: in each symbol that
+-- the receiver reads, whose useful part begins at sample `start`, the error energy is small
 pub record IsFaithfulBy (carrier : Carrier) (recording : List Sample) (plan : CellPlan) (grids : Port → Elements)
     (sfn offset : ℕ) (gains : List Cpx) : Type 0 where
   pub number : sfn ≤ 1023
@@ -117,8 +116,8 @@ IsFaithful recording plan grid sfn offset gain =
 
 -- ---- clean recordings
 
--- a law: of a recording that is clean of a cell, with components off by at most eps, the errors of 128 samples have
--- little energy, with each gain in parts
+-- a law: in a recording that is clean for a cell, with component errors of at most eps, the errors of 128 samples have
+-- little energy, with each gain in units of 2^-14
 abbrev pub LoadedHasLittleErrors : Type 0
 LoadedHasLittleErrors =
     (carrier : Carrier) (recording : List Sample) (plan : CellPlan) (grids : Port → Elements) (sfn offset : ℕ)
@@ -126,7 +125,7 @@ LoadedHasLittleErrors =
     start + 128 ≤ length recording →
     errors_from carrier recording grids sfn offset (map in_parts gains) start ≤ 2 ^ 36 * (eps * eps)
 
--- a law: so it is faithful to the cell, whatever else the cell sends
+-- a law: a recording that is clean for a cell is faithful to it, whatever else the cell sends
 abbrev pub LoadedIsFaithful : Type 0
 LoadedIsFaithful =
     (carrier : Carrier) (recording : List Sample) (plan : CellPlan) (grids : Port → Elements) (sfn offset : ℕ)

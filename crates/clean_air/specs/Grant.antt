@@ -1,5 +1,5 @@
--- A grant of system information that was sent is told by the values of its control information (PDCCH, TS 36.211
--- section 6.8, TS 36.212 sections 5.3.3.1.3 and 5.3.3.2). (own)
+-- The soft values of the control channel determine the grant of SIB1 that was sent (PDCCH, TS 36.211 section 6.8, TS
+-- 36.212 sections 5.3.3.1.3 and 5.3.3.2). (own)
 use Rattle.std.specs.Prelude.{◌≡◌, ℕ, ◌≤◌, Bool, List, ℤ, Result, Ok}
 use Rattle.cs_num.specs.declared.Cpx.{Cpx}
 use Rattle.cs_bits.specs.Checks.{with_check_16, HasCheck16}
@@ -22,26 +22,26 @@ use Rattle.clean_air.specs.Values.{IsSlotHeard}
 use Rattle.clean_air.specs.Words.{SpeakInOrder, IsOnlyWord}
 use Rattle.clean_air.specs.Carried.{ArePlacesHeard, CarryBits}
 
--- the 37 bits that are sent for a grant: its 21 bits and their check, masked by the identifier of system information
+-- the 37 bits that are sent for a grant: its 21 bits and their CRC, masked by the SI-RNTI
 abbrev pub grant_word : Grant → List Bool
 grant_word grant = with_check_16 system_information_rnti (sent_word grant)
 
--- the values of the first four of a count of control channel elements tell a grant and nothing else: the word that is
--- sent for it is the only least word of the sums, and its check passes
+-- the soft values of the first four control channel elements determine this grant only: its word is the only one of
+-- minimum cost, and its CRC passes
 pub record IsOnlyGrant (count : ℕ) (candidate : List ℤ) (grant : Grant) : Type 0 where
   pub word : IsOnlyWord (summed 37 candidate) (grant_word grant)
   pub passes : HasCheck16 system_information_rnti (grant_word grant)
   pub told : Grants count candidate (Ok grant)
   pub only : (answer : Result Grant Sib1Reason) → Grants count candidate answer → answer ≡ Ok grant
 
--- values before scrambling, at least 111, that each speak for the coded bit of a grant's word that stands there, tell
+-- a law: at least 111 soft values before scrambling, each with the sign of its coded bit of the grant's word, determine
 -- the grant
 abbrev pub SentGrantIsTold : Type 0
 SentGrantIsTold = (count : ℕ) (candidate : List ℤ) (grant : Grant) → IsGrant grant → 4 ≤ count →
     SpeakInOrder (grant_word grant) candidate → IsOnlyGrant count candidate grant
 
--- a slot tells a grant, with an indicator and the PHICH of a master block: there are at least four elements, and the
--- 288 values of the first four tell it
+-- a slot determines a grant, for this indicator and PHICH: there are at least four control channel elements, and the
+-- 288 soft values of the first four determine it
 pub record TellsGrant (slot : SeenSlot) (indicator : ℕ) (duration : Duration) (resource : Resource) (grant : Grant)
     : Type 0 where
   pub enough : 4 ≤ element_count indicator duration resource
@@ -49,8 +49,8 @@ pub record TellsGrant (slot : SeenSlot) (indicator : ℕ) (duration : Duration) 
   pub told : IsOnlyGrant (element_count indicator duration resource)
       (candidate_values slot indicator duration resource) grant
 
--- the places of the first four elements in the subframe that begins with a slot, and the bits of a grant as they are
--- sent there
+-- resource elements of the first four control channel elements in the subframe that begins with this slot, and the
+-- grant's scrambled bits
 abbrev pub grant_places : SeenSlot → ℕ → Duration → Resource → List Place
 grant_places slot indicator duration resource =
     candidate_places slot.identity (pdcch_groups slot.identity indicator duration resource)
@@ -58,8 +58,8 @@ grant_places slot indicator duration resource =
 abbrev pub grant_scrambled : SeenSlot → Grant → ℕ → Bool
 grant_scrambled slot grant = scrambled_bit (pdcch_c_init slot.identity slot.number) (grant_word grant)
 
--- a slot tells a grant where the places of the first four elements are heard with the grant's bits, and the indicator
--- is 2 or 3
+-- a law: a slot determines a grant if the soft values of the first four control channel elements have the signs of its
+-- bits and the indicator is 2 or 3
 abbrev pub HeardGrantIsTold : Type 0
 HeardGrantIsTold =
     (slot : SeenSlot) (indicator : ℕ) (duration : Duration) (resource : Resource) (grant : Grant) →
@@ -67,7 +67,7 @@ HeardGrantIsTold =
     ArePlacesHeard slot (grant_places slot indicator duration resource) (grant_scrambled slot grant) →
     TellsGrant slot indicator duration resource grant
 
--- a slot tells a grant where it is heard and its control channel carries the grant
+-- a law: a slot determines a grant if its soft values are correct and its control channel carries the grant
 abbrev pub CarriedGrantIsTold : Type 0
 CarriedGrantIsTold =
     (grids : ℕ → ℕ → Cpx) (slot : SeenSlot) (indicator : ℕ) (duration : Duration) (resource : Resource)

@@ -1,4 +1,4 @@
--- A control format indicator that was sent is told by its values (PCFICH, TS 36.211 section 6.7). (own)
+-- The soft values of the PCFICH determine the control format indicator that was sent (TS 36.211 section 6.7). (own)
 use Rattle.std.specs.Prelude.{◌≡◌, ℕ, ◌≤◌, Bool, List, ℤ}
 use Rattle.cs_num.specs.declared.Cpx.{Cpx}
 use Rattle.grid_map.specs.Control.{pcfich_places}
@@ -10,32 +10,33 @@ use Rattle.cell_grid.specs.Points.{scrambled}
 use Rattle.clean_air.specs.Values.{IsSlotHeard}
 use Rattle.clean_air.specs.Carried.{ArePlacesHeard, CarryBits}
 
--- values tell an indicator and no other number
+-- the soft values determine this indicator and no other number
 pub record IsOnlyIndicator (values : List ℤ) (indicator : ℕ) : Type 0 where
   pub is : IsIndicator values indicator
   pub only : (other : ℕ) → IsIndicator values other → other ≡ indicator
 
--- values that each speak for the bits of an indicator, 1 to 3, tell it
+-- a law: soft values determine an indicator, 1 to 3, if each has the sign of its bit
 abbrev pub SentIndicatorIsTold : Type 0
 SentIndicatorIsTold = (values : List ℤ) (indicator : ℕ) → 1 ≤ indicator → indicator ≤ 3 → Speak values indicator →
     IsOnlyIndicator values indicator
 
--- a slot tells an indicator: each of its 32 values speaks for it
+-- a slot determines an indicator: each of its 32 soft values has the sign of the indicator's bit
 pub record TellsIndicator (slot : SeenSlot) (indicator : ℕ) : Type 0 where
   pub speak : Speak (indicator_values slot) indicator
   pub told : IsOnlyIndicator (indicator_values slot) indicator
 
--- the bits of an indicator as they are sent in the subframe that begins with a slot
+-- the scrambled bits of an indicator in the subframe that begins with this slot
 abbrev pub indicator_scrambled : SeenSlot → ℕ → ℕ → Bool
 indicator_scrambled slot indicator = scrambled (pcfich_c_init slot.identity slot.number) (indicator_bit indicator)
 
--- a slot tells an indicator where the sixteen places of the channel are heard with the indicator's bits
+-- a law: a slot determines an indicator if the soft values of the channel's 16 resource elements have the signs of its
+-- bits
 abbrev pub HeardIndicatorIsTold : Type 0
 HeardIndicatorIsTold = (slot : SeenSlot) (indicator : ℕ) → 1 ≤ indicator → indicator ≤ 3 →
     ArePlacesHeard slot (pcfich_places slot.identity) (indicator_scrambled slot indicator) →
     TellsIndicator slot indicator
 
--- a slot tells an indicator where it is heard and its channel carries the indicator
+-- a law: a slot determines an indicator if its soft values are correct and its channel carries the indicator
 abbrev pub CarriedIndicatorIsTold : Type 0
 CarriedIndicatorIsTold =
     (grids : ℕ → ℕ → Cpx) (slot : SeenSlot) (indicator : ℕ) → 1 ≤ indicator → indicator ≤ 3 →

@@ -16,7 +16,7 @@ use Rattle.cell_grid.specs.Grid.{Elements}
 use Rattle.clean_air.specs.Load.{IsLoaded}
 use Rattle.clean_air.specs.Faithful.{IsFaithful}
 
--- the plan of an entry's cell, which sends this block with this indicator and as this grant says
+-- the plan with an entry's fields and this SIB1, indicator and grant
 abbrev pub plan_by : Entry → ℕ → Grant → Sib1 → CellPlan
 plan_by entry indicator grant block = record {
   identity = entry.id;
@@ -31,8 +31,8 @@ plan_by entry indicator grant block = record {
   sib1 = block;
 }
 
--- the entry's cell has this plan: that of the entry's fields and of the indicator and the grant by which they were
--- read, with one antenna port and bandwidth n6, and none of the conditions of a plan fails
+-- the entry's cell has this plan: it combines the entry's fields with the indicator and the grant by which SIB1 was
+-- read, has one antenna port and bandwidth n6, and satisfies all conditions of a plan
 pub record IsPlanned (recording : List Sample) (entry : Entry) (plan : CellPlan) : Type 0 where
   pub grant : Grant
   pub granted : IsGrantOf recording entry (Some (plan.cfi, grant))
@@ -42,14 +42,13 @@ pub record IsPlanned (recording : List Sample) (entry : Entry) (plan : CellPlan)
   pub told : plan ≡ plan_by entry plan.cfi grant plan.sib1
   pub accepted : plan_refusal plan ≡ None
 
--- the plan of an entry's cell, or none where there is none
+-- the entry's plan, or `None` if it has none
 abbrev pub IsPlanOf : List Sample → Entry → Option CellPlan → Type 0
 IsPlanOf recording entry (Some plan) = IsPlanned recording entry plan
 IsPlanOf recording entry None = (plan : CellPlan) → IsPlanned recording entry plan → ⊥
 
--- where the recording is faithful to a cell that can be sent, whatever else that cell sends, and the entry is of its
--- identity, of the sample at which its first frame begins and of that frame's number, the plan is the one by which it
--- was sent
+-- if the recording is faithful to a cell that can be sent, whatever else it sends, and the entry has the cell's
+-- identity, first frame's sample and frame number, the plan is the sent one
 abbrev pub IsFaithfulPlan : List Sample → Entry → Option CellPlan → Type 0
 IsFaithfulPlan recording entry answer =
     (plan : CellPlan) (grid : Elements) (sfn offset : ℕ) (gain : Cpx) → IsSendable plan →
@@ -57,7 +56,7 @@ IsFaithfulPlan recording entry answer =
     entry.id ≡ plan.identity → entry.start ≡ start_of offset → entry.sfn ≡ number_at_start sfn offset →
     answer ≡ Some plan
 
--- where the recording is clean of a cell that can be sent, the entry's plan is the one by which it was sent
+-- if the recording is clean for a cell that can be sent, and the entry is the cell's, the plan is the sent one
 abbrev pub IsSentPlan : List Sample → Entry → Option CellPlan → Type 0
 IsSentPlan recording entry answer =
     (plan : CellPlan) (grid : Elements) (sfn offset : ℕ) (gain : Cpx) (eps : ℕ) → IsSendable plan →
@@ -65,8 +64,8 @@ IsSentPlan recording entry answer =
     entry.id ≡ plan.identity → entry.start ≡ start_of offset → entry.sfn ≡ number_at_start sfn offset →
     answer ≡ Some plan
 
--- a law: in a recording that is faithful to a cell that can be sent, whatever else that cell sends, the entry of its
--- identity, of the sample at which its first frame begins and of that frame's number has the plan by which it was sent
+-- a law: in a recording that is faithful to a cell that can be sent, whatever else it sends, the entry with the cell's
+-- identity, first frame's sample and frame number has the sent plan
 abbrev pub FaithfulEntryHasPlan : Type 0
 FaithfulEntryHasPlan =
     (recording : List Sample) (entry : Entry) (plan : CellPlan) (grid : Elements) (sfn offset : ℕ) (gain : Cpx) →
@@ -75,7 +74,7 @@ FaithfulEntryHasPlan =
     entry.id ≡ plan.identity → entry.start ≡ start_of offset → entry.sfn ≡ number_at_start sfn offset →
     IsPlanned recording entry plan
 
--- a law: so it has in a recording that is clean of it
+-- a law: in a recording that is clean for a cell, the cell's entry has the sent plan
 abbrev pub SentEntryHasPlan : Type 0
 SentEntryHasPlan =
     (recording : List Sample) (entry : Entry) (plan : CellPlan) (grid : Elements) (sfn offset : ℕ) (gain : Cpx)

@@ -1,4 +1,4 @@
--- The soft values of a subframe of which both slots are heard. (own)
+-- The soft values of a subframe in which both slots have correct soft values. (own)
 use Rattle.std.specs.Prelude.{◌≡◌, ℕ, ◌+◌, ◌*◌, ◌<◌, Bool, All, List, length, slice_index_or}
 use Rattle.cs_num.specs.declared.Cpx.{Cpx}
 use Rattle.lte_types.specs.declared.carrier.Carrier.TheVariants.{OnePort}
@@ -14,36 +14,38 @@ use Rattle.cell_grid.specs.Points.{scrambled, point_of}
 use Rattle.clean_air.specs.Values.{IsSlotHeard}
 use Rattle.clean_air.specs.Carried.{AreHeard, ArePlacesHeardIn}
 
--- ---- places and their values
+-- ---- resource elements and their soft values
 
--- places of a subframe are heard, each in its slot
+-- the soft values of a subframe's resource elements, each in its slot, have the signs of their bits
 abbrev pub IsSubframeHeard : SeenSlot → SeenSlot → List Place → (ℕ → Bool) → Type 0
 IsSubframeHeard first second places bits = ArePlacesHeardIn (in_subframe first second) places bits
 
--- bits of the shared channel, scrambled from the first place of the subframe on (TS 36.211 section 6.3.1)
+-- bits of the shared channel after scrambling, from the subframe's first resource element on (TS 36.211 section 6.3.1)
 abbrev pub shared_scrambled : SeenSlot → (ℕ → Bool) → ℕ → Bool
 shared_scrambled first bits = scrambled (pdsch_c_init first.identity first.number system_information_rnti) bits
 
--- the values of the shared channel speak for the bits before scrambling, where its places are heard
+-- a law: the shared channel's soft values have the signs of the bits before scrambling, if those of its resource
+-- elements have the signs of the scrambled bits
 abbrev pub ValuesOfBlocksAreHeard : Type 0
 ValuesOfBlocksAreHeard = (first second : SeenSlot) (cfi start blocks : ℕ) (bits : ℕ → Bool) →
     let places = shared_places_of OnePort first.identity cfi start blocks in
     IsSubframeHeard first second places (shared_scrambled first bits) →
     AreHeard 1 (2 * length places) bits (shared_values first second cfi start blocks)
 
--- ---- places of a grid
+-- ---- resource elements of a grid
 
--- both slots of a subframe are heard, whose symbols 0 to 13 have these grids
+-- both slots of the subframe with these grids, symbols 0 to 13, have correct soft values
 pub record AreSlotsHeard (grids : ℕ → ℕ → Cpx) (first second : SeenSlot) : Type 0 where
   pub first_slot : IsSlotHeard grids first
   pub second_slot : IsSlotHeard (λ l. grids (7 + l)) second
 
--- places of the subframe carry bits, each two of them
+-- resource elements of the subframe carry bits, two in each
 abbrev pub CarryInSubframe : (ℕ → ℕ → Cpx) → List Place → (ℕ → Bool) → Type 0
 CarryInSubframe grids places bits = (i : ℕ) → i < length places →
     let p = slice_index_or places i (place 0 0) in grids p.symbol p.k ≡ point_of bits i
 
--- where both slots are heard, the soft values of places of the subframe that carry bits speak for them
+-- a law: in a subframe whose slots have correct soft values, the soft values of resource elements that carry bits have
+-- their signs
 abbrev pub CarriedSubframeIsHeard : Type 0
 CarriedSubframeIsHeard =
     (grids : ℕ → ℕ → Cpx) (first second : SeenSlot) (places : List Place) (bits : ℕ → Bool) →
@@ -51,8 +53,8 @@ CarriedSubframeIsHeard =
     CarryInSubframe grids places bits →
     AreHeard 1 (2 * length places) bits (placed_values (in_subframe first second) places)
 
--- where both slots are heard, the values of the shared channel speak for the bits before scrambling that its places
--- carry
+-- a law: in a subframe whose slots have correct soft values, the shared channel's soft values have the signs of the
+-- bits before scrambling that its resource elements carry
 abbrev pub CarriedBlocksAreHeard : Type 0
 CarriedBlocksAreHeard =
     (grids : ℕ → ℕ → Cpx) (first second : SeenSlot) (cfi start blocks : ℕ) (bits : ℕ → Bool) →

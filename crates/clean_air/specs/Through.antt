@@ -1,6 +1,6 @@
--- Cells that are seen through channels: each slot that is read through one of its own, which may be another gain at
--- each place, and the synchronisation signals with gains of their own. (own; frames, slots and symbols are those of
--- TS 36.211 sections 4.1 and 6.2)
+-- Cells that are received through channels: each slot that is read has its own channel, possibly with another gain at
+-- each resource element, and the synchronisation signals have their own gains. (own; frames, slots and symbols are
+-- those of TS 36.211 sections 4.1 and 6.2)
 use Rattle.std.specs.Prelude.{◌≡◌, ℕ, ◌+◌, ◌*◌, ◌/◌, ◌%◌, ◌<◌, ◌≤◌, Bool, not, ◌&&◌, nat_eq, MatchBool, List}
 use Rattle.cs_num.specs.declared.Cpx.{Cpx}
 use Rattle.cs_num.specs.declared.Sample.{Sample}
@@ -32,15 +32,14 @@ use Rattle.clean_air.specs.Faithful.{IsFaithfulBy}
 
 -- ---- the synchronisation signals
 
--- a primary signal of a cell begins at the sample t of a recording that begins at this offset (TS 36.211 section
--- 6.11.1)
+-- a primary signal of the cell begins at sample t of a recording with this offset (TS 36.211 section 6.11.1)
 pub record IsPrimaryPlace (offset t : ℕ) (half : Half) : Type 0 where
   pub frame : ℕ
   pub place : t + offset ≡ frame_length * frame + primary_start half
 
--- the signals of a cell stand in a recording: near the places of hits each primary one with one gain and errors, which
--- may be later paths; and where it begins in their later half both, with the secondary one before it, are seen through
--- a channel, which may be another each time (TS 36.211 section 6.11.2)
+-- the recording contains the cell's synchronisation signals. Near the PSS search range, each primary signal is received
+-- with one gain and errors, which may be later paths. If it begins in the later half frame of the range, it and the
+-- secondary signal before it are received through a channel, which may differ each time (TS 36.211 section 6.11.2).
 pub record ShowsSignals (carrier : Carrier) (recording : List Sample) (identity offset : ℕ) : Type 0 where
   pub primary : (t : ℕ) (half : Half) → IsPrimaryPlace offset t half → symbol_step (prefix_of carrier) ≤ t + 9 →
       t ≤ last_place + 9 → IsPrimaryWithin 14000 recording t (identity % 3)
@@ -53,9 +52,9 @@ pub record ShowsSignals (carrier : Carrier) (recording : List Sample) (identity 
 abbrev pub slot_elements : Elements → ℕ → ℕ → ℕ → ℕ → Cpx
 slot_elements grid number slot l = grid number (slot / 2) (7 * (slot % 2) + l)
 
--- a slot of port 0 is seen through a channel, beside a size whose square is n: so are its pilots, and so is each place
--- that holds a point of two bits, whether the list reads it or not; each of these can be read, and the bounds leave
--- room
+-- a slot of port 0 is received through a channel, with bounds relative to a magnitude whose square is n. This holds for
+-- its pilots and for every resource element with a point of two bits, read or not; each can be decoded, and the bounds
+-- leave room.
 pub record IsSlotThrough (bounds : Bounds) (n : ℕ) (channel : Channel) (grids : ℕ → ℕ → Cpx) (slot : SeenSlot) :
     Type 0 where
   pub room : LeaveRoom 1 bounds
@@ -65,20 +64,20 @@ pub record IsSlotThrough (bounds : Bounds) (n : ℕ) (channel : Channel) (grids 
   pub seen : (symbol k : ℕ) (first second : Bool) → symbol < 7 → k < 72 → grids symbol k ≡ point first second →
       IsSeenNear bounds.most n (times (channel symbol k) (point first second)) (seen_at slot symbol k)
 
--- a law: the soft values of such a slot speak for what it carries
+-- a law: a slot that is received through a channel has correct soft values
 abbrev pub SlotThroughIsHeard : Type 0
 SlotThroughIsHeard =
     (bounds : Bounds) (n : ℕ) (channel : Channel) (grids : ℕ → ℕ → Cpx) (slot : SeenSlot) →
     IsSlotThrough bounds n channel grids slot → IsSlotHeard grids slot
 
--- a law: a slot that is received with one gain is seen through it
+-- a law: a slot that is received with one gain is received through it as a channel
 abbrev pub ReceivedSlotIsThrough : Type 0
 ReceivedSlotIsThrough =
     (recording : List Sample) (starts : ℕ → ℕ) (grids : ℕ → ℕ → Cpx) (slot : SeenSlot)
     (received : IsSlotReceived recording starts grids slot) →
     IsSlotThrough level_bounds (square received.gain) (level received.gain) grids slot
 
--- a slot is seen through some channel
+-- a slot is received through some channel
 pub record IsThrough (grids : ℕ → ℕ → Cpx) (slot : SeenSlot) : Type 0 where
   pub bounds : Bounds
   pub size : ℕ
@@ -87,16 +86,16 @@ pub record IsThrough (grids : ℕ → ℕ → Cpx) (slot : SeenSlot) : Type 0 wh
 
 -- ---- cells
 
--- a slot of frame j of a recording, with the elements that a cell's only port sends in it, is seen through a channel
+-- a slot of frame j, with the elements that the cell's only port sends in it, is received through a channel
 abbrev pub IsFrameSlotThrough : List Sample → ℕ → Elements → ℕ → ℕ → ℕ → ℕ → Type 0
 IsFrameSlotThrough recording identity grid sfn offset j slot =
     IsThrough (slot_elements grid ((number_at_start sfn offset + j) % 1024) slot)
     (seen_slot recording (frame_at (start_of offset) j) slot identity)
 
--- a recording shows a cell of one port with elements that carry the plan, from the frame numbered sfn on: its signals
--- stand, and through a channel each are seen slot 1 of the first frame, which holds the broadcast channel (TS 36.211
--- section 6.6), and both slots of subframe 5 of the first frame of even number, which holds SIB1 (TS 36.331 section
--- 5.2.1.2)
+-- a cell of one port, whose elements carry the plan, is received from frame number `sfn`. The recording contains the
+-- cell's synchronisation signals, and these slots are received through a channel each: slot 1 of the first frame, with
+-- the broadcast channel (TS 36.211 section 6.6), and both slots of subframe 5 of the first even-numbered frame, with
+-- SIB1 (TS 36.331 section 5.2.1.2).
 pub record IsCellThrough (recording : List Sample) (plan : CellPlan) (grid : Elements) (sfn offset : ℕ) : Type 0 where
   pub number : sfn ≤ 1023
   pub within : IsOffset offset
@@ -106,16 +105,16 @@ pub record IsCellThrough (recording : List Sample) (plan : CellPlan) (grid : Ele
   pub system : (slot : ℕ) → slot / 2 ≡ 5 →
       IsFrameSlotThrough recording plan.identity grid sfn offset (even_frame (number_at_start sfn offset) 0) slot
 
--- cells of one port with the normal prefix are seen through channels; of others no law is known
+-- the laws on channels cover this scheme: one port and the normal cyclic prefix
 abbrev pub is_seen_through : Carrier → Bool
 is_seen_through carrier = nat_eq (ports_of carrier) 1 && not (is_extended (prefix_of carrier))
 
--- a cell of a carrier is seen through channels
+-- a cell of this scheme is received through channels
 abbrev pub IsSeenThroughBy : Carrier → List Sample → CellPlan → (Port → Elements) → ℕ → ℕ → Type 0
 IsSeenThroughBy carrier recording plan grids sfn offset =
     MatchBool (is_seen_through carrier) (IsCellThrough recording plan (grids only_port) sfn offset) ⊥
 
--- a law: so is each cell of one port to which the recording is faithful
+-- a law: a cell of one port to which the recording is faithful is received through channels
 abbrev pub FaithfulIsThrough : Type 0
 FaithfulIsThrough =
     (recording : List Sample) (plan : CellPlan) (grids : Port → Elements) (sfn offset : ℕ) (gains : List Cpx) →

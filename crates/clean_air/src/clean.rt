@@ -1,4 +1,13 @@
 //! The cell list, and the promise that no cell with clean reception is missing from it.
+//!
+//! The promise (`IsListBy`): each cell of the transmission scheme that sends a known plan (`IsKnownBy`) has exactly one
+//! entry with its identity, start and frame number, read at cost 0 from its first whole frame, if the recording
+//!
+//! - is faithful to the cell (`faithful`, `specs/Faithful.antt`): each symbol that the receiver reads is what the
+//!   antenna ports send, each times one gain, up to errors whose energy is small compared with the gains;
+//! - is clean for the cell, whatever else the cell sends (`loaded`), or with a numbered load or none (`holds`);
+//! - with one antenna port and the normal cyclic prefix, shows the cell through channels (`through`,
+//!   `specs/Through.antt`), such as a slowly varying gain (`specs/Fading.antt`) or faint echoes (`specs/Echo.antt`).
 
 ghost use Rattle.std.specs.Prelude.{◌≡◌, All, IfOk, IfSome};
 ghost use Rattle.std.specs.List.{AllZip};
@@ -14,8 +23,8 @@ use sample_file::Recording;
 
 /// A receiver of one transmission scheme whose lists miss no cell with clean reception. (own)
 pub trait CleanReader: FrameReader {
-    /// States that a list by this receiver holds each cell of its scheme to which the recording is faithful, and, with
-    /// one antenna port and the normal prefix, each that is seen in it through channels.
+    /// A law: this receiver's lists contain each cell of its scheme to which the recording is faithful and, with one
+    /// antenna port and the normal cyclic prefix, each cell that is received through channels.
     fn holds_cells()
         ensures { HoldsCells Self.receiver };
 }
@@ -24,19 +33,8 @@ impl CleanReader for OnePort {
     fn holds_cells() {}
 }
 
-/// Lists the cells of `reader`'s transmission scheme in `recording`: replaces the contents of `list`, and stores in
-/// `work` how each entry was read. `hits` are the recording's PSS detections, if they are at hand; with `None` they are
-/// searched first. It allocates nothing.
-///
-/// The list is the one of `explain::explain_by`, and no cell with clean reception is missing (`IsListBy`): each cell of
-/// the scheme that sends a known plan (`IsKnownBy`) has exactly one entry with its identity, start and frame number,
-/// read at no cost from its first whole frame, if the recording
-///
-/// - is faithful to the cell (`faithful`, `specs/Faithful.antt`): each symbol that the list reads is what the antenna
-///   ports send, each times one gain, up to errors of little energy beside the gains;
-/// - is clean of the cell, whatever else the cell sends (`loaded`), or with a numbered load or none (`holds`);
-/// - with one antenna port and the normal prefix, shows the cell through channels (`through`, `specs/Through.antt`), such
-///   as a slowly turning gain (`specs/Fading.antt`) or faint echoes (`specs/Echo.antt`). (own)
+/// Lists the cells of `reader`'s transmission scheme in `recording` into `list`, and stores in `work` how each entry
+/// was read. `hits` are the recording's PSS detections; `None` searches for them. No allocations. (own)
 pub fn explain_clean_by<F: CleanReader>(
     reader: &F,
     recording: &Recording,
@@ -55,7 +53,7 @@ pub fn explain_clean_by<F: CleanReader>(
     prove!(57_600 <= count);
 }
 
-// The list of a recording by a receiver, of the hits at hand or of those that are searched.
+// Lists a recording's cells from the given PSS detections, or searches for them first.
 fn list_by<F: CleanReader>(
     reader: &F,
     recording: &Recording,
@@ -74,8 +72,7 @@ fn list_by<F: CleanReader>(
     }
 }
 
-/// Lists the cells with one antenna port and the normal prefix by `explain_clean_by`, with their
-/// SystemInformationBlockType1. (own)
+/// Lists the cells with one antenna port and the normal cyclic prefix by `explain_clean_by`, each with its SIB1. (own)
 pub fn explain_clean(recording: &Recording, work: &mut Workspace, list: &mut EntryList)
     ensures list { IsListOfCells recording.now list.new }
     ensures readings { AllZip (IsReading recording.now) list.new work.new }

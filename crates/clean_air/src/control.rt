@@ -1,33 +1,32 @@
-//! The control region of a subframe: its indicator and the grant of system information.
+//! The control region of a subframe: its control format indicator (PCFICH) and the grant of SIB1 (PDCCH).
+//!
+//! Each law also holds for a slot: it is enough that the channel's resource elements are received with the right signs
+//! (`heard`), or that the slot is received and its channel carries the bits (`carried`). For the grant the control
+//! format indicator is then 2 or 3, so that there are at least four control channel elements, and the first four are
+//! used.
 
 ghost use Rattle.clean_air.specs.Indicator.{SentIndicatorIsTold, HeardIndicatorIsTold, CarriedIndicatorIsTold};
 ghost use Rattle.clean_air.specs.Grant.{SentGrantIsTold, HeardGrantIsTold, CarriedGrantIsTold};
 ghost use Rattle.clean_air.specs.Attempt.{SpokenGrantIsRead, HeardGrantIsRead, CarriedGrantIsRead};
 
-/// States that 32 soft values return the sent control format indicator, 1 to 3, and no other, if each has the sign of
-/// its bit. So do the values of its channel (PCFICH) in a slot if its sixteen resource elements are received (`heard`),
-/// and so in a received slot whose channel carries the indicator (`carried`).
+/// A law: 32 soft values return the sent control format indicator, 1 to 3, and no other, if each has the sign of its
+/// bit.
 pub fn sent_indicator_is_told()
     ensures told { SentIndicatorIsTold }
     ensures heard { HeardIndicatorIsTold }
     ensures carried { CarriedIndicatorIsTold }
 {}
 
-/// States that soft values return the sent grant, and nothing else, if each has the sign of its coded bit and there are
-/// at least three for each of the 37 bits, in at least four control channel elements. The word's CRC then passes, and
-/// no other word has its cost of 0.
-///
-/// So do the 288 values of the first four elements (PDCCH) in a slot, with indicator 2 or 3, if their resource elements
-/// are received (`heard`), and so in a received slot that carries the grant (`carried`).
+/// A law: soft values return the sent grant, and nothing else, if each has the sign of its coded bit, with at least one
+/// per coded bit and at least four control channel elements.
 pub fn sent_grant_is_told()
     ensures told { SentGrantIsTold }
     ensures heard { HeardGrantIsTold }
     ensures carried { CarriedGrantIsTold }
 {}
 
-/// States that an attempt on a subframe returns the sent indicator and grant, and the answer of the grant's blocks,
-/// whatever that is, if its values have the signs of the sent bits and there are at least four control channel
-/// elements. It is enough that the first slot is received with indicator 2 or 3 and carries both (`heard`, `carried`).
+/// A law: an attempt on a subframe returns the sent indicator and grant, and the result from the grant's resource
+/// blocks, if its values have the sent bits' signs and there are at least four control channel elements.
 pub fn sent_grant_is_read()
     ensures spoken { SpokenGrantIsRead }
     ensures heard { HeardGrantIsRead }

@@ -1,4 +1,9 @@
 //! The plan by which a listed cell was sent.
+//!
+//! Identity, PHICH and spare bits are the entry's; the control format indicator, resource blocks, modulation and coding
+//! scheme and column are those by which its SIB1 was read (`grant_of`). There is no plan exactly if `grant_of` returns
+//! `None`, if the entry has more than one antenna port or a bandwidth other than n6, or if `Cell::new` refuses the
+//! plan.
 
 ghost use Rattle.std.specs.Prelude.{◌≡◌, ◌↔◌, IsTrue};
 ghost use Rattle.lte_types.specs.declared.bandwidth.Bandwidth.TheVariants.{N6};
@@ -13,13 +18,8 @@ use explain::{Workspace, grant_of};
 use lte_types::{Bandwidth, Cfi, Entry, Sib1};
 use sample_file::Recording;
 
-/// Returns the plan by which the cell of `entry` was sent. Identity, PHICH and spare bits are the entry's; indicator,
-/// resource blocks, modulation and coding scheme and column are those by which its SystemInformationBlockType1 was read
-/// (`grant_of`). `entry` is in the list of `recording`, whose frames are read again.
-///
-/// Returns `None` exactly if `grant_of` does, if the entry has more than one antenna port or another bandwidth than n6,
-/// or if `Cell::new` refuses the plan. If the recording is faithful to the entry's cell, or clean of it, the plan is
-/// the sent one. (own)
+/// Returns the plan by which the cell of `entry`, in the list of `recording`, was sent; reads the frames again. If the
+/// recording is clean for the cell, or faithful to it, this is the sent plan. (own)
 pub fn plan_of(recording: &Recording, entry: &Entry, work: &mut Workspace) -> Option<Cell>
     requires { IsInList recording.now entry.now }
     ensures plan { IsPlanOf recording.now entry.now result }
@@ -30,8 +30,8 @@ pub fn plan_of(recording: &Recording, entry: &Entry, work: &mut Workspace) -> Op
     plan_granted(recording, entry, grant_of(recording, entry, work))
 }
 
-/// Returns the plan of `plan_of` by an indicator and grant that are at hand (`Workspace::readings`), without reading a
-/// frame. `entry` is in the list of `recording`. (own)
+/// Returns the plan of `plan_of` for a known indicator and grant (`Workspace::readings`), without reading a frame.
+/// `entry` is in the list of `recording`. (own)
 pub fn plan_granted(
     recording: &Recording,
     entry: &Entry,
@@ -48,7 +48,8 @@ pub fn plan_granted(
     told_plan(recording, entry, granted)
 }
 
-// `plan_granted` without its promises on faithful and clean recordings, which follow from this clause there.
+// Returns the result of `plan_granted`, without its promises on faithful and clean recordings, which follow from this
+// clause.
 fn told_plan(recording: &Recording, entry: &Entry, granted: Option<(Cfi, Grant)>) -> Option<Cell>
     requires listed { IsInList recording.now entry.now }
     requires granted { IsGrantOf recording.now entry.now granted }
@@ -69,14 +70,14 @@ fn told_plan(recording: &Recording, entry: &Entry, granted: Option<(Cfi, Grant)>
     }
 }
 
-// Whether the entry has one antenna port and bandwidth n6.
+// Returns whether the entry has one antenna port and bandwidth n6.
 fn is_plain(entry: &Entry) -> bool
     ensures { IsTrue result ↔ ((entry.now.ports ≡ 1) × (entry.now.mib.bandwidth ≡ N6)) }
 {
     entry.ports == 1 && entry.mib.bandwidth == Bandwidth::N6
 }
 
-// The plan of an entry with an indicator, a grant and a block.
+// Returns the plan of an entry with an indicator, a grant and a SIB1.
 fn plan_by(entry: &Entry, cfi: Cfi, grant: &Grant, sib1: &Sib1) -> CellPlan
     ensures { result ≡ plan_made_by entry.now cfi grant.now sib1.now }
 {
@@ -94,19 +95,18 @@ fn plan_by(entry: &Entry, cfi: Cfi, grant: &Grant, sib1: &Sib1) -> CellPlan
     }
 }
 
-/// States that an entry has exactly one plan, or none.
+/// A law: an entry has exactly one plan, or none.
 pub fn one_plan()
     ensures { IsOnePlan }
 {}
 
-/// States that the entry of a cell to which the recording is faithful has the plan by which the cell was sent, if the
-/// plan can be sent, whatever else the cell sends.
+/// A law: the entry of a cell to which the recording is faithful has the sent plan, if the plan can be sent, whatever
+/// else the cell sends.
 pub fn faithful_entry_has_plan()
     ensures { FaithfulEntryHasPlan }
 {}
 
-/// States that the entry of a cell of which the recording is clean has the plan by which the cell was sent, if the plan
-/// can be sent.
+/// A law: the entry of a cell for which the recording is clean has the sent plan, if the plan can be sent.
 pub fn sent_entry_has_plan()
     ensures { SentEntryHasPlan }
 {}

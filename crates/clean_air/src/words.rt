@@ -1,11 +1,13 @@
-//! The word that clean values tell.
+//! The word that clean soft values determine.
+//!
+//! The sums of the values by coded bit have the bits' signs. The word costs 0, and every other word of its length costs
+//! more.
 
 ghost use Rattle.clean_air.specs.Words.{FourSpeakTogether, DescramblingKeeps, SumsSpeakByReading, SumsSpeakFrom};
 ghost use Rattle.clean_air.specs.Words.{SumsSpeak, SpokenWordIsOnly};
 
-/// States that the sent word is the only one of minimum cost if each soft value has the sign of its coded bit and there
-/// is at least one value per bit, in sending order from any bit on. The sums of the values by coded bit then have the
-/// bits' signs; the word costs 0, and every other word of its length more.
+/// A law: the sent word is the only one of minimum cost if each soft value has the sign of its coded bit, with at least
+/// one value per coded bit in sending order.
 pub fn spoken_word_is_the_least()
     ensures together { FourSpeakTogether }
     ensures descrambled { DescramblingKeeps }

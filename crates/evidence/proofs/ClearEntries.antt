@@ -1,4 +1,4 @@
--- The evidence of the entry of a cell to which a recording is faithful, or of which it is clean.
+-- An entry's measurements for a cell to which a recording is faithful, or for which it is clean.
 use Rattle.std.proofs.Common.{◌≡◌, ℕ, ◌*◌, ◌^◌, ◌≤◌, arith, refl, ap, sym, subst, ◌∙◌, List, [], ◌∷◌, length}
 use Rattle.cs_num.specs.declared.Cpx.{Cpx}
 use Rattle.cs_num.specs.declared.Sample.{Sample}
@@ -27,7 +27,7 @@ use Rattle.evidence.proofs.PeakOfEntry.{peak_is_high}
 use Rattle.evidence.proofs.PilotDifferences.{AreSteady, are_steady, AreQuiet, are_quiet}
 use Rattle.evidence.proofs.SeenPilots.{pilots_seen}
 
--- a multiple of the noise is at most one of the power, as they are told
+-- a multiple of the noise is at most a multiple of the power, as reported
 told_share : (whole part m noise e power : ℕ) → noise ≡ m → power ≡ e → whole * m ≤ part * e → whole * noise ≤ part * power
 told_share whole part m noise e power h k q = subst (λ n. whole * n ≤ part * power) (sym h) (subst (λ n. whole * m ≤ part * n) (sym k) q)
 
@@ -48,14 +48,14 @@ module _ (recording : List Sample) (entry : Entry) (told : Evidence) (plan : Cel
     peak = subst (λ n. 999 ≤ n) (sym evidence.peak) (peak_is_high recording plan grid sfn offset gain entry told.t faithful id start evidence.t.told);
   }
 
-  -- what is so of the slot of the first frame is so of the entry's slot
+  -- a statement on the first frame's slot holds for the entry's slot
   of_entry : (Is : SeenSlot → Type 0) → Is (broadcast_slot recording plan.identity (start_of offset) 0) → Is (broadcast_slot recording entry.id entry.start entry.frame)
   of_entry Is is =
       subst (λ n. Is (broadcast_slot recording n entry.start entry.frame)) (sym id)
       (subst (λ n. Is (broadcast_slot recording plan.identity n entry.frame)) (sym start)
       (subst (λ n. Is (broadcast_slot recording plan.identity (start_of offset) n)) (sym is_sent.frame) is))
 
-  -- the noise and the power are those of the pilots of its slot
+  -- the noise and the power are computed from the pilots of the entry's slot
   noise_is : told.noise ≡ noise_of (differences 24 2 (pilot (broadcast_slot recording entry.id entry.start entry.frame)))
   noise_is = evidence.noise ∙ ap noise_of (differences_of_one (broadcast_slot recording entry.id entry.start entry.frame))
 

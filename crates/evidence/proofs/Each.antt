@@ -1,4 +1,4 @@
--- A list of entries and how each was read, one after the other: what is told of the first, and of one more.
+-- Entries and their readings, in step: the first in both lists, and one more in each.
 use Rattle.std.proofs.Common.{◌≡◌, ℕ, ◌+◌, ◌<◌, List, [], ◌∷◌, ◌++◌, length, take, get_or, ap, sym, subst, ◌∙◌, arith}
 use Rattle.std.specs.List.{AllZip}
 use Rattle.std.proofs.lemmas.List.{take_more}
@@ -24,7 +24,7 @@ module _ (receiver : Receiver) (recording : List Sample) (entries : List Entry) 
   pub has_reading : i < length readings
   has_reading = let long = AllZip-long (IsReadingFor receiver recording) entries readings read in omega (arith, long, inside)
 
-  -- an entry of the list is one that the receiver reads, and was read as the reading at its index says
+  -- each entry in the list was read by the receiver, as the reading at the same index describes
   pub is_read : (entry : Entry) (reading : Reading) → IsListFor receiver recording entries → entry ≡ get_or entries i entry → reading ≡ get_or readings i reading →
       IsEntryOfSome (IsEntryFor receiver recording) (hits_by receiver.carrier recording) entry × IsReadingFor receiver recording entry reading
   is_read entry reading listed entry_is reading_is =

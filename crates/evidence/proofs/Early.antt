@@ -1,4 +1,4 @@
--- Where the first frame of an entry begins.
+-- The start of an entry's first frame.
 use Rattle.std.proofs.Common.{ℕ, ◌<◌, List, arith, sym, subst}
 use Rattle.cs_num.specs.declared.Sample.{Sample}
 use Rattle.lte_types.specs.declared.frame.Half.{Half}
@@ -15,11 +15,11 @@ early t Zero = omega arith
 early t Five = omega arith
 
 module _ (receiver : Receiver) (recording : List Sample) (entry : Entry) (e : IsEntryOfSome (IsEntryFor receiver recording) (hits_by receiver.carrier recording) entry) where
-  -- it begins within the samples of one
+  -- the entry starts within the first frame length
   pub starts_early : entry.start < 19200
   starts_early = subst (λ n. n < 19200) (sym e.is_of.start) (early _ _)
 
-  -- and the first of the frames that tell it lies within the recording
+  -- the first frame that was read lies within the recording
   pub first_is_whole : IsWhole recording (place_of entry).start entry.frame
   first_is_whole =
       let some = e.is_of.frames.inside.some in

@@ -1,4 +1,4 @@
--- The transport block of a cell: how it is found.
+-- The search for the transport block that carried a cell's SIB1.
 use Rattle.std.proofs.Common.{◌≡◌, ℕ, false, ◌<◌, ◌+◌, inl, inr, Bool, List, [], Option, Some, None, Result, Ok, Err, refl, ap, subst, ◌∙◌, arith}
 use Rattle.std.specs.Prelude.{is_some, IfSome}
 use Rattle.std.specs.Option.{option_map}
@@ -26,7 +26,7 @@ use Rattle.evidence.specs.Blocks.{HasNoBlock, IsBlockRead, IsBlockWith, IsBlockA
 abbrev read_attempt : ℕ × Grant → Sib1 → Attempt
 read_attempt told fields = record { cfi = told.0; grant = Some told.1; answer = Ok fields }
 
--- where fields were read, the grant's values tell a block
+-- if fields were read, the grant's soft values decode to a block
 told_at : (values : Subframe) (told : ℕ × Grant) (fields : Sib1) → IsAttempt values (read_attempt told fields) → (found : Option (List Bool)) →
     IsBlock (values.shared told.0 told.1.start told.1.blocks) told.1 found → IsBlockAt values found
 told_at values told fields is (Some bits) b = record { cfi = told.0; grant = told.1; fields = fields; attempt = is; block = b }
@@ -44,12 +44,12 @@ module _ (values : Subframe) (attempt : Attempt) (is : IsAttempt values attempt)
       none_read values attempt.cfi attempt.grant attempt.answer fields is.follows e
       (ap (λ (a : Attempt). a.answer) (one_attempt values attempt reads.attempt is reads.is) ∙ reads.answers)
 
--- the grant is one that control information can have
+-- the grant is a valid DCI grant
 pub grant_of_attempt : (attempt : Attempt) (told : ℕ × Grant) → IfSome attempt.grant IsGrant → granted_by attempt ≡ Some told → IsGrant told.1
 grant_of_attempt attempt told is e =
     let read = has_read attempt.cfi attempt.grant attempt.answer told e in subst (λ (a : Attempt). IfSome a.grant IsGrant) read.is is
 
--- ---- at a place
+-- ---- in a frame
 
 pub moved : (subframes : Result Subframes Sib1Reason) (recording : List Sample) (p q : Place) (sfn : ℕ) (mib : Mib) (bits : List Bool) → p ≡ q →
     IsBlockWith subframes recording p sfn mib bits → IsBlockWith subframes recording q sfn mib bits
@@ -58,7 +58,7 @@ moved subframes recording p q sfn mib bits e = subst (λ (place : Place). IsBloc
 -- ---- among the tried frames
 
 module _ {B : Type 0} (bits_in : B → List Bool) (values : ℕ → Subframe) (recording : List Sample) (start sfn : ℕ) where
-  -- one frame more has none
+  -- one more frame has no block
   pub none_so_far : (i j : ℕ) (found : Option B) → j ≡ even_frame sfn i → is_some found ≡ false → IsBlockAt (values j) (option_map bits_in found) →
       ((h : ℕ) → h < i → HasNoBlock (values (even_frame sfn h))) → (h : ℕ) → h < i + 1 → HasNoBlock (values (even_frame sfn h))
   none_so_far i j (Some b) is not at none h less = absurd (cc not)
@@ -68,6 +68,6 @@ module _ {B : Type 0} (bits_in : B → List Bool) (values : ℕ → Subframe) (r
         subst (λ k. HasNoBlock (values (even_frame sfn k))) same (subst (λ k. HasNoBlock (values k)) is at)
   ]
 
-  -- where none of the tried frames has one, none is told
+  -- if no tried frame has a block, no bits are returned
   pub none_is_read : ((i : ℕ) → IsTried recording start sfn i → HasNoBlock (values (even_frame sfn i))) → IsBlockRead values recording start sfn []
   none_is_read none = inr (record { none = none; empty = refl })

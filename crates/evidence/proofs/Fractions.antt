@@ -1,4 +1,4 @@
--- How great the fraction of a place is.
+-- Bounds for the energy fraction that a PSS detection explains.
 use Rattle.std.proofs.Common.{◌≡◌, ℕ, ◌*◌, ◌/◌, ◌%◌, ◌≤◌, ◌<◌, List, arith, ap, sym, subst, ◌∙◌}
 use Rattle.std.proofs.Math.Nat.{div-le_of_le-mul}
 use Rattle.std.proofs.lemmas.Nat.{le-div, mul-le}
@@ -11,36 +11,36 @@ use Rattle.pss_search.proofs.Peaks.{peak_within}
 use Rattle.pss_search.proofs.Symmetry.{power_range}
 use Rattle.evidence.specs.Evidence.{IsHitOfEntry, thousandths}
 
--- so the fraction is at most the whole
+-- the fraction is at most 1
 pub at_most_whole : (peak whole : ℕ) → peak ≤ whole → 1000 * peak / whole ≤ 1000
 at_most_whole peak whole h = div-le_of_le-mul whole (omega (arith, h))
 
--- and where four times the peak is not less than the whole, at least a quarter
+-- the fraction is at least a quarter if four times the peak is at least the whole
 pub at_least_quarter : (peak whole : ℕ) → 0 < whole → whole ≤ 4 * peak → 250 ≤ 1000 * peak / whole
 at_least_quarter peak whole some h = le-div 250 (1000 * peak) whole some (omega (arith, h))
 
--- two numbers that are not 0 have a product that is not
+-- two nonzero numbers have a nonzero product
 pub some_product : (a b : ℕ) → 0 < a → 0 < b → 0 < a * b
 some_product a b p q = omega (arith, p, q, mul-le 1 1 a b p q)
 
--- ---- the hit of an entry
+-- ---- the entry's PSS detection
 
 module _ (carrier : Carrier) (recording : List Sample) (entry : Entry) (hit : Hit) (h : IsHitOfEntry carrier recording entry hit) where
-  -- it has energy
+  -- the PSS detection has energy
   pub hit_sounds : 0 < hit.energy
   hit_sounds = subst (λ (x : Hit). 0 < x.energy) (sym h.is_hit.measured) h.is_hit.is_hit.sounds
 
-  -- its peak is within the whole
+  -- the peak is at most the whole
   pub hit_within : hit.peak ≤ hit.energy * wave_power hit.n2
   hit_within = subst (λ (x : Hit). x.peak ≤ x.energy * wave_power hit.n2) (sym h.is_hit.measured) (peak_within recording hit.n2 hit.t)
 
-  -- its fraction is at least a quarter
+  -- the fraction is at least a quarter
   pub hit_is_clear : 250 ≤ 1000 * hit.peak / (hit.energy * wave_power hit.n2)
   hit_is_clear = at_least_quarter hit.peak (hit.energy * wave_power hit.n2)
       (some_product hit.energy (wave_power hit.n2) hit_sounds (power_range hit.n2 h.is_hit.root).0)
       (subst (λ (x : Hit). x.energy * wave_power hit.n2 ≤ 4 * x.peak) (sym h.is_hit.measured) h.is_hit.is_hit.clear)
 
-  -- and that of its place for the entry's identity within the group
+  -- the fraction equals that of its sample for the entry's n2
   pub hit_fraction : 1000 * hit.peak / (hit.energy * wave_power hit.n2) ≡ thousandths recording (entry.id % 3) hit.t
   hit_fraction =
       ap (λ p. 1000 * p / (hit.energy * wave_power hit.n2)) (ap (λ (x : Hit). x.peak) h.is_hit.measured)

@@ -1,4 +1,4 @@
--- The first hit of a list that tells an entry.
+-- The first PSS detection in a list with an entry's identity and start.
 use Rattle.std.proofs.Common.{◌≡◌, inl, inr, ℕ, ◌%◌, ◌<◌, ◌≤◌, List, length, get_or, arith, refl, ap, sym, subst, ◌∙◌}
 use Rattle.std.specs.List.{AllPairs, Contains}
 use Rattle.std.proofs.lemmas.Bool.{cases_lt}
@@ -18,24 +18,24 @@ use Rattle.explain.specs.Receiver.{has_step_before, hits_by, place_by}
 use Rattle.explain.proofs.Late.{taken_are_late, are_taken}
 use Rattle.evidence.specs.Evidence.{IsToldBy, IsHitOfEntry}
 
--- ---- the hits that are taken
+-- ---- the PSS detections that the receiver takes
 
--- each is one of the recording
+-- each detection is one in the recording
 taken_is_hit : (carrier : Carrier) (recording : List Sample) (hit : Hit) → Contains (hits_by carrier recording) hit → IsHitOf recording hit
 taken_is_hit carrier recording hit listed = (list_is_right recording hit).0 ((are_taken carrier recording hit).0 listed).0
 
--- and they are in order
+-- detections are in sample order
 taken_in_order : (carrier : Carrier) (recording : List Sample) → AllPairs IsEarlier (hits_by carrier recording)
 taken_in_order carrier recording =
     subst (AllPairs IsEarlier) (taken_are_late carrier recording)
     (AllPairs-filter IsEarlier (has_step_before carrier) (hits_of recording) (list_is_in_order recording))
 
--- ---- the first of an entry
+-- ---- the first detection for an entry
 
 same_place : (place : Place) (entry : Entry) → place.id ≡ entry.id → place.start ≡ entry.start → place ≡ place_of entry
 same_place place entry id start i = record { id = id i; start = start i }
 
--- the first hit that tells the place of an entry is the entry's
+-- the first detection with an entry's identity and start is the entry's
 pub first_tells : (carrier : Carrier) (recording : List Sample) (entry : Entry) (hit : Hit) → IsFirstTelling (place_by carrier recording) (hits_by carrier recording) (place_of entry) hit →
     IsHitOfEntry carrier recording entry hit
 first_tells carrier recording entry hit f = record { is_hit = hit_is; first = record { told = told; least = least }; root = root }
@@ -64,7 +64,7 @@ first_tells carrier recording entry hit f = record { is_hit = hit_is; first = re
     root : hit.n2 ≡ entry.id % 3
     root = let third = hit_is.root in omega (arith, identity, third)
 
-    -- no hit before tells the entry
+    -- no earlier detection has the entry's identity and start
     not_before : (u : ℕ) (other : IsToldBy carrier recording entry u) (k : ℕ) → k < length hits → get_or hits k other.hit ≡ other.hit → f.at ≤ k
     not_before u other k within is = elim (cases_lt k f.at) [
       | inl earlier ↦ absurd (f.first k other.hit earlier (slice_get_read hits (length hits) k other.hit refl within (sym is)) (same_place (place_by carrier recording other.hit) entry other.identity other.start))

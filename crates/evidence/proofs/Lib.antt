@@ -8,11 +8,11 @@ mod Early
 mod FirstBlocks
 mod OneBlock
 pub mod Each
--- The hit of the entry of a cell to which the recording is faithful stands where a primary signal of the cell does.
+-- An entry's PSS detection for a cell to which the recording is faithful is at a primary signal's position.
 mod PeakOfEntry
--- The pilots of its slot are seen with the gain.
+-- The entry's slot has its pilots received with the gain.
 mod SeenPilots
--- So they are near one multiple of it.
+-- These pilots are close to one multiple of the gain.
 mod PilotDifferences
--- These together, and what the list says of the entry.
+-- Conclusion, with the entry's fields in the list.
 mod ClearEntries

@@ -1,4 +1,4 @@
--- The numbers of an entry, by how it was read and by what its slot shows.
+-- An entry's measurements, given its reading and its slot's measurements.
 use Rattle.std.proofs.Common.{◌≡◌, ◌*◌, List, arith, refl, ap}
 use Rattle.cs_num.specs.declared.Sample.{Sample}
 use Rattle.lte_types.specs.declared.entry.Entry.{Entry}
@@ -15,7 +15,7 @@ use Rattle.evidence.proofs.Least.{first_tells}
 
 module _ (receiver : Receiver) (recording : List Sample) (entry : Entry) (reading : Reading) (e : IsEntryOfSome (IsEntryFor receiver recording) (hits_by receiver.carrier recording) entry)
     (r : IsReadingFor receiver recording entry reading) where
-  -- the hit that it was read by is the first that tells it
+  -- the reading's PSS detection is the first with the entry's identity and start
   hit_is : IsHitOfEntry receiver.carrier recording entry reading.hit
   hit_is = first_tells receiver.carrier recording entry reading.hit r.hit
 
@@ -26,7 +26,7 @@ module _ (receiver : Receiver) (recording : List Sample) (entry : Entry) (readin
     within = hit_within receiver.carrier recording entry reading.hit hit_is;
   }
 
-  -- and the numbers by it, and by what the entry's slot shows, are the entry's
+  -- the numbers computed from it and from the slot's measurements are the entry's
   pub are_numbers : (shown : SlotShown) → shown ≡ shown_in receiver.carrier recording (place_of entry) entry.frame → IsEvidenceFor receiver recording entry (numbers_by entry reading shown)
   are_numbers shown is = record {
     id = refl;
@@ -43,7 +43,7 @@ module _ (receiver : Receiver) (recording : List Sample) (entry : Entry) (readin
     noise = ap (λ (s : SlotShown). noise_of s.differences) is;
   }
 
-  -- in their ranges
+  -- the numbers are in their ranges
   pub are_in_range : (shown : SlotShown) → IsInRange (numbers_by entry reading shown)
   are_in_range shown =
       let master = e.is_of.master.told in

@@ -1,4 +1,4 @@
--- Entries have one evidence.
+-- Each entry's measurements are unique.
 use Rattle.std.proofs.Common.{◌≡◌, ◌%◌, List, [], ◌∷◌, arith, rules, refl, ap, sym, ◌∙◌}
 use Rattle.std.specs.List.{AllZip}
 use Rattle.cs_num.specs.declared.Sample.{Sample}
@@ -9,12 +9,12 @@ use Rattle.evidence.specs.Evidence.{IsEvidenceFor, thousandths}
 use Rattle.evidence.specs.Shown.{Shown, IsShownFor}
 use Rattle.evidence.proofs.OneBlock.{one_system_block}
 
--- two of the same numbers are the same
+-- measurements with equal numbers are equal
 same_evidence : (a b : Evidence) → a.id ≡ b.id → a.start ≡ b.start → a.sfn ≡ b.sfn → a.t ≡ b.t → a.peak ≡ b.peak → a.cost ≡ b.cost → a.total ≡ b.total →
     a.frames ≡ b.frames → a.frame ≡ b.frame → a.phase ≡ b.phase → a.power ≡ b.power → a.noise ≡ b.noise → a ≡ b
 same_evidence a b id start sfn t peak cost total frames frame phase power noise = search rules
 
--- an entry has one
+-- an entry's measurements are unique
 one_evidence : (receiver : Receiver) (recording : List Sample) (entry : Entry) (a b : Evidence) → IsEvidenceFor receiver recording entry a → IsEvidenceFor receiver recording entry b → a ≡ b
 one_evidence receiver recording entry a b p q =
     let t : a.t ≡ b.t = omega (arith, p.t.least b.t q.t.told, q.t.least a.t p.t.told) in
@@ -22,7 +22,7 @@ one_evidence receiver recording entry a b p q =
     (p.peak ∙ ap (thousandths recording (entry.id % 3)) t ∙ sym q.peak) (p.cost ∙ sym q.cost) (p.total ∙ sym q.total) (p.frames ∙ sym q.frames)
     (p.frame ∙ sym q.frame) (p.phase ∙ sym q.phase) (p.power ∙ sym q.power) (p.noise ∙ sym q.noise)
 
--- it shows one slot, and has one block
+-- an entry's slot measurements and blocks are unique
 one_shown : (receiver : Receiver) (recording : List Sample) (entry : Entry) (a b : Shown) → IsShownFor receiver recording entry a → IsShownFor receiver recording entry b → a ≡ b
 one_shown receiver recording entry a b p q i = record {
   numbers = one_evidence receiver recording entry a.numbers b.numbers p.numbers q.numbers i;
@@ -31,7 +31,7 @@ one_shown receiver recording entry a b p q i = record {
   block = one_system_block receiver.carrier recording entry a.block b.block p.block q.block i;
 }
 
--- and so have all of a list
+-- the measurements of a list's entries are unique
 each_once : {A B : Type 0} (R : A → B → Type 0) → ((x : A) (a b : B) → R x a → R x b → a ≡ b) → (xs : List A) (first second : List B) → AllZip R xs first → AllZip R xs second → first ≡ second
 each_once R once [] [] [] a b = refl
 each_once R once [] [] (y ∷ ys) a b = absurd b

@@ -1,4 +1,4 @@
--- The hit that tells the entry of a cell to which a recording is faithful: at least 999 thousandths of its energy are the primary signal's.
+-- An entry's PSS detection for a cell to which a recording is faithful: the PSS explains at least 0.999 of the energy.
 use Rattle.std.proofs.Common.{◌≡◌, ℕ, ◌+◌, ◌*◌, ◌/◌, ◌%◌, ◌<◌, ◌≤◌, arith, sym, subst, ◌∙◌, List, [], ◌∷◌}
 use Rattle.std.proofs.lemmas.Nat.{le-div}
 use Rattle.cs_num.specs.declared.Cpx.{Cpx}
@@ -23,7 +23,7 @@ use Rattle.clean_air.specs.Faithful.{IsFaithful}
 use Rattle.clean_air.proofs.SentSymbols.{IsTruePlace}
 use Rattle.clean_air.proofs.Signals.{primary_at}
 
--- a place that tells the start of a cell's frames is one of its true places
+-- a position that implies the start of the cell's frames is one of its true positions
 told_place : (offset t : ℕ) (half : Half) → offset < 19200 → start_by_hit t half ≡ start_of offset → IsTruePlace offset t half
 told_place offset t Zero within told = record { frame = (t + offset) / 19200; place = omega (arith, within, told) }
 told_place offset t Five within told = record { frame = (t + offset) / 19200; place = omega (arith, within, told) }
@@ -31,7 +31,7 @@ told_place offset t Five within told = record { frame = (t + offset) / 19200; pl
 fraction : (c e w : ℕ) → 0 < e → 0 < w → 999 * (e * w) ≤ 1000 * c → 999 ≤ 1000 * c / (e * w)
 fraction c e w some power h = le-div 999 (1000 * c) (e * w) (some_product e w some power) h
 
--- at such a place the fraction is high
+-- the fraction at such a position is at least 0.999
 pub peak_is_high : (recording : List Sample) (plan : CellPlan) (grid : Elements) (sfn offset : ℕ) (gain : Cpx) (entry : Entry) (t : ℕ) →
     IsFaithful recording plan grid sfn offset gain → entry.id ≡ plan.identity → entry.start ≡ start_of offset → IsToldBy OnePort recording entry t → 999 ≤ thousandths recording (entry.id % 3) t
 peak_is_high recording plan grid sfn offset gain entry t faithful id start told =

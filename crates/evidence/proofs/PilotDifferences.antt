@@ -1,4 +1,4 @@
--- The pilots of a received slot: those of one symbol differ little, against the gain and against their energy.
+-- Pilots in one symbol of a received slot differ little, compared with the gain and with their energy.
 use Rattle.std.proofs.Common.{◌≡◌, ℕ, ◌+◌, ◌*◌, ◌^◌, ◌/◌, ◌<◌, ◌≤◌, arith, ap, ap₂, sym, ◌∙◌, subst, ℤ, ◌+ℤ◌, ◌-ℤ◌}
 use Rattle.std.proofs.lemmas.Int.{ints}
 use Rattle.finite.proofs.Sums.{total_below-within}
@@ -17,7 +17,7 @@ use Rattle.clean_air.specs.Values.{ArePilotsSeen}
 use Rattle.clean_air.proofs.Estimates.{pilot-near}
 use Rattle.clean_air.proofs.SoftValues.{energy-near}
 
--- what two numbers near one multiple of a gain differ by
+-- the difference between two numbers that are close to one multiple of a gain
 rest : (m a b : Cpx) → plus (minus (plus m b) (plus m a)) a ≡ b
 rest m a b = pair (part m.re a.re b.re) (part m.im a.im b.im)
   where
@@ -68,7 +68,7 @@ module _ (most : ℕ) (gain : Cpx) (slot : SeenSlot) (seen : ArePilotsSeen most 
 
 -- ---- the noise
 
--- with a gain in parts, where each pilot is off by at most 2316 times its size
+-- the noise for a gain in units of 2^-14, if each pilot is off by at most 2316 times its magnitude
 pub record AreSteady (gain : Cpx) (slot : SeenSlot) : Type 0 where
   pub small : 2 ^ 28 * noise_of (differences 24 2 (pilot slot)) ≤ 289321537 * square gain
   pub quiet : 8 * noise_of (differences 24 2 (pilot slot)) ≤ 3 * pilot_energy slot
@@ -84,7 +84,7 @@ are_steady gain slot seen =
     share : (n m e : ℕ) → 2 ^ 28 * m ≤ 289321537 * n → 49766400 * (24 * n) ≤ 2 ^ 28 * e + 3 * (2316 * 2316 * (24 * n)) → 8 * m ≤ 3 * e
     share n m e h k = omega (arith, h, k)
 
--- with a whole gain, where each is off by at most 1920 times it
+-- the noise for an integer gain, if each pilot is off by at most 1920 times its magnitude
 pub record AreQuiet (gain : Cpx) (slot : SeenSlot) : Type 0 where
   pub small : noise_of (differences 24 2 (pilot slot)) ≤ 198841079 * square gain
   pub quiet : 4 * noise_of (differences 24 2 (pilot slot)) ≤ pilot_energy slot

@@ -1,4 +1,4 @@
--- What a slot shows, port by port.
+-- A slot's measurements, port by port.
 use Rattle.std.proofs.Common.{◌≡◌, ℕ, zero, suc, ◌+◌, ◌*◌, ◌/◌, ◌<◌, ◌≤◌, List, [], ℤ, length, refl, ap, ap₂, sym, subst, ◌∙◌, arith}
 use Rattle.finite.specs.Sums.{total_below}
 use Rattle.finite.specs.Lists.{values_below}
@@ -13,7 +13,7 @@ use Rattle.soft_bits.proofs.Lines.{few_ports}
 use Rattle.evidence.specs.Evidence.{SlotShown, line_differences, with_port}
 use Rattle.evidence.proofs.SecondDifferences.{differences_of_list}
 
--- the pilots of each stand so close that some have two neighbours of their symbol on either side
+-- a port has enough pilots for second differences
 pub record IsClose (port : SeenLine) : Type 0 where
   pub step : 0 < port.step
   pub some : 2 * (6 / port.step) ≤ length port.pilots
@@ -28,7 +28,7 @@ module _ (carrier : Carrier) (slot : SeenSlot) where
   port_is_close n port is = subst (λ (p : SeenLine). IsClose p) (sym is) (close n)
 
   module _ (received : List ℤ) where
-    -- what the first ports show
+    -- the measurements of the first n ports
     abbrev pub first_ports : ℕ → SlotShown
     first_ports n = record {
       power = ports_energy carrier slot;
@@ -53,7 +53,7 @@ module _ (carrier : Carrier) (slot : SeenSlot) where
           values = received;
         })
 
-    -- before each port there is room for it
+    -- there is room for each port before it is added
     pub has_room : (n : ℕ) (shown : SlotShown) → shown ≡ first_ports n → n < ports_of carrier → length shown.channel < 4
     has_room n shown is below =
         let e : length shown.channel ≡ n = ap (λ (s : SlotShown). length s.channel) is ∙ values_below-length n (λ port. seen_line (line_of carrier port slot) slot) in

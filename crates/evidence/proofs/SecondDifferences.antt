@@ -1,4 +1,4 @@
--- The second differences of pilots.
+-- Second differences of pilots.
 use Rattle.std.proofs.Common.{◌≡◌, ℕ, ◌+◌, ◌-◌, ◌*◌, ◌^◌, ◌<◌, ◌≤◌, List, length, ap, ap₂, arith, ◌∙◌}
 use Rattle.finite.specs.Sums.{total_below}
 use Rattle.finite.specs.Lists.{values_below}
@@ -12,7 +12,7 @@ use Rattle.soft_bits.specs.Soft.{SeenSlot, pattern_seen, pattern_pilot, pilot}
 use Rattle.soft_bits.specs.Lines.{line_of}
 use Rattle.evidence.specs.Evidence.{difference_power, differences, line_differences, differences_by}
 
--- pilots that are the same have the same second differences
+-- equal pilots have equal second differences
 pub differences_same : (count stride : ℕ) (f g : ℕ → Cpx) → ((i : ℕ) → i < count → f i ≡ g i) → differences count stride f ≡ differences count stride g
 unfolding differences
 differences_same count stride f g h = total_below_same (count - 2 * stride) (difference_power stride f) (difference_power stride g)
@@ -20,7 +20,7 @@ differences_same count stride f g h = total_below_same (count - 2 * stride) (dif
     (ap₂ plus (h i (omega (arith, l))) (h (i + 2 * stride) (omega (arith, l))))
     (ap (multiple 2) (h (i + stride) (omega (arith, l)))))
 
--- how great a sum of two small pilots is, and a second difference of three
+-- bounds for the sum of two small pilots, and for a second difference
 pub outer_small : (a c : Cpx) → IsWithin (180 * 2 ^ 25) a → IsWithin (180 * 2 ^ 25) c → IsWithin (360 * 2 ^ 25) (plus a c)
 outer_small a c p r = plus-within a c (180 * 2 ^ 25) (180 * 2 ^ 25) (360 * 2 ^ 25) p r (omega arith)
 
@@ -36,7 +36,7 @@ differences_of_list count stride pilots f e =
     ap (λ n. differences n stride (value_at pilots)) (ap length e ∙ values_below-length count f)
     ∙ differences_same count stride (value_at pilots) f (λ i l. ap (λ list. value_at list i) e ∙ values_below_at f count i nothing l)
 
--- of one port, those of its pilots
+-- with one port, the second differences are its pilots'
 pub differences_of_one : (slot : SeenSlot) → differences_by OnePort slot ≡ differences 24 2 (pilot slot)
 unfolding total_below pattern_pilot pattern_seen
 differences_of_one slot = sums (line_differences (line_of OnePort 0 slot) slot)

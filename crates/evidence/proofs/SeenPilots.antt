@@ -1,4 +1,5 @@
--- The pilots of the slot of the first frame that carries the broadcast channel, in a recording that is faithful to a cell: they are seen with the gain.
+-- The pilots of the first frame's broadcast slot, in a recording that is faithful to a cell, are received with the
+-- gain.
 use Rattle.std.proofs.Common.{ℕ, ◌+◌, ◌%◌, arith, inl, refl, List, [], ◌∷◌}
 use Rattle.cs_num.specs.declared.Cpx.{Cpx}
 use Rattle.cs_num.specs.declared.Sample.{Sample}
@@ -19,7 +20,7 @@ module _ (recording : List Sample) (plan : CellPlan) (grid : Elements) (sfn offs
   abbrev starts : ℕ → ℕ
   starts = useful_start normal (frame_at (start_of offset) 0) 1
 
-  -- each of its symbols is looked at
+  -- the receiver reads each symbol of the slot
   looked : (l : ℕ) → IsLookedAt OnePort sfn offset (first_frame_of offset + 0) 1 l (starts l)
   looked l = inl (omega arith, refl)
 

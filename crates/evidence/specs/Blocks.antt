@@ -1,4 +1,4 @@
--- The bits of an entry's blocks: the MIB, and the transport block that carried its system information. (own)
+-- The bits of an entry's MIB and of its SIB1's transport block. (own)
 use Rattle.std.specs.Prelude.{◌≡◌, ◌⊎◌, ℕ, ◌+◌, ◌*◌, ◌<◌, Bool, List, [], Option, Some, None, Result, Ok, Err}
 use Rattle.cs_num.specs.declared.Sample.{Sample}
 use Rattle.cs_bits.specs.Numbers.{bits_of}
@@ -18,10 +18,10 @@ use Rattle.explain.specs.System.{even_frame, IsTried}
 use Rattle.explain.specs.Entries.{place_of}
 use Rattle.evidence.specs.Receivers.{receiver_of}
 
--- ---- the master block
+-- ---- the MIB
 
--- the 24 bits of a MIB as a number: dl-Bandwidth, phich-Duration, phich-Resource, the upper 8 bits of the frame number,
--- and the 10 spare bits (TS 36.331 section 6.2.2)
+-- the 24 bits of a MIB as a number: dl-Bandwidth, phich-Duration, phich-Resource, the frame number's upper 8 bits, and
+-- the 10 spare bits (TS 36.331 section 6.2.2)
 abbrev pub master_number : Mib → ℕ
 master_number mib =
     (((bandwidth_code mib.bandwidth * 2 + duration_code mib.duration) * 4 + resource_code mib.resource) * 256 +
@@ -30,9 +30,9 @@ master_number mib =
 abbrev pub master_bits : Mib → List Bool
 master_bits mib = bits_of 24 (master_number mib)
 
--- ---- the transport block of a subframe
+-- ---- a subframe's transport block
 
--- the attempt on a subframe returns fields, and this is the transport block of its grant, which carries them
+-- the attempt on a subframe returns fields, and its grant's transport block, which carries them, has these bits
 pub record HasBlock (values : Subframe) (bits : List Bool) : Type 0 where
   pub cfi : ℕ
   pub grant : Grant
@@ -44,9 +44,9 @@ pub record HasBlock (values : Subframe) (bits : List Bool) : Type 0 where
 abbrev pub HasNoBlock : Subframe → Type 0
 HasNoBlock values = (fields : Sib1) → Reads values (Ok fields) → ⊥
 
--- ---- the transport block of a cell. `values` are those of subframe 5 of its frames, from the first one on
+-- ---- a cell's transport block. `values` are the soft values of subframe 5 by frame, from the first frame
 
--- the block of the first tried frame that has one
+-- the block from the first tried frame that has one
 pub record IsFirstBlock (values : ℕ → Subframe) (recording : List Sample) (start sfn : ℕ) (bits : List Bool) :
     Type 0 where
   pub i : ℕ
@@ -64,28 +64,27 @@ abbrev pub IsBlockRead : (ℕ → Subframe) → List Sample → ℕ → ℕ → 
 IsBlockRead values recording start sfn bits =
     IsFirstBlock values recording start sfn bits ⊎ IsNoBlock values recording start sfn bits
 
--- the block by the values of subframe 5, from which a list reads system information; none if it does not
+-- the block for a receiver's soft values in subframe 5; no bits if the receiver does not read SIB1
 abbrev pub IsBlockWith : Result Subframes Sib1Reason → List Sample → Place → ℕ → Mib → List Bool → Type 0
 IsBlockWith (Ok values) recording place sfn mib bits =
     IsBlockRead (λ j. values recording place j mib.duration mib.resource) recording place.start sfn bits
 IsBlockWith (Err reason) recording place sfn mib bits = bits ≡ []
 
--- ---- the transport block of an entry
+-- ---- an entry's transport block
 
--- there is a block if there are fields, and none otherwise
+-- there are bits if there are fields, and none otherwise
 abbrev pub IsToldWith : Result Sib1 Sib1Reason → (List Bool → Type 0) → List Bool → Type 0
 IsToldWith (Ok fields) Is bits = Is bits
 IsToldWith (Err reason) Is bits = bits ≡ []
 
--- these are the bits of the transport block that carried the system information of an entry, without its CRC; none if
--- the entry has no system information
+-- the bits of the transport block that carried an entry's SIB1, without its CRC; no bits if the entry has no SIB1
 abbrev pub IsSystemBlock : Carrier → List Sample → Entry → List Bool → Type 0
 IsSystemBlock carrier recording entry =
     IsToldWith entry.sib1 (IsBlockWith (receiver_of carrier).subframe recording (place_of entry) entry.sfn entry.mib)
 
--- ---- the code's way
+-- ---- the program's computation
 
--- the block of a subframe, or none
+-- a subframe's block, or `None`
 abbrev pub IsBlockAt : Subframe → Option (List Bool) → Type 0
 IsBlockAt values (Some bits) = HasBlock values bits
 IsBlockAt values None = HasNoBlock values

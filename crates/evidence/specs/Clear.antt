@@ -1,4 +1,4 @@
--- The measurements of the entry of a cell with clean reception. (own)
+-- An entry's measurements for a cell with clean reception. (own)
 use Rattle.std.specs.Prelude.{◌≡◌, ℕ, ◌*◌, ◌^◌, ◌≤◌, List, length}
 use Rattle.cs_num.specs.declared.Cpx.{Cpx}
 use Rattle.cs_num.specs.declared.Sample.{Sample}
@@ -15,26 +15,26 @@ use Rattle.evidence.specs.Evidence.{IsEvidence}
 use Rattle.clean_air.specs.Load.{IsLoaded}
 use Rattle.clean_air.specs.Faithful.{IsFaithful}
 
--- ---- the numbers
+-- ---- the measurements
 
--- the MIB was read at no cost from the first whole frame alone, and the PSS explains at least 999 thousandths of the
--- energy at its detection
+-- the MIB was read at cost 0 from the first whole frame alone, and the PSS explains at least 0.999 of the energy at its
+-- detection
 pub record IsCertain (told : Evidence) : Type 0 where
   pub cost : told.cost ≡ 0
   pub frames : told.frames ≡ 1
   pub frame : told.frame ≡ 0
   pub peak : 999 ≤ told.peak
 
--- The noise is small beside the gain, which is in parts of 2^-14, and at most three eighths of the power. The bound is
--- 20 times the square of four times 128 times 2316, divided by 97200, rounded up: three pilots are off by less than 37
--- amplitude units each, and the middle one counts twice.
+-- The noise is small compared with the gain, which is in units of 2^-14, and at most 3/8 of the power. The bound is 20
+-- times the square of 4 * 128 * 2316, divided by 97200, rounded up: three pilots are off by less than 37 amplitude
+-- units each, and the middle one counts twice.
 pub record IsSupported (gain : Cpx) (told : Evidence) : Type 0 where
   pub certain : IsCertain told
   pub noise : 2 ^ 28 * told.noise ≤ 289321537 * square gain
   pub quiet : 8 * told.noise ≤ 3 * told.power
 
--- The noise is smaller beside a whole gain, and at most a quarter of the power: the pilots are off by at most 30 units,
--- so 1920 replaces 2316.
+-- The noise is smaller compared with an integer gain, and at most a quarter of the power: the pilots are off by at most
+-- 30 units, so 1920 replaces 2316.
 pub record IsClear (gain : Cpx) (told : Evidence) : Type 0 where
   pub certain : IsCertain told
   pub noise : told.noise ≤ 198841079 * square gain
@@ -42,8 +42,8 @@ pub record IsClear (gain : Cpx) (told : Evidence) : Type 0 where
 
 -- ---- laws
 
--- each entry of a cell to which the recording is faithful is supported, for every plan, elements sent elsewhere, frame
--- number, offset, gain and errors
+-- a law: each entry of a cell to which the recording is faithful is supported, for any plan, elements sent elsewhere,
+-- frame number, offset, gain and errors
 abbrev pub FaithfulEntriesAreSupported : Type 0
 FaithfulEntriesAreSupported =
     (recording : List Sample) (entry : Entry) (told : Evidence) (plan : CellPlan) (grid : Elements) (sfn offset : ℕ)
@@ -53,8 +53,8 @@ FaithfulEntriesAreSupported =
     entry.id ≡ plan.identity → entry.start ≡ start_of offset → entry.sfn ≡ number_at_start sfn offset →
     IsSupported gain told
 
--- each entry of a cell of which the recording is clean is clear, for every plan, elements sent elsewhere, frame number,
--- offset, gain and errors
+-- a law: each entry of a cell for which the recording is clean is clear, for any plan, elements sent elsewhere, frame
+-- number, offset, gain and errors
 abbrev pub CleanEntriesAreClear : Type 0
 CleanEntriesAreClear =
     (recording : List Sample) (entry : Entry) (told : Evidence) (plan : CellPlan) (grid : Elements) (sfn offset : ℕ)

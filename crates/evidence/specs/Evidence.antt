@@ -1,4 +1,4 @@
--- The measurements that support an entry of a cell list. (own)
+-- Measurements that support an entry in a cell list. (own)
 use Rattle.std.specs.Prelude.{◌≡◌, ℕ, ◌+◌, ◌-◌, ◌*◌, ◌/◌, ◌%◌, ◌<◌, ◌≤◌, if◌then◌else◌, List, [], ◌∷◌, ◌++◌, length, ℤ}
 use Rattle.std.specs.List.{Contains}
 use Rattle.finite.specs.Sums.{total_below}
@@ -27,9 +27,9 @@ use Rattle.explain.specs.Entries.{place_of, frames_of}
 use Rattle.long_prefix.specs.Entries.{long_slot}
 use Rattle.evidence.specs.Receivers.{receiver_of}
 
--- ---- the hit
+-- ---- the PSS detection
 
--- a PSS detection at sample t gives the entry's identity and start, as cells of a carrier give them
+-- a PSS detection at sample t has the entry's identity and start, computed for this scheme
 pub record IsToldBy (carrier : Carrier) (recording : List Sample) (entry : Entry) (t : ℕ) : Type 0 where
   pub hit : Hit
   pub listed : Contains (hits_by carrier recording) hit
@@ -37,56 +37,57 @@ pub record IsToldBy (carrier : Carrier) (recording : List Sample) (entry : Entry
   pub identity : (place_by carrier recording hit).id ≡ entry.id
   pub start : (place_by carrier recording hit).start ≡ entry.start
 
--- the earliest sample of a PSS detection that gives the entry's identity and start
+-- the earliest sample of a PSS detection with the entry's identity and start
 pub record IsFirstToldBy (carrier : Carrier) (recording : List Sample) (entry : Entry) (t : ℕ) : Type 0 where
   pub told : IsToldBy carrier recording entry t
   pub least : (u : ℕ) → IsToldBy carrier recording entry u → t ≤ u
 
--- the ratio of the PSS correlation to the energy at a sample, for n2, in thousandths, rounded down: 1000 C / (E P)
+-- the energy fraction at sample t that the PSS with n2 explains, in thousandths, rounded down: 1000 C / (E P), with
+-- correlation C, energy E and signal power P
 abbrev pub thousandths : List Sample → ℕ → ℕ → ℕ
 thousandths recording n2 t = 1000 * peak recording n2 t / (energy recording t * wave_power n2)
 
--- ---- the pilots of the slot that tells the master block
+-- ---- the pilots in the slot with the broadcast channel
 
--- the received slot that carries the broadcast channel in frame j of a cell
+-- the received slot with the broadcast channel in frame j of a cell
 abbrev pub slot_by : Carrier → List Sample → Place → ℕ → SeenSlot
 slot_by carrier recording place j =
     if is_extended (prefix_of carrier) then long_slot recording place.id place.start j
     else broadcast_slot recording place.id place.start j
 
--- the second difference of pilots: the sum of a pilot's two neighbours in its symbol, less twice the pilot between
--- them. The next pilot of the same symbol is `stride` pilots on, so that a phase step between symbols adds nothing
+-- the second difference of pilots: a pilot's two neighbours in its symbol added up, minus twice the pilot. The next
+-- pilot in the same symbol is `stride` pilots later, so a phase step between symbols adds nothing.
 abbrev pub second_difference : ℕ → (ℕ → Cpx) → ℕ → Cpx
 second_difference stride pilots i =
     minus (plus (pilots i) (pilots (i + 2 * stride))) (multiple 2 (pilots (i + stride)))
 
--- the squared magnitude of a second difference
+-- a second difference's square
 abbrev pub difference_power : ℕ → (ℕ → Cpx) → ℕ → ℕ
 difference_power stride pilots i = square (second_difference stride pilots i)
 
--- the sum of the squared second differences of `count` pilots of a port
+-- the squared second differences of a port's `count` pilots, added up
 unfoldable pub differences : ℕ → ℕ → (ℕ → Cpx) → ℕ
 differences count stride pilots = total_below (count - 2 * stride) (difference_power stride pilots)
 
--- the sum of the squared second differences of a line of pilots; the next pilot of the same symbol is six subcarriers
--- on
+-- the squared second differences of a port's pilots in a slot, added up; the next pilot in the same symbol is six
+-- subcarriers away
 abbrev pub line_differences : Line → SeenSlot → ℕ
 line_differences line slot = differences (line.last + 1) (6 / line.step) (line_pilot line slot)
 
--- the sum of the squared second differences of all antenna ports' pilots: 20, 40 or 60 of them
+-- the squared second differences over all antenna ports, added up: 20, 40 or 60 of them
 abbrev pub differences_by : Carrier → SeenSlot → ℕ
 differences_by carrier slot = total_below (ports_of carrier) (λ port. line_differences (line_of carrier port slot) slot)
 
--- the noise: the sum of the squared second differences, divided by six times the squared magnitude of a reference
--- value, rounded down. Independent errors of variance v in the received elements give a second difference a variance of
--- 6 v, times that square
+-- the noise: the squared second differences, added up and divided by six times a reference value's square, rounded
+-- down. Independent errors with variance v in the received elements give a second difference with variance 6 v times
+-- that square.
 abbrev pub noise_of : ℕ → ℕ
 noise_of differences = differences / (6 * point_power)
 
--- ---- what the slot shows
+-- ---- a slot's measurements
 
--- the measurements of a slot: the energy of the pilots and their squared second differences, over all antenna ports;
--- the pilots of each port; and the soft values of the broadcast channel in received order
+-- a slot's measurements: the pilots' energy and their squared second differences, over all antenna ports; each port's
+-- pilots; and the broadcast channel's soft values in received order
 pub record SlotShown : Type 0 where
   pub power : ℕ
   pub differences : ℕ
@@ -106,9 +107,9 @@ abbrev pub shown_in : Carrier → List Sample → Place → ℕ → SlotShown
 shown_in carrier recording place j =
     shown_by carrier (slot_by carrier recording place j) ((receiver_of carrier).broadcast recording place j)
 
--- ---- the numbers of an entry
+-- ---- an entry's measurements
 
--- these are the measurements of the entry by a receiver
+-- an entry's measurements by this receiver
 pub record IsEvidenceFor (receiver : Receiver) (recording : List Sample) (entry : Entry) (told : Evidence) :
     Type 0 where
   pub id : told.id ≡ entry.id
@@ -124,11 +125,11 @@ pub record IsEvidenceFor (receiver : Receiver) (recording : List Sample) (entry 
   pub power : told.power ≡ (shown_in receiver.carrier recording (place_of entry) entry.frame).power
   pub noise : told.noise ≡ noise_of (shown_in receiver.carrier recording (place_of entry) entry.frame).differences
 
--- these are the measurements of the entry by the receiver of one antenna port
+-- an entry's measurements by the one-port receiver
 abbrev pub IsEvidence : List Sample → Entry → Evidence → Type 0
 IsEvidence = IsEvidenceFor one_port_receiver
 
--- the measurements of an entry are in their ranges
+-- the ranges of an entry's measurements
 pub record IsInRange (told : Evidence) : Type 0 where
   pub from_first : first_place ≤ told.t
   pub to_last : told.t ≤ last_place
@@ -137,21 +138,21 @@ pub record IsInRange (told : Evidence) : Type 0 where
   pub heard : 0 < told.total
   pub clear : 4 * told.cost ≤ told.total
 
--- ---- the code's way to the hit, and to the numbers
+-- ---- the program's computation
 
--- the first PSS detection that gives the entry, as it was measured
+-- the first PSS detection with the entry's identity and start, as it was measured
 pub record IsHitOfEntry (carrier : Carrier) (recording : List Sample) (entry : Entry) (hit : Hit) : Type 0 where
   pub is_hit : IsHitOf recording hit
   pub first : IsFirstToldBy carrier recording entry hit.t
   pub root : hit.n2 ≡ entry.id % 3
 
--- the ratio of a PSS detection is at most 1: there is energy, and the peak is not above it
+-- a PSS detection explains at most all the energy, which is not 0
 pub record HasFraction (hit : Hit) : Type 0 where
   pub root : hit.n2 ≤ 2
   pub sounds : 0 < hit.energy
   pub within : hit.peak ≤ hit.energy * wave_power hit.n2
 
--- the measurements with the pilots of one more port
+-- a slot's measurements with one more port's pilots
 abbrev pub with_port : SlotShown → SeenLine → SlotShown
 with_port shown port = record {
   power = shown.power;
@@ -160,7 +161,7 @@ with_port shown port = record {
   values = shown.values;
 }
 
--- the measurements of an entry by how it was read and by those of its slot
+-- an entry's measurements, given its reading and its slot's measurements
 abbrev pub numbers_by : Entry → Reading → SlotShown → Evidence
 numbers_by entry reading shown = record {
   id = entry.id;

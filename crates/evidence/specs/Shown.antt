@@ -1,4 +1,4 @@
--- The measurements of an entry, those of its slot, and the bits of its blocks. (own)
+-- Measurements of an entry and its slot, with the bits of its MIB and its SIB1. (own)
 use Rattle.std.specs.Prelude.{◌≡◌, Bool, List}
 use Rattle.cs_num.specs.declared.Sample.{Sample}
 use Rattle.lte_types.specs.declared.entry.Entry.{Entry}
@@ -8,15 +8,14 @@ use Rattle.explain.specs.Entries.{place_of}
 use Rattle.evidence.specs.Blocks.{master_bits, IsSystemBlock}
 use Rattle.evidence.specs.Evidence.{SlotShown, shown_in, IsEvidenceFor}
 
--- the measurements of an entry, those of its slot, the bits of its MIB, and the bits of the transport block that
--- carried its system information
+-- measurements of an entry and its slot, with the bits of its MIB and of its SIB1's transport block
 pub record Shown : Type 0 where
   pub numbers : Evidence
   pub slot : SlotShown
   pub master : List Bool
   pub block : List Bool
 
--- these are the measurements and the bits of the entry by a receiver
+-- an entry's measurements and bits by this receiver
 pub record IsShownFor (receiver : Receiver) (recording : List Sample) (entry : Entry) (shown : Shown) : Type 0 where
   pub numbers : IsEvidenceFor receiver recording entry shown.numbers
   pub slot : shown.slot ≡ shown_in receiver.carrier recording (place_of entry) entry.frame

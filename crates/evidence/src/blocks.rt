@@ -1,4 +1,4 @@
-//! The transport block that told the system information of an entry.
+//! The transport block that carried an entry's SIB1.
 
 ghost use Rattle.std.specs.Prelude.{◌≡◌, ◌<◌, ◌≤◌, [], IfOk};
 ghost use Rattle.std.specs.Option.{option_map, unwrap_or};
@@ -21,7 +21,7 @@ use soft_bits::ReadSlot;
 use std::alloc::{AllocError, Global};
 use turbo_dec::{Block, Work};
 
-// The bits of the transport block that told the system information of an entry; none where it has none.
+// Returns the bits of the transport block that carried an entry's SIB1, or no bits if the entry has none.
 pub(crate) fn system_block(
     alloc: Global,
     recording: &Recording,
@@ -38,7 +38,7 @@ pub(crate) fn system_block(
     }
 }
 
-// The bits of a block, or none.
+// Returns a block's bits, or no bits for `None`.
 fn bits_of(alloc: Global, block: Option<Block>) -> Result<Vec<bool>, AllocError>
     ensures { IfOk result (λ list. list.items ≡ unwrap_or (option_map (λ block. block.items) block) []) }
 {
@@ -49,7 +49,7 @@ fn bits_of(alloc: Global, block: Option<Block>) -> Result<Vec<bool>, AllocError>
     Ok(list)
 }
 
-// The block of the first of the tried frames that has one, or none.
+// Returns the block from the first tried frame that has one.
 pub(crate) fn first_block<S: ReadSlot>(
     recording: &Recording,
     place: CellPlace,
@@ -73,7 +73,7 @@ pub(crate) fn first_block<S: ReadSlot>(
     None
 }
 
-// The block of subframe 5 of frame `j`, or none.
+// Returns the block in subframe 5 of frame `j`, if it has one.
 fn block_at<S: ReadSlot>(
     recording: &Recording,
     place: CellPlace,
@@ -90,7 +90,7 @@ fn block_at<S: ReadSlot>(
     block_in(&first, &second, mib, work)
 }
 
-// The block of a subframe 5, or none. `first` and `second` are slots 10 and 11 of one cell.
+// Returns the block of a subframe 5, if it has one. `first` and `second` are slots 10 and 11 of one cell.
 fn block_in<S: ReadSlot>(first: &S, second: &S, mib: Mib, work: &mut Decoders) -> Option<Block>
     requires first { (S.seen_as first.now).number ≡ 10 }
     requires second { (S.seen_as second.now).number ≡ 11 }
@@ -105,7 +105,8 @@ fn block_in<S: ReadSlot>(first: &S, second: &S, mib: Mib, work: &mut Decoders) -
     }
 }
 
-// The block that the values of a grant tell, by the indicator. `first` and `second` are slots 10 and 11 of one cell.
+// Returns the block that is decoded from a grant's resource blocks, if its CRC passes. `first` and `second` are slots
+// 10 and 11 of one cell.
 fn block_granted<S: ReadSlot>(
     first: &S,
     second: &S,

@@ -1,5 +1,5 @@
-//! The measurements that support a listed cell: its PSS detection, the soft values of its MIB, and how its reference
-//! signals were received; and that they are those of a clear signal if reception is clean.
+//! Measurements that support a listed cell: its PSS detection, its MIB's soft values, and its received reference
+//! signals. With clean reception they are those of a clear signal.
 //!
 //! Tests: `top_tests/src/evidence_of_cells.rt`.
 #![tactic(auto)]

@@ -1,4 +1,8 @@
-//! The evidence of entries.
+//! The measurements of a cell list's entries.
+//!
+//! Each entry has: the earliest PSS detection with its identity and start, and the energy fraction that the PSS
+//! explains there; the total magnitude of its MIB's soft values; and, over all antenna ports, the energy of its slot's
+//! pilots and the differences between pilots in one symbol.
 
 ghost use Rattle.std.specs.Prelude.{◌≡◌, ◌/◌, ◌*◌, ◌<◌, ◌≤◌, All, IfOk};
 ghost use Rattle.std.specs.List.{AllZip};
@@ -20,12 +24,8 @@ use pss_search::signal_power;
 use sample_file::Recording;
 use std::alloc::{AllocError, Global};
 
-/// Returns the measurements of each entry of a cell list, in its order. `entries` is the list of `recording` by the
-/// receiver for `carrier`, and `readings` says how each entry was read. Fails only if an allocation fails.
-///
-/// For each entry: the earliest PSS detection of its identity and start, and the share of the energy there that the PSS
-/// explains; the sum of the magnitudes of the soft values of its MIB; and, over all antenna ports, the energy of its
-/// slot's pilots and how much the pilots of one symbol differ. (own)
+/// Returns each entry's measurements, in order. `entries` is the list of `recording` by the receiver for `carrier`,
+/// read as `readings` describe. Fails only if an allocation fails. (own)
 pub fn evidence_of_list(
     alloc: Global,
     recording: &Recording,
@@ -48,7 +48,7 @@ pub fn evidence_of_list(
     Ok(list)
 }
 
-// The numbers of an entry, and what its slot shows.
+// Returns an entry's measurements and those of its slot.
 pub(crate) fn numbers_and_slot(
     recording: &Recording,
     carrier: Carrier,
@@ -69,7 +69,7 @@ pub(crate) fn numbers_and_slot(
     (numbers, slot)
 }
 
-// The numbers of an entry by how it was read, and by what its slot shows.
+// Returns an entry's measurements, given its reading and its slot's measurements.
 fn numbers_of(entry: &Entry, reading: &Reading, slot: &SlotShown) -> Evidence
     requires { HasFraction reading.now.hit }
     ensures { result ≡ numbers_by entry.now reading.now slot.now }
@@ -90,7 +90,7 @@ fn numbers_of(entry: &Entry, reading: &Reading, slot: &SlotShown) -> Evidence
     }
 }
 
-// The fraction of a hit in thousandths, rounded down.
+// Returns the energy fraction that the PSS explains, in thousandths, rounded down.
 fn thousandths(hit: &Hit) -> u16
     requires { HasFraction hit.now }
     ensures value { result ≡ 1000 * hit.now.peak / (hit.now.energy * wave_power hit.now.n2) }

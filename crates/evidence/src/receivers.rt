@@ -1,4 +1,4 @@
-//! Where the way to read the cells of a carrier is chosen.
+//! The choice of the receiver for a transmission scheme.
 
 ghost use Rattle.std.specs.Prelude.{◌≡◌, ◌<◌, []};
 ghost use Rattle.std.specs.Option.{option_map, unwrap_or};
@@ -20,7 +20,7 @@ use soft_bits::{Single, Slot};
 use turbo_dec::Block;
 use two_ports::{PairSlot, TwoPorts};
 
-// What the slot with the broadcast channel in frame `j` of a cell shows. The frame lies within the recording.
+// Returns the measurements of the slot with the broadcast channel in frame `j`, which lies within the recording.
 pub(crate) fn shown_in(
     recording: &Recording,
     carrier: Carrier,
@@ -38,7 +38,8 @@ pub(crate) fn shown_in(
     }
 }
 
-// The block by a carrier's way to read system information, or none where it is not read.
+// Returns the transport block that carried SIB1, or `None` if no tried frame has one or the scheme's receiver does not
+// read SIB1.
 pub(crate) fn block_by(
     recording: &Recording,
     carrier: Carrier,

@@ -1,4 +1,4 @@
-//! What a slot shows.
+//! The measurements of a slot.
 
 ghost use Rattle.std.specs.Prelude.{◌≡◌, ◌*◌, ◌/◌, ◌^◌, ◌<◌, ◌≤◌, [], length};
 ghost use Rattle.explain.specs.Frame.{IsWhole, broadcast_slot};
@@ -17,8 +17,8 @@ use sample_file::Recording;
 use soft_bits::{Pilots, PortSlot, Ports};
 use std::marker::Model;
 
-/// The measurements of the slot of a frame that carries the broadcast channel: the energy of the pilots and the squares
-/// of their second differences, over all antenna ports; the pilots of each port; and the channel's soft values. (own)
+/// The measurements of a frame's slot with the broadcast channel: the pilots' energy and squared second differences,
+/// over all antenna ports; each port's pilots; and the channel's soft values. (own)
 #[derive(Drop)]
 pub struct SlotShown {
     power: u64,
@@ -42,7 +42,7 @@ impl Model for SlotShown {
 }
 
 impl SlotShown {
-    // What is shown before the pilots of any port.
+    // Returns the measurements before any port's pilots are added.
     fn new(power: u64, values: Received) -> SlotShown
         ensures { result ≡ record { power = power; differences = 0; channel = []; values = values } }
     {
@@ -54,7 +54,7 @@ impl SlotShown {
         }
     }
 
-    // Adds the pilots of a port.
+    // Adds a port's pilots.
     fn add(&mut self, pilots: &Pilots)
         requires room { length self.old.channel < 4 }
         requires step { 0 < pilots.now.step }
@@ -66,14 +66,14 @@ impl SlotShown {
         self.channel.push(pilots.copied());
     }
 
-    // The energy of the pilots of all antenna ports.
+    // Returns the pilots' energy over all antenna ports.
     pub(crate) fn power(&self) -> u64
         ensures { result ≡ self.now.power }
     {
         self.power
     }
 
-    // The squares of the second differences of the pilots, summed.
+    // Returns the pilots' squared second differences, added up.
     pub(crate) fn differences(&self) -> u128
         ensures value { result ≡ self.now.differences }
         ensures small { result ≤ 96 * 2 ^ 70 }
@@ -81,15 +81,15 @@ impl SlotShown {
         self.differences
     }
 
-    /// Returns the pilots of each antenna port.
+    /// Returns each antenna port's pilots.
     pub fn channel(&self) -> &[Pilots]
         ensures { result.now ≡ self.now.channel }
     {
         &self.channel
     }
 
-    /// Returns the soft values of the broadcast channel in received order: for each resource element the real part,
-    /// then the imaginary part.
+    /// Returns the broadcast channel's soft values in received order: for each resource element the real part, then the
+    /// imaginary part.
     pub fn values(&self) -> &[i16]
         ensures { result.now ≡ self.now.values }
     {
@@ -97,7 +97,7 @@ impl SlotShown {
     }
 }
 
-// What the slot of a cell with the normal prefix shows.
+// Measures a cell's slot with the normal cyclic prefix.
 pub(crate) fn shown_of<K: Ports>(recording: &Recording, place: CellPlace, j: u8) -> SlotShown
     requires { IsWhole recording.now place.start j }
     ensures { result ≡ shown_by K.pairing.carrier (broadcast_slot recording.now place.id place.start j)
@@ -111,7 +111,7 @@ pub(crate) fn shown_of<K: Ports>(recording: &Recording, place: CellPlace, j: u8)
     shown
 }
 
-// What the slot of a cell with the extended prefix shows.
+// Measures a cell's slot with the extended cyclic prefix.
 pub(crate) fn shown_of_long(recording: &Recording, place: CellPlace, j: u8) -> SlotShown
     requires { IsWhole recording.now place.start j }
     ensures { result ≡ shown_in_of Long recording.now place j }

@@ -1,4 +1,4 @@
-//! What supports an entry, with what its slot shows, and its blocks.
+//! Measurements of an entry and its slot, with the bits of its MIB and its SIB1.
 
 ghost use Rattle.std.specs.Prelude.{◌≡◌, IfOk, length};
 ghost use Rattle.std.specs.List.{AllZip};
@@ -20,7 +20,7 @@ use sib1_reader::Decoders;
 use std::alloc::{AllocError, Global};
 use std::marker::Model;
 
-/// The measurements of an entry, those of its slot, and the bits of its blocks. (own)
+/// Measurements of an entry and its slot, with the bits of its MIB and of its SIB1's transport block. (own)
 #[derive(Drop)]
 pub struct Support {
     numbers: Evidence,
@@ -41,21 +41,21 @@ impl Model for Support {
 }
 
 impl Support {
-    /// Returns the measurements of the entry.
+    /// Returns the entry's measurements.
     pub fn numbers(&self) -> &Evidence
         ensures { result.now ≡ self.now.numbers }
     {
         &self.numbers
     }
 
-    /// Returns the measurements of its slot.
+    /// Returns the slot's measurements.
     pub fn slot(&self) -> &SlotShown
         ensures { result.now ≡ self.now.slot }
     {
         &self.slot
     }
 
-    /// Returns the 24 bits of the MIB (TS 36.331 section 6.2.2).
+    /// Returns the MIB's 24 bits (TS 36.331 section 6.2.2).
     pub fn master(&self) -> Bits<24>
         ensures bits { result ≡ self.now.master }
         ensures count { length result ≡ 24 }
@@ -63,8 +63,7 @@ impl Support {
         bits_of(&self.mib)
     }
 
-    /// Returns the bits of the transport block that carried the system information, without its CRC; empty if the entry
-    /// has no system information.
+    /// Returns the bits of the transport block that carried SIB1, without its CRC; empty if the entry has no SIB1.
     pub fn block(&self) -> &[bool]
         ensures { result.now ≡ self.now.block }
     {
@@ -72,7 +71,7 @@ impl Support {
     }
 }
 
-// The bits of a master block.
+// Returns a MIB's bits.
 fn bits_of(mib: &Mib) -> Bits<24>
     ensures bits { result ≡ master_bits mib.now }
     ensures count { length result ≡ 24 }
@@ -80,7 +79,7 @@ fn bits_of(mib: &Mib) -> Bits<24>
     Bits::of_number(number_of(mib))
 }
 
-// The bits of a master block as a number.
+// Returns a MIB's bits as a number.
 fn number_of(mib: &Mib) -> u64
     ensures { result ≡ master_number mib.now }
 {
@@ -88,9 +87,8 @@ fn number_of(mib: &Mib) -> u64
     ((head * 4 + mib.resource.code() as u64) * 256 + mib.upper as u64) * 1024 + mib.spare as u64
 }
 
-/// Returns the measurements of each entry of a cell list as `evidence_of_list` does, with those of its slot, the bits
-/// of its MIB, and the bits of the transport block that carried its system information, which is read again. Fails only
-/// if an allocation fails. (own)
+/// Returns each entry's measurements as `evidence_of_list` does, its slot's measurements, its MIB's bits, and those of
+/// its SIB1, whose transport block is read again. Fails only if an allocation fails. (own)
 pub fn support_of_list(
     alloc: Global,
     recording: &Recording,
@@ -113,8 +111,7 @@ pub fn support_of_list(
     Ok(list)
 }
 
-// What supports an entry, what its slot shows, and its blocks. A private call of six parameters: a turn of the loop
-// over entries.
+// Returns an entry's measurements and bits. A private function with six parameters: the body of the loop over entries.
 fn support_of(
     alloc: Global,
     recording: &Recording,

@@ -1,4 +1,4 @@
--- A recording that is faithful to the four ports of a cell shows it to a receiver of four, whatever else they send.
+-- A recording that is faithful to a cell's four ports shows it to a four-port receiver, whatever else the ports send.
 use Rattle.std.proofs.Common.{ℕ, ◌≤◌, true, arith, refl}
 use Rattle.cs_num.specs.Complex.{value_at}
 use Rattle.lte_types.specs.Timing.{number_at_start}
@@ -24,6 +24,6 @@ shows_cells recording plan grids sfn offset gains long known faithful =
       system = refl;
     }
 
--- so the list holds it
+-- the list contains each such cell
 pub holds_cells : HoldsCells four_ports_receiver
 holds_cells = shown_are_held four_ports_receiver shows_cells

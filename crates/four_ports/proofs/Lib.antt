@@ -1,6 +1,6 @@
--- The reason of each entry.
+-- The reason that each entry has.
 pub mod Reasons
--- The values of a pair speak for its bits.
+-- A pair's soft values have the signs of its bits.
 pub mod Values
--- Its list holds its cell.
+-- The list contains each cell to which the recording is faithful.
 pub mod HeldCells

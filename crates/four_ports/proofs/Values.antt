@@ -1,4 +1,4 @@
--- The values of pairs of four ports speak for their bits.
+-- With four ports, a pair's soft values have the signs of its bits.
 use Rattle.std.proofs.Common.{ℕ, zero, suc, ◌+◌, ◌*◌, ◌%◌, ◌<◌, ◌≤◌, arith, refl}
 use Rattle.cs_num.specs.declared.Cpx.{Cpx}
 use Rattle.cs_num.specs.Complex.{square}
@@ -21,9 +21,9 @@ have_part gains paired = record { each = λ i. by (i % 2) (omega arith) }
     by (suc zero) l = let same = four_squares gains in let part = paired.odd in omega (arith, same, part)
     by (suc (suc n)) l = absurd (omega (arith, l))
 
--- 36 * 900^2 * 16200 * 8 / 3 of the channels, where the pair's gains have three eighths, and 900^2 * 8 / 3 of what is seen; the energy's
--- 6340239360, and six times 34517463575, are less than 540 * 398131200. With 912 in place of 900 they are more, so that no quota of 8
--- follows
+-- 36 * 900^2 * 16200 * 8 / 3 for the channels, if the pair's gains have three eighths, and 900^2 * 8 / 3 for the
+-- observed symbols. The energy's 6340239360, and six times 34517463575, are less than 540 * 398131200. With 912 in
+-- place of 900 they are more, so that no quota of 8 follows.
 abbrev four_margins : Margins
 four_margins = record {
   most = 900;

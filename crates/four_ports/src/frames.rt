@@ -1,4 +1,4 @@
-//! The receiver of four antenna ports.
+//! The receiver for four antenna ports.
 
 ghost use Rattle.soft_bits.specs.Pairs.{over_four};
 ghost use Rattle.four_ports.specs.Entries.{four_ports_receiver};
@@ -10,8 +10,7 @@ use sample_file::Recording;
 use sib1_reader::Decoders;
 use soft_bits::{PortSlot, Ports};
 
-/// The receiver of four antenna ports. It takes MIBs with exactly four antenna ports, and does not read system
-/// information. (own)
+/// The receiver for four antenna ports. It accepts MIBs with exactly four antenna ports, and does not read SIB1. (own)
 pub struct FourPorts;
 
 /// A slot of a cell with four antenna ports.

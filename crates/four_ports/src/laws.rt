@@ -1,14 +1,14 @@
-//! Laws of the soft values of transmit diversity pairs.
+//! Laws on soft values with transmit diversity.
+//!
+//! Let P be the sum of all gains' squares, at least 1; each pair of ports has at least three eighths of P. All four
+//! ports' pilots and the pair's two resource elements are each received with an error of at most 900 / 64, about 14,
+//! amplitude units times the root of P. In a recording it is enough that each symbol's error energy is at most 7 P
+//! (`recording`).
 
 ghost use Rattle.four_ports.specs.Received.{PairValuesSpeak, ReceivedPairSpeaks};
 
-/// States that the four soft values of a transmit diversity pair have the signs of its bits (TS 36.211 section
-/// 6.3.4.3).
-///
-/// Each pair of ports has at least three eighths of the sum of all gains' squares, which is at least that of a gain of
-/// 1. The pilots of all four ports and the two resource elements of the pair are each received with an error of little
-/// more than 14 amplitude units, times the root of that sum. In a recording it is enough that the error energy of each
-/// symbol is at most 7 times the sum (`recording`).
+/// A law: a transmit diversity pair's four soft values have the signs of its bits if the errors are small and no pair
+/// of ports is weak (TS 36.211 section 6.3.4.3).
 pub fn pair_values_speak_for_the_sent_bits()
     ensures seen { PairValuesSpeak }
     ensures recording { ReceivedPairSpeaks }

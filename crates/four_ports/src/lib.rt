@@ -1,6 +1,5 @@
-//! The list of cells with four antenna ports, up to the MIB. They send by transmit diversity (TS 36.211 section
-//! 6.3.4.3). The list misses no cell with clean reception, since the soft values of a pair have the signs of the sent
-//! bits.
+//! The receiver for cells with four antenna ports and transmit diversity (TS 36.211 section 6.3.4.3), up to the MIB.
+//! Its list misses no cell with clean reception, since a pair's soft values have the signs of the sent bits.
 //!
 //! Tests: `list_tests/src/four_antenna_ports.rt`.
 #![tactic(auto)]

@@ -1,4 +1,4 @@
--- The receiver of the extended prefix looks at the first frames alone.
+-- The receiver for the extended cyclic prefix reads only the first frames.
 use Rattle.std.proofs.Common.{◌≡◌, ℕ, ◌<◌, ◌≤◌, List, arith, ap}
 use Rattle.finite.proofs.Lists.{values_below_same}
 use Rattle.cs_num.specs.declared.Cpx.{Cpx}

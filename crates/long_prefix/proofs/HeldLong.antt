@@ -1,4 +1,4 @@
--- A recording that is faithful to a cell shows it to a receiver of the extended prefix.
+-- A recording that is faithful to a cell shows it to a receiver for the extended cyclic prefix.
 use Rattle.std.proofs.Common.{◌≡◌, ℕ, ◌*◌, ◌%◌, arith, refl, sym, subst, List, [], ◌∷◌, get_or, None, Err}
 use Rattle.std.specs.Prelude.{All}
 use Rattle.std.proofs.lemmas.List.Elements.{Contains-get_or}
@@ -48,11 +48,11 @@ shows_cells recording plan grids sfn offset gains long known faithful =
       system = refl;
     }
 
--- so the list holds it
+-- the list contains each such cell
 pub holds_cells : HoldsCells long_prefix_receiver
 holds_cells = shown_are_held long_prefix_receiver shows_cells
 
--- and each plan of which it is clean
+-- the list contains each plan for which the recording is clean
 pub holds_plans : (recording : List Sample) (list : List Entry) → HoldsCleanBy LongCarrier recording list → HoldsPlans recording list
 holds_plans recording list holds plan sfn offset gain eps known clean =
     let cell = cell_with plan in
@@ -60,14 +60,14 @@ holds_plans recording list holds plan sfn offset gain eps known clean =
     holds None cell sfn offset (gain ∷ []) eps (record { identity = known.identity; spare = known.spare })
     (record { number = clean.number; within = samples.within; gains_are = samples.size; bound = samples.bound; near = samples.near })
 
--- each entry of the list tells what one frame tells
+-- each entry in the list was read from one frame
 pub frames_are_single : (recording : List Sample) (list : List Entry) → IsExplainedOfLong recording list → All (λ entry. entry.frames ≡ 1) list
 frames_are_single recording list explained k d inside =
     let entry = get_or list k d in
     let known = is_sound long_prefix_receiver recording list entry explained (Contains-get_or list k d inside) in
     (one_frame_alone long_prefix_receiver recording known.hit entry refl known.is_of).one
 
--- each entry of the list has the one reason
+-- each entry in the list has the reason `LongPrefix`
 pub reasons_are_long : (recording : List Sample) (list : List Entry) → IsExplainedOfLong recording list → All (λ entry. entry.sib1 ≡ Err LongPrefix) list
 reasons_are_long recording list explained k d inside =
     (is_sound long_prefix_receiver recording list (get_or list k d) explained (Contains-get_or list k d inside)).is_of.sib1

@@ -1,16 +1,16 @@
--- The samples of a recording by number.
+-- The samples of a numbered recording.
 pub mod Samples
 -- Each symbol of a clean recording is received as it was sent.
 pub mod SentSignals
--- The soft values of a slot speak for the bits that it carries.
+-- A slot's soft values have the signs of the bits that it carries.
 pub mod Told
--- The soft values of a slot are small.
+-- A slot's soft values are within their bounds.
 pub mod Pairs
--- All together: the list of a clean recording holds its cell.
+-- Conclusion: the list of a clean recording contains its cell.
 pub mod HeldLong
 -- A number has one recording.
 pub mod Numbered
--- With the extended prefix a cell sends what is sent of the plan that its own has.
+-- With the extended cyclic prefix a cell sends only the plan's fields.
 pub mod SentPlan
--- which samples the receiver looks at
+-- The samples that the receiver reads.
 pub mod Deciding

@@ -17,10 +17,10 @@ one_plan n a b p q =
     (same_mib a.mib b.mib (p.block.bandwidth ∙ sym q.block.bandwidth) (p.block.duration ∙ sym q.block.duration) (p.block.resource ∙ sym q.block.resource)
     (p.block.upper ∙ sym q.block.upper) (p.block.spare ∙ sym q.block.spare))
 
--- its identity is one
+-- the plan's identity is in its range
 pub is_identity : (n : ℕ) (a : LongPlan) → IsPlanOf n a → a.id ≤ 503
 is_identity n a p = subst (λ i. i ≤ 503) (sym p.id) (omega arith)
 
--- and one recording
+-- a number has one recording
 pub one_recording : (n : ℕ) (a b : LongMade) → IsMadeLong n a → IsMadeLong n b → a.recording ≡ b.recording
 one_recording n a b p q = one_of_number LongPrefix n a.bound b.bound a.recording b.recording p.bound q.bound p.samples_are q.samples_are

@@ -1,4 +1,4 @@
--- The soft values of a slot are small.
+-- A slot's soft values are within their bounds.
 use Rattle.std.proofs.Common.{ℕ, ◌/◌, ◌%◌, ◌<◌, ◌≤◌, slice_index_or, pos, nat_abs, arith}
 use Rattle.std.specs.Prelude.{All}
 use Rattle.std.proofs.lemmas.List.Elements.{All-get_or}

@@ -1,4 +1,4 @@
--- The samples of a recording by number.
+-- The samples of a numbered recording.
 use Rattle.std.proofs.Common.{ℕ, sym, subst}
 use Rattle.std.specs.Prelude.{nat_abs}
 use Rattle.cs_num.specs.declared.Cpx.{Cpx}
@@ -15,7 +15,7 @@ use Rattle.long_prefix.specs.Clean.{IsCleanOfLong}
 use Rattle.long_prefix.specs.Made.{IsPlanOf, IsMadeLong, IsCleanlyMade}
 use Rattle.long_prefix.proofs.SentPlan.{same_sent}
 
--- the plan of the cell of number n has what is sent of a plan of that number
+-- cell number n has the fields of the plan with this number
 pub has_plan_of : (n : ℕ) (sent : LongPlan) → IsPlanOf n sent → HasPlan (plan n) sent
 has_plan_of n sent p = record { identity = sym p.id; duration = sym p.block.duration; resource = sym p.block.resource; spare = sym p.block.spare }
 

@@ -1,4 +1,4 @@
--- With the extended cyclic prefix a cell sends what is sent of the plan that its own has.
+-- With the extended cyclic prefix a cell sends only the fields of a `LongPlan`.
 use Rattle.std.specs.Prelude.{if◌then◌else◌}
 use Rattle.cs_num.specs.Complex.{nothing}
 use Rattle.std.proofs.Common.{◌≡◌, ℕ, ◌%◌, ◌∙◌, Bool, true, false, not, ◌&&◌, ◌||◌, inl, arith, refl, ap, None}
@@ -22,9 +22,9 @@ use Rattle.capture_make.proofs.Plans.{is_sendable}
 use Rattle.long_prefix.specs.declared.plan.LongPlan.{LongPlan}
 use Rattle.long_prefix.specs.Sent.{long_element, long_sent, HasPlan, IsKnownLong}
 
--- ---- what is sent
+-- ---- the sent elements
 
--- a place is another's only where it is not the port's own
+-- a reference element belongs to another port only if it is not the port's own
 once : (own : Bool) (x z : Cpx) → (if own then x else (if not own && (own || false) then nothing else z)) ≡ (if own then x else z)
 once true x z = refl
 once false x z = refl
@@ -42,9 +42,9 @@ same_sent cell plan has sfn =
     let sequence : Elements → ℕ → Cpx = λ grid i. prefix_sent extended grid sfn i in
     ap sequence (same_elements cell plan has)
 
--- ---- a cell that sends it
+-- ---- a cell with these fields
 
--- a cell's plan with this identity and these fields
+-- a cell's plan with this identity and these MIB fields
 abbrev pub with_plan : CellPlan → LongPlan → CellPlan
 with_plan rest plan = record rest {
   identity = plan.id;
@@ -53,7 +53,7 @@ with_plan rest plan = record rest {
   spare = plan.mib.spare;
 }
 
--- that of recording 0
+-- recording 0's plan with these fields
 abbrev pub cell_with : LongPlan → CellPlan
 cell_with plan = with_plan (plan_of_number 0) plan
 

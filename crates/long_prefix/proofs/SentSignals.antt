@@ -1,4 +1,4 @@
--- A recording that is faithful to a cell: its symbols are received as they were sent.
+-- Symbols of a recording that is faithful to a cell are received as they were sent.
 use Rattle.std.proofs.Common.{◌≡◌, ℕ, ◌+◌, ◌*◌, ◌/◌, ◌%◌, ◌<◌, None, Bool, true, false, ◌&&◌, nat_eq, nat_lt, arith, inl, refl, ap, subst, ◌∙◌, List, [], length, slice_index_or}
 use Rattle.std.specs.Prelude.{if◌then◌else◌}
 use Rattle.std.proofs.lemmas.Bool.{lt-ltb}
@@ -37,11 +37,11 @@ use Rattle.grid_map.proofs.LongOrder.{length-long_places, long_place_is}
 
 -- ---- slot 1
 
--- the rows of slot 1 of the frame with this number
+-- the symbols of slot 1 in the frame with this number
 abbrev pub slot_row : Elements → ℕ → ℕ → ℕ → Cpx
 slot_row grid number l = grid number 0 (6 + l)
 
--- each pilot stands at a reference place of symbol 0 or 3
+-- each pilot is a reference element of symbol 0 or 3
 record IsPilotPlace (identity symbol k : ℕ) : Type 0 where
   is : is_pattern_place long_prefix identity symbol k ≡ true
   inside : symbol < 6
@@ -78,14 +78,14 @@ references_stand plan grid carries number i =
     reference_carried plan grid carries number (pattern_symbol long_prefix plan.identity i) (pilot_subcarrier plan.identity i) p.inside p.is ∙
     reference_here plan number (pattern_symbol long_prefix plan.identity i) (pilot_subcarrier plan.identity i) p.inside p.is
 
--- a place that is not kept is no reference place
+-- a resource element that is not kept for reference signals has none
 free_place : (identity : ℕ) (p : Place) → p.symbol < 4 → is_kept (identity % 3) p ≡ false → is_pattern_place long_prefix identity p.symbol p.k ≡ false
 free_place identity p few free = grind (arith, nat_tests)
 
 not_there : (signal l : ℕ) (a : Bool) → signal < 6 → (nat_eq (6 + l) signal && a) ≡ false
 not_there signal l a few = let e : nat_eq (6 + l) signal ≡ false = grind (arith, nat_tests) in rw e refl
 
--- each place of the broadcast channel has its point
+-- each resource element of the broadcast channel holds its symbol
 pub points_stand : (plan : CellPlan) (grid : Elements) → CarriesPlan long_port plan grid → (number i : ℕ) → i < 216 →
     let p = slice_index_or (long_places plan.identity) i (place 0 0) in slot_row grid number p.symbol p.k ≡ port_point long_port plan number i
 points_stand plan grid carries number i inside =
@@ -103,7 +103,7 @@ points_stand plan grid carries number i inside =
     ∙ channel_of_broadcast long_port plan number 0 (6 + p.symbol) p.k here
     ∙ ap (λ (n : ℕ). port_point long_port plan number (index_in (long_places plan.identity) (place n p.k))) symbol ∙ ap (port_point long_port plan number) at.index
 
--- the slot of the first frame is received
+-- the first frame's slot is received
 pub slot_received : (recording : List Sample) (plan : CellPlan) (grids : Port → Elements) (sfn offset : ℕ) (gains : List Cpx) → IsFaithfulBy LongPrefix recording plan grids sfn offset gains →
     IsPatternReceived 1800 long_prefix 6 recording (useful_start extended (frame_at (start_of offset) 0) 1) (slot_row (grids long_port) (number_at_start sfn offset)) (long_slot recording plan.identity (start_of offset) 0)
 unfolding long_slot

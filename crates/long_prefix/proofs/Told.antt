@@ -1,4 +1,4 @@
--- The soft values of the slot of a frame that carries the broadcast channel speak for the bits that it carries.
+-- The broadcast channel's soft values have the signs of the bits that it carries.
 use Rattle.std.proofs.Common.{◌≡◌, ℕ, ◌+◌, ◌*◌, ◌/◌, ◌<◌, arith, sym, subst, Bool, List, slice_index_or, pos}
 use Rattle.finite.proofs.Lists.{values_below_at, values_below-length}
 use Rattle.cs_num.specs.declared.Cpx.{Cpx}
@@ -21,7 +21,7 @@ use Rattle.grid_map.proofs.LongOrder.{long_place_is}
 
 module _ (recording : List Sample) (starts : ℕ → ℕ) (rows : ℕ → ℕ → Cpx) (slot : SeenSlot) (received : IsPatternReceived 1800 long_prefix 6 recording starts rows slot)
     (bits : ℕ → Bool) (carry : (i : ℕ) → i < 216 → let p = slice_index_or (long_places slot.identity) i (place 0 0) in rows p.symbol p.k ≡ point_of bits i) where
-  -- both values of a place speak for the bits that it carries
+  -- both values of a resource element have the signs of its bits
   both : (i : ℕ) → i < 216 → SupportBoth 1 (bits (2 * i)) (bits (2 * i + 1)) (long_pair slot (slice_index_or (long_places slot.identity) i (place 0 0)))
   unfolding long_pair
   both i inside =
@@ -33,7 +33,7 @@ module _ (recording : List Sample) (starts : ℕ → ℕ) (rows : ℕ → ℕ �
       (subst (λ (z : Cpx). IsSeenAs 2316 received.gain z (seen_at slot p.symbol p.k)) (carry i inside)
       (pattern_place_seen 1800 2316 amplitude_is_seen_in_recording long_prefix 6 recording starts rows slot received p.symbol p.k (omega (arith, few)) at.k))
 
-  -- so all values do
+  -- all 432 values have the signs of their bits
   pub values_heard : AreHeard 1 432 bits (long_values slot)
   unfolding long_values
   values_heard = record {

@@ -1,4 +1,4 @@
--- A recording that is clean of what is sent of a plan with the extended cyclic prefix: its list holds the cell. (own)
+-- A clean recording of a plan with the extended cyclic prefix: its list contains the cell. (own)
 use Rattle.std.specs.Prelude.{ℕ, ◌≤◌, List, Err}
 use Rattle.cs_num.specs.declared.Cpx.{Cpx}
 use Rattle.cs_num.specs.declared.Sample.{Sample}
@@ -10,14 +10,14 @@ use Rattle.clean_air.specs.Clean.{HoldsOne, IsSentEntryBy}
 use Rattle.long_prefix.specs.declared.plan.LongPlan.{LongPlan}
 use Rattle.long_prefix.specs.Sent.{long_sent, IsKnownLong}
 
--- a recording is clean of what is sent of a plan from the frame numbered sfn on
+-- a clean recording of a plan's samples, from frame number `sfn`
 pub record IsCleanOfLong (recording : List Sample) (plan : LongPlan) (sfn offset : ℕ) (gain : Cpx) (eps : ℕ) :
     Type 0 where
   pub number : sfn ≤ 1023
   pub samples : IsCleanOf (long_sent plan sfn) recording offset gain eps
 
--- the list holds each plan of which the recording is clean, with one antenna port and without system information,
--- whatever its identity and its master block are, its first frame's number, the offset, the gain and the errors
+-- the list contains each plan for which the recording is clean, with one antenna port and without SIB1, for any
+-- identity, MIB, first frame number, offset, gain and errors
 abbrev pub HoldsPlans : List Sample → List Entry → Type 0
 HoldsPlans recording list =
     (plan : LongPlan) (sfn offset : ℕ) (gain : Cpx) (eps : ℕ) → IsKnownLong plan →

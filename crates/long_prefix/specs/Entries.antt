@@ -1,4 +1,4 @@
--- The list of the cells with the extended cyclic prefix in a recording, up to the MIB. (own)
+-- The list of cells with the extended cyclic prefix in a recording, up to the MIB. (own)
 use Rattle.std.specs.Prelude.{◌≡◌, ℕ, ◌/◌, ◌%◌, List, slice_index_or, ℤ, pos, None, Err}
 use Rattle.cs_num.specs.declared.Sample.{Sample}
 use Rattle.cs_num.specs.Complex.{times, conjugate}
@@ -23,7 +23,7 @@ use Rattle.grid_map.specs.LongBroadcast.{long_places}
 
 -- ---- frames
 
--- slot 1 of frame j of a cell, which carries the broadcast channel: its six received symbols
+-- slot 1 in frame j of a cell, which carries the broadcast channel: its six received symbols
 unfoldable pub long_slot : List Sample → ℕ → ℕ → ℕ → SeenSlot
 long_slot recording identity start j =
     record {
@@ -32,17 +32,17 @@ long_slot recording identity start j =
       identity = identity;
     }
 
--- the pilots of a slot with this prefix
+-- these are the slot's pilots with this prefix
 unfoldable pub ArePilots : SeenSlot → SeenLine → Type 0
 ArePilots slot pilots = pilots ≡ seen_line (line_of LongPrefix 0 slot) slot
 
--- the soft values of a resource element of slot 1, by the reference signals of symbols 0 and 3
+-- a resource element's soft values in slot 1, by the reference signals of symbols 0 and 3
 unfoldable pub long_pair : SeenSlot → GridPlace → List ℤ
 long_pair slot p =
     soft_pair (times (seen_at slot p.symbol p.k) (conjugate (pattern_channel long_prefix slot p.k)))
     (pattern_energy long_prefix slot)
 
--- soft value i of the 432 of the broadcast channel: two of each resource element, the real part first
+-- the broadcast channel's soft value i of 432, two per resource element, the real part first
 abbrev pub long_value : SeenSlot → ℕ → ℤ
 long_value slot i =
     slice_index_or (long_pair slot (slice_index_or (long_places slot.identity) (i / 2) (place 0 0))) (i % 2) (pos 0)
@@ -52,8 +52,8 @@ long_values slot = values_below 432 (long_value slot)
 
 -- ---- the receiver
 
--- the receiver of the extended prefix has 432 soft values of the broadcast channel in a frame, adds no frames, and
--- takes each MIB, whatever antenna port count it carries; subframe 5 is not read
+-- the receiver for the extended cyclic prefix: it has 432 soft values of the broadcast channel per frame, combines no
+-- frames, accepts each MIB, whatever its antenna port count, and does not read subframe 5
 abbrev pub long_prefix_receiver : Receiver
 long_prefix_receiver = record {
   carrier = LongPrefix;
@@ -64,10 +64,10 @@ long_prefix_receiver = record {
   subframe = Err Extended;
 }
 
--- the list of the cells of a recording with the extended prefix
+-- a recording's list of cells with the extended cyclic prefix
 abbrev pub IsExplainedOfLong : List Sample → List Entry → Type 0
 IsExplainedOfLong = IsListFor long_prefix_receiver
 
--- the reading of an entry of the list of the cells with the extended prefix
+-- the reading of an entry in this list
 abbrev pub IsReadingOfLong : List Sample → Entry → Reading → Type 0
 IsReadingOfLong = IsReadingFor long_prefix_receiver

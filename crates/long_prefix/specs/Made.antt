@@ -1,5 +1,4 @@
--- Recording number n with the extended cyclic prefix: the recipe of any carrier, without the control region and system
--- information. (own)
+-- Recording number n with the extended cyclic prefix, made as for any scheme, without control region and SIB1. (own)
 use Rattle.std.specs.Prelude.{◌≡◌, ℕ, ◌/◌, nat_abs}
 use Rattle.lte_types.specs.declared.bandwidth.Bandwidth.TheVariants.{N6}
 use Rattle.lte_types.specs.declared.carrier.Carrier.TheVariants.{LongPrefix}
@@ -11,12 +10,12 @@ use Rattle.long_prefix.specs.declared.plan.LongPlan.{LongPlan}
 use Rattle.long_prefix.specs.declared.made.LongMade.{LongMade}
 use Rattle.long_prefix.specs.Clean.{IsCleanOfLong}
 
--- what was sent: the identity and the master block of the cell of number n
+-- cell number n has this plan: its identity and MIB
 pub record IsPlanOf (n : ℕ) (sent : LongPlan) : Type 0 where
   pub id : sent.id ≡ (plan n).identity
   pub block : HasFields sent.mib N6 (plan n).duration (plan n).resource (number n / 4) (plan n).spare
 
--- what was sent, the bound of the errors, and the samples are those of recording number n
+-- the transmission, the error bound and the samples are those of recording number n
 pub record IsMadeLong (n : ℕ) (made : LongMade) : Type 0 where
   pub plan_is : IsPlanOf n made.plan
   pub number_is : made.sfn ≡ number n
@@ -25,7 +24,7 @@ pub record IsMadeLong (n : ℕ) (made : LongMade) : Type 0 where
   pub bound : IsBound LongPrefix n made.bound
   pub samples_are : made.recording ≡ samples_by LongPrefix n (nat_abs made.bound)
 
--- the recording is a clean one of what was sent, with errors within the bound
+-- a clean recording of the transmission, with errors within the bound
 abbrev pub IsCleanlyMade : LongMade → Type 0
 IsCleanlyMade made =
     IsCleanOfLong made.recording made.plan made.sfn made.offset (gain_of made.gain) (nat_abs made.bound)

@@ -1,4 +1,4 @@
--- What is sent of a plan with the extended cyclic prefix. (own)
+-- The transmission of a plan with the extended cyclic prefix. (own)
 use Rattle.std.specs.Prelude.{◌≡◌, ℕ, ◌+◌, ◌-◌, ◌*◌, ◌/◌, ◌%◌, ◌≤◌, Bool, if◌then◌else◌, List}
 use Rattle.cs_num.specs.declared.Cpx.{Cpx}
 use Rattle.cs_num.specs.Complex.{nothing}
@@ -16,20 +16,20 @@ use Rattle.cell_grid.specs.Grid.{Elements}
 use Rattle.cell_tx.specs.Sent.{prefix_sent}
 use Rattle.long_prefix.specs.declared.plan.LongPlan.{LongPlan}
 
--- the master block of a plan in the frame with this number, and its check: it tells n6, one antenna port and the upper
--- bits of this number (TS 36.331 section 6.2.2, TS 36.212 section 5.3.1.1)
+-- the MIB's word for the frame with this number, with its CRC: bandwidth n6, one antenna port and the number's upper
+-- bits (TS 36.331 section 6.2.2, TS 36.212 section 5.3.1.1)
 abbrev pub long_word : LongPlan → ℕ → List Bool
 long_word plan sfn = master_word (port_mask long_port) plan.mib.duration plan.mib.resource sfn plan.mib.spare
 
--- bit i of the 432 that the broadcast channel carries in this frame, and point i of the 216 (TS 36.211 section 6.6)
+-- the broadcast channel's bit i of 432 in this frame, and its symbol i of 216 (TS 36.211 section 6.6)
 abbrev pub long_bit : LongPlan → ℕ → ℕ → Bool
 long_bit plan sfn i = scrambled_bit (pbch_c_init plan.id) (long_word plan sfn) (432 * (sfn % 4) + i)
 
 abbrev pub long_point : LongPlan → ℕ → ℕ → Cpx
 long_point plan sfn i = point_of (long_bit plan sfn) i
 
--- what is sent at a place of this frame: the reference signals, the primary signal, the secondary signal, the broadcast
--- channel, and nothing elsewhere
+-- the elements of this frame: the reference signals, the primary signal, the secondary signal, the broadcast channel,
+-- and zero elsewhere
 unfoldable pub long_element : LongPlan → Elements
 long_element plan sfn subframe symbol k =
     if is_own_reference long_port plan.id (port_slot long_port subframe symbol) (symbol % port_symbols long_port) k
@@ -41,18 +41,18 @@ long_element plan sfn subframe symbol k =
     then long_point plan sfn (broadcast_index long_port plan.id symbol k)
     else nothing)))
 
--- sample i of the endless sequence of frames that begins with the frame numbered sfn (TS 36.211 section 6.12)
+-- sample i of the endless frame sequence from frame number `sfn` (TS 36.211 section 6.12)
 abbrev pub long_sent : LongPlan → ℕ → ℕ → Cpx
 long_sent plan sfn i = prefix_sent extended (long_element plan) sfn i
 
--- a cell's plan has what is sent of this one: with this prefix nothing else of it is sent
+-- a cell's plan has the fields of this plan; with this prefix no others are sent
 pub record HasPlan (cell : CellPlan) (plan : LongPlan) : Type 0 where
   pub identity : cell.identity ≡ plan.id
   pub duration : cell.duration ≡ plan.mib.duration
   pub resource : cell.resource ≡ plan.mib.resource
   pub spare : cell.spare ≡ plan.mib.spare
 
--- a plan's identity and spare bits are in their ranges
+-- the plan's identity and spare bits are in their ranges
 pub record IsKnownLong (plan : LongPlan) : Type 0 where
   pub identity : plan.id ≤ 503
   pub spare : plan.mib.spare ≤ 1023

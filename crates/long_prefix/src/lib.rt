@@ -1,5 +1,6 @@
-//! The extended cyclic prefix, up to the MIB: the samples that a plan sends, numbered synthetic recordings, and the
-//! cell list, which misses no cell with clean reception (TS 36.211 sections 6.6, 6.10.1, 6.11 and 6.12).
+//! Reception and transmission with the extended cyclic prefix, up to the MIB: a plan's samples, numbered synthetic
+//! recordings, and the cell list, which misses no cell with clean reception (TS 36.211 sections 6.6, 6.10.1, 6.11 and
+//! 6.12).
 //!
 //! Tests: `list_tests/src/extended_prefix.rt`.
 #![tactic(auto)]

@@ -1,4 +1,7 @@
 //! The list of cells with the extended cyclic prefix.
+//!
+//! Each MIB is read from one frame (`single`), whatever its antenna port count. SIB1 is not read: each entry has the
+//! reason `LongPrefix`. For a `LongPlan`, `holds` states the same promise as `list`.
 
 ghost use Rattle.std.specs.Prelude.{◌≡◌, All, IfOk, Err};
 ghost use Rattle.std.specs.List.{AllZip};
@@ -18,9 +21,7 @@ impl CleanReader for ExtendedPrefix {
     fn holds_cells() {}
 }
 
-/// Lists the cells with the extended cyclic prefix by `clean_air::explain_clean_by`: a MIB is read from one frame
-/// (`single`), whatever antenna port count it carries. SystemInformationBlockType1 is not read: each entry has the
-/// reason `LongPrefix`. For plans that only have the extended prefix, `holds` states the same promise. (own)
+/// Lists the cells with the extended cyclic prefix by `clean_air::explain_clean_by`, each without SIB1. (own)
 pub fn explain_clean(recording: &Recording, work: &mut Workspace3, list: &mut EntryList)
     ensures list { IsListBy long_prefix_receiver recording.now list.new }
     ensures readings { AllZip (IsReadingOfLong recording.now) list.new work.new }

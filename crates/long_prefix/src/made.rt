@@ -1,4 +1,4 @@
-//! Recordings by number.
+//! Synthetic recordings by number.
 
 ghost use Rattle.std.specs.Prelude.{◌≡◌, ℕ, IfOk};
 ghost use Rattle.lte_types.specs.declared.carrier.Carrier.TheVariants.{LongPrefix};
@@ -21,11 +21,11 @@ use std::alloc::{AllocError, Global};
 pub struct LongMade {
     /// The cell's plan.
     pub plan: LongPlan,
-    /// The number of the first frame.
+    /// The first frame number.
     pub sfn: Sfn,
-    /// The first sample of that frame which is sent, 0 to 19,199.
+    /// The first sample sent within this frame, 0 to 19,199.
     pub offset: u32,
-    /// The gain, real before imaginary.
+    /// The gain, real part first.
     pub gain: (i16, i16),
     /// The maximum magnitude of an error component: the largest whole number at most twice the gain's magnitude.
     pub bound: i16,
@@ -33,7 +33,7 @@ pub struct LongMade {
     pub recording: Recording,
 }
 
-// The plan of the cell of number n.
+// Returns the plan of cell number `n`.
 fn plan_of(n: u32) -> LongPlan
     ensures { IsPlanOf n result }
 {
@@ -52,14 +52,14 @@ fn plan_of(n: u32) -> LongPlan
     }
 }
 
-// The gain.
+// Returns the gain of recording `n`.
 fn pair(n: u32) -> (i16, i16)
     ensures { gain_of result ≡ gain_of_number n }
 {
     pair_of(gain(n).value())
 }
 
-// What was made with the extended prefix.
+// Returns the recording with its transmission, from one that `make_by` made with the extended cyclic prefix.
 fn of_long_prefix(n: u32, made: MadeBy) -> LongMade
     requires made { IsMadeBy LongPrefix n made }
     requires valid { IsRecording made.recording }
@@ -77,8 +77,8 @@ fn of_long_prefix(n: u32, made: MadeBy) -> LongMade
     }
 }
 
-/// Makes recording `n` with the extended cyclic prefix, 10 to 99 frames long, without control region and system
-/// information: that of `capture_make::make_by`. Fails only if an allocation fails. (own)
+/// Makes recording `n` of `capture_make::make_by` with the extended cyclic prefix, 10 to 99 frames long, without
+/// control region and SIB1. Fails only if an allocation fails. (own)
 pub fn make(alloc: Global, n: u32) -> Result<LongMade, AllocError>
     ensures made { IfOk result (IsMadeLong n) }
     ensures clean { IfOk result IsCleanlyMade }
@@ -89,7 +89,7 @@ pub fn make(alloc: Global, n: u32) -> Result<LongMade, AllocError>
     Ok(of_long_prefix(n, made))
 }
 
-/// A law: each recording is a clean recording of its transmission.
+/// A law: each numbered recording with the extended cyclic prefix is a clean recording of its transmission.
 pub fn made_is_clean()
     ensures { (n : ℕ) (made : MadeValue) → IsMadeLong n made → IsCleanlyMade made }
 {

@@ -1,14 +1,14 @@
-//! What is sent.
+//! The part of a cell's plan that is sent with the extended cyclic prefix.
 
 use lte_types::{CellId, Mib};
 
-/// What is sent of a cell's plan with the extended cyclic prefix: its identity, and the PHICH fields and spare bits of
-/// its master block. It has 6 resource blocks and one antenna port, and the upper bits of the frame number are those of
-/// each frame, whatever stands in the block.
+/// A cell plan with the extended cyclic prefix: the identity, and the PHICH fields and spare bits of the MIB. The cell
+/// has 6 resource blocks and one antenna port. Each frame sends its own number's upper bits; those in `mib` are
+/// ignored.
 #[derive(Clone, Copy, Debug, PartialEq, Eq)]
 pub struct LongPlan {
     /// The physical-layer cell identity.
     pub id: CellId,
-    /// The master block.
+    /// The MIB.
     pub mib: Mib,
 }

@@ -1,4 +1,4 @@
-//! The receiver of the extended cyclic prefix.
+//! The receiver for the extended cyclic prefix.
 
 ghost use Rattle.std.specs.Prelude.{◌≡◌, ◌+◌, ◌*◌, ◌^◌, ◌<◌, ◌≤◌, All, length};
 ghost use Rattle.finite.specs.Lists.{values_below};
@@ -24,8 +24,8 @@ use sample_file::Recording;
 use sib1_reader::Decoders;
 use soft_bits::{Pilots, Seen, energy_of, pilots_of, soft_pair};
 
-/// The receiver of the extended cyclic prefix. It takes every MIB, whatever antenna port count it carries, and does not
-/// read system information. (own)
+/// The receiver for the extended cyclic prefix. It accepts every MIB, whatever its antenna port count, and does not
+/// read SIB1. (own)
 pub struct ExtendedPrefix;
 
 impl FrameReader for ExtendedPrefix {
@@ -56,7 +56,7 @@ impl FrameReader for ExtendedPrefix {
     }
 }
 
-// Symbol l of slot 1 of a frame that begins at the given sample, as it is seen.
+// Returns the observed symbol `l` in slot 1 of a frame that begins at sample `frame`.
 fn symbol_of(recording: &Recording, frame: usize, l: usize) -> [Cpx; 72]
     requires within { frame + frame_length ≤ length recording.now }
     requires small { frame < 2 ^ 40 }
@@ -67,7 +67,7 @@ fn symbol_of(recording: &Recording, frame: usize, l: usize) -> [Cpx; 72]
     symbol(recording, Prefix::EXTENDED.useful_start(frame, 1, l))
 }
 
-// The six symbols of slot 1 of a frame.
+// Returns the six symbols in a frame's slot 1.
 fn symbols_of(recording: &Recording, frame: usize) -> [[Cpx; 72]; 6]
     requires within { frame + frame_length ≤ length recording.now }
     requires small { frame < 2 ^ 40 }
@@ -85,19 +85,19 @@ fn symbols_of(recording: &Recording, frame: usize) -> [[Cpx; 72]; 6]
     ]
 }
 
-/// The measurements of slot 1 of a frame with the extended cyclic prefix, which carries the broadcast channel. (own)
+/// Measurements of a frame's slot 1 with the extended cyclic prefix, which carries the broadcast channel. (own)
 #[derive(Drop)]
 pub struct LongFrame {
-    /// The 24 pilots in the order of their subcarriers: each received reference element of symbols 0 and 3, times the
-    /// conjugate of the sent one.
+    /// The 24 pilots in subcarrier order: each received reference element of symbols 0 and 3, times the conjugate of
+    /// the sent one.
     pub pilots: Pilots,
-    /// The sum of the squared magnitudes of the received reference elements.
+    /// The sum of the received reference elements' squared magnitudes.
     pub energy: u64,
-    /// The 432 soft values of the broadcast channel in received order, two of each resource element.
+    /// The 432 soft values of the broadcast channel in received order, two per resource element.
     pub values: Received,
 }
 
-/// Measures slot 1 of frame `j` of a cell with the extended cyclic prefix. The frame lies within `recording`. The pilot
+/// Measures slot 1 in frame `j` of a cell with the extended cyclic prefix. The frame lies within `recording`. The pilot
 /// energy is at most 24 * 2^51.
 pub fn long_frame(recording: &Recording, place: CellPlace, j: u8) -> LongFrame
     requires { IsWhole recording.now place.start j }
@@ -127,7 +127,7 @@ pub fn long_frame(recording: &Recording, place: CellPlace, j: u8) -> LongFrame
     }
 }
 
-// The soft values of a slot, by its pilots and their energy.
+// Returns the slot's soft values, given its pilots and their energy.
 fn values_of(seen: &Seen, pilots: &Pilots, energy: u64) -> [i16; 432]
     requires symbols { length seen.now.symbols.now ≡ 6 }
     requires pilots { ArePilots (slot_of seen.now) pilots.now }
@@ -146,7 +146,7 @@ fn values_of(seen: &Seen, pilots: &Pilots, energy: u64) -> [i16; 432]
     values
 }
 
-// The two soft values of a place, by the pilots of the slot and their energy.
+// Returns the two soft values of a resource element, given the slot's pilots and their energy.
 fn pair_at(seen: &Seen, pilots: &Pilots, energy: u64, place: Place) -> [i16; 2]
     requires symbols { length seen.now.symbols.now ≡ 6 }
     requires pilots { ArePilots (slot_of seen.now) pilots.now }

@@ -13,7 +13,7 @@ use cell_tx::{Port, port_sample};
 use cs_num::Sample;
 use lte_types::{Carrier, Sfn};
 
-// The plan of a cell that has it. What else stands there is not sent: it is that of recording 0.
+// Returns a cell plan with these fields; the others, which are not sent, are those of recording 0.
 fn cell_plan(plan: &LongPlan) -> CellPlan
     ensures plan { HasPlan result plan.now }
     ensures valid { IsValid result.sib1 }
@@ -27,7 +27,7 @@ fn cell_plan(plan: &LongPlan) -> CellPlan
     cell
 }
 
-// A cell that has the plan.
+// Returns a cell with these fields.
 fn cell_of(plan: &LongPlan) -> Cell
     ensures { HasPlan result plan.now }
 {
@@ -37,8 +37,8 @@ fn cell_of(plan: &LongPlan) -> Cell
     }
 }
 
-/// Returns sample `i` of the endless frame sequence of a plan with the extended cyclic prefix, from frame `sfn` (TS
-/// 36.211 section 6.12, in whole numbers). Its magnitude is at most 1,153.
+/// Returns sample `i` of a plan's endless frame sequence with the extended cyclic prefix, from frame `sfn` (TS 36.211
+/// section 6.12, in integers). Its magnitude is at most 1,153.
 pub fn sample(plan: &LongPlan, sfn: Sfn, i: u64) -> Sample
     ensures value { result ≡ sample_of (long_sent plan.now sfn i) }
     ensures size { square (long_sent plan.now sfn i) ≤ 1153 * 1153 }

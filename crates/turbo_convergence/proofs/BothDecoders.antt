@@ -1,4 +1,4 @@
--- Sums that tell the coded bits that are sent give both decoders values that tell theirs.
+-- Sums with the signs of the sent coded bits give both decoders values with their bits' signs.
 use Rattle.std.proofs.Common.{◌≡◌, ℕ, zero, suc, ◌+◌, ◌*◌, ◌<◌, Bool, List, length, ℤ, pos, ap, sym, subst, ◌∙◌, arith}
 use Rattle.finite.specs.Tables.{sum_at}
 use Rattle.finite.proofs.Lists.{values_below-length, values_below_at}
@@ -23,7 +23,7 @@ in_order_at row values i inside = values_below_at (λ i. at values (interleaver 
 
 -- ---- the tails
 
--- the six tail bits of a word stand at index p and the next
+-- the six tail bits of a word are at index p and the next
 record IsTail (row : Row) (word u : List Bool) (p : ℕ) : Type 0 where
   inside : p + 1 < row.k + 4
   x0 : bit_of (coded row word) (item 0 p) ≡ tail_x u 0

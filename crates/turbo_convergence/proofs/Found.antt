@@ -1,4 +1,4 @@
--- The extrinsic value of a bit is what the least difference with that bit loses at the others.
+-- A bit's extrinsic value is the minimum loss, at the other bits, of a difference word with this bit.
 use Rattle.std.proofs.Common.{◌≡◌, ℕ, zero, suc, ◌+◌, ◌<◌, ◌≤◌, Bool, true, false, inl, inr, List, length, refl, ap, sym, subst, ◌∙◌, arith}
 use Rattle.std.specs.Prelude.{◌||◌, not, ℤ, pos, ◌+ℤ◌, ◌-ℤ◌, nat_abs}
 use Rattle.std.proofs.lemmas.Int.{ints}
@@ -17,9 +17,9 @@ use Rattle.trellis.proofs.AllWords.{every_word_all, every_word_at}
 use Rattle.turbo_convergence.proofs.Telling.{tells_allows, tells-within_2047}
 use Rattle.turbo_convergence.proofs.Losses.{own, own_tells, loss, others, score_loses, others_show, loss_is}
 
--- ---- the least loss
+-- ---- the minimum loss
 
--- m is the least loss at the other bits of a difference with a 1 at bit k
+-- m is the minimum loss, at the other bits, of a difference word with a 1 at bit k
 record IsMargin (v : Values) (k : ℕ) (m : ℕ) : Type 0 where
   reached : (d : List Bool) × (length d ≡ length v.systematic) × (bit_at d k ≡ true) × (others v k d ≡ m)
   least : (d : List Bool) → length d ≡ length v.systematic → bit_at d k ≡ true → m ≤ others v k d
@@ -36,7 +36,7 @@ module _ (word : List Bool) (sent : Sent) (known : ℕ → Bool) (v : Values) (t
   within : k < length v.systematic
   within = let same = told.size in omega (arith, same, inside)
 
-  -- the sent word has the greatest score of those with its bit
+  -- the sent word has the maximum score of the words with its bit k
   sent_is_greatest : greatest_score v k (bit_at word k) ≡ score v word
   sent_is_greatest =
       let top = greatest_score_is_greatest v k (bit_at word k) within in
@@ -82,7 +82,7 @@ module _ (word : List Bool) (sent : Sent) (known : ℕ → Bool) (v : Values) (t
         omega (arith, ints, is, loses, split),
       )
 
-  -- so the raw extrinsic value is that margin, with the sign of the sent bit
+  -- the raw extrinsic value is that margin, with the sign of the sent bit
   raw_is : (b : Bool) → bit_at word k ≡ b → (m : ℕ) → score v word ≡ greatest_score v k (not b) +ℤ pos (m + nat_abs (own v k)) → greatest_score v k b ≡ score v word →
       Supports 0 b (own v k) → signed b m (raw v k)
   unfolding signed

@@ -1,4 +1,4 @@
--- What each iteration makes of sums that tell the sent bits of a block, and the block that is told.
+-- Extrinsic values and the decoded block after each iteration, for sums with the sent bits' signs.
 use Rattle.std.proofs.Common.{◌≡◌, ◌≢◌, ℕ, zero, suc, ◌+◌, ◌*◌, ◌<◌, Bool, true, false, List, length, map, Some, ℤ, pos, negsuc, refl, ap, sym, subst, ◌∙◌, arith}
 use Rattle.std.specs.Prelude.{◌&&◌, ◌||◌, not, nat_abs}
 use Rattle.std.specs.Option.{option_map}
@@ -27,9 +27,9 @@ use Rattle.turbo_convergence.proofs.Telling.{tells-sum, tells-handed_on, tells_b
 use Rattle.turbo_convergence.proofs.Found.{extrinsic_tells}
 use Rattle.turbo_convergence.proofs.BothDecoders.{length-stream, first_tells, second_tells, in_stream}
 
--- ---- one decoder, signs alone
+-- ---- one constituent decoder, signs only
 
--- values that do not speak against a word tell it where they are not 0
+-- the sent bits: those whose value is not 0
 told_by_values : Values → Sent
 told_by_values v = record {
   information = λ k. positive (nat_abs (at v.systematic k));
@@ -61,7 +61,7 @@ module _ (row : Row) (word : List Bool) (sent : ℕ → ℕ → Bool) (sums : Li
       subst (Tells (known k) (bit_at word k)) (sym (get_or-map handed_on values k (pos 0) (pos 0) (omega (arith, long, inside))))
       (tells-handed_on (known k) (bit_at word k) (at values k) (each k inside))
 
-  -- the first decoder
+  -- the first constituent decoder
   length-first : (prior : List ℤ) → length (first_extrinsics row sums prior) ≡ row.k
   unfolding first_extrinsics extrinsics
   length-first prior =
@@ -80,7 +80,7 @@ module _ (row : Row) (word : List Bool) (sent : ℕ → ℕ → Bool) (sums : Li
       subst (Tells (first_found row sent known k) (bit_at word k)) (sym here)
       (subst (λ n. Tells (found n (first_sent row sent) known k) (bit_at word k) (extrinsic v k)) size tells)
 
-  -- the second
+  -- the second constituent decoder
   length-second : (prior : List ℤ) → length (second_after row sums prior) ≡ row.k
   unfolding second_extrinsics in_word_order
   length-second prior = values_below-length row.k _
@@ -107,7 +107,7 @@ module _ (row : Row) (word : List Bool) (sent : ℕ → ℕ → Bool) (sums : Li
       (subst (λ b. Tells (second_found row sent known k) b (extrinsic v i)) bit
       (subst (λ n. Tells (found n (second_sent row sent) (λ i. known (interleaver row i)) i) (bit_at (interleaved row word) i) (extrinsic v i)) long tells))
 
-  -- the induction
+  -- by induction on the iterations, the priors have the signs of the known bits
   prior_is : (n k : ℕ) → k < row.k → Tells (known_after row sent n k) (bit_at word k) (at (prior_after row sums n) k)
   unfolding prior_after known_after
   prior_is zero k inside = get_or-replicate row.k k (pos 0) (pos 0) inside
@@ -137,7 +137,7 @@ module _ (row : Row) (word : List Bool) (sent : ℕ → ℕ → Bool) (sums : Li
 
   -- ---- the block
 
-  -- an iteration that settles every bit tells the sent word
+  -- an iteration that settles every bit decodes the sent word
   settled_tells : (n : ℕ) → settles_all row sent n ≡ true → word_by row sums (prior_after row sums n) ≡ word
   settled_tells n full =
       let tells = iteration_tells n in
@@ -157,7 +157,7 @@ module _ (row : Row) (word : List Bool) (sent : ℕ → ℕ → Bool) (sums : Li
       let first = find_below_first has_check_24 (λ m. word_by row sums (prior_after row sums m)) 8 n below before (ap has_check_24 told_here ∙ passed) in
       ap (option_map (message_of 24)) first ∙ ap (λ w. Some (message_of 24 w)) told_here
 
--- ---- no bit of the block is missing
+-- ---- no systematic bit is missing
 
 pub spoken_is_told : SpokenBlockIsTold
 spoken_is_told row word sums is_row size passed allow some =

@@ -1,4 +1,4 @@
--- What a word's score loses against the sent word, by the bits in which they differ.
+-- The loss of a word's score against the sent word, by the bits in which they differ.
 use Rattle.std.proofs.Common.{◌≡◌, ℕ, ◌+◌, ◌*◌, ◌<◌, Bool, true, false, List, length, refl, ap, ap₂, sym, subst, ◌∙◌, arith}
 use Rattle.std.specs.Prelude.{◌&&◌, ◌||◌, cond, not, nat_eq, ℤ, pos, ◌+ℤ◌, nat_abs}
 use Rattle.std.proofs.lemmas.Int.{ints}
@@ -13,29 +13,29 @@ use Rattle.erasure.specs.Known.{Sent, step_shows, tail_shows, shows}
 use Rattle.turbo_convergence.specs.Tells.{Tells, AllTell}
 use Rattle.turbo_convergence.proofs.Telling.{tells_size, tells-sum, taken_loses}
 
--- sums whose terms exceed those of others
+-- sums whose terms exceed those of other sums
 sum_exceeds : (n : ℕ) (f g : ℕ → ℤ) (h : ℕ → ℕ) → ((k : ℕ) → k < n → f k ≡ g k +ℤ pos (h k)) → sum_below n f ≡ sum_below n g +ℤ pos (total_below n h)
 sum_exceeds n f g h each =
     sum_below_same n f (λ k. g k +ℤ pos (h k)) each ∙ sum_below_plus n g (λ k. pos (h k)) ∙ ap (λ s. sum_below n g +ℤ s) (sum_below_pos n h)
 
--- ---- what is lost
+-- ---- the loss
 
 -- the value of an information bit with its prior
 abbrev pub own : Values → ℕ → ℤ
 own v k = at v.systematic k +ℤ at v.prior k
 
--- by a difference of words, at an index and in a tail step
+-- the loss of a difference word at an index, and in a tail step
 loss_at : Values → List Bool → ℕ → ℕ
 loss_at v d j = cond (bit_at d j) (nat_abs (own v j)) 0 + cond (parity d j) (nat_abs (at v.parity j)) 0
 
 tail_loss : Values → List Bool → ℕ → ℕ
 tail_loss v d j = cond (tail_x d j) (nat_abs (at v.tail (2 * j))) 0 + cond (tail_z d j) (nat_abs (at v.tail (2 * j + 1))) 0
 
--- in all
+-- the total loss of a difference word
 pub loss : Values → List Bool → ℕ
 loss v d = total_below (length v.systematic) (loss_at v d) + total_below 3 (tail_loss v d)
 
--- without the loss at the information bit k
+-- the loss without that at information bit k
 other_loss : Values → ℕ → List Bool → ℕ → ℕ
 other_loss v k d j = cond (not (nat_eq j k) && bit_at d j) (nat_abs (own v j)) 0 + cond (parity d j) (nat_abs (at v.parity j)) 0
 
@@ -71,7 +71,7 @@ module _ (word : List Bool) (sent : Sent) (known : ℕ → Bool) (v : Values) (t
       let tails = sum_exceeds 3 (tail_score v word) (tail_score v (word_sum word d)) (tail_loss v d) (λ j l. tail_loses d j size l) in
       omega (arith, ints, indices, tails)
 
-  -- the loss at the others is not 0 exactly where the difference shows
+  -- the loss at the other bits is not 0 exactly if the difference word is visible there
   pub others_show : (k : ℕ) (d : List Bool) → positive (others v k d) ≡ shows (length word) sent known k d
   unfolding others other_loss tail_loss
   others_show k d =
@@ -97,7 +97,7 @@ module _ (word : List Bool) (sent : Sent) (known : ℕ → Bool) (v : Values) (t
       pair : (c e : Bool) (a b : ℕ) (x y : Bool) → positive a ≡ x → positive b ≡ y → positive (cond c a 0 + cond e b 0) ≡ (c && x || e && y)
       pair c e a b x y p q = positive-sum (cond c a 0) (cond e b 0) ∙ ap₂ ◌||◌ (one c a x p) (one e b y q)
 
--- what is lost in all is what is lost at bit k and at the others
+-- the total loss is the loss at bit k plus that at the other bits
 pub loss_is : (v : Values) (k : ℕ) (d : List Bool) → k < length v.systematic → bit_at d k ≡ true → loss v d ≡ others v k d + nat_abs (own v k)
 unfolding loss others loss_at other_loss
 loss_is v k d inside bit =

@@ -1,4 +1,4 @@
--- What the sums of received values tell, and the block of values that were received.
+-- Sums of received values have the sent bits' signs, and they decode to the sent block.
 use Rattle.std.proofs.Common.{◌≡◌, ℕ, zero, suc, ◌<◌, Bool, true, false, List, length, ℤ, pos, refl, sym, subst, arith}
 use Rattle.std.specs.Prelude.{cond, nat_abs, ◌&&◌}
 use Rattle.std.proofs.Math.Bool.{and-true}
@@ -24,14 +24,14 @@ use Rattle.turbo_convergence.specs.Laws.{ReceivedSumsAllow, ReceivedSumsTell, Wh
 use Rattle.turbo_convergence.proofs.Telling.{tells-sum, tells_allows, allows_tells}
 use Rattle.turbo_convergence.proofs.Iterates.{resolvable_is_told}
 
--- ---- sums by item, over any reading of any bits
+-- ---- sums by item, for any reading order and any bits
 
--- a value that counts where it comes from an item
+-- a value that is counted if it belongs to an item
 counted : (c there bit : Bool) (z : ℤ) → (c ≡ true → Tells there bit z) → Tells (c && there) bit (cond c z (pos 0))
 counted true there bit z h = h refl
 counted false there bit z h = refl
 
--- the sum of an item tells its bit where one of the values from there is not 0
+-- an item's sum has its bit's sign if one of the item's values is not 0
 pub item_tells : (reading : ℕ → Item) (values : List ℤ) (bit : Item → Bool) (given : ℕ → Bool) (t p m : ℕ) →
     ((i : ℕ) → i < m → Tells (given i) (bit (reading i)) (at values i)) →
     Tells (any_below m (λ i. is_at t p (reading i) && given i)) (bit (item t p)) (summed_at reading values m t p)
@@ -47,7 +47,7 @@ item_tells reading values bit given t p (suc m) each =
 -- ---- the sums of a block
 
 module _ (row : Row) (word : List Bool) (rv : ℕ) (values : List ℤ) (is_row : IsAnyRow row) where
-  -- by which values are not 0
+  -- the sums have the signs of the coded bits with a value that is not 0
   sums_tell : (given : ℕ → Bool) → ((i : ℕ) → i < length values → Tells (given i) (bit_of (coded row word) (item_of row.k rv i)) (at values i)) →
       SumsTell row word (λ t p. any_below (length values) (λ i. is_at t p (item_of row.k rv i) && given i)) (summed row.k rv values)
   sums_tell given each t p stream inside =
@@ -56,14 +56,14 @@ module _ (row : Row) (word : List Bool) (rv : ℕ) (values : List ℤ) (is_row :
       (sym (summed-at row.k rv values t p stream (omega (arith, inside, high))))
       (item_tells (item_of row.k rv) values (bit_of (coded row word)) given t p (length values) each)
 
--- values that do not speak against the bits
+-- values without wrong signs give sums without wrong signs
 pub received_sums_allow : ReceivedSumsAllow
 received_sums_allow row word rv values is_row allow t p stream inside =
     tells_allows _ (bit_of (coded row word) (item t p)) _
     (sums_tell row word rv values is_row (λ i. positive (nat_abs (at values i)))
     (λ i l. allows_tells (bit_of (coded row word) (item_of row.k rv i)) (at values i) (allow i l)) t p stream inside)
 
--- values that speak for them
+-- values with the bits' signs give sums with these signs
 pub received_sums_tell : ReceivedSumsTell
 unfolding sent_of
 received_sums_tell row word rv values is_row speak t p stream inside =
@@ -71,7 +71,7 @@ received_sums_tell row word rv values is_row speak t p stream inside =
     (any_below_same (length values) (λ i. is_at t p (item_of row.k rv i) && true) (λ i. is_at t p (item_of row.k rv i)) (λ i l. and-true (is_at t p (item_of row.k rv i))))
     (sums_tell row word rv values is_row (λ _. true) speak t p stream inside)
 
--- and are as many as the coded bits
+-- at least as many values as coded bits give a nonzero sum for each
 pub whole_sums_speak : WholeSumsSpeak
 whole_sums_speak row word rv values is_row version speak many t p stream inside =
     subst (λ there. Tells there (bit_of (coded row word) (item t p)) (sum_at (summed row.k rv values) t p))

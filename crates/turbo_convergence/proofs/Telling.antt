@@ -1,4 +1,4 @@
--- Values that tell a bit where they are there, and are 0 elsewhere.
+-- Values that have a bit's sign where the bit is present, and are 0 elsewhere.
 use Rattle.std.proofs.Common.{◌≡◌, zero, suc, Bool, true, false, refl, ap, arith}
 use Rattle.std.specs.Prelude.{◌&&◌, ◌||◌, cond, ℤ, pos, negsuc, ◌+ℤ◌, nat_abs, int_lt}
 use Rattle.std.proofs.lemmas.Int.{ints, clamps}
@@ -10,20 +10,20 @@ use Rattle.turbo_dec.specs.Decoder.{taken, within_2047}
 use Rattle.turbo_dec.specs.Block.{handed_on}
 use Rattle.turbo_convergence.specs.Tells.{Tells}
 
--- it is not 0 exactly where it is there
+-- such a value is not 0 exactly if the bit is present
 pub tells_size : (there bit : Bool) (z : ℤ) → Tells there bit z → positive (nat_abs z) ≡ there
 tells_size false bit z h = ap (λ n. positive (nat_abs n)) h
 tells_size true false z h = positive_from (nat_abs z) (omega (arith, ints, h))
 tells_size true true z h = positive_from (nat_abs z) (omega (arith, ints, h))
 
--- it does not speak against the bit
+-- such a value never has the wrong sign
 pub tells_allows : (there bit : Bool) (z : ℤ) → Tells there bit z → Supports 0 bit z
 tells_allows false false z h = omega (arith, ints, h)
 tells_allows false true z h = omega (arith, ints, h)
 tells_allows true false z h = omega (arith, ints, h)
 tells_allows true true z h = omega (arith, ints, h)
 
--- and a value that does not tells the bit where it is not 0
+-- a value without the wrong sign has the bit's sign if it is not 0
 pub allows_tells : (bit : Bool) (z : ℤ) → Supports 0 bit z → Tells (positive (nat_abs z)) bit z
 allows_tells false (pos zero) h = refl
 allows_tells false (pos (suc n)) h = omega (arith, ints)
@@ -32,7 +32,7 @@ allows_tells true (pos zero) h = refl
 allows_tells true (pos (suc n)) h = absurd (omega (arith, ints, h))
 allows_tells true (negsuc n) h = omega (arith, ints)
 
--- ---- what is made of them
+-- ---- operations on such values
 
 pub tells-sum : (a b bit : Bool) (y z : ℤ) → Tells a bit y → Tells b bit z → Tells (a || b) bit (y +ℤ z)
 tells-sum false false bit y z h k = omega (arith, ints, h, k)
@@ -48,7 +48,7 @@ tells-within_2047 false bit z h = omega (arith, ints, clamps, h)
 tells-within_2047 true false z h = omega (arith, ints, clamps, h)
 tells-within_2047 true true z h = omega (arith, ints, clamps, h)
 
--- 1, 2 and 3 are handed on as they are
+-- the decoder hands on magnitudes 1, 2 and 3 unchanged
 pub tells-handed_on : (there bit : Bool) (z : ℤ) → Tells there bit z → Tells there bit (handed_on z)
 tells-handed_on false bit z h = ap handed_on h
 tells-handed_on true false (pos n) h = omega (arith, ints, h)
@@ -56,7 +56,7 @@ tells-handed_on true false (negsuc n) h = absurd (omega (arith, ints, h))
 tells-handed_on true true (pos n) h = absurd (omega (arith, ints, h))
 tells-handed_on true true (negsuc n) h = omega (arith, ints, h)
 
--- a bit is told as 1 where its value is there and it is 1
+-- a bit is decoded as 1 if it is present and is 1
 pub tells_below : (there bit : Bool) (z : ℤ) → Tells there bit z → int_lt z (pos 0) ≡ (bit && there)
 tells_below false false z h = ap (λ n. int_lt n (pos 0)) h
 tells_below false true z h = ap (λ n. int_lt n (pos 0)) h
@@ -65,7 +65,7 @@ tells_below true false (negsuc n) h = absurd (omega (arith, ints, h))
 tells_below true true (pos n) h = absurd (omega (arith, ints, h))
 tells_below true true (negsuc n) h = refl
 
--- ---- what a value loses where its bit is changed
+-- ---- the loss from changing a value's bit
 
 pub taken_loses : (there bit changed : Bool) (z : ℤ) → Tells there bit z → taken z bit ≡ taken z (xor bit changed) +ℤ pos (cond changed (nat_abs z) 0)
 taken_loses there false false z h = omega (arith, ints)

@@ -12,15 +12,16 @@ use Rattle.turbo_dec.specs.Block.{prior_after, first_extrinsics, second_after, w
 use Rattle.erasure.specs.Known.{Sent, found, first_found, known_after, word_after, resolvable, sent_of}
 use Rattle.turbo_convergence.specs.Tells.{Tells, AllAllow, AllTell, SumsSupport, SumsTell, ValuesSupport}
 
--- ---- one decoder
+-- ---- one constituent decoder
 
--- where no value and no prior of a decoder speaks against a word, no extrinsic value does
+-- a law: if no value and no prior of a constituent decoder has the wrong sign for a word's bit, neither has any
+-- extrinsic value
 abbrev pub ExtrinsicsSpeak : Type 0
 ExtrinsicsSpeak =
     (word : List Bool) (v : Values) → AllAllow word v →
     (k : ℕ) → k < length word → Supports 0 (bit_at word k) (extrinsic v k)
 
--- an extrinsic value speaks for the sent bit exactly where the bit is found, and is 0 elsewhere
+-- a law: an extrinsic value has the sign of the sent bit exactly if the bit is found, and is 0 otherwise
 abbrev pub ExtrinsicsTell : Type 0
 ExtrinsicsTell =
     (word : List Bool) (sent : Sent) (known : ℕ → Bool) (v : Values) → AllTell word sent known v →
@@ -28,8 +29,8 @@ ExtrinsicsTell =
 
 -- ---- the iterations
 
--- what one more iteration after n makes of sums that tell the sent bits: which extrinsic values of both decoders are
--- not 0, and which word it tells
+-- the result of iteration n + 1 on sums with the sent bits' signs: the extrinsic values of both decoders that are not
+-- 0, and the decoded word
 pub record IterationTells (row : Row) (word : List Bool) (sent : ℕ → ℕ → Bool) (sums : List (List ℤ)) (n : ℕ)
     : Type 0 where
   pub first : (k : ℕ) → k < row.k →
@@ -45,54 +46,55 @@ IterationsTell =
     (row : Row) (word : List Bool) (sent : ℕ → ℕ → Bool) (sums : List (List ℤ)) → IsAnyRow row → length word ≡ row.k →
     SumsTell row word sent sums → (n : ℕ) → IterationTells row word sent sums n
 
--- ---- the block of sums
+-- ---- decoding sums
 
--- a block with its check is told where no sum speaks against its coded word, and none of its own bits has the sum 0
+-- a law: a block with its CRC is decoded if no sum has the wrong sign for its coded bit, and no systematic bit has the
+-- sum 0
 abbrev pub SpokenBlockIsTold : Type 0
 SpokenBlockIsTold =
     (row : Row) (word : List Bool) (sums : List (List ℤ)) → IsAnyRow row → length word ≡ row.k →
     has_check_24 word ≡ true → SumsSupport 0 row word sums → ((k : ℕ) → k < row.k → sum_at sums 0 k ≢ pos 0) →
     block row sums ≡ Some (message_of 24 word)
 
--- a block with its check is told where the sums tell the coded bits that are sent, by which it can be resolved
+-- a law: a block with its CRC is decoded if the sums have the signs of the sent coded bits, and these resolve the block
 abbrev pub ResolvableBlockIsTold : Type 0
 ResolvableBlockIsTold =
     (row : Row) (word : List Bool) (sent : ℕ → ℕ → Bool) (sums : List (List ℤ)) → IsAnyRow row → length word ≡ row.k →
     has_check_24 word ≡ true → SumsTell row word sent sums → resolvable row sent word ≡ true →
     block row sums ≡ Some (message_of 24 word)
 
--- ---- the sums of the values received
+-- ---- sums of received values
 
--- where no value speaks against the bit that was sent there, no sum does
+-- a law: if no value has the wrong sign for its sent bit, neither has any sum
 abbrev pub ReceivedSumsAllow : Type 0
 ReceivedSumsAllow =
     (row : Row) (word : List Bool) (rv : ℕ) (values : List ℤ) → IsAnyRow row → ValuesSupport 0 row word rv values →
     SumsSupport 0 row word (summed row.k rv values)
 
--- where each value speaks for the bit that was sent there, the sums tell the coded bits that were sent
+-- a law: if each value has the sign of its sent bit, the sums have the sent coded bits' signs and are 0 elsewhere
 abbrev pub ReceivedSumsTell : Type 0
 ReceivedSumsTell =
     (row : Row) (word : List Bool) (rv : ℕ) (values : List ℤ) → IsAnyRow row → ValuesSupport 1 row word rv values →
     SumsTell row word (sent_of row.k rv (length values)) (summed row.k rv values)
 
--- where there are as many values as coded bits, and each speaks for the bit that was sent there, each sum speaks for
--- its bit
+-- a law: if there are at least as many values as coded bits, each with the sign of its sent bit, each sum has its bit's
+-- sign
 abbrev pub WholeSumsSpeak : Type 0
 WholeSumsSpeak =
     (row : Row) (word : List Bool) (rv : ℕ) (values : List ℤ) → IsAnyRow row → rv < 4 → ValuesSupport 1 row word rv values →
     3 * (row.k + 4) ≤ length values → SumsSupport 1 row word (summed row.k rv values)
 
--- ---- the block of the values received
+-- ---- decoding received values
 
--- as many values as coded bits, each of which speaks for the bit that was sent, tell a block with its check
+-- a law: at least as many values as coded bits, each with the sign of its sent bit, decode to a block with its CRC
 abbrev pub SentBlockIsTold : Type 0
 SentBlockIsTold =
     (row : Row) (word : List Bool) (rv : ℕ) (values : List ℤ) → IsAnyRow row → rv < 4 → length word ≡ row.k →
     has_check_24 word ≡ true → ValuesSupport 1 row word rv values → 3 * (row.k + 4) ≤ length values →
     block row (summed row.k rv values) ≡ Some (message_of 24 word)
 
--- fewer values than coded bits, each of which speaks for the bit that was sent, tell a block with its check where it
--- can be resolved by these bits
+-- a law: fewer values than coded bits, each with the sign of its sent bit, decode to a block with its CRC if these bits
+-- resolve it
 abbrev pub PuncturedBlockIsTold : Type 0
 PuncturedBlockIsTold =
     (row : Row) (word : List Bool) (rv : ℕ) (values : List ℤ) → IsAnyRow row → length word ≡ row.k →

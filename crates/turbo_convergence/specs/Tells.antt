@@ -1,5 +1,5 @@
--- What the values of a decoder, the sums of a block and the values received say of the bits that were sent. (own; the
--- code and its reading are those of TS 36.212 sections 5.1.3.2 and 5.1.4.1)
+-- Soft values and sums with the sent bits' signs. (own; the code and its reading order are those of TS 36.212 sections
+-- 5.1.3.2 and 5.1.4.1)
 use Rattle.std.specs.Prelude.{◌≡◌, ℕ, ◌+◌, ◌*◌, ◌<◌, Bool, true, false, List, length, ℤ, pos}
 use Rattle.finite.specs.Tables.{sum_at}
 use Rattle.cs_bits.specs.Signs.{Supports}
@@ -10,14 +10,14 @@ use Rattle.turbo_code.specs.Reading.{bit_of, item_of}
 use Rattle.turbo_dec.specs.Decoder.{Values, at}
 use Rattle.erasure.specs.Known.{Sent}
 
--- a value tells a bit where it is there, and is 0 elsewhere: there it is above 0 for the bit 0, and below 0 for 1
+-- a value has the sign of the bit (above 0 for 0, below 0 for 1) if the bit is present, and is 0, an erasure, if not
 abbrev pub Tells : Bool → Bool → ℤ → Type 0
 Tells false bit z = z ≡ pos 0
 Tells true bit z = Supports 1 bit z
 
--- ---- one decoder
+-- ---- one constituent decoder
 
--- each value and each prior of a decoder is 0 or speaks for its bit of a word and its tail
+-- each value and prior of a constituent decoder is 0 or has the sign of its bit in a word or its tail
 pub record AllAllow (word : List Bool) (v : Values) : Type 0 where
   pub size : length v.systematic ≡ length word
   pub systematic : (k : ℕ) → k < length word → Supports 0 (bit_at word k) (at v.systematic k)
@@ -26,7 +26,7 @@ pub record AllAllow (word : List Bool) (v : Values) : Type 0 where
   pub tail_z : (j : ℕ) → j < 3 → Supports 0 (tail_z word j) (at v.tail (2 * j + 1))
   pub prior : (k : ℕ) → k < length word → Supports 0 (bit_at word k) (at v.prior k)
 
--- the values of a decoder tell the bits that are sent, and its priors those that are known
+-- the decoder's values have the sent bits' signs, its priors the known bits' signs, and all others are 0
 pub record AllTell (word : List Bool) (sent : Sent) (known : ℕ → Bool) (v : Values) : Type 0 where
   pub size : length v.systematic ≡ length word
   pub systematic : (k : ℕ) → k < length word → Tells (sent.information k) (bit_at word k) (at v.systematic k)
@@ -37,19 +37,20 @@ pub record AllTell (word : List Bool) (sent : Sent) (known : ℕ → Bool) (v : 
 
 -- ---- the sums of a block
 
--- each sum supports its coded bit of a word with this size: with 0 none speaks against it, with 1 each speaks for it
+-- each sum has its coded bit's sign and a magnitude of at least `least`; if this is 0, the sum may be 0
 abbrev pub SumsSupport : ℕ → Row → List Bool → List (List ℤ) → Type 0
 SumsSupport least row word sums =
     (t p : ℕ) → t < 3 → p < row.k + 4 → Supports least (bit_of (coded row word) (item t p)) (sum_at sums t p)
 
--- the sums tell the coded bits that are sent
+-- the sums have the signs of the coded bits that are sent, and are 0 elsewhere
 abbrev pub SumsTell : Row → List Bool → (ℕ → ℕ → Bool) → List (List ℤ) → Type 0
 SumsTell row word sent sums =
     (t p : ℕ) → t < 3 → p < row.k + 4 → Tells (sent t p) (bit_of (coded row word) (item t p)) (sum_at sums t p)
 
--- ---- the values received
+-- ---- received values
 
--- each value supports the coded bit of a word that the reading sends there, from a redundancy version on
+-- each value has the sign of the coded bit that this redundancy version sends at its position, with magnitude at least
+-- `least`
 abbrev pub ValuesSupport : ℕ → Row → List Bool → ℕ → List ℤ → Type 0
 ValuesSupport least row word rv values =
     (i : ℕ) → i < length values → Supports least (bit_of (coded row word) (item_of row.k rv i)) (at values i)

@@ -1,23 +1,26 @@
-//! The two decoders.
+//! The two constituent decoders and their iterations.
+//!
+//! An extrinsic value is not 0 exactly if every codeword with a 1 at its bit has a 1 at another bit that was sent or is
+//! known, and it then has the sign of the sent bit. In each iteration the extrinsic values of both decoders that are
+//! not 0 are those of the bits found so far, and the decoded word is the sent word with 0 at each bit that is not yet
+//! settled.
 
 ghost use Rattle.turbo_convergence.specs.Laws.{ExtrinsicsSpeak, ExtrinsicsTell, IterationsTell};
 
-/// One decoder never turns against the sent word: where each of its values and priors is 0 or has the
-/// sign of the bit that was sent (above 0 for 0, below 0 for 1), so does each extrinsic value.
+/// A law: if each value and prior of a constituent decoder is 0 or has the sign of the sent bit (above 0 for 0, below 0
+/// for 1), so is each extrinsic value.
 pub fn extrinsics_speak()
     ensures { ExtrinsicsSpeak }
 {}
 
-/// Which extrinsic values of one decoder are not 0: where its values tell the bits that were sent, and
-/// its priors those that are known, an extrinsic value is not 0 exactly where every word of the encoder with a 1 at
-/// that bit has a 1 at another bit that was sent or is known; and there it has the sign of the sent bit.
+/// A law: an extrinsic value has the sign of its sent bit exactly if the other bits that were sent or are known
+/// determine this bit, and is 0 otherwise.
 pub fn extrinsics_tell()
     ensures { ExtrinsicsTell }
 {}
 
-/// What each iteration makes of sums that tell the coded bits that were sent, and are 0 at all others: the
-/// extrinsic values of both decoders that are not 0 are those of the bits found so far, each with the sign of the sent
-/// bit, and the word that is told is the sent word, with 0 at each bit that is not settled yet.
+/// A law: if the sums have the signs of the sent coded bits and are 0 elsewhere, after each iteration exactly the bits
+/// found so far have extrinsic values other than 0, each with its bit's sign.
 pub fn iterations_tell()
     ensures { IterationsTell }
 {}

@@ -1,7 +1,9 @@
-//! Clean reception of the turbo code: where no received value speaks against the block that was sent,
-//! no extrinsic value of the decoder ever does, and where the coded bits that were received are enough to
-//! resolve the block, it is told. No size of the values is needed, only their signs. Each law is the contract of a function without a body, whole, with its premises; it
-//! speaks of the decoder's definitions alone.
+//! Convergence of the turbo decoder on clean values. If no received value has the wrong sign for its bit, neither has
+//! any extrinsic value; if the received coded bits are enough to resolve the block, the decoder returns it. Only the
+//! signs of the values matter, not their magnitudes. Each law is the contract of a function without a body: it states
+//! all its premises, and uses only the decoder's definitions.
+//!
+//! Tests: `code_tests/src/punctured_blocks.rt` and `code_tests/src/turbo_decoding.rt`.
 #![tactic(auto)]
 
 mod blocks;

@@ -1,5 +1,5 @@
--- Combinations of two received numbers by two channels: they add up, Cauchy's inequality holds of them, and with the gains
--- themselves they separate the two amplitudes of a pair.
+-- Combining two received symbols with two channels: the combination is additive, satisfies Cauchy's inequality and,
+-- with the gains as channels, separates a pair's two amplitudes.
 use Rattle.std.proofs.Common.{◌≡◌, ℕ, ◌+◌, ◌*◌, ◌≤◌, ℤ, pos, negsuc, ◌+ℤ◌, ◌-ℤ◌, ◌*ℤ◌, neg_ℤ, nat_abs, refl, ap, ap₂, sym, ◌∙◌, arith}
 use Rattle.std.proofs.lemmas.Int.{ints}
 use Rattle.finite.proofs.Ring.{Is, var, lit, same}
@@ -14,7 +14,7 @@ use Rattle.norms.proofs.TwoTerms.{two_term_cauchy}
 use Rattle.norms.proofs.Products.{turned_back}
 use Rattle.soft_bits.specs.Pairs.{first_point}
 
--- of two received numbers, by the channels of two ports
+-- combining two received symbols with two ports' channels
 abbrev pub combined : Cpx → Cpx → Cpx → Cpx → Cpx
 combined h k a b = first_point h k a b
 
@@ -51,7 +51,7 @@ combined_cauchy h k a b =
     (same_le _ _ (square-times (conjugate h) a ∙ ap (λ s. s * square a) (square-conjugate h)))
     (same_le _ _ (square-times k (conjugate b) ∙ ap (λ s. square k * s) (square-conjugate b)))
 
--- ---- negatives: -1 times a number
+-- ---- negatives: multiples by -1
 
 abbrev one_less : Cpx
 one_less = record { re = negsuc 0; im = pos 0 }
@@ -94,16 +94,16 @@ twice_part a = omega (arith, ints)
 negated_twice : (a : Cpx) → negated (negated a) ≡ a
 negated_twice a = pair (twice_part a.re) (twice_part a.im)
 
--- the negative of the conjugate of the negative
+-- negating, conjugating and negating again is conjugating
 pub turned_twice : (a : Cpx) → negated (conjugate (negated a)) ≡ conjugate a
 turned_twice a = pair (twice_part a.re) (ap neg_ℤ (twice_part a.im))
 
 pub conjugate-negated : (a : Cpx) → conjugate (negated a) ≡ negated (conjugate a)
 conjugate-negated a = pair refl refl
 
--- ---- the two amplitudes of a pair
+-- ---- a pair's two amplitudes
 
--- what is received of a pair at its two places
+-- a pair's received symbols, in its two resource elements
 abbrev pub at_first : Cpx → Cpx → Cpx → Cpx → Cpx
 at_first g k x y = plus (times g x) (times k (negated (conjugate y)))
 
@@ -115,7 +115,7 @@ turned_to k x =
     ap (times k) (conjugate-times k (conjugate x) ∙ ap (times (conjugate k)) (conjugate_twice x))
     ∙ sym (times-associates k (conjugate k) x) ∙ ap (λ (z : Cpx). times z x) (times_conjugate k) ∙ times-commutes (real (square k)) x ∙ times_real (square k) x
 
--- what one port's signal leaves of the other's
+-- one port's signal cancels in the combination for the other's
 crossed : (g k y : Cpx) → plus (times (conjugate g) (times k (negated (conjugate y)))) (times k (conjugate (times g y))) ≡ nothing
 crossed g k y = ap₂ plus left right ∙ negated-plus (times (conjugate g) (times k (conjugate y)))
   where
@@ -127,7 +127,7 @@ crossed g k y = ap₂ plus left right ∙ negated-plus (times (conjugate g) (tim
         ap (times k) (conjugate-times g y) ∙ sym (times-associates k (conjugate g) (conjugate y))
         ∙ ap (λ (z : Cpx). times z (conjugate y)) (times-commutes k (conjugate g)) ∙ times-associates (conjugate g) k (conjugate y)
 
--- the gains themselves give the first amplitude of the pair, times the sum of their squares
+-- with the gains as channels, the combination is the pair's first amplitude times the gains' total square
 pub combined_gains : (g k x y : Cpx) → combined g k (at_first g k x y) (at_second g k x y) ≡ multiple (square g + square k) x
 combined_gains g k x y =
     ap₂ plus
@@ -142,7 +142,7 @@ combined_gains g k x y =
     c : Cpx
     c = times k (conjugate (times g y))
 
--- what crosses at one place is taken back at the other
+-- the two resource elements' cross terms cancel
 inners : (g k x y : Cpx) → inner (times g x) (times k (negated (conjugate y))) ≡ neg_ℤ (inner (times g y) (times k (conjugate x)))
 inners g k x y =
     let a = var g.re in
@@ -159,7 +159,7 @@ inners g k x y =
     (ring.minus_one (ring.plus (ring.times (ring.minus (ring.times a r) (ring.times b s)) (ring.minus (ring.times c p) (ring.times d (ring.minus_one q)))) (ring.times (ring.plus (ring.times a s) (ring.times b r)) (ring.plus (ring.times c (ring.minus_one q)) (ring.times d p)))))
     (omega arith)
 
--- what is received of a pair has the energy of the pair times the sum of the gains' squares
+-- the energy received for a pair is the pair's energy times the gains' total square
 pub pair_energy : (g k x y : Cpx) → square (at_first g k x y) + square (at_second g k x y) ≡ (square g + square k) * (square x + square y)
 pair_energy g k x y =
     sums (square (at_first g k x y)) (square (at_second g k x y)) (square (times g x)) (square (times k (negated (conjugate y)))) (square (times g y)) (square (times k (conjugate x)))
@@ -175,7 +175,7 @@ pair_energy g k x y =
     products : (g k x y a b c d : ℕ) → a ≡ g * x → b ≡ k * y → c ≡ g * y → d ≡ k * x → a + b + (c + d) ≡ (g + k) * (x + y)
     products g k x y a b c d p q r s = omega (arith, p, q, r, s)
 
--- what is off of the negatives is the negative
+-- the deviation of negated numbers is the negated deviation
 pub minus-negated : (g k x c a : Cpx) → minus (negated a) (multiple 64 (plus (times g (negated x)) (times k c))) ≡ negated (minus a (multiple 64 (plus (times g x) (times k (negated c)))))
 minus-negated g k x c a =
     ap₂ (λ (u v : Cpx). minus u (multiple 64 v)) (negated_is a)

@@ -1,4 +1,4 @@
--- The energy of the pilots of several ports, in parts, by the squares of their gains.
+-- Pilot energy for several ports, in terms of their gains' squares.
 use Rattle.std.proofs.Common.{◌≡◌, ℕ, zero, suc, ◌+◌, ◌*◌, ◌^◌, ◌/◌, ◌<◌, ◌≤◌, arith, ap, mul-le-mul_left, mul-le-mul_right}
 use Rattle.finite.specs.Sums.{total_below}
 use Rattle.finite.proofs.Sums.{total_below-term}
@@ -14,7 +14,7 @@ use Rattle.budget.proofs.Pilots.{IsPilotSquare, pilot-square}
 use Rattle.two_ports.specs.Received.{ArePortsSeen}
 use Rattle.two_ports.proofs.Estimates.{AreLinePilots, pilots_alone}
 
--- ---- sums with weights
+-- ---- weighted sums
 
 sums-within : (n x y c : ℕ) (f w : ℕ → ℕ) → ((p : ℕ) → p < n → x * f p ≤ y * w p + c) → x * total_below n f ≤ y * total_below n w + n * c
 unfolding total_below
@@ -41,13 +41,13 @@ four_squares gains = in_turn (square (gains 0)) (square (gains 1)) (square (gain
     in_turn : (a b c d : ℕ) → 0 + a + b + c + d ≡ a + b + c + d
     in_turn a b c d = omega arith
 
--- ---- of one port: w is the square of its gain, and n the sum of the squares of all
+-- ---- one port: w is its gain's square, and n the sum of all squares
 
 record IsEnergyOf (weight most n w e : ℕ) : Type 0 where
   least : 66355200 * w ≤ 2 ^ 29 * e + 2 * (most * most * n)
   high : weight * 2 ^ 28 * e ≤ 24 * ((weight + 1) * 66355200) * w + 24 * (weight * (weight + 1) * (most * most * n))
 
--- of so many pilots, each of which counts `share` times, so that there are 24
+-- the energy of `count` pilots, each counted `share` times so that there are 24
 of_pilots : (share count weight most n w : ℕ) (f : ℕ → ℕ) → 1 ≤ share → share * count ≡ 24 → 0 < count → ((m i : ℕ) → i < count → IsPilotSquare m most n w (f i)) →
     IsEnergyOf weight most n w (share * total_below count f)
 of_pilots share count weight most n w f counted room some each = record {
@@ -77,7 +77,7 @@ energy_of_line weight most n gain line slot is pilots =
     of_pilots (line.step / 3) (line.last + 1) weight most n (square gain) (λ i. square (line_seen line slot i)) is.counted is.room (omega arith)
     (λ m i l. pilot-square m most n gain (line.sent i) (line_seen line slot i) (pilots.each i (omega (arith, l))))
 
--- ---- of all ports
+-- ---- all ports
 
 pub record AreEnergies (ports weight most n q : ℕ) : Type 0 where
   pub least : 66355200 * n ≤ 2 ^ 29 * q + ports * (2 * (most * most * n))

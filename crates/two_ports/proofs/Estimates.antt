@@ -1,4 +1,4 @@
--- The channels of the ports of a slot: a multiple of the port's gain, up to a deviation.
+-- Each port's channel estimate in a slot is a multiple of the port's gain, up to a deviation.
 use Rattle.std.proofs.Common.{◌≡◌, ℕ, zero, suc, ◌*◌, ◌/◌, ◌<◌, ◌≤◌, ◌≢◌, false, inl, inr, nat_eq, arith, refl, ap, ap₂, sym, ◌∙◌, subst, eq-eqb}
 use Rattle.std.proofs.lemmas.Bool.{ne_eqb}
 use Rattle.std.proofs.lemmas.Bool.Decides.{eqb_tells}
@@ -21,7 +21,7 @@ use Rattle.budget.proofs.Near.{IsNear, near-multiple, line-near}
 use Rattle.budget.proofs.Pilots.{IsPilot, full-size, sent-size, turned_pilot-near}
 use Rattle.two_ports.specs.Received.{only, over, ArePortsSeen}
 
--- ---- what is received where one port sends, and where two send
+-- ---- symbols received where one port sends, and where two do
 
 pub received_of_one : (ports port : ℕ) (gains : ℕ → Cpx) (z : Cpx) → port < ports → received_of ports gains (only port z) ≡ times (gains port) z
 received_of_one ports port gains z l =
@@ -45,14 +45,14 @@ received_of_two ports lower upper gains a b l m apart =
           rw is (sym (ap (λ (z : Cpx). plus z (times (gains other) (only upper b other))) (times-nothing (gains other)) ∙ plus-nothing (times (gains other) (only upper b other))))
     ]
 
--- ---- the pilots of a port
+-- ---- a port's pilots
 
 reference-size : (carrier : Carrier) (port : ℕ) (slot : SeenSlot) (i : ℕ) → square ((line_of carrier port slot).sent i) ≡ 16200
 reference-size carrier zero slot i = sent-size (pattern_of carrier 0) slot.identity slot.number i
 reference-size carrier (suc zero) slot i = sent-size (pattern_of carrier 1) slot.identity slot.number i
 reference-size carrier (suc (suc n)) slot i = full-size (reference slot.identity slot.number 1 i) (reference-IsPoint slot.identity slot.number 1 i)
 
--- those of a line are seen with this gain, each off by at most t times the root of n
+-- a line's pilots are observed with this gain, each off by at most t times the root of n
 pub record AreLinePilots (t n : ℕ) (gain : Cpx) (line : Line) (slot : SeenSlot) : Type 0 where
   pub each : (i : ℕ) → i ≤ line.last → IsPilot t n gain (line.sent i) (line_seen line slot i)
 
@@ -72,7 +72,7 @@ pilots_alone carrier most gains slot seen port l =
       };
     }
 
--- ---- the channel of a port
+-- ---- a port's channel
 
 scaled : (m step scale c : ℕ) → m * step ≡ scale → m * (step * c) ≡ scale * c
 scaled m step scale c e = let f : m * step * c ≡ scale * c = ap (λ (n : ℕ). n * c) e in omega (arith, f)
@@ -84,7 +84,7 @@ line_channel-near t n gain line slot k some pilots =
     line-near (16200 * n) gain 1036800 t (line_pilot line slot) line.step line.last some
     (λ i l. turned_pilot-near t n gain (line.sent i) (line_seen line slot i) (pilots.each i l)) line.first k
 
--- 64 * 16200 times the gain, as many times as it is taken
+-- the channel estimate is 64 * 16200 times the gain, times the scale factor
 pub port_channel-near : (t n scale : ℕ) (carrier : Carrier) (port : ℕ) (gain : Cpx) (slot : SeenSlot) (k : ℕ) → scale / (line_of carrier port slot).step * (line_of carrier port slot).step ≡ scale →
     AreLinePilots t n gain (line_of carrier port slot) slot → IsNear (16200 * n) gain (scale * 1036800) (scale * t) (port_channel scale carrier port slot k)
 port_channel-near t n scale carrier port gain slot k whole pilots =

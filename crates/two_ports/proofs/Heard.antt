@@ -1,4 +1,4 @@
--- Places that carry bits in pairs: the values of these places speak for the bits.
+-- Resource elements that carry bits in pairs have soft values with the bits' signs.
 use Rattle.std.proofs.Common.{◌≡◌, ℕ, zero, suc, ◌+◌, ◌*◌, ◌/◌, ◌%◌, ◌<◌, Bool, List, length, get_or, ℤ, pos, arith, ap, sym, subst}
 use Rattle.finite.proofs.Lists.{joined_below_same}
 use Rattle.cs_bits.specs.Signs.{Supports}
@@ -11,7 +11,7 @@ use Rattle.two_ports.specs.Received.{SupportFour}
 use Rattle.finite.specs.Lists.{joined_below}
 use Rattle.soft_bits.proofs.Paired.{length-fours, get_or-fours, length-pair_at}
 
--- four values speak for the bits of points 2i and 2i + 1
+-- four soft values have the signs of the bits in symbols 2i and 2i + 1
 abbrev pub SpeakAs : (ℕ → Bool) → ℕ → List ℤ → Type 0
 SpeakAs bits i values = SupportFour 1 (bits (2 * (2 * i))) (bits (2 * (2 * i) + 1)) (bits (2 * (2 * i + 1))) (bits (2 * (2 * i + 1) + 1)) values
 
@@ -22,7 +22,7 @@ one_of_four bits i q (suc (suc zero)) values e l four = subst (λ n. Supports 1 
 one_of_four bits i q (suc (suc (suc zero))) values e l four = subst (λ n. Supports 1 (bits n) (get_or values 3 (pos 0))) (let f : 2 * (2 * q + 1) + 1 ≡ i = omega (arith, e) in f) four.fourth
 one_of_four bits i q (suc (suc (suc (suc n)))) values e l four = absurd (omega (arith, l))
 
--- lists of four values, one after the other, of which each speaks for its four bits
+-- consecutive four-value lists, each with the signs of its four bits
 fours_heard : (n : ℕ) (bits : ℕ → Bool) (f : ℕ → List ℤ) → ((k : ℕ) → length (f k) ≡ 4) → ((i : ℕ) → i < n → SpeakAs bits i (f i)) → AreHeard 1 (4 * n) bits (joined_below n f)
 fours_heard n bits f fours each = record {
   size = length-fours n f fours;
@@ -38,7 +38,7 @@ paired_heard pairing slot places bits even each =
     subst (λ n. AreHeard 1 n bits (joined_below (length places / 2) (pair_at pairing slot places))) count
     (fours_heard (length places / 2) bits (pair_at pairing slot places) (length-pair_at pairing slot places) each)
 
--- they are those of the slots of the first places of pairs
+-- the values depend only on the slots of each pair's first resource element
 pub paired_same : (pairing : Pairing) (slot other : Place → SeenSlot) (places : List Place) →
     ((i : ℕ) → i < length places / 2 → slot (get_or places (2 * i) (place 0 0)) ≡ other (get_or places (2 * i) (place 0 0))) → paired_by pairing slot places ≡ paired_by pairing other places
 unfolding paired_by

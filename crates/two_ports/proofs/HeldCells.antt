@@ -1,4 +1,4 @@
--- A recording that is faithful to both ports of a cell shows it to a receiver of two, whatever else they send.
+-- A recording that is faithful to a cell's two ports shows it to a two-port receiver, whatever else the ports send.
 use Rattle.std.proofs.Common.{ℕ, ◌≤◌, false, arith, refl}
 use Rattle.cs_num.specs.Complex.{value_at}
 use Rattle.lte_types.specs.declared.carrier.Carrier.TheVariants.{TwoPorts}
@@ -29,6 +29,6 @@ shows_cells recording plan grids sfn offset gains long sendable faithful =
           (sent_mib plan sendable.spare number) plan.sib1 long (omega arith) refl (fields_read recording plan grids sfn offset gains sendable faithful);
     }
 
--- so the list holds it
+-- the list contains each such cell
 pub holds_cells : HoldsCells two_ports_receiver
 holds_cells = shown_are_held two_ports_receiver shows_cells

@@ -1,5 +1,5 @@
--- The broadcast channel of the first frame of a recording that is faithful to the ports of a cell, whatever else they send: the values of its pairs
--- speak of the master block of its number.
+-- The first frame's broadcast channel in a recording that is faithful to a cell's ports, whatever else they send: its
+-- pairs have soft values with the signs of the MIB's coded bits.
 use Rattle.std.proofs.Common.{◌≡◌, ℕ, ◌+◌, ◌*◌, ◌/◌, ◌%◌, ◌<◌, ◌≤◌, Bool, true, inl, arith, refl, ap, subst, ◌∙◌, List, length, ℤ}
 use Rattle.std.proofs.Math.Path.{fun_ext}
 use Rattle.std.proofs.lemmas.Bool.Decides.{nat_tests}
@@ -32,7 +32,7 @@ use Rattle.two_ports.proofs.Heard.{SpeakAs, paired_heard}
 use Rattle.two_ports.proofs.Senders.{pairing_of, quota_of, carrier, sender, sent_bits, is_sender, pair_carried}
 use Rattle.two_ports.proofs.Slots.{each_slot_received}
 
--- a place of the broadcast channel is on a subcarrier
+-- each resource element of the broadcast channel is on one of the 72 subcarriers
 on_subcarrier : (identity : ℕ) (p : Place) → is_pbch identity p ≡ true → p.k < 72
 unfolding is_pbch
 on_subcarrier identity p e = grind (arith, nat_tests)
@@ -51,7 +51,7 @@ module _ (four : Bool) (recording : List Sample) (plan : CellPlan) (grids : Port
   abbrev values : List ℤ
   values = received_values_by (paired_by (pairing_of four)) slot
 
-  -- what a port sends at the place of point i
+  -- the element that a port sends for symbol i
   point_sent : (p i : ℕ) → i < 240 → slot_grid (grids (sender four p)) number 1 ((pbch_place plan.identity i).symbol % 7) (pbch_place plan.identity i).k ≡ sent_point (sender four p) (point_of bits) i
   point_sent p i inside =
       let is = is_sender four p in
@@ -77,7 +77,7 @@ module _ (four : Bool) (recording : List Sample) (plan : CellPlan) (grids : Port
           speak recording (useful_start normal (frame_at (start_of offset) 0) 1) grid slot i p q _ _ _ _ received
           (on_subcarrier plan.identity p (places_inside plan.identity (2 * i) a)) (on_subcarrier plan.identity q (places_inside plan.identity (2 * i + 1) b)) carry
 
-  -- so they speak of the word of the first frame's number, with the count of ports
+  -- the values have the signs of the word for the first frame's number and the port count
   pub word_speaks : number_at_start sfn offset ≤ 1023 → plan.spare ≤ 1023 →
       SpeakOfWord (pbch_c_init plan.identity) (480 * (number_at_start sfn offset % 4)) (port_word (sender four 0) plan (number_at_start sfn offset)) values
   word_speaks fits spare =

@@ -1,4 +1,5 @@
--- What stands for the two amplitudes of a pair: the amplitude times the sum of the gains' squares, up to a deviation of three causes.
+-- The decision variables for a pair's two amplitudes: each is the amplitude times the gains' total square, up to a
+-- deviation with three causes.
 use Rattle.std.proofs.Common.{◌≡◌, ℕ, ◌+◌, ◌*◌, ◌^◌, ◌≤◌, arith, ap, ap₂, sym, ◌∙◌, subst, mul-le-mul, mul-le-mul_left, mul-le-mul_right}
 use Rattle.cs_num.specs.declared.Cpx.{Cpx}
 use Rattle.cs_num.specs.Complex.{IsWithin, plus, minus, times, conjugate, negated, square, multiple}
@@ -11,22 +12,23 @@ use Rattle.budget.specs.Received.{in_parts}
 use Rattle.soft_bits.specs.Pairs.{second_point}
 use Rattle.two_ports.proofs.Combined.{combined, combined-plus_right, combined-plus_left, combined-multiple_left, combined-multiple_right, combined_cauchy, at_first, at_second, combined_gains, pair_energy, times-negated, square-negated, plus-negated, turned_twice, conjugate-negated, multiple-negated, minus-negated}
 
--- h and k are c times the gains, each off by a number whose square is at most s times the sum of the gains' squares
+-- h and k are c times the gains, each off by a number whose square is at most s times the gains' total square
 pub record AreEstimates (c s : ℕ) (gain other h k : Cpx) : Type 0 where
   pub off : square (minus h (multiple c gain)) ≤ s * (square gain + square other)
   pub other_off : square (minus k (multiple c other)) ≤ s * (square gain + square other)
 
--- a pair of points is seen at two places, each off by a number whose square is at most t times that sum
+-- a pair of symbols is observed in two resource elements, each off by a number whose square is at most t times the
+-- gains' total square
 pub record IsPairNear (t : ℕ) (gain other x y a b : Cpx) : Type 0 where
   pub first : square (minus a (multiple 64 (at_first gain other x y))) ≤ t * (square gain + square other)
   pub second : square (minus b (multiple 64 (at_second gain other x y))) ≤ t * (square gain + square other)
 
--- 2^28 times z is so many units times n times an amplitude, each component off by so many times n
+-- 2^28 z is `unit` times n times an amplitude, each component off by at most `off` times n
 pub record IsNearAmplitude (unit off n : ℕ) (x z : Cpx) : Type 0 where
   pub within : IsWithin (off * n) (minus (multiple (2 ^ 28) z) (multiple (unit * n) x))
 
--- u, v and w stand for the roots of what the three causes are at most: the deviations of what was seen, those of the estimates,
--- where both points have at most the square 16200, and both together
+-- u, v and w bound the roots of the three causes' squares: the observed symbols' deviations, those of the estimates,
+-- with both amplitudes' squares at most 16200, and both together
 pub record AreRoots (s t u v w : ℕ) : Type 0 where
   pub seen : 2 * t ≤ u * u
   pub estimates : 64800 * s ≤ v * v
@@ -93,7 +95,7 @@ module _ (c s t u v w : ℕ) (roots : AreRoots s t u v w) where
       (record { sized = product_off n (square of_channels) (square p + square q) (square at_p + square at_q) (2 * s) 32400 v (combined_cauchy p q at_p at_q) near_small energy (omega (arith, roots.estimates)) }))
       (record { sized = product_off n (square of_both) (square p + square q) (square d + square e) (2 * s) (2 * t) w (combined_cauchy p q d e) near_small seen_small (omega (arith, roots.both)) })))
 
-  -- of two channels and what was seen at two places, all of them in parts
+  -- combining two channels and two observed symbols, all in units of 2^-14
   in_parts_is : (h k a b : Cpx) → combined (in_parts h) (in_parts k) (in_parts a) (in_parts b) ≡ multiple (2 ^ 28) (combined h k a b)
   in_parts_is h k a b =
       combined-multiple_left 16384 h k (in_parts a) (in_parts b) ∙ ap (multiple 16384) (combined-multiple_right 16384 h k a b) ∙ multiple_twice 16384 16384 (combined h k a b)
@@ -105,7 +107,7 @@ module _ (c s t u v w : ℕ) (roots : AreRoots s t u v w) where
       let sized : IsSized total (n * n) off = subst (λ (z : Cpx). IsSized total (n * n) (minus z (multiple (c * 64 * n) x))) (in_parts_is h k a b) is in
       record { within = record { re = sized_re off total n sized; im = sized_im off total n sized } }
 
-  -- ---- the second: the pair (y, -x), seen as b and -a
+  -- ---- the second amplitude: the pair (y, -x), observed as b and -a
 
   second_is : (h k a b : Cpx) → second_point h k a b ≡ combined h k b (negated a)
   second_is h k a b =

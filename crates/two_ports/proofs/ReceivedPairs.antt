@@ -1,4 +1,4 @@
--- A slot of several ports in a recording: its pairs speak for the bits that were sent.
+-- Pairs in a recording's slot with several ports have soft values with the sent bits' signs.
 use Rattle.std.proofs.Common.{◌≡◌, ℕ, ◌*◌, ◌<◌, ◌≤◌, ◌%◌, arith, ap, sym, ◌∙◌, subst, List}
 use Rattle.cs_num.specs.declared.Cpx.{Cpx}
 use Rattle.cs_num.specs.declared.Sample.{Sample}

@@ -1,4 +1,4 @@
--- The reference signals at the pilots of a port of four: its own value stands there, and no other port's.
+-- Pilots with four ports: each is its port's own reference signal, and no other port's.
 use Rattle.std.proofs.Common.{◌≡◌, ℕ, zero, suc, ◌+◌, ◌*◌, ◌/◌, ◌<◌, Bool, true, false, nat_eq, arith, refl, ap}
 use Rattle.std.specs.Prelude.{if◌then◌else◌}
 use Rattle.std.proofs.lemmas.Bool.Decides.{nat_tests}
@@ -7,7 +7,7 @@ use Rattle.crs.specs.Reference.{pattern_of, is_reference, is_second_reference, i
 use Rattle.soft_bits.specs.Lines.{line_of, line_place}
 use Rattle.soft_bits.specs.Soft.{SeenSlot, pattern_symbol, pattern_sent, pilot_subcarrier}
 
--- of four ports, port p alone has a reference signal at a place of a slot
+-- among four ports, only port p has a reference signal in this resource element
 pub record IsAlone (p identity slot l k : ℕ) : Type 0 where
   pub zero : is_reference identity l k ≡ nat_eq 0 p
   pub one : is_second_reference identity l k ≡ nat_eq 1 p
@@ -23,14 +23,14 @@ upper : (p identity slot m : ℕ) → 1 < p → p < 4 → IsAlone p identity slo
 unfolding is_reference first_subcarrier is_second_reference is_upper_reference
 upper p identity slot m l h = grind (arith, nat_tests)
 
--- at each pilot of a port of four
+-- with four ports, each pilot belongs to one port alone
 pub is_alone : (p : ℕ) (slot : SeenSlot) (i : ℕ) → p < 4 → IsAlone p slot.identity slot.number ((line_of FourPorts p slot).symbol i) (line_place (line_of FourPorts p slot) i)
 unfolding pattern_symbol
 is_alone zero slot i l = lower 0 slot.identity slot.number i (pilot_subcarrier slot.identity i) _ (omega arith) refl refl
 is_alone (suc zero) slot i l = lower 1 slot.identity slot.number i (pilot_subcarrier slot.identity i) _ (omega arith) refl refl
 is_alone (suc (suc n)) slot i l = upper (suc (suc n)) slot.identity slot.number i (omega arith) l
 
--- their values
+-- pilots have the port's reference values
 pub own_value : (p : ℕ) (slot : SeenSlot) (i : ℕ) → reference_at slot.identity slot.number ((line_of FourPorts p slot).symbol i) (line_place (line_of FourPorts p slot) i) ≡ (line_of FourPorts p slot).sent i
 unfolding pattern_sent pattern_reference reference_at reference reference_c_init
 own_value zero slot i = refl

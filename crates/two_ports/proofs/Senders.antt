@@ -1,4 +1,4 @@
--- The two or four ports of a cell by their numbers: what is received of all of them, and what each of them sends.
+-- A cell's two or four ports by their numbers: the sum received from all ports, and each port's elements.
 use Rattle.std.proofs.Common.{◌≡◌, ℕ, zero, suc, ◌+◌, ◌-◌, ◌*◌, ◌^◌, ◌/◌, ◌%◌, ◌<◌, ◌≤◌, Bool, true, false, not, ◌&&◌, ◌||◌, nat_eq, List, Some, None, arith, refl, ap, sym, subst, ◌∙◌}
 use Rattle.std.specs.Prelude.{if◌then◌else◌}
 use Rattle.std.proofs.lemmas.Bool.Decides.{nat_tests}
@@ -31,9 +31,9 @@ use Rattle.two_ports.specs.Received.{only, over, CarryPair}
 use Rattle.two_ports.proofs.Energies.{squares, four_squares}
 use Rattle.two_ports.proofs.References.{IsAlone, is_alone, own_value}
 
--- ---- which ports
+-- ---- the ports
 
--- by what pairing pairs are sent, of two ports or of four, and the quota of errors beside them
+-- the pairing for two or for four ports, and its error quota
 abbrev pub pairing_of : Bool → Pairing
 pairing_of false = over_two
 pairing_of true = over_four
@@ -45,7 +45,7 @@ quota_of true = 7
 abbrev pub carrier : Bool → Carrier
 carrier four = (pairing_of four).carrier
 
--- the port with a number
+-- the port with this number
 abbrev pub sender : Bool → ℕ → Port
 sender false zero = first_port
 sender false (suc n) = second_port
@@ -62,7 +62,7 @@ is_normal true = refl
 abbrev pub sent_bits : Port → CellPlan → ℕ → ℕ → Bool
 sent_bits first plan number i = scrambled_bit (pbch_c_init plan.identity) (port_word first plan number) (480 * (number % 4) + i)
 
--- each is of the carrier, so its slots have seven symbols, and all have one master block
+-- each port belongs to the scheme, so its slots have seven symbols, and all ports have the same MIB
 pub record IsSender (four : Bool) (port : Port) : Type 0 where
   pub own : IsPortOf (carrier four) port
   pub seven : port_symbols port ≡ 7
@@ -77,9 +77,9 @@ is_sender true (suc zero) = record { own = (refl, omega arith); seven = refl; po
 is_sender true (suc (suc zero)) = record { own = (refl, omega arith); seven = refl; points = λ plan number i. refl }
 is_sender true (suc (suc (suc n))) = record { own = (refl, omega arith); seven = refl; points = λ plan number i. refl }
 
--- ---- all of them
+-- ---- all ports
 
--- what is received
+-- the received sum over all ports
 pub all : (four : Bool) (values : Port → Cpx) (gains : List Cpx) → mixed (carrier four) values gains ≡ received_of (ports_of (carrier four)) (value_at gains) (λ p. values (sender four p))
 unfolding sum_below
 all false values gains = ap (λ (z : Cpx). plus z (times (value_at gains 1) (values second_port))) (sym (plus-nothing (times (value_at gains 0) (values first_port))))
@@ -94,14 +94,14 @@ pub sounds : (four : Bool) (gains : List Cpx) → ArePartGains (carrier four) ga
 sounds false gains are = let least = are.sounds in let same = squares (value_at gains) in omega (arith, least, same)
 sounds true gains are = let least = are.sounds in let same = four_squares (value_at gains) in omega (arith, least, same)
 
--- errors that are little have at most the quota
+-- small errors are within the quota
 pub quiet : (four : Bool) (gains : List Cpx) (energy : ℕ) → IsLittle (carrier four) gains energy → energy ≤ quota_of four * energy_below (ports_of (carrier four)) (value_at gains)
 quiet false gains energy (all, one) = let same = squares (value_at gains) in omega (arith, all, same)
 quiet true gains energy (all, one) = let same = four_squares (value_at gains) in omega (arith, all, same)
 
 -- ---- pairs
 
--- point n of pair i, at one of its ports or another
+-- symbol n of pair i, at one of the pair's ports or another port
 point_sent : (four : Bool) (p : ℕ) (points : ℕ → Cpx) (i n : ℕ) → p < ports_of (carrier four) → n / 2 ≡ i →
     sent_point (sender four p) points n ≡ over ((pairing_of four).lower i) ((pairing_of four).upper i) (points n) (crossed_point points n) p
 point_sent false zero points i n l e = refl
@@ -113,7 +113,7 @@ point_sent true (suc (suc zero)) points i n l e = grind (arith, nat_tests)
 point_sent true (suc (suc (suc zero))) points i n l e = grind (arith, nat_tests)
 point_sent true (suc (suc (suc (suc p)))) points i n l e = absurd (omega (arith, l))
 
--- two places carry a pair, at which the ports send the points 2i and 2i + 1
+-- two resource elements carry a pair if the ports send symbols 2i and 2i + 1 there
 pub pair_carried : (four : Bool) (points : ℕ → Cpx) (i : ℕ) (grids : ℕ → ℕ → ℕ → Cpx) (a b : Place) → ((p : ℕ) → grids p (a.symbol % 7) a.k ≡ sent_point (sender four p) points (2 * i)) →
     ((p : ℕ) → grids p (b.symbol % 7) b.k ≡ sent_point (sender four p) points (2 * i + 1)) → CarryPair (pairing_of four) grids i a b (points (2 * i)) (points (2 * i + 1))
 pair_carried four points i grids a b first second = record {
@@ -138,7 +138,7 @@ pair_carried four points i grids a b first second = record {
 
 -- ---- the reference signals
 
--- what a port sends where port p alone has a reference signal
+-- the element that a port sends if only port p has a reference signal there
 own_or_other : (own any : Bool) (value here : Cpx) (p q : ℕ) → own ≡ nat_eq q p → any ≡ true → value ≡ here → (if own then Some value else (if not own && any then Some nothing else None)) ≡ Some (only p here q)
 own_or_other own any value here p q e f g = rw (e, f, g) (by (nat_eq q p) refl)
   where
@@ -185,13 +185,13 @@ told : (four : Bool) (q p identity slot l k : ℕ) (here : Cpx) → p < ports_of
 told false q p identity slot l k here few inside at value = told_of_two p identity slot l k here at value q few inside
 told true q p identity slot l k here few inside at value = told_of_four p identity slot l k here at value q few inside
 
--- the lines of two ports are those of the first two of four
+-- two ports have the same pilots as the first two among four
 same_line : (p : ℕ) (slot : SeenSlot) → line_of FourPorts p slot ≡ line_of TwoPorts p slot
 same_line zero slot = refl
 same_line (suc zero) slot = refl
 same_line (suc (suc n)) slot = refl
 
--- at a pilot of a port the others send nothing
+-- at a port's pilot the other ports send nothing
 pub reference : (four : Bool) (slot : SeenSlot) (p q i : ℕ) → p < ports_of (carrier four) → q < ports_of (carrier four) → let line : Line = line_of (carrier four) p slot in
     port_reference_if (sender four q) slot.identity slot.number (line.symbol i) (line_place line i) ≡ Some (only p (line.sent i) q)
 reference false slot p q i few inside =

@@ -1,4 +1,4 @@
--- The system information of a recording that is faithful to both ports: the first frame of even number answers with the plan's.
+-- SIB1 in a recording that is faithful to both ports: the first even-numbered frame is decoded to the plan's fields.
 use Rattle.std.proofs.Common.{◌≡◌, ℕ, zero, suc, ◌+◌, ◌*◌, ◌/◌, ◌%◌, ◌<◌, ◌≤◌, inl, inr, Bool, true, false, List, length, get_or, pos, Ok, nat_eq, nat_lt, ℤ, refl, ap, ap₂, sym, subst, ◌∙◌, arith}
 use Rattle.std.specs.Prelude.{if◌then◌else◌}
 use Rattle.std.proofs.lemmas.Bool.{cases_lt, lt-ltb, le-ltb, leb-true}
@@ -77,14 +77,14 @@ module _ (recording : List Sample) (plan : CellPlan) (grids : Port → Elements)
   is_even : number % 2 ≡ 0
   is_even = even_number (number_at_start sfn offset) 0
 
-  -- the slot of subframe 5 with this number, 10 or 11
+  -- slot 10 or 11, the slots of subframe 5
   abbrev slot : ℕ → SeenSlot
   slot s = seen_slot recording (frame_at (start_of offset) j) s plan.identity
 
   abbrev starts : ℕ → ℕ → ℕ
   starts s = useful_start normal (frame_at (start_of offset) j) s
 
-  -- the slot that has a place
+  -- the slot that contains a resource element
   abbrev slot_at : Place → SeenSlot
   slot_at = in_subframe (slot 10) (slot 11)
 
@@ -100,11 +100,11 @@ module _ (recording : List Sample) (plan : CellPlan) (grids : Port → Elements)
         rw (e, n) refl
   ]
 
-  -- what a port sends at a place, by the symbols of its slot
+  -- the slot of a symbol in subframe 5, and the symbol's index there
   in_slot : (symbol : ℕ) → symbol < 14 → ((10 + symbol / 7) / 2 ≡ 5) × (7 * ((10 + symbol / 7) % 2) + symbol % 7 ≡ symbol)
   in_slot symbol few = (omega (arith, few), omega (arith, few))
 
-  -- ---- places that carry bits in pairs
+  -- ---- resource elements that carry bits in pairs
 
   module _ (c_init : ℕ) (bits : ℕ → Bool) (places : List Place) (even : length places % 2 ≡ 0)
       (placed : (i : ℕ) → i < length places → let p = get_or places i (place 0 0) in (p.symbol < 14) × (p.k < 72))
@@ -116,7 +116,7 @@ module _ (recording : List Sample) (plan : CellPlan) (grids : Port → Elements)
     abbrev carry_bits : ℕ → Bool
     carry_bits = scrambled c_init bits
 
-    -- what a port sends at place i, of the slot that has it
+    -- the element that a port sends in resource element i, in the slot that contains it
     in_slot_sent : (p s i : ℕ) → i < length places → s ≡ 10 + (item i).symbol / 7 → slot_grid (grids (port p)) number s ((item i).symbol % 7) (item i).k ≡ sent_point (port p) (point_of carry_bits) i
     in_slot_sent p s i l e =
         let (half, row) = in_slot (item i).symbol (placed i l).0 in
@@ -138,7 +138,7 @@ module _ (recording : List Sample) (plan : CellPlan) (grids : Port → Elements)
         (received_pair_speaks (value_at gains) recording (starts s) (λ p. slot_grid (grids (port p)) number s) (slot s) i (item (2 * i)) (item (2 * i + 1)) _ _ _ _ received
         (placed (2 * i) a).1 (placed (2 * i + 1) b).1 carry)
 
-    -- the values of these places speak for the bits before scrambling
+    -- these resource elements have soft values with the signs of the bits before scrambling
     places_heard : AreHeard 1 (2 * length places) bits (descrambled c_init 0 (paired_by over_two slot_at places))
     places_heard = descrambled_bits_are_heard 1 (2 * length places) c_init bits (paired_by over_two slot_at places) (paired_heard over_two slot_at places carry_bits even pair_is_heard)
 
@@ -155,7 +155,7 @@ module _ (recording : List Sample) (plan : CellPlan) (grids : Port → Elements)
   own zero = omega arith
   own (suc n) = omega arith
 
-  -- its places are in the first slot
+  -- the control region's resource elements are in the first slot
   region_heard : (c_init count last : ℕ) (bits : ℕ → Bool) (places : List Place) → length places ≡ count → count % 2 ≡ 0 → last ≤ 3 →
       ((i : ℕ) → i < count → IsInRegion plan.identity last (get_or places i (place 0 0))) →
       ((p i : ℕ) → i < count → let q = get_or places i (place 0 0) in grids (port p) number 5 q.symbol q.k ≡ sent_point (port p) (point_of (scrambled c_init bits)) i) →
@@ -222,7 +222,7 @@ module _ (recording : List Sample) (plan : CellPlan) (grids : Port → Elements)
       (λ row same of. whole_block_is_resolvable row (version_of number) (2 * length places) (shared_word plan) (inl of.is) (version-fits number)
       (let count = assigned_bits_are first_port plan sendable in let enough = leb-true (coded_count plan) (assigned_bits_of TwoPorts plan) sendable.enough in let size = of.size in omega (arith, count, enough, size)))
 
-  -- so the frame answers with the plan's fields
+  -- the frame is decoded to the plan's fields
   pub fields_read : Reads (subframe_by TwoPorts (paired_by over_two) (slot 10) (slot 11) plan.duration plan.resource) (Ok plan.sib1)
   fields_read =
       let read = spoken_grant_is_read (subframe_by TwoPorts (paired_by over_two) (slot 10) (slot 11) plan.duration plan.resource) plan.cfi (grant_of plan number)

@@ -1,4 +1,5 @@
--- The slots of a recording that is faithful to the ports of a cell, whatever else they send: each that the list looks at is received as it was sent.
+-- Slots in a recording that is faithful to a cell's ports, whatever else they send: each slot that is read is received
+-- as it was sent.
 use Rattle.std.proofs.Common.{◌≡◌, ℕ, ◌+◌, ◌*◌, ◌/◌, ◌%◌, ◌<◌, Bool, true, false, None, Some, inl, inr, arith, refl, sym, subst, ◌∙◌, List, []}
 use Rattle.std.specs.Prelude.{if◌then◌else◌, ◌⊎◌}
 use Rattle.std.proofs.Math.Path.{fun_ext}
@@ -36,13 +37,13 @@ use Rattle.two_ports.proofs.Senders.{quota_of, carrier, sender, is_normal, is_se
 
 -- ---- the reference signals
 
--- a place with a reference signal is one of the port's own, or one of another's
+-- a reference signal at a resource element is the port's own or another port's
 whose : (own other : Bool) (here value : Cpx) → (if own then Some here else (if other then Some nothing else None)) ≡ Some value → (own ≡ true) ⊎ (other ≡ true)
 whose true other here value e = inl refl
 whose false true here value e = inr refl
 whose false false here value e = absurd cc
 
--- elements that carry the plan have there what it has
+-- elements that carry the plan have the plan's reference signals
 carried : (port : Port) (plan : CellPlan) (grid : Elements) → port_symbols port ≡ 7 → CarriesPlan port plan grid → (number slot l k : ℕ) (value : Cpx) → l < 7 →
     port_reference_if port plan.identity slot l k ≡ Some value → slot_grid grid number slot l k ≡ value
 carried port plan grid seven carries number slot l k value inside is = same ∙ sym (element_of_reference port plan number (slot / 2) symbol k value there)
@@ -50,7 +51,7 @@ carried port plan grid seven carries number slot l k value inside is = same ∙ 
     symbol : ℕ
     symbol = 7 * (slot % 2) + l
 
-    -- by the symbol of the subframe
+    -- the same by the subframe's symbol
     at : (P : ℕ → ℕ → Type 0) → P slot l → P (2 * (slot / 2) + (7 * (slot % 2) + l) / port_symbols port) ((7 * (slot % 2) + l) % port_symbols port)
     at P here =
         subst (λ n. P (2 * (slot / 2) + (7 * (slot % 2) + l) / n) ((7 * (slot % 2) + l) % n)) (sym seven)
@@ -73,7 +74,7 @@ module _ (four : Bool) (recording : List Sample) (plan : CellPlan) (grids : Port
   abbrev IsSymbolReceived : ℕ → ℕ → ℕ → ℕ → Type 0
   IsSymbolReceived number slot l t = IsReceivedBy (ports_of (carrier four)) (quota_of four) (value_at gains) (λ p. slot_grid (grids (sender four p)) number slot l) (samples_from recording t)
 
-  -- a symbol that the list looks at is received from all ports
+  -- a symbol that the receiver reads is received from all ports
   received_at : (t frame slot l : ℕ) → slot < 20 → l < 7 → t + offset ≡ 19200 * frame + useful_start normal 0 slot l → IsLookedAt (carrier four) sfn offset frame slot l t → IsSymbolReceived ((sfn + frame) % 1024) slot l t
   received_at t frame slot l few row place looked = record {
     sounds = sounds four gains faithful.gains_are;
@@ -86,7 +87,7 @@ module _ (four : Bool) (recording : List Sample) (plan : CellPlan) (grids : Port
       Little : (ℕ → Cpx) → Type 0
       Little values = IsLittle (carrier four) gains (energy_below 128 (off_by (samples_from recording t) values))
 
-  -- a slot that the list looks at is received
+  -- a slot that the receiver reads is received
   pub each_slot_received : (j slot : ℕ) → slot < 20 → ((l start : ℕ) → IsLookedAt (carrier four) sfn offset (first_frame_of offset + j) slot l start) →
       IsSlotReceived (carrier four) (quota_of four) (value_at gains) recording (useful_start normal (frame_at (start_of offset) j) slot) (λ p. slot_grid (grids (sender four p)) ((number_at_start sfn offset + j) % 1024) slot)
       (seen_slot recording (frame_at (start_of offset) j) slot plan.identity)

@@ -1,4 +1,4 @@
--- The values of a pair: a component of what stands for a point outweighs the energy of the pilots of all ports.
+-- A pair's soft values: each component of a decision variable outweighs all ports' pilot energy.
 use Rattle.std.proofs.Common.{◌≡◌, ℕ, zero, suc, ◌+◌, ◌*◌, ◌^◌, ◌/◌, ◌%◌, ◌<◌, ◌≤◌, ◌≢◌, arith, refl, subst, Bool, true, false, mul-le-mul_left, mul-le-mul_right, le_of_mul-le-mul_right}
 use Rattle.cs_num.specs.declared.Cpx.{Cpx}
 use Rattle.cs_num.specs.Complex.{plus, times, conjugate, negated, minus, multiple, square}
@@ -17,7 +17,7 @@ use Rattle.two_ports.proofs.Points.{AreRoots, AreEstimates, pair_is_combined}
 use Rattle.two_ports.proofs.Estimates.{received_of_two, pilots_alone, port_channel-near}
 use Rattle.two_ports.proofs.Energies.{squares, AreEnergies, energies}
 
--- ---- a pairing, and the numbers by which its values speak
+-- ---- a pairing, and its soft values' margins
 
 pub record IsPairing (pairing : Pairing) : Type 0 where
   pub lower : (i : ℕ) → pairing.lower i < ports_of pairing.carrier
@@ -26,32 +26,32 @@ pub record IsPairing (pairing : Pairing) : Type 0 where
   pub by_three : pairing.scale % 3 ≡ 0
   pub by_six : 2 < ports_of pairing.carrier → pairing.scale % 6 ≡ 0
 
--- the channel of a port is taken a whole count of times
+-- the scale factor is a multiple of each port's pilot spacing
 whole_times : (carrier : Carrier) (port scale : ℕ) (slot : SeenSlot) → scale % 3 ≡ 0 → (1 < port → scale % 6 ≡ 0) → scale / (line_of carrier port slot).step * (line_of carrier port slot).step ≡ scale
 whole_times carrier zero scale slot three six = omega (arith, three)
 whole_times carrier (suc zero) scale slot three six = omega (arith, three)
 whole_times carrier (suc (suc n)) scale slot three six = let e = six (omega arith) in omega (arith, e)
 
--- The numbers by which the values of a pairing's pairs speak. N is the sum of the squares of all gains, and M that of a pair's. Errors are
--- squares, in parts of 2^-14.
+-- The margins for a pairing's soft values. N is the total square of all gains, and M that of a pair's gains. Errors are
+-- squared, in units of 2^-14.
 pub record Margins : Type 0 where
-  -- what is seen at a place is off by at most `most` squared times N
+  -- each observed symbol's squared error is at most `most` squared times N
   pub most : ℕ
-  -- how the energy of the pilots is split between what is sent and its errors: any number from 1 on
+  -- how the pilot energy is split between signal and errors: any number from 1
   pub weight : ℕ
-  -- M is at least part / whole of N
+  -- M is at least `part` / `whole` times N
   pub part : ℕ
   pub whole : ℕ
-  -- an estimate of a channel is off by at most this times M, and what is seen at a place by this times M
+  -- a channel estimate's squared error is at most `estimate` times M, and an observed symbol's at most `seen` times M
   pub estimate : ℕ
   pub seen : ℕ
-  -- the roots of twice `seen`, of 64800 times `estimate`, and of four times their product, rounded up
+  -- rounded-up roots: of twice `seen`, 64800 times `estimate`, and four times their product
   pub seen_root : ℕ
   pub estimate_root : ℕ
   pub both_root : ℕ
-  -- the energy of the pilots is at most this times M, 2^28 times
+  -- 2^28 times the pilot energy is at most `energy` times M
   pub energy : ℕ
-  -- the least size of each value
+  -- each value's minimum magnitude
   pub least : ℕ
 
 pub record AreMargins (pairing : Pairing) (m : Margins) : Type 0 where
@@ -66,7 +66,7 @@ pub record AreMargins (pairing : Pairing) (m : Margins) : Type 0 where
   pub fit : m.least ≤ 127
   pub speaks : m.least * m.energy + 6 * (pairing.scale * 1036800 * m.seen_root + (64 * m.estimate_root + m.both_root)) ≤ 540 * (pairing.scale * 1036800 * 64)
 
--- of which a pair's gains have their part
+-- a bound by N gives a bound by M, since a pair's gains have their part
 by_part : (a b part whole s n m q : ℕ) → 1 ≤ part → a * whole ≤ s * part → part * n ≤ whole * m → b ≤ a * n → q ≤ b → q ≤ s * m
 by_part a b part whole s n m q some fits share few h =
     let x : q * part ≤ a * n * part = mul-le-mul_right part (omega (arith, few, h)) in
@@ -77,14 +77,14 @@ by_part a b part whole s n m q some fits share few h =
 regrouped : (a b n : ℕ) → a * (b * n) ≤ a * b * n
 regrouped a b n = omega arith
 
--- pilots are seen
+-- the pilot energy is not 0
 some_energy : (ports weight most n q : ℕ) → ports * (2 * (most * most)) < 66355200 → 2 ^ 28 ≤ n → AreEnergies ports weight most n q → 1 ≤ q
 some_energy ports weight most n q few sounds energy =
     let least = energy.least in
     let k : ports * (2 * (most * most)) * n ≤ 66355199 * n = mul-le-mul_right n (omega (arith, few)) in
     omega (arith, sounds, least, k)
 
--- and have at most this energy
+-- 2^28 times the pilot energy is at most e times M
 most_energy : (ports weight most part whole e n m q : ℕ) → 1 ≤ part → 1 ≤ weight → (24 * ((weight + 1) * 66355200) + ports * (24 * (weight * (weight + 1) * (most * most)))) * whole ≤ e * weight * part →
     part * n ≤ whole * m → AreEnergies ports weight most n q → 2 ^ 28 * q ≤ e * m
 most_energy ports weight most part whole e n m q some weighs fits share energy =
@@ -93,7 +93,7 @@ most_energy ports weight most part whole e n m q some weighs fits share energy =
     let all : weight * 2 ^ 28 * q ≤ e * weight * m = by_part h _ part whole (e * weight) n m (weight * 2 ^ 28 * q) some fits share (omega arith) high in
     le_of_mul-le-mul_right (let turned : 2 ^ 28 * q * weight ≤ e * m * weight = omega (arith, all) in turned) weighs
 
--- each pair of ports has this part of the sum of the gains' squares
+-- each pair's gains have at least this part of the total square
 pub record HavePart (pairing : Pairing) (part whole : ℕ) (gains : ℕ → Cpx) : Type 0 where
   pub each : (i : ℕ) → part * energy_below (ports_of pairing.carrier) gains ≤ whole * (square (gains (pairing.lower i)) + square (gains (pairing.upper i)))
 
@@ -107,11 +107,11 @@ module _ (pairing : Pairing) (m : Margins) (is : IsPairing pairing) (margins : A
   abbrev n : ℕ
   n = energy_below (ports_of pairing.carrier) gains
 
-  -- the squares of the gains of pair i
+  -- the total square of pair i's gains
   abbrev pair_squares : ℕ → ℕ
   pair_squares i = square (gains (pairing.lower i)) + square (gains (pairing.upper i))
 
-  -- the channel of a port of pair i
+  -- the channel estimate for a port in pair i
   channel_off : (slot : SeenSlot) (i port k : ℕ) → port < ports_of pairing.carrier → ArePortsSeen pairing.carrier m.most gains slot →
       square (minus (in_parts (port_channel pairing.scale pairing.carrier port slot k)) (multiple (pairing.scale * 1036800) (gains port))) ≤ m.estimate * pair_squares i
   channel_off slot i port k few seen =
@@ -163,8 +163,8 @@ both gains = record { each = λ i. all }
     all : 1 * energy_below 2 gains ≤ 1 * (square (gains 0) + square (gains 1))
     all = let same = squares gains in omega (arith, same)
 
--- 2 * 1464^2 is below the square of 2071; the energy's 2505047040, and six times 17185671867, are less than 540 * 199065600. With
--- 1492 in place of 1464 they are more, so that no quota of 425 follows
+-- 2 * 1464^2 is below 2071^2; the energy's 2505047040, and six times 17185671867, are less than 540 * 199065600. With
+-- 1492 in place of 1464 they are more, so that no quota of 425 follows.
 abbrev two_margins : Margins
 two_margins = record {
   most = 1464;
@@ -186,8 +186,8 @@ two_margins_hold = grind arith
 pub pair_values_speak : PairValuesSpeak
 pair_values_speak gains = values_speak over_two two_margins is_over_two two_margins_hold gains (both gains)
 
--- with smaller errors: 2 * 1024^2 is below the square of 1449; 16 times the energy's 2244575232, and six times 11678307840, are less
--- than 540 * 199065600
+-- with smaller errors: 2 * 1024^2 is below 1449^2; 16 times the energy's 2244575232, and six times 11678307840, are
+-- less than 540 * 199065600
 abbrev quiet_margins : Margins
 quiet_margins = record {
   most = 1024;

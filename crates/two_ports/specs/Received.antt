@@ -1,5 +1,4 @@
--- The resource elements received from several antenna ports, and that the soft values of pairs then have the signs of
--- the sent bits. (own)
+-- Resource elements received from several antenna ports: a pair's soft values have the signs of the sent bits. (own)
 use Rattle.std.specs.Prelude.{◌≡◌, ℕ, ◌%◌, ◌^◌, ◌<◌, ◌≤◌, Bool, nat_eq, if◌then◌else◌, List, [], slice_index_or, ℤ, pos}
 use Rattle.cs_num.specs.declared.Cpx.{Cpx}
 use Rattle.cs_num.specs.declared.Sample.{Sample}
@@ -16,35 +15,35 @@ use Rattle.soft_bits.specs.Pairs.{Pairing, over_two, seen_by, pair_values}
 use Rattle.soft_bits.specs.Soft.{SeenSlot}
 use Rattle.budget.specs.Received.{AreAmplitudes, IsReceivedBy, IsSeenBy, samples_from}
 
--- ---- what the ports send
+-- ---- the elements that the ports send
 
--- one port sends this, and the others nothing
+-- one port sends z, and the others nothing
 abbrev pub only : ℕ → Cpx → ℕ → Cpx
 only port z other = if nat_eq other port then z else nothing
 
--- two ports send these, and the others nothing
+-- two ports send a and b, and the others nothing
 abbrev pub over : ℕ → ℕ → Cpx → Cpx → ℕ → Cpx
 over lower upper a b other = if nat_eq other lower then a else only upper b other
 
--- the elements that the ports send for pair number i, of the points x and y: the lower of its ports x and y, the upper
--- the negative conjugate of y and the conjugate of x (TS 36.211 section 6.3.4.3)
+-- the elements that the ports send for pair i with symbols x and y: the lower port x and y, the upper port -conj(y) and
+-- conj(x) (TS 36.211 section 6.3.4.3)
 abbrev pub first_sent : Pairing → ℕ → Cpx → Cpx → ℕ → Cpx
 first_sent pairing i x y = over (pairing.lower i) (pairing.upper i) x (negated (conjugate y))
 
 abbrev pub second_sent : Pairing → ℕ → Cpx → Cpx → ℕ → Cpx
 second_sent pairing i x y = over (pairing.lower i) (pairing.upper i) y (conjugate x)
 
--- ---- seen
+-- ---- received resource elements
 
--- the pilots of all ports of a carrier are received in a slot, each port's with its gain, in parts, and nothing of the
--- others; the sum of the gains' squares is at least that of 1
+-- all ports' pilots are received in a slot, each port's with its gain, in units of 2^-14, and without other ports'
+-- signals; the gains' total square is at least 1
 pub record ArePortsSeen (carrier : Carrier) (most : ℕ) (gains : ℕ → Cpx) (slot : SeenSlot) : Type 0 where
   pub sounds : 2 ^ 28 ≤ energy_below (ports_of carrier) gains
   pub pilots : (port i : ℕ) → port < ports_of carrier → i ≤ (line_of carrier port slot).last →
       IsSeenBy (ports_of carrier) most gains (only port ((line_of carrier port slot).sent i))
       (line_seen (line_of carrier port slot) slot i)
 
--- pair number i, of the points x and y, is received in two elements
+-- pair i with symbols x and y is received in two resource elements
 pub record IsPairSeen (pairing : Pairing) (most : ℕ) (gains : ℕ → Cpx) (i : ℕ) (x y a b : Cpx) : Type 0 where
   pub first : IsSeenBy (ports_of pairing.carrier) most gains (first_sent pairing i x y) a
   pub second : IsSeenBy (ports_of pairing.carrier) most gains (second_sent pairing i x y) b
@@ -56,8 +55,8 @@ pub record SupportFour (least : ℕ) (b c d e : Bool) (values : List ℤ) : Type
   pub third : Supports least d (slice_index_or values 2 (pos 0))
   pub fourth : Supports least e (slice_index_or values 3 (pos 0))
 
--- the four soft values of a pair of points that is received with these gains have the signs of its bits and a magnitude
--- of at least `least`, whatever subcarrier the channels are taken at
+-- a received pair's four soft values have the signs of its bits and a magnitude of at least `least`, for any
+-- subcarrier's channel estimates
 abbrev pub SpeakWith : (ℕ → Cpx) → Pairing → ℕ → ℕ → Type 0
 SpeakWith gains pairing most least =
     (slot : SeenSlot) (i k : ℕ) (b c d e : Bool) (at_first at_second : Cpx) →
@@ -67,8 +66,8 @@ SpeakWith gains pairing most least =
 
 -- ---- slots of a recording
 
--- the seven symbols of a slot are received from all ports of a carrier with these gains, each from its sample on, and
--- hold the reference signals of all ports; each port sends nothing in those of the others
+-- the slot's seven symbols are received from all ports with these gains, and contain all ports' reference signals; each
+-- port sends nothing in the other ports'
 pub record IsSlotReceived (carrier : Carrier) (quota : ℕ) (gains : ℕ → Cpx) (recording : List Sample)
     (starts : ℕ → ℕ) (grids : ℕ → ℕ → ℕ → Cpx) (slot : SeenSlot) : Type 0 where
   pub seen : (l : ℕ) → l < 7 → slice_index_or slot.symbols l [] ≡ seen_symbol recording (starts l)
@@ -80,15 +79,15 @@ pub record IsSlotReceived (carrier : Carrier) (quota : ℕ) (gains : ℕ → Cpx
       grids other ((line_of carrier port slot).symbol i) (line_place (line_of carrier port slot) i)
       ≡ only port ((line_of carrier port slot).sent i) other
 
--- two elements carry pair number i, of the points x and y
+-- two resource elements carry pair i with symbols x and y
 pub record CarryPair (pairing : Pairing) (grids : ℕ → ℕ → ℕ → Cpx) (i : ℕ) (p q : Place) (x y : Cpx) : Type 0 where
   pub first : (port : ℕ) → port < ports_of pairing.carrier →
       grids port (p.symbol % 7) p.k ≡ first_sent pairing i x y port
   pub second : (port : ℕ) → port < ports_of pairing.carrier →
       grids port (q.symbol % 7) q.k ≡ second_sent pairing i x y port
 
--- if a slot is received with these gains, the four soft values of two elements that carry a pair of points have the
--- signs of their bits
+-- in a slot that is received with these gains, two resource elements that carry a pair have four soft values with the
+-- signs of its bits
 abbrev pub SpeakReceivedWith : (ℕ → Cpx) → Pairing → ℕ → ℕ → Type 0
 SpeakReceivedWith gains pairing quota least =
     (recording : List Sample) (starts : ℕ → ℕ) (grids : ℕ → ℕ → ℕ → Cpx) (slot : SeenSlot) (i : ℕ) (p q : Place)
@@ -99,14 +98,14 @@ SpeakReceivedWith gains pairing quota least =
 
 -- ---- two ports
 
--- the values of pairs have the signs of the bits, whatever the gains are, if each element is off by less than 23 units
+-- a law: a pair's soft values have the signs of its bits, for any gains, if each element is off by less than 23 units
 abbrev pub PairValuesSpeak : Type 0
 PairValuesSpeak = (gains : ℕ → Cpx) → SpeakWith gains over_two 1464 1
 
 abbrev pub ReceivedPairSpeaks : Type 0
 ReceivedPairSpeaks = (gains : ℕ → Cpx) → SpeakReceivedWith gains over_two 400 1
 
--- the values of pairs have a magnitude of at least 16 if each element is off by at most 16 units
+-- a law: a pair's soft values have a magnitude of at least 16 if each element is off by at most 16 units
 abbrev pub QuietPairValuesSpeak : Type 0
 QuietPairValuesSpeak = (gains : ℕ → Cpx) → SpeakWith gains over_two 1024 16
 

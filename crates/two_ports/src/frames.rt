@@ -1,4 +1,4 @@
-//! The receiver of two antenna ports.
+//! The receiver for two antenna ports.
 
 ghost use Rattle.soft_bits.specs.Pairs.{over_two};
 ghost use Rattle.two_ports.specs.Entries.{two_ports_receiver};
@@ -10,7 +10,7 @@ use sample_file::Recording;
 use sib1_reader::Decoders;
 use soft_bits::{PortSlot, Ports};
 
-/// The receiver of two antenna ports. It takes MIBs with exactly two antenna ports. (own)
+/// The receiver for two antenna ports. It accepts MIBs with exactly two antenna ports. (own)
 pub struct TwoPorts;
 
 /// A slot of a cell with two antenna ports.

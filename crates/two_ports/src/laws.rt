@@ -1,16 +1,15 @@
-//! Laws of the soft values of transmit diversity pairs.
+//! Laws on the soft values of transmit diversity pairs.
+//!
+//! Let P be the sum of both gains' squares, at least 1; either port may be the stronger one. Both ports' pilots and the
+//! pair's two resource elements are each received with an error below 23 amplitude units times the root of P. In a
+//! recording it is enough that each symbol's error energy is at most 400 P (`recording`). With an error of at most 16
+//! such units, or an error energy of at most 64 P, each value's magnitude is at least 16 (`quiet`, `quiet_recording`).
 
 ghost use Rattle.two_ports.specs.Received.{PairValuesSpeak, ReceivedPairSpeaks};
 ghost use Rattle.two_ports.specs.Received.{QuietPairValuesSpeak, QuietReceivedPairSpeaks};
 
-/// States that the four soft values of a transmit diversity pair have the signs of its bits (TS 36.211 section
-/// 6.3.4.3).
-///
-/// The pilots of both ports and the two resource elements of the pair are each received with an error of less than 23
-/// amplitude units, times the root of the sum of both gains' squares, which is at least that of a gain of 1; either
-/// port may be the stronger one. In a recording it is enough that the error energy of each symbol is at most 400 times
-/// that sum (`recording`). With at most 16 such units, or an error energy of at most 64 times the sum, each value has a
-/// magnitude of at least 16 (`quiet`, `quiet_recording`).
+/// A law: a transmit diversity pair's four soft values have the signs of its bits if the errors are small (TS 36.211
+/// section 6.3.4.3).
 pub fn pair_values_speak_for_the_sent_bits()
     ensures seen { PairValuesSpeak }
     ensures recording { ReceivedPairSpeaks }

@@ -12,7 +12,7 @@ none_there : {A : Type 0} (o : Option A) → is_some o ≡ false → is_none o �
 none_there None e = refl
 none_there (Some x) e = absurd cc
 
--- a plan with a text that fits has a block, which is this text
+-- a plan whose text fits has a block, and its text is this one
 module _ (plan : CellPlan) (size : ℕ) (text : List Bool) (tdd : is_some plan.sib1.tdd ≡ false) (plain : plan.sib1.extended ≡ false)
     (is_size : block_size plan ≡ size) (is_text : text_of plan.sib1 ≡ Some text) (fits : length text ≤ size) where
   pub has : has_block plan ≡ true

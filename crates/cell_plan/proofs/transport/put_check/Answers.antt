@@ -6,7 +6,7 @@ use Rattle.cs_bits.specs.Numbers.{bits_of}
 use Rattle.cs_bits.proofs.Numbers.{length-bits_of}
 use Rattle.cell_plan.proofs.transport.put_check.Goals as goal
 
--- 24 bits are written behind the first
+-- 24 bits are written after the first `size`
 bits_behind : (word out : List Bool) (size check : ℕ) → length word ≡ 1024 → size ≤ 1000 → out ≡ bits_of (length (take (size + 24 - size) (drop size word))) check →
     take (size + 24) (put_mid size (size + 24 - size) word out) ≡ take size word ++ bits_of 24 check
 bits_behind word out size check long room is =

@@ -13,7 +13,7 @@ use Rattle.explain.specs.Frame.{frame_at}
 use Rattle.long_prefix.specs.Entries.{long_slot, ArePilots, long_values}
 use Rattle.long_prefix.proofs.reading.long_frame.Goals as goal
 
--- the slot of these symbols is that of the frame
+-- the slot with these symbols is the frame's
 slot_is : (recording : List Sample) (identity id start at j : ℕ) (symbols : List (List Cpx)) →
     symbols ≡ values_below 6 (λ symbol. seen_symbol recording (useful_start extended (frame_at at j) 1 symbol)) → id ≡ identity → at ≡ start →
     ◌≡◌ {A = SeenSlot} (record { symbols = symbols; number = 1; identity = id }) (long_slot recording identity start j)

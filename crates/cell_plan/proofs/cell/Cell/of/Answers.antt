@@ -12,7 +12,7 @@ use Rattle.dci.proofs.SizeRows.{size_fits}
 use Rattle.cell_plan.proofs.NewCells.{has_size, sized_is, refused_text, IsAccepted, accepted_can_be_sent, accepted_is_coded}
 use Rattle.cell_plan.proofs.cell.Cell.of.Goals as goal
 
--- what the steps before the block's coded word say of the plan
+-- consequences for the plan of the steps before its block is encoded
 module _ (c : goal.After-coded_block-coded) where
   accepted : IsAccepted c.args.carrier c.args.plan c.in-Some-size_of.size c.in-Some-text_of.text
   accepted =
