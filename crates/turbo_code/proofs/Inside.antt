@@ -1,4 +1,4 @@
--- Each bit of the reading is one of a stream.
+-- Each bit of the reading is a bit of a stream.
 use Rattle.std.proofs.Common.{◌≡◌, ℕ, suc, ◌+◌, ◌*◌, ◌%◌, ◌<◌, List, [], ◌∷◌, length, subst, arith, mod-lt}
 use Rattle.std.specs.Prelude.{All}
 use Rattle.std.proofs.lemmas.List.Elements.{All-append, All-cons, All-drop, All-take}
