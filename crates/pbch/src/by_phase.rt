@@ -13,8 +13,8 @@ use crate::{CellScrambling, Master, Received, WordSums};
 use soft_bits::Slot;
 use tailbite::{Trellis, least};
 
-/// Decodes the MIB in frames (TS 36.212 section 5.3.1, TS 36.331 section 6.2.2). `None` exactly if all sums are 0,
-/// over a quarter speaks against the minimum-cost word, its CRC passes with no mask, or its bandwidth code exceeds 5.
+/// Decodes the MIB (TS 36.212 section 5.3.1, TS 36.331 section 6.2.2). `None` exactly if all sums are 0, over a
+/// quarter by magnitude opposes the minimum-cost word, its CRC fits no mask, or its bandwidth code exceeds 5.
 pub fn explain_slots(slots: &[Slot], phase: u8, work: &mut Trellis) -> Option<Master>
     requires some { 0 < length slots.now }
     requires period { phase + length slots.now ≤ 4 }
