@@ -26,7 +26,7 @@ fn is_sent(counts: &Counts, t: usize, p: usize) -> bool
     counts[t][p] > 0
 }
 
-/// Returns which tail bits of a decoder are sent, if its tail begins at index `p`.
+/// Marks the sent bits of a decoder's tail, which begins at index `p`.
 fn tail_of(counts: &Counts, p: usize) -> [bool; 6]
     requires { p ≤ 1026 }
     ensures { result ≡ tail_sent (above_zero counts.now) p }
@@ -41,7 +41,7 @@ fn tail_of(counts: &Counts, p: usize) -> [bool; 6]
     ]
 }
 
-/// Returns which bits in stream `t` are sent.
+/// Marks the sent bits in stream `t`.
 fn stream_of(counts: &Counts, row: &Row, t: usize) -> Marks
     requires row { IsAnyRow row.now }
     requires stream { t < 3 }
@@ -55,7 +55,7 @@ fn stream_of(counts: &Counts, row: &Row, t: usize) -> Marks
     marks
 }
 
-/// Returns which bits of the word are sent or known.
+/// Marks the bits of the word that are sent or known.
 fn own_of(counts: &Counts, row: &Row, known: &Marks) -> Marks
     requires row { IsAnyRow row.now }
     ensures marks { (k : ℕ) → k < row.now.k → slice_index_or result k false ≡
@@ -69,7 +69,7 @@ fn own_of(counts: &Counts, row: &Row, known: &Marks) -> Marks
     marks
 }
 
-/// Returns which bits of the word are sent or known, in the second decoder's order.
+/// Marks the bits of the word that are sent or known, in the second decoder's order.
 fn own_in_order_of(counts: &Counts, row: &Row, known: &Marks) -> Marks
     requires row { IsAnyRow row.now }
     ensures marks { (i : ℕ) → i < row.now.k → slice_index_or result i false ≡

@@ -63,7 +63,7 @@ ends_im a x m b y n = omega (arith, ints)
 ends : (a x m b y n : Cpx) → plus (minus a (times_j x)) (plus m (plus (minus b (times_j y)) n)) ≡ minus (plus a (plus m (plus b n))) (times_j (plus x y))
 ends a x m b y n = pair (ends_re a.re x.im m.re b.re y.im n.re) (ends_im a.im x.re m.im b.im y.re n.im)
 
--- the correlation with root 34 is the sum of products with the signal of root 29 itself, with two samples corrected
+-- the correlation with root 34 is the sum of products with the signal of root 29 itself, corrected at two samples
 pub roots_share : (recording : List Sample) (t : ℕ) → correlation_at recording t 2
     ≡ minus (complex_sum_below 128 (λ n. times (sample_at recording (t + n)) (wave 1 n))) (times_j (plus (sample_at recording t) (sample_at recording (t + 64))))
 roots_share recording t =

@@ -1,4 +1,4 @@
--- Two rows of 256 that are filled with the parts of numbers, one after the other.
+-- Two rows of 256 that are filled with numbers' parts, one after the other.
 use Rattle.std.proofs.Common.{◌≡◌, ℕ, ◌+◌, ◌<◌, arith, List, ℤ, pos, length, set, length-set, get_or, ◌∙◌}
 use Rattle.std.proofs.lemmas.List.Edits.{fill_by_more}
 use Rattle.std.proofs.lemmas.List.FromFn.{fill_by_all}

@@ -1,5 +1,5 @@
--- The samples of the three primary signals, computed once: the useful parts of symbols that carry roots 25, 29 and
--- 34. (of TS 36.211 sections 6.11.1 and 6.12)
+-- Samples of the three primary signals, computed once: useful parts of symbols with roots 25, 29 and 34. (TS 36.211
+-- sections 6.11.1 and 6.12)
 use Rattle.std.proofs.Common.{◌≡◌, ℕ, zero, suc, ◌<◌, Bool, true, List, [], ◌∷◌, ℤ, pos, negsuc, get_or, refl}
 use Rattle.finite.specs.Sums.{sum_below}
 use Rattle.finite.specs.Tests.{every_below}

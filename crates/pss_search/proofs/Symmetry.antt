@@ -33,7 +33,8 @@ wave_mirrored n2 n known low high =
     let f : n - 1 + 1 ≡ n = omega (arith, low) in
     wave_is n2 (128 - n) known (omega (arith, low)) ∙ ap (samples n2) e ∙ here ∙ ap (samples n2) f ∙ sym (wave_is n2 n known high)
 
--- ---- the signal of root 34 is the conjugate of that of root 29, except that rounding adds j at samples 0 and 64
+-- ---- the signal with root 34 is the conjugate of the one with root 29, except that rounding adds j at samples 0 and
+-- 64
 
 abbrev pub unit : Cpx
 unit = record { re = pos 0; im = pos 1 }

@@ -20,13 +20,13 @@ last_place = 19336
 
 -- ---- a hit
 
--- the metric of the first position is greater than that of the second
+-- the first position has a greater metric than the second
 pub record IsAbove (recording : List Sample) (n2 first second : ℕ) : Type 0 where
   pub first_sounds : 0 < energy recording first
   pub second_sounds : 0 < energy recording second
   pub greater : peak recording n2 second * energy recording first < peak recording n2 first * energy recording second
 
--- the metrics of two positions are equal
+-- two positions have equal metrics
 pub record IsLevel (recording : List Sample) (n2 first second : ℕ) : Type 0 where
   pub first_sounds : 0 < energy recording first
   pub second_sounds : 0 < energy recording second

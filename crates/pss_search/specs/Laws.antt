@@ -6,7 +6,7 @@ use Rattle.lte_types.specs.declared.Hit.{Hit}
 use Rattle.pss_search.specs.Tests.{is_hit}
 use Rattle.pss_search.specs.Hits.{IsHit, first_place, last_place, found, hits_of}
 
--- the test of a position in the span agrees with the definition of a hit
+-- the test for a position in the span agrees with the definition of a hit
 abbrev pub TestIsRight : Type 0
 TestIsRight = (recording : List Sample) (t n2 : ℕ) → first_place ≤ t → t ≤ last_place →
     (is_hit recording t n2 ≡ true → IsHit recording t n2) × (IsHit recording t n2 → is_hit recording t n2 ≡ true)

@@ -22,7 +22,7 @@ wave_re n2 = values_below 128 (λ n. (wave n2 n).re)
 abbrev pub wave_im : ℕ → List ℤ
 wave_im n2 = values_below 128 (λ n. (wave n2 n).im)
 
--- the samples of the first two signals in four lists: real and imaginary parts of the first, then of the second
+-- the first two signals' samples in four lists: real and imaginary parts for the first, then for the second
 abbrev pub wave_part : ℕ → List ℤ
 wave_part zero = wave_re 0
 wave_part (suc zero) = wave_im 0
@@ -57,6 +57,6 @@ with_signal_of p = record { re = p.re_re -ℤ p.im_im; im = p.im_re +ℤ p.re_im
 abbrev pub correlation_at : List Sample → ℕ → ℕ → Cpx
 correlation_at recording t n2 = complex_sum_below 128 (peak_term (wave n2) recording t)
 
--- the correlations whose squared magnitudes are the peaks of the three signals
+-- the correlations whose squared magnitudes are the three signals' peaks
 abbrev pub correlations_at : List Sample → ℕ → List Cpx
 correlations_at recording t = values_below 3 (correlation_at recording t)

@@ -13,7 +13,7 @@ use Rattle.pss_search.specs.Hits.{first_place, last_place, hit_at, hits_before}
 
 -- ---- bounds
 
--- bounds on the two numbers of a metric
+-- bounds on a metric's two numbers
 pub record IsSmallMetric (metric : Metric) : Type 0 where
   pub peak : metric.peak < 2 ^ 70
   pub energy : metric.energy ≤ 2 ^ 38
@@ -34,8 +34,8 @@ pub record AreSmallProducts (p : ProductSums) : Type 0 where
 
 -- ---- a sweep
 
--- the sweep is at a position to be measured or at the end, the energy there is known, and the samples already seen
--- have squares within 16-bit numbers
+-- the sweep is at a position to be measured or at the end, the energy there is known, and each sample already seen
+-- has a squared magnitude of at most 2^31
 pub record IsReady (recording : List Sample) (place total : ℕ) : Type 0 where
   pub long : 57600 ≤ length recording
   pub first : 128 ≤ place

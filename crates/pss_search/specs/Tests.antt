@@ -4,12 +4,12 @@ use Rattle.cs_num.specs.declared.Sample.{Sample}
 use Rattle.finite.specs.Tests.{any_below}
 use Rattle.pss_search.specs.Correlation.{peak, energy, wave_power}
 
--- the metric of the first position is greater than that of the second
+-- the first position has a greater metric than the second
 abbrev pub is_above : List Sample → ℕ → ℕ → ℕ → Bool
 is_above recording n2 first second = nat_lt 0 (energy recording first) && nat_lt 0 (energy recording second) &&
     nat_lt (peak recording n2 second * energy recording first) (peak recording n2 first * energy recording second)
 
--- the metrics of two positions are equal
+-- two positions have equal metrics
 abbrev pub is_level : List Sample → ℕ → ℕ → ℕ → Bool
 is_level recording n2 first second = nat_lt 0 (energy recording first) && nat_lt 0 (energy recording second) &&
     (peak recording n2 second * energy recording first == peak recording n2 first * energy recording second)

@@ -1,4 +1,4 @@
-//! Which positions are hits.
+//! The test that decides which positions are hits.
 
 ghost use Rattle.std.specs.Prelude.{◌≡◌, ◌+◌, ◌≤◌, ◌<◌, [], false, IfSome};
 ghost use Rattle.std.specs.Option.{option_to_list};

@@ -1,5 +1,5 @@
-//! Correlations with the three signals. The signals of roots 29 and 34 are conjugates of each other except at two
-//! samples, so they share their products.
+//! Correlations with the three signals. The signals with roots 29 and 34 are conjugates except at two samples, so
+//! they share their products.
 
 ghost use Rattle.std.specs.Prelude.{◌≡◌, ℕ, ◌+◌, ◌*◌, ◌^◌, ◌<◌, ◌≤◌, All, length, nat_abs};
 ghost use Rattle.finite.specs.Sizes.{AllWithin};
@@ -150,8 +150,8 @@ impl ProductSums {
     }
 }
 
-// Returns a position's correlations with the three signals. The signal of root 34 is the conjugate of that of root 29
-// plus j at samples 0 and 64.
+// Returns a position's correlations with the three signals. The signal with root 34 is the conjugate of the one with
+// root 29, plus j at samples 0 and 64.
 #[inline(always)]
 pub(crate) fn correlations(samples: &[Sample], t: usize, stretch: &Stretch) -> [Cpx; 3]
     requires room { t + 128 ≤ length samples.now }

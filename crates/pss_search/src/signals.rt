@@ -5,7 +5,7 @@ ghost use Rattle.finite.specs.Sizes.{AllWithin};
 ghost use Rattle.pss_search.specs.Correlation.{wave_power};
 ghost use Rattle.pss_search.specs.Products.{wave_part};
 
-// The powers of the signals of roots 25, 29 and 34 over all 128 samples, and the samples of the first two in parts:
+// The powers of the signals with roots 25, 29 and 34 over all 128 samples, and the samples of the first two in parts:
 // root 25 real and imaginary, then root 29. The powers have 128 bits so that the samples begin at a multiple of 16
 // bytes, where the processor loads eight at once.
 struct Tables {

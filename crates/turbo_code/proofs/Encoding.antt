@@ -19,7 +19,7 @@ pub record Shows (register : Register) (past : List Bool) : Type 0 where
   pub two : register.two ≡ back past 2
   pub three : register.three ≡ back past 3
 
--- the loop after k bits of the word
+-- the loop after k bits
 pub record AreParities (word : List Bool) (k : ℕ) (found : List Bool) (register : Register) : Type 0 where
   pub size : length found ≡ 1024
   pub at : (j : ℕ) → j < k → get_or found j false ≡ parity word j

@@ -6,12 +6,12 @@ use Rattle.turbo_code.specs.Table.{row, interleaver}
 use Rattle.turbo_code.specs.Encoder.{before, parities, tail_x, tail_z}
 use Rattle.turbo_code.specs.Reading.{start, buffer, reading, item_of}
 
--- the interleaver of K = 144
+-- the interleaver for K = 144
 indices_of_144 : map (interleaver (row 144 17 108)) (0 ∷ 1 ∷ 2 ∷ 3 ∷ []) ≡ 0 ∷ 125 ∷ 34 ∷ 15 ∷ []
 unfolding interleaver
 indices_of_144 = refl
 
--- the starts of the four redundancy versions for K = 144
+-- where the four redundancy versions start for K = 144
 starts_of_144 : map (start 144) (0 ∷ 1 ∷ 2 ∷ 3 ∷ []) ≡ 10 ∷ 130 ∷ 250 ∷ 370 ∷ []
 starts_of_144 = refl
 

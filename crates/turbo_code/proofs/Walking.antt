@@ -118,7 +118,7 @@ never_past k rv bit r m at rows past =
 
 -- ---- a walk after i steps
 
--- the walk's next item is the item of bit i of the reading
+-- the walk's next item is the item for bit i in the reading
 pub item_here : (k rv i : ℕ) (s : Standing) → IsAnySize k → s ≡ standing k rv (i % (3 * (k + 4))) → item_of s.k s.rv s.bit ≡ item_of k rv i
 unfolding item_of
 item_here k rv i s size at =
@@ -130,7 +130,7 @@ item_here k rv i s size at =
     ∙ ap (λ j. get_or (reading k rv) j (item 0 0)) again
     ∙ sym (ap (λ n. get_or (reading k rv) (i % n) (item 0 0)) count)
 
--- one more step of the walk
+-- one more step
 pub one_more : (k rv i : ℕ) (s : Standing) → s ≡ standing k rv (i % (3 * (k + 4))) →
     standing s.k s.rv ((s.bit + 1) % (3 * (s.k + 4))) ≡ standing k rv ((i + 1) % (3 * (k + 4)))
 one_more k rv i s at =

@@ -34,11 +34,11 @@ start k rv = matrix_rows (k + 4) * (24 * rv + 2)
 abbrev pub turned : ℕ → List Item → List Item
 turned s cells = drop s cells ++ take s cells
 
--- one round of the buffer without its nulls: the coded bits of three streams of K + 4 bits
+-- one round of the buffer without its nulls: the coded bits in three streams of K + 4 bits
 unfoldable pub reading : ℕ → ℕ → List Item
 reading k rv = bits_in (nulls (k + 4)) (turned (start k rv) (buffer (matrix_rows (k + 4))))
 
--- the item of bit i of the reading, which repeats without end
+-- the item for bit i in the reading, which repeats without end
 unfoldable pub item_of : ℕ → ℕ → ℕ → Item
 item_of k rv i = slice_index_or (reading k rv) (i % length (reading k rv)) (item 0 0)
 
@@ -46,6 +46,6 @@ item_of k rv i = slice_index_or (reading k rv) (i % length (reading k rv)) (item
 abbrev pub bit_of : List (List Bool) → Item → Bool
 bit_of d p = slice_index_or (slice_index_or d p.stream []) p.index false
 
--- the sum of the values that the reading maps to each of 1,028 indices of three streams
+-- for each of 1,028 indices in each of three streams, the sum of the values that the reading maps there
 unfoldable pub summed : ℕ → ℕ → List ℤ → List (List ℤ)
 summed k rv values = values_below 3 (λ t. values_below 1028 (summed_at (item_of k rv) values (length values) t))

@@ -18,11 +18,11 @@ rows =
     row 720 79 120 ∷ row 768 217 48 ∷ row 800 17 80 ∷ row 864 17 48 ∷
     row 928 15 58 ∷ row 992 65 124 ∷ row 1024 31 64 ∷ []
 
--- a row of the table
+-- a row in the table
 abbrev pub IsRow : Row → Type 0
 IsRow r = Contains rows r
 
--- a K of the table
+-- a K in the table
 abbrev pub IsSize : ℕ → Type 0
 IsSize k = (r : Row) × Contains rows r × (r.k ≡ k)
 
@@ -37,7 +37,7 @@ IsFurtherRow r = Contains further_rows r
 abbrev pub IsFurtherSize : ℕ → Type 0
 IsFurtherSize k = (r : Row) × Contains further_rows r × (r.k ≡ k)
 
--- a row of either table, and its K
+-- a row in either table, and its K
 abbrev pub IsAnyRow : Row → Type 0
 IsAnyRow r = IsRow r ⊎ IsFurtherRow r
 

@@ -14,7 +14,7 @@ pub struct Coded {
     pub d: [[bool; 1028]; 3],
 }
 
-/// The last three bits of an encoder's register: a(k - 1), a(k - 2), a(k - 3).
+/// An encoder's last three register bits: a(k - 1), a(k - 2), a(k - 3).
 #[derive(Drop)]
 struct Register {
     one: bool,
@@ -22,14 +22,14 @@ struct Register {
     three: bool,
 }
 
-/// The bits x and z of an encoder's three tail steps.
+/// The bits x and z in an encoder's three tail steps.
 #[derive(Drop)]
 struct Tail {
     x: [bool; 3],
     z: [bool; 3],
 }
 
-/// The output of one constituent encoder for a word: its parity bits, padded with zeros, and its tail.
+/// One constituent encoder's output for a word: its parity bits, padded with zeros, and its tail.
 #[derive(Drop)]
 struct Constituent {
     parities: [bool; 1024],
@@ -104,7 +104,7 @@ pub fn interleaver(row: &Row, i: usize) -> usize
     (f1 * i + f2 * i * i) % row.k as usize
 }
 
-/// Returns the word in the order of the second encoder, padded with zeros.
+/// Returns the word in the second encoder's order, padded with zeros.
 fn in_order(word: &[bool], row: &Row) -> [bool; 1024]
     requires row { IsAnyRow row.now }
     requires count { length word.now ≡ row.now.k }

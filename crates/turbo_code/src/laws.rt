@@ -2,12 +2,12 @@
 
 ghost use Rattle.turbo_code.specs.Laws.{ReadingIsWhole, RowsPermute};
 
-/// A law: the interleaver of each row of both tables permutes the indices 0 to K - 1.
+/// A law: in both tables, each row's interleaver permutes the indices 0 to K - 1.
 pub fn rows_permute()
     ensures { RowsPermute }
 {}
 
-/// A law: for each K of either table and each redundancy version, one round of the buffer, without its nulls,
+/// A law: for each K in either table and each redundancy version, one round of the buffer, without its nulls,
 /// contains each of the 3(K + 4) coded bits once.
 pub fn reading_is_whole()
     ensures { ReadingIsWhole }

@@ -13,7 +13,7 @@ use crate::{Coded, Row};
 use std::marker::Model;
 use sub_block::{Code, Item, cell_at};
 
-/// The sums of the received values, one for each index of each of the three streams.
+/// The sums of received values, one for each index in each stream.
 #[derive(Clone, Copy, Drop)]
 pub struct Combined {
     pub k: u16,
@@ -50,7 +50,7 @@ fn buffer_at(rows: usize, j: usize) -> Item
 }
 
 /// A walk along three streams of K + 4 bits in the order in which they are sent: round and round the circular buffer,
-/// from the start of a redundancy version. Contracts see the size, the version, and the round's next bit.
+/// from a redundancy version's start. Contracts see the size, the version, and the round's next bit.
 #[derive(Drop)]
 struct Walk {
     k: u16,
@@ -84,7 +84,7 @@ impl Walk {
         }
     }
 
-    /// Returns the item of the next bit, and steps past it.
+    /// Returns the next bit's item, and steps past it.
     fn step(&mut self) -> Item
         ensures item { result ≡ item_of self.old.k self.old.rv self.old.bit }
         ensures below_three { result.stream < 3 }
@@ -110,8 +110,7 @@ impl Walk {
     }
 }
 
-/// Returns the item of bit `i` in the order of redundancy version `rv`, for three streams of `k` bits and their
-/// tails.
+/// Returns the item for bit `i` in redundancy version `rv`, for three streams of `k` bits and their tails.
 fn item_in(k: u16, rv: u8, i: usize) -> Item
     requires size { IsAnySize k }
     requires version { rv < 4 }
@@ -126,7 +125,7 @@ fn item_in(k: u16, rv: u8, i: usize) -> Item
     walk.step()
 }
 
-/// Returns bit `i` of a codeword after rate matching for redundancy version `rv`, 0 to 3 (TS 36.212 section 5.1.4.1).
+/// Returns a codeword's bit `i` after rate matching for redundancy version `rv`, 0 to 3 (TS 36.212 section 5.1.4.1).
 /// `i` is at most 5,760.
 pub fn match_out(coded: &Coded, rv: u8, i: usize) -> bool
     requires size { IsAnySize coded.now.k }
@@ -150,7 +149,7 @@ pub fn match_all(coded: &Coded, rv: u8, bits: &mut [bool])
     }
 }
 
-/// Returns the bit of a codeword at the item `at`.
+/// Returns a codeword's bit at the item `at`.
 fn bit_at(coded: &Coded, at: &Item) -> bool
     requires size { IsAnySize coded.now.k }
     requires stream { at.now.stream < 3 }
