@@ -44,7 +44,7 @@ tpc_low bits = bit bits 19
 abbrev pub padding : List Bool → Bool
 padding bits = bit bits 20
 
--- the SI-RNTI, which masks the CRC when DCI grants system information and scrambles the granted PDSCH (TS 36.321
--- section 7.1)
+-- the SI-RNTI (TS 36.321 section 7.1), which masks the CRC when DCI grants system information and enters the
+-- scrambling of the granted PDSCH
 abbrev pub system_information_rnti : ℕ
 system_information_rnti = 65535

@@ -15,6 +15,6 @@ pub use reading::read;
 pub use sizes::size;
 pub use writing::write;
 
-/// The SI-RNTI, which masks the CRC when DCI grants system information and scrambles the granted PDSCH (TS 36.321
-/// section 7.1).
+/// The SI-RNTI (TS 36.321 section 7.1). The CRC is masked with it when DCI grants system information, and it enters
+/// the scrambling of the granted PDSCH.
 pub const SI_RNTI: u16 = 0xffff;

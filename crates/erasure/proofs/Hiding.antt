@@ -123,7 +123,7 @@ back_earlier own parity tail set earlier k n known h = record {
 
 -- ---- words
 
--- the number of known ones in a word, and without bit k
+-- the number of known ones in a word, with bit k and without
 all_ones : List Bool → List Bool → List Bool → List Bool → ℕ
 all_ones own parity tail d = path_cost next (step_ones own parity) 0 0 d + tail_ones tail (end_of next 0 d)
 
@@ -166,7 +166,7 @@ tail_positive tail d =
     (tail_step_positive tail d 2 (state false false a) (tail_bit_is false false a) (tail_parity_is false false a))
 
 module _ (own parity tail : List Bool) where
-  -- a word shows exactly if it has a known 1 other than bit k
+  -- a word shows a known 1 exactly if it has one other than bit k
   others_show : (k : ℕ) (d : List Bool) → length d ≡ length own →
       positive (other_ones own parity tail k d) ≡ shows (length own) (sent_by own parity tail) (λ _. false) k d
   unfolding other_ones other_step
@@ -231,7 +231,7 @@ module _ (own parity tail : List Bool) where
     | inr (f, ne) ↦ let one : starts y ≡ 1 = rw f refl in absurd (omega (arith, one, h))
   ]
 
-  -- a word that does not show, and words that all show
+  -- a word that shows no known 1, and words that all show one
   hidden_by : (k : ℕ) (d : List Bool) → length d ≡ length own → bit_at d k ≡ true → other_ones own parity tail k d ≡ 0 → found_by own parity tail k ≡ false
   unfolding found
   hidden_by k d size bit nothing =

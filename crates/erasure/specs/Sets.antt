@@ -1,5 +1,5 @@
--- Sets of states in place of words: the states that bits without a known 1 reach, or from which they lead on. (own;
--- the machine is that of TS 36.212 section 5.1.3.2.1)
+-- Sets of states in place of words: states reached or left by steps without a known bit 1. (own; the machine is that
+-- of TS 36.212 section 5.1.3.2.1)
 use Rattle.std.specs.Prelude.{◌≡◌, ℕ, zero, suc, ◌+◌, ◌*◌, ◌/◌, ◌<◌, ◌≤◌, Bool, true, false, not, cond, ◌&&◌, ◌||◌}
 use Rattle.std.specs.Prelude.{List, [], length, slice_index_or, nat_eq, pos, int_lt, ℤ}
 use Rattle.finite.specs.Tables.{sum_at}
@@ -48,13 +48,13 @@ abbrev pub none : ℕ → Bool
 none zero = true
 none (suc n) = false
 
--- the set has the states that k steps without a known 1 reach
+-- the set has the states reached by k steps without a known bit 1
 pub record IsSet (own parity : List Bool) (k : ℕ) (set : List Bool) : Type 0 where
   pub ones : ℕ → ℕ
   pub least : (x : ℕ) → x < 8 → IsLeastTo next (step_ones own parity) starts 8 k x (ones x)
   pub member : (x : ℕ) → x < 8 → bit_at set x ≡ none (ones x)
 
--- each set up to k has the states that as many steps without a known 1 reach
+-- each set up to k has the states reached by as many steps without a known bit 1
 pub record HasSets (own parity : List Bool) (sets : List (List Bool)) (k : ℕ) : Type 0 where
   pub set : (j : ℕ) → j ≤ k → IsSet own parity j (slice_index_or sets j [])
 

@@ -8,7 +8,7 @@ use crate::states::{States, any_led_through, earlier_set, later_set, start_set, 
 /// A mark for each bit of a word; later entries are not used.
 pub(crate) type Marks = [bool; 1024];
 
-/// Writes, before the first step and after each, the set of states that steps without a known bit 1 reach.
+/// Writes, before the first step and after each, the set of states reached by steps without a known bit 1.
 fn forward(own: &[bool], parity: &[bool], sets: &mut [States])
     requires short { length own.now ≤ 1024 }
     requires parities { length parity.now ≡ length own.now }
@@ -42,8 +42,8 @@ fn backward(own: &[bool], parity: &[bool], tail: &[bool; 6], sets: &[States]) ->
     found
 }
 
-/// Returns the bits that a decoder finds: each word with a 1 there also has a 1 at a known index, among its other
-/// bits, its parity bits and its tail.
+/// Returns the bits that a decoder finds: those where each word with a 1 has another known 1, among its information
+/// bits, its parity bits or its tail bits.
 pub(crate) fn find(own: &[bool], parity: &[bool], tail: &[bool; 6]) -> Marks
     requires short { length own.now ≤ 1024 }
     requires parities { length parity.now ≡ length own.now }

@@ -1,4 +1,4 @@
-//! Sets of encoder states that bits without a known 1 reach, or from which they lead on.
+//! Sets of encoder states, reached or left by steps without a known bit 1.
 
 ghost use Rattle.std.specs.Prelude.{◌≡◌, ℕ, ◌<◌, false, length, slice_index_or, nat_eq};
 ghost use Rattle.finite.specs.Tests.{any_below};

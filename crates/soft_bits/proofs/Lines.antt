@@ -36,7 +36,7 @@ lower_energy_is pattern slot = refl
 pub line_channel_is : (carrier : Carrier) (slot : SeenSlot) (k : ℕ) → line_channel (line_of carrier 0 slot) slot k ≡ pattern_channel (pattern_of carrier 0) slot k
 line_channel_is carrier slot k = sym (lower_channel_is (pattern_of carrier 0) slot k)
 
--- once a number is the number itself
+-- one times a number is the number
 pub once : (z : Cpx) → multiple 1 z ≡ z
 once z = pair (one-times z.re) (one-times z.im)
   where

@@ -11,8 +11,8 @@ use crate::Seen;
 use crate::layout::{Layout, layout_of};
 use crate::pilots::seen_of;
 
-/// Returns a slot's pilot energy over all antenna ports: the squared magnitudes at their reference elements, with
-/// ports 2 and 3 counted twice. At most 24 * 2^51 per port.
+/// Returns a slot's pilot energy over all antenna ports: the sum of squared magnitudes at their reference elements,
+/// with ports 2 and 3 counted twice. At most 24 * 2^51 per port.
 pub fn energy_of(seen: &Seen) -> u64
     ensures value { result ≡ ports_energy seen.now.carrier (slot_of seen.now) }
     ensures few { result ≤ ports_of seen.now.carrier * (24 * 2 ^ 51) }

@@ -164,8 +164,8 @@ impl<K: Ports> PortSlot<K> {
         pilots.channel(k).scaled(K::scale() / pilots.step())
     }
 
-    /// Returns the pilot energy over all ports: the squared magnitudes at their reference elements, with ports 2 and
-    /// 3 counted twice. At most 24 * 2^51 per port.
+    /// Returns the pilot energy over all ports: the sum of squared magnitudes at their reference elements, with ports
+    /// 2 and 3 counted twice. At most 24 * 2^51 per port.
     pub fn energy(&self) -> u64
         ensures value { result ≡ ports_energy K.pairing.carrier self.now }
         ensures few { result ≤ ports_of K.pairing.carrier * (24 * 2 ^ 51) }

@@ -70,7 +70,7 @@ unfolding first_greatest
 first_greatest_more f zero l = absurd (omega arith)
 first_greatest_more f (suc n) l = let e : suc n - 1 ≡ n = omega arith in rw e refl
 
--- ---- the groups for a half, one after the other
+-- ---- the groups for a half-frame, one after the other
 
 -- the group is the first maximum in f 0 to f n
 pub record IsBestSoFar (f : ℕ → ℤ) (n : ℕ) (best : GroupScore) : Type 0 where
@@ -118,7 +118,7 @@ zero_chosen scores a b e g t =
     ap (λ z. int_lt (scores z Zero) (scores (best_group scores Five) Five)) (sym e) ∙ ap (λ f. int_lt (scores a Zero) (scores f Five)) (sym g) ∙ t in
     rw above (ap (λ n. (n, Zero)) e)
 
--- the best group for a half against another group
+-- the best group for a half-frame against another group
 in_half : (scores : ℕ → Half → ℤ) (half : Half) (m : ℕ) → m ≤ 167 → scores m half ≤ℤ scores (best_group scores half) half
 in_half scores half m l = first_greatest_is (λ n1. scores n1 half) 167 m l
 

@@ -1,4 +1,4 @@
--- The identity group and the half of the frame for a hit. (own; the signals are those in TS 36.211 section 6.11)
+-- The identity group and the half-frame for a hit. (own; the signals are those in TS 36.211 section 6.11)
 use Rattle.std.specs.Prelude.{ℕ, zero, suc, ◌-◌, ◌<◌, ◌≤◌, List, ℤ, ◌<ℤ◌, ◌≤ℤ◌, int_lt, if◌then◌else◌}
 use Rattle.cs_num.specs.declared.Sample.{Sample}
 use Rattle.lte_types.specs.declared.frame.Half.{Half}
@@ -27,11 +27,11 @@ unfoldable pub first_greatest : (ℕ → ℤ) → ℕ → ℕ
 first_greatest f zero = 0
 first_greatest f (suc n) = if int_lt (f (first_greatest f n)) (f (suc n)) then suc n else first_greatest f n
 
--- the best group for a half
+-- the best group for a half-frame
 abbrev pub best_group : (ℕ → Half → ℤ) → Half → ℕ
 best_group scores half = first_greatest (λ n1. scores n1 half) 167
 
--- the best pair: a group and a half
+-- the best pair: an identity group and a half-frame
 unfoldable pub best_pair : (ℕ → Half → ℤ) → ℕ × Half
 best_pair scores =
     if int_lt (scores (best_group scores Zero) Zero) (scores (best_group scores Five) Five)
@@ -42,7 +42,7 @@ best_pair scores =
 abbrev pub prefix_scores : Prefix → List Sample → Hit → ℕ → Half → ℤ
 prefix_scores prefix recording hit = score (seen recording hit.t) (seen recording (hit.t - symbol_step prefix)) hit.n2
 
--- a hit's identity group and half for a cyclic prefix
+-- a hit's identity group and half-frame for a cyclic prefix
 unfoldable pub prefix_identity : Prefix → List Sample → Hit → ℕ × Half
 prefix_identity prefix recording hit = best_pair (prefix_scores prefix recording hit)
 

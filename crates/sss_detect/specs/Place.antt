@@ -9,7 +9,8 @@ use Rattle.lte_types.specs.declared.numerology.Prefix.{Prefix}
 use Rattle.lte_types.specs.Numerology.{frame_length, primary_start}
 use Rattle.sss_detect.specs.Identity.{prefix_identity}
 
--- the frame start, modulo a frame, if the primary signal of this half is at t (TS 36.211 sections 4.1, 6.11 and 6.12)
+-- the frame start, modulo a frame, if the primary signal of this half-frame is at t (TS 36.211 sections 4.1, 6.11 and
+-- 6.12)
 abbrev pub start_by_hit : ℕ → Half → ℕ
 start_by_hit t half = (t + (frame_length - primary_start half)) % frame_length
 

@@ -25,6 +25,6 @@ even_sum agreements n2 shift = places_sum agreements n2 shift 0 0 31
 abbrev pub odd_sum : List ℤ → ℕ → ℕ → ℤ
 odd_sum agreements n2 i = places_sum agreements n2 (i % 8) (i / 8) 1 31
 
--- the score for a group and a half, from a list of agreements
+-- the score for a group in a half-frame, from a list of agreements
 unfoldable pub score_by : List ℤ → ℕ → ℕ → Half → ℤ
 score_by agreements n2 n1 half = sum_below 62 (λ n. sss_at n1 n2 half n *ℤ slice_index_or agreements n (pos 0))

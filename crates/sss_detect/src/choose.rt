@@ -1,4 +1,4 @@
-//! Choosing a group and a half.
+//! Choosing an identity group and a half-frame.
 
 ghost use Rattle.std.specs.Prelude.{◌≡◌, ◌^◌, ◌≤◌, All, int_lt, if◌then◌else◌};
 ghost use Rattle.finite.specs.Sizes.{AllWithin};
@@ -11,15 +11,15 @@ use crate::score::{ShiftSums, agreements};
 use cs_num::Cpx;
 use lte_types::Half;
 
-// A group with its score.
+// An identity group with its score.
 #[derive(Clone, Copy)]
 struct GroupScore {
     n1: u16,
     score: i128,
 }
 
-/// Returns the identity group, 0 to 167, and the half whose secondary sequence scores highest against the demodulated
-/// symbols. Ties go to subframe 0, then the lower group. `n2` is 0 to 2, components within 2^25. (own)
+/// Returns the identity group, 0 to 167, and the half-frame whose secondary sequence scores highest against the
+/// demodulated symbols. Ties go to subframe 0, then the lower group. `n2` is 0 to 2, components within 2^25. (own)
 pub fn best(pss_seen: &[Cpx; 72], sss_seen: &[Cpx; 72], n2: u8) -> (u16, Half)
     requires member { n2 ≤ 2 }
     requires primary { All (IsWithin (2 ^ 25)) pss_seen.now }
@@ -46,7 +46,7 @@ fn best_by(agreements: &[i64; 62], n2: u8) -> (u16, Half)
     }
 }
 
-// Returns the best group for a half.
+// Returns the best group for a half-frame.
 fn best_of_half(sums: &ShiftSums, half: Half) -> GroupScore
     requires { AllWithin (2 ^ 59) sums.now.agreements.now }
     ensures group { result.n1 ≡ best_group (score_by sums.now.agreements.now sums.now.n2) half }

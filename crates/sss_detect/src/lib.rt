@@ -1,4 +1,4 @@
-//! SSS detection: the identity group and the half of the frame for a PSS detection (a hit), from the secondary
+//! SSS detection: the identity group and the half-frame for a PSS detection (a hit), from the secondary
 //! synchronisation sequence that agrees best with the received symbols.
 //! Tests: the crate `code_tests`.
 #![tactic(auto)]
@@ -23,8 +23,8 @@ use rank::best_two;
 pub use rank::{Choice, Ranking};
 use sample_file::Recording;
 
-/// Returns a hit's identity group and half for a cyclic prefix (TS 36.211 section 6.11), by `best`. Both symbols, the
-/// secondary one just in front of the primary, lie within the recording. `n2` is 0 to 2.
+/// Returns a hit's identity group and half-frame for a cyclic prefix (TS 36.211 section 6.11), by `best`. Both
+/// symbols, the secondary one just in front of the primary, lie within the recording. `n2` is 0 to 2.
 pub fn identity_with(recording: &Recording, hit: &Hit, prefix: Prefix) -> (u16, Half)
     requires after { symbol_step prefix ≤ hit.now.t }
     requires within { hit.now.t + 128 ≤ length recording.now }
@@ -40,8 +40,8 @@ pub fn identity_with(recording: &Recording, hit: &Hit, prefix: Prefix) -> (u16, 
     )
 }
 
-/// Returns a hit's identity group and half for the normal cyclic prefix: the secondary symbol is 137 samples before
-/// the primary one. The conditions are those for `identity_with`.
+/// Returns a hit's identity group and half-frame for the normal cyclic prefix: the secondary symbol is 137 samples
+/// before the primary one. The conditions are those for `identity_with`.
 pub fn identity(recording: &Recording, hit: &Hit) -> (u16, Half)
     requires after { symbol_step normal ≤ hit.now.t }
     requires within { hit.now.t + 128 ≤ length recording.now }
@@ -67,7 +67,7 @@ pub fn place_with(recording: &Recording, hit: &Hit, prefix: Prefix) -> CellPlace
     }
 }
 
-/// Returns the pair that `identity_with` chooses, and the second, each with its score, which 64 bits hold completely.
+/// Returns the pair that `identity_with` chooses, and the second, each with its complete score, which fits 64 bits.
 /// The conditions are those for `identity_with`. (own)
 pub fn ranking_with(recording: &Recording, hit: &Hit, prefix: Prefix) -> Ranking
     requires after { symbol_step prefix ≤ hit.now.t }

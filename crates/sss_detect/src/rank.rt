@@ -1,4 +1,4 @@
-//! The two best pairs, each a group and a half, with their scores.
+//! The two best pairs, each an identity group and a half-frame, with their scores.
 
 ghost use Rattle.std.specs.Prelude.{◌≡◌, ◌<◌, ◌≤◌, All, int_lt, if◌then◌else◌};
 ghost use Rattle.finite.specs.Sizes.{AllWithin};
@@ -11,7 +11,7 @@ use crate::score::{ShiftSums, agreements};
 use cs_num::Cpx;
 use lte_types::Half;
 
-/// An identity group, 0 to 167, and a half of the frame, with the score for their secondary sequence. (own)
+/// An identity group, 0 to 167, and a half-frame, with the score for their secondary sequence. (own)
 #[derive(Clone, Copy, Debug, PartialEq, Eq)]
 pub struct Choice {
     pub n1: u16,

@@ -70,7 +70,7 @@ impl<'a> ShiftSums<'a> {
         }
     }
 
-    /// Returns the score for a group and a half.
+    /// Returns the score for a group in a half-frame.
     pub(crate) fn score_of(&self, n1: u16, half: Half) -> i128
         requires small { AllWithin (2 ^ 59) self.now.agreements.now }
         requires group { n1 ≤ 167 }
@@ -124,7 +124,7 @@ fn places_sum(agreements: &[i64; 62], n2: u8, even: usize, odd: usize, first: us
     sum
 }
 
-// Returns a number with a sign, by a product: a branch on the sign would be mispredicted every other time.
+// Applies a sign by multiplication: a branch on the sign would be mispredicted every other time.
 fn signed(number: i64, sign: i8) -> i64
     requires small { nat_abs number ≤ 2 ^ 59 }
     requires sign { nat_abs sign ≡ 1 }

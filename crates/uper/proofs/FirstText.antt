@@ -149,7 +149,7 @@ first_text_is {A} test (field width least greatest next) text x s t only =
     n_below : n < 2 ^ width
     n_below = subst (λ w. n < 2 ^ w) begins.whole (number_below front)
 
-    -- a field and an encoding of the rest are an encoding together
+    -- a field followed by an encoding of the rest is an encoding
     whole : (m : ℕ) (bits : List Bool) (y : A) → m < 2 ^ width → least ≤ m → m ≤ greatest → IsText (next m) bits y → IsText (field width least greatest next) (bits_of width m ++ bits) y
     whole m bits y l a b r =
         let number_is : number (bits_of width m) ≡ m = number_of_bits width m l in (

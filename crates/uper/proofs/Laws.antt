@@ -94,7 +94,7 @@ agree_bind Before t u f g first later a b y s r =
     let same : p.first ≡ q.first = (first before p.first q.first q.value (subst (λ v. IsText t p.first v) after.0.1 p.is_text) q.is_text).1 in
     (before, p.parts ∙ ap₂ (λ (u w : List Bool). u ++ w) same after.1 ∙ sym q.parts)
 
--- the same when both first parts follow one grammar
+-- first parts that follow one grammar agree
 pub once_bind : {A B : Type 0} (Before : Type 0) (t : Grammar A) (f g : A → Grammar B) → Once t
     → ((v w : A) (s r : List Bool) → IsText t s v → IsText t r w → Agree (f v) (g w) (Before × (v ≡ w))) → Agree (t >>= f) (t >>= g) Before
 once_bind Before t f g once later = agree_bind Before t t f g (λ before. once) later

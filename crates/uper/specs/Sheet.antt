@@ -1,4 +1,4 @@
--- Encodings appended one after the other, at most 1,000 bits together.
+-- Encodings appended one after the other, up to 1,000 bits in all.
 use Rattle.std.specs.Prelude.{◌≡◌, ◌-◌, nat_le, if◌then◌else◌, Bool, List, ◌++◌, length, Option, Some, None}
 use Rattle.uper.specs.Grammar.{Grammar}
 use Rattle.uper.specs.Texts.{IsText}

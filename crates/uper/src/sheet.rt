@@ -8,7 +8,7 @@ ghost use Rattle.uper.specs.Sheet.{append, Puts};
 use crate::Writer;
 use std::marker::Model;
 
-/// Collects encodings of at most 1,000 bits together. After the first that does not fit nothing is kept, so that only
+/// Collects encodings, up to 1,000 bits in all. After the first that does not fit nothing is kept, so that only
 /// `finish` has to report it. Contracts see an option with the bits.
 #[derive(Drop)]
 pub struct Sheet {
