@@ -15,7 +15,7 @@ received_values_by values slot = values (λ p. slot) (pbch_places slot.identity)
 abbrev pub received_values : SeenSlot → List ℤ
 received_values = received_values_by placed_values
 
--- the sums by index in the 40-bit word's codeword, from values received in consecutive frames that start at bit
+-- the sums for the 40-bit word, by index and stream, from values received in consecutive frames that start at bit
 -- `first` in a period of four. One sequence scrambles the period's bits and goes on from frame to frame (section
 -- 6.6.1); the bits are the codeword, repeated from its first bit (TS 36.212 section 5.3.1.3)
 unfoldable pub summed_values : ℕ → ℕ → List ℤ → List (List ℤ)
@@ -26,7 +26,7 @@ abbrev pub identity_of : List SeenSlot → ℕ
 identity_of [] = 0
 identity_of (slot ∷ slots) = slot.identity
 
--- the sums by index in the codeword, from one slot per frame, if the first frame has this phase; each slot has the
--- period's next 480 bits
+-- the sums for the 40-bit word, by index and stream, from one slot per frame, if the first frame has this phase; each
+-- slot has the period's next 480 bits
 unfoldable pub coded_values : List SeenSlot → ℕ → List (List ℤ)
 coded_values slots phase = summed_values (identity_of slots) (480 * phase) (flat_map received_values slots)

@@ -25,7 +25,7 @@ pub fn explain_slots(slots: &[Slot], phase: u8, work: &mut Trellis) -> Option<Ma
     master_of(&values(slots, phase), work)
 }
 
-/// The result for a cell's frames, by the phase of the first. (own)
+/// Decoding results for a cell's frames, by the phase of the first. (own)
 #[derive(Clone, Copy)]
 pub struct ByPhase {
     /// The decoded MIB at each phase.
@@ -34,7 +34,7 @@ pub struct ByPhase {
     pub sums: [WordSums; 4],
 }
 
-// The result at one phase: the decoded MIB and the sums that it was decoded from.
+// The decoding result at one phase: the MIB, and the sums that it was decoded from.
 #[derive(Clone, Copy)]
 struct AtPhase {
     master: Option<Master>,

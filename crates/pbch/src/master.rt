@@ -2,7 +2,7 @@
 
 use lte_types::Mib;
 
-/// The MIB decoded from frames.
+/// A decoded MIB, with its antenna ports and its cost.
 #[derive(Clone, Copy, Debug, PartialEq, Eq)]
 pub struct Master {
     /// The number of antenna ports: 1, 2 or 4.

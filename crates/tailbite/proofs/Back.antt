@@ -90,7 +90,7 @@ pass_start values ends rows i short known done = record {
   room = λ k x inside below. let h = known.room k x (omega (arith, done)) inside below in omega (arith, h, short);
 }
 
--- `told_bit` is the first bit on the minimum-cost path
+-- the bit that the tables give is the first on the minimum-cost path
 pub told_best : (values : List (List ℤ)) (tables : List (List ℕ)) (ends : ℕ → ℕ) (rows : List (List ℕ)) → HaveCosts values tables (length values) →
     IsPass values ends rows → (k m x : ℕ) → k + suc m ≡ length values → x < 64 → told_bit tables rows k x ≡ best_bit shift (step_cost values) ends k m x
 told_best values tables ends rows have passed k m x size below =

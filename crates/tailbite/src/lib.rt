@@ -1,6 +1,6 @@
 //! Maximum-likelihood decoding of the tail-biting convolutional code (TS 36.212 section 5.1.3.1): finds, among all
-//! words of 6 to 64 bits, the one with the minimum cost, which is the sum of the received values against its coded
-//! bits. If several words have that cost, the first in lexicographic order is taken.
+//! words of 6 to 64 bits, the one with the minimum cost. A word costs the sum of the magnitudes of the received
+//! values against its coded bits; if several words have the minimum cost, the first in lexicographic order is taken.
 //! The search covers the 64 encoder states in which a word may start and end, and leaves out those for which a bound
 //! shows that no word costs less.
 //! The single steps are published too: step costs, the next state, and a row of minimum costs one step on.

@@ -6,8 +6,8 @@ use crate::costs::StepCosts;
 use crate::passes::CostRow;
 use std::alloc::{AllocError, Global};
 
-/// The working memory of a search for words up to 64 bits long: at each position the step costs, and at each position
-/// and after the last the minimum costs from each state, to any end state and to one.
+/// Working memory for words up to 64 bits long: the step costs at each position, and two sets of rows with the
+/// minimum cost from each state, to any end state and to a single one.
 #[derive(Drop)]
 pub struct Trellis {
     pub(crate) tables: Vec<StepCosts>,

@@ -3,11 +3,11 @@
 //! minimum-cost word.
 //!
 //! A backward pass with every end free gives each state the minimum cost of a path that starts there, wherever it
-//! ends. A forward pass, in which a start costs less the higher that cost is, then gives each state a bound: a path
-//! that starts and ends in the state costs at least the minimum cost of reaching it, less the cost of starting there.
-//! If a state's bound is below the key of a word already found, the key of the minimum-cost path from the state,
-//! wherever that ends, is another bound. The start states are then searched in order of their bounds, until none is
-//! below the minimum key that was found.
+//! ends. A forward pass, in which a start costs less where this minimum is higher, then gives each state a bound: a
+//! path that starts and ends in the state costs at least the minimum cost of reaching it, less the cost of starting
+//! there. If a state's bound is below the key of a word already found, the key of the minimum-cost path from the
+//! state, wherever that ends, is another bound. The start states are then searched in order of their bounds, until
+//! none is below the minimum key that was found.
 
 ghost use Rattle.std.specs.Prelude.{◌≡◌, ℕ, ◌+◌, ◌-◌, ◌*◌, ◌^◌, ◌<◌, ◌≤◌, length, slice_index};
 ghost use Rattle.finite.specs.Sizes.{RowsWithin};

@@ -48,7 +48,7 @@ step_is row i is_row inside =
     ∙ ne_eqb (interleaver row j) (interleaver row i) (λ e. let same = permutes.one_to_one j i (omega (arith, before, inside)) inside e in absurd (omega (arith, same, before))))
     (λ l. ap (λ m. nat_eq (interleaver row m) (interleaver row i)) (at i inside) ∙ eq-eqb (interleaver row i) (interleaver row i) refl)
 
--- bit k is read at the step that `step_of` gives
+-- bit k is read at the step that the inverse of the interleaver gives
 pub record IsReadAtStep (row : Row) (k : ℕ) : Type 0 where
   pub below : step_of row k < row.k
   pub there : interleaver row (step_of row k) ≡ k
