@@ -13,8 +13,8 @@ use grid_map::pbch_places;
 use lte_types::CellId;
 use soft_bits::{ReadSlot, Slot, fill_slot};
 
-/// Returns the 40-bit word's soft values, summed over 1 to 4 consecutive frames in one period of four (TS 36.211
-/// section 6.6). `slots` has slot 1 of each frame; `phase` is the first frame number modulo 4.
+/// Returns the 40-bit word's soft values, summed over 1 to 4 consecutive frames in one period (TS 36.211 section 6.6,
+/// TS 36.212 section 5.3.1). `slots` has each frame's slot 1; `phase` is the first frame number modulo 4.
 pub fn values(slots: &[Slot], phase: u8) -> [[i32; 3]; 40]
     requires some { 0 < length slots.now }
     requires period { phase + length slots.now ≤ 4 }

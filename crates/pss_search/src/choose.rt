@@ -14,7 +14,7 @@ use lte_types::Hit;
 // The first position of the span: the useful part of the preceding symbol just fits in front of it.
 pub(crate) const FIRST_PLACE: usize = 137;
 
-// A quarter of 1,990,000, below which no signal's power lies.
+// A quarter of 1,990,000, the lower bound on the signals' powers.
 const QUARTER_OF_LEAST: u64 = 497_500;
 
 // Returns whether some peak at position `t` is large enough for a signal with the minimum power. Most positions fail,

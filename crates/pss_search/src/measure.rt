@@ -105,7 +105,7 @@ impl<'a> Sweep<'a> {
         }
     }
 
-    /// Returns the next position, 128 to 19,346.
+    /// Returns the next position, 128 to 19,346, which is the end.
     pub fn place(&self) -> usize
         ensures place { result ≡ self.now.place }
         ensures first { 128 ≤ result }
