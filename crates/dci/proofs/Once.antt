@@ -1,4 +1,4 @@
--- Bits say one thing: what they say is what is told of them field by field.
+-- Bits decode to one result, which is determined field by field.
 use Rattle.std.proofs.Common.{◌≡◌, ℕ, ◌+◌, ◌<◌, ◌≤◌, Bool, true, false, List, Option, None, Some, Result, Ok, Err, refl, ap, ap₂, sym, ◌∙◌, arith}
 use Rattle.std.specs.Prelude.{unwrap_or, nat_lt, if◌then◌else◌}
 use Rattle.std.proofs.lemmas.Bool.{lt-ltb, le-ltb}
@@ -42,7 +42,7 @@ one_grant bits a b s t =
 
 -- ---- one reason
 
--- the reason, field by field; None where there is none
+-- the reason, field by field; None if there is none
 no_size : Option ℕ → Option Sib1Reason
 no_size None = Some BlockTooLarge
 no_size (Some size) = None
@@ -54,7 +54,7 @@ reason bits =
     else (if nat_lt 26 (mcs bits) then Some (ReservedMcs (mcs bits)) else no_size (size_of (mcs bits) (column_of (tpc_low bits))))))
     else Some NotFormat1A
 
--- what an answer gives as a reason
+-- the reason that an answer gives
 given : Result Grant Sib1Reason → Option Sib1Reason
 given (Ok grant) = None
 given (Err reason) = Some reason

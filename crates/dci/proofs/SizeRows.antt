@@ -1,4 +1,4 @@
--- Each size of the tables of transport blocks is K of a row of the turbo code's table, less the 24 bits of its check.
+-- Each transport block size plus the CRC's 24 bits is a K in the turbo code's table.
 use Rattle.std.proofs.Common.{◌≡◌, ℕ, zero, suc, ◌+◌, ◌<◌, Bool, true, false, List, [], ◌∷◌, length, get_or, Some, refl, subst, arith}
 use Rattle.std.specs.Prelude.{if◌then◌else◌, nat_eq, nat_lt, slice_get}
 use Rattle.std.specs.List.{list_all, position_or_len}
@@ -33,7 +33,7 @@ is_sized size has =
       eqb-true _ _ (passes_at_first (λ r. nat_eq r.k (size + 24)) rows (row 0 0 0) (omega (arith, all, inside))),
     )
 
--- a test that each number of a list passes
+-- a number in a list passes a test that all its numbers pass
 passed : (test : ℕ → Bool) (xs : List ℕ) (i d : ℕ) → list_all test xs ≡ true → i < length xs → test (get_or xs i d) ≡ true
 passed test [] i d all inside = absurd (omega (arith, inside))
 passed test (x ∷ xs) zero d all inside = (and_parts (test x) (list_all test xs) all).0

@@ -1,4 +1,4 @@
--- The bits of a grant, and the grant of its bits.
+-- From a grant to its bits, and back.
 use Rattle.std.proofs.Common.{◌≡◌, ℕ, ◌<◌, ◌⊎◌, inl, inr, Bool, true, false, nat_eq, List, [], ◌∷◌, ◌++◌, map, length, refl, sym, ◌∙◌, arith}
 use Rattle.std.proofs.lemmas.Bool.Decides.{nat_tests}
 use Rattle.cs_bits.specs.Numbers.{number, bits_of, part}

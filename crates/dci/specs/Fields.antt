@@ -1,4 +1,4 @@
--- The fields of the 21 bits of DCI format 1A with six resource blocks (TS 36.212 section 5.3.3.1.3).
+-- The fields in the 21 bits of DCI format 1A, for six resource blocks (TS 36.212 section 5.3.3.1.3).
 use Rattle.std.specs.Prelude.{ℕ, Bool, false, List, slice_index_or}
 use Rattle.cs_bits.specs.Numbers.{field}
 
@@ -6,7 +6,7 @@ use Rattle.cs_bits.specs.Numbers.{field}
 abbrev pub bit : List Bool → ℕ → Bool
 bit bits i = slice_index_or bits i false
 
--- the flag that tells format 1A from format 0
+-- the flag that distinguishes format 1A from format 0
 abbrev pub is_1a : List Bool → Bool
 is_1a bits = bit bits 0
 
@@ -22,7 +22,7 @@ assignment bits = field bits 2 5
 abbrev pub mcs : List Bool → ℕ
 mcs bits = field bits 7 5
 
--- the number of the HARQ process
+-- the HARQ process number
 abbrev pub harq : List Bool → ℕ
 harq bits = field bits 12 3
 
@@ -34,7 +34,7 @@ new_data bits = bit bits 15
 abbrev pub rv : List Bool → ℕ
 rv bits = field bits 16 2
 
--- the two bits of the transmit power control command, and the bit that pads the length
+-- the two bits of the transmit power control command, and the padding bit
 abbrev pub tpc_high : List Bool → Bool
 tpc_high bits = bit bits 18
 
@@ -44,7 +44,7 @@ tpc_low bits = bit bits 19
 abbrev pub padding : List Bool → Bool
 padding bits = bit bits 20
 
--- the identifier that masks the check of these bits and scrambles what they grant, where that is system information: SI-RNTI
--- (TS 36.321 section 7.1)
+-- the SI-RNTI (TS 36.321 section 7.1), which masks the CRC when DCI grants system information and enters the
+-- scrambling of the granted PDSCH
 abbrev pub system_information_rnti : ℕ
 system_information_rnti = 65535

@@ -1,4 +1,4 @@
--- What the 21 bits of DCI format 1A say of SystemInformationBlockType1.
+-- How DCI format 1A is decoded when it grants SystemInformationBlockType1.
 use Rattle.std.specs.Prelude.{◌≡◌, ℕ, ◌<◌, ◌≤◌, ◌⊎◌, Bool, true, false, if◌then◌else◌, nat_eq, List, [], ◌∷◌, ◌++◌, None, Some, Result, Ok, Err}
 use Rattle.lte_types.specs.declared.sib1_reason.Sib1Reason.{Sib1Reason}
 use Rattle.lte_types.specs.declared.sib1_reason.Sib1Reason.TheVariants.{NotFormat1A, Distributed, BadRiv, ReservedMcs, BlockTooLarge}
@@ -9,11 +9,11 @@ use Rattle.lte_types.specs.Assignment.{AreBlocks}
 use Rattle.dci.specs.Assignment.{riv_of}
 use Rattle.dci.specs.Sizes.{size_of}
 
--- the column of sizes that the low bit of the power control command tells
+-- the column that the power control command's low bit selects
 abbrev pub column_of : Bool → ℕ
 column_of low = if low then 3 else 2
 
--- the bits are of localised format 1A and carry this grant
+-- the bits are localised format 1A and carry this grant
 pub record Carries (bits : List Bool) (grant : Grant) : Type 0 where
   pub format : is_1a bits ≡ true
   pub localised : is_distributed bits ≡ false
@@ -25,7 +25,7 @@ pub record Carries (bits : List Bool) (grant : Grant) : Type 0 where
   pub column_is : grant.column ≡ column_of (tpc_low bits)
   pub size_is : size_of grant.mcs grant.column ≡ Some grant.size
 
--- the bits carry this grant as they are sent: what is not looked at is 0
+-- the bits are sent for this grant: they carry it, and the ignored fields are 0
 pub record IsSentFor (bits : List Bool) (grant : Grant) : Type 0 where
   pub carries : Carries bits grant
   pub harq_is : harq bits ≡ 0
@@ -33,7 +33,7 @@ pub record IsSentFor (bits : List Bool) (grant : Grant) : Type 0 where
   pub power : tpc_high bits ≡ false
   pub pads : padding bits ≡ false
 
--- the bits have another format than 1A: the first of five refusals
+-- the format is not 1A: the first of five refusals
 pub record IsOther (bits : List Bool) : Type 0 where
   pub format : is_1a bits ≡ false
 
@@ -61,7 +61,7 @@ pub record HasNoSize (bits : List Bool) : Type 0 where
   pub mcs_valid : mcs bits ≤ 26
   pub none : size_of (mcs bits) (column_of (tpc_low bits)) ≡ None
 
--- the bits are refused for this reason, and never for one of another kind
+-- the bits are refused for this reason; the remaining reasons belong to other decoding steps
 abbrev pub IsRefused : List Bool → Sib1Reason → Type 0
 IsRefused bits NotFormat1A = IsOther bits
 IsRefused bits Distributed = IsDistributed bits
@@ -70,7 +70,7 @@ IsRefused bits (ReservedMcs told) = HasReservedMcs bits told
 IsRefused bits BlockTooLarge = HasNoSize bits
 IsRefused bits _ = ⊥
 
--- what the bits say
+-- the bits decode to this grant, or are refused for this reason
 abbrev pub Says : List Bool → Result Grant Sib1Reason → Type 0
 Says bits (Ok grant) = Carries bits grant
 Says bits (Err reason) = IsRefused bits reason
@@ -83,7 +83,7 @@ pub record IsGrant (grant : Grant) : Type 0 where
   pub column_valid : (grant.column ≡ 2) ⊎ (grant.column ≡ 3)
   pub size_is : size_of grant.mcs grant.column ≡ Some grant.size
 
--- the 21 bits that are sent for a grant
+-- the 21 bits sent for a grant
 unfoldable pub sent_word : Grant → List Bool
 sent_word grant =
     (true ∷ false ∷ []) ++ bits_of 5 (riv_of grant.start grant.blocks) ++ bits_of 5 grant.mcs ++ bits_of 3 0

@@ -1,11 +1,11 @@
-//! The resource indication value.
+//! The resource indication value (TS 36.213 section 7.1.6.3).
 
 ghost use Rattle.std.specs.Prelude.{◌≡◌, ℕ, ◌≤◌};
 ghost use Rattle.lte_types.specs.Assignment.{AreBlocks};
 ghost use Rattle.dci.specs.Assignment.{riv_of};
 
-/// The resource indication value of `blocks` resource blocks from `start` on
-/// (TS 36.213 section 7.1.6.3). `blocks` is at least 1 and `start` + `blocks` at most 6.
+/// Returns the resource indication value for `blocks` resource blocks from `start` (TS 36.213 section 7.1.6.3).
+/// `blocks` is at least 1 and `start + blocks` at most 6.
 pub fn riv(start: u8, blocks: u8) -> u8
     requires { AreBlocks start blocks }
     ensures value { result ≡ riv_of start blocks }
@@ -18,7 +18,7 @@ pub fn riv(start: u8, blocks: u8) -> u8
     }
 }
 
-// Start and count of the blocks with this value.
+// Returns the first resource block and the block count that `riv` stands for.
 pub(crate) fn blocks_of(riv: u8) -> (u8, u8)
     requires { riv ≤ 20 }
     ensures blocks { AreBlocks result.0 result.1 }
@@ -32,7 +32,7 @@ pub(crate) fn blocks_of(riv: u8) -> (u8, u8)
     }
 }
 
-/// Each of the values 0 to 20 is that of certain blocks, and of no others; no value is above 20.
+/// A law: each value from 0 to 20 stands for exactly one assignment, and no assignment has a value above 20.
 pub fn assignments_used_once()
     ensures bound { (start blocks : ℕ) → AreBlocks start blocks → riv_of start blocks ≤ 20 }
     ensures used { (riv : ℕ) → riv ≤ 20 →

@@ -1,5 +1,6 @@
-//! The downlink control information of format 1A that grants SystemInformationBlockType1, with six
-//! resource blocks (TS 36.212 section 5.3.3.1.3, TS 36.213 section 7.1).
+//! DCI format 1A for SystemInformationBlockType1 in a cell with six resource blocks: grants are decoded and encoded
+//! (TS 36.212 section 5.3.3.1.3, TS 36.213 section 7.1).
+//! Tests: the crate `code_tests`.
 #![tactic(auto)]
 
 mod assignment;
@@ -14,6 +15,6 @@ pub use reading::read;
 pub use sizes::size;
 pub use writing::write;
 
-/// The identifier that masks the check of the bits that grant system information and scrambles what they
-/// grant: SI-RNTI (TS 36.321 section 7.1).
+/// The SI-RNTI (TS 36.321 section 7.1). The CRC is masked with it when DCI grants system information, and it enters
+/// the scrambling of the granted PDSCH.
 pub const SI_RNTI: u16 = 0xffff;

@@ -1,4 +1,4 @@
-//! A grant, read from its bits.
+//! Decoding a grant.
 
 ghost use Rattle.std.specs.Prelude.{◌≡◌, IfOk};
 ghost use Rattle.dci.specs.Format1A.{Says, IsGrant, column_of};
@@ -8,7 +8,7 @@ use crate::{Grant, size};
 use cs_bits::Bits;
 use lte_types::Sib1Reason;
 
-// Where the fields begin (TS 36.212 section 5.3.3.1.3).
+// Bit offsets of the fields (TS 36.212 section 5.3.3.1.3).
 const FORMAT_1A: usize = 0;
 
 const DISTRIBUTED: usize = 1;
@@ -21,10 +21,8 @@ const RV: usize = 16;
 
 const TPC_LOW: usize = 19;
 
-/// The grant that 21 bits carry, or the first reason that applies why they carry none: another
-/// format, distributed blocks, a resource indication value above 20, a scheme above 26, no size for
-/// scheme and column. HARQ process, new data indicator, the high bit of the power control command
-/// and the padding are not looked at.
+/// Decodes a grant, or returns the first reason to refuse it, in this order: another format, distributed blocks, a
+/// resource indication value above 20, a scheme above 26, no transport block size. All other fields are ignored.
 pub fn read(word: &Bits<21>) -> Result<Grant, Sib1Reason>
     ensures answer { Says word.now result }
     ensures grant { IfOk result IsGrant }
@@ -59,7 +57,7 @@ pub fn read(word: &Bits<21>) -> Result<Grant, Sib1Reason>
     })
 }
 
-// The column that the low bit of the power control command tells.
+// Returns the column that the power control command's low bit selects.
 fn column_by(low: bool) -> u8
     ensures { result ≡ column_of low }
 {

@@ -1,4 +1,4 @@
-//! The bits of a grant.
+//! Encoding a grant.
 
 ghost use Rattle.std.specs.Prelude.{◌≡◌, ℕ, ◌/◌, ◌%◌, ◌^◌, ◌<◌, nat_eq};
 ghost use Rattle.dci.specs.Format1A.{IsSentFor, IsGrant, sent_word};
@@ -9,9 +9,8 @@ use cs_bits::Bits;
 // The bit that pads the length to 21.
 const PADDING: bool = false;
 
-/// The 21 bits that are sent for a grant: `read` reads the same grant from them. HARQ process, new
-/// data indicator, the high bit of the power control command and the padding are 0. The grant is one
-/// that `read` can answer.
+/// Encodes a grant that `read` can return, so that `read` returns it again. HARQ process, new data indicator, the
+/// power control command's high bit and the padding are 0.
 pub fn write(grant: &Grant) -> Bits<21>
     requires { IsGrant grant.now }
     ensures word { result ≡ sent_word grant.now }
@@ -45,7 +44,7 @@ pub fn write(grant: &Grant) -> Bits<21>
     ])
 }
 
-// The bit of a number with this power of two.
+// Returns the bit of `number` with weight 2^`power`.
 fn bit_of(number: u8, power: u32) -> bool
     requires { power < 8 }
     ensures { result ≡ nat_eq (number / 2 ^ power % 2) 1 }

@@ -1,4 +1,4 @@
--- What is found depends on what is known of the bits alone, and the marks of the code are those of the definition.
+-- Found bits depend on the known bits alone, and the marks in the code are those of the definition.
 use Rattle.std.proofs.Common.{◌≡◌, ℕ, zero, suc, ◌+◌, ◌*◌, ◌<◌, ◌≤◌, Bool, true, false, inl, inr, ◌⊎◌, List, ◌∷◌, length, get_or, take, replicate, refl, ap, ap₂, sym, subst, ◌∙◌, arith, add-one}
 use Rattle.std.specs.Prelude.{◌&&◌, ◌||◌, not, nat_eq}
 use Rattle.std.proofs.Math.Bool.{and-false, or-false}
@@ -28,7 +28,7 @@ pub every_below_more : (n : ℕ) (p : ℕ → Bool) → every_below (n + 1) p �
 unfolding every_below
 every_below_more n p = rw add-one refl
 
--- ---- words that are told apart by the same bits
+-- ---- words that pass the same tests
 
 word_same : (n : ℕ) (p q : List Bool → Bool) → ((word : List Bool) → p word ≡ q word) → every_word n p ≡ every_word n q
 unfolding every_word
@@ -50,7 +50,7 @@ found_same n sent sent' known known' k own par tail =
 
 -- ---- one decoder
 
--- marks of the code, of which the first n are read
+-- marks in the code, of which the first n are read
 by_marks : (n : ℕ) (sent : Sent) (known : ℕ → Bool) (own par own_marks par_marks tail tail' : List Bool) (k : ℕ) → length own ≡ n → own ≡ take n own_marks → par ≡ take n par_marks →
     ((j : ℕ) → j < n → get_or own_marks j false ≡ (sent.information j || known j)) → ((j : ℕ) → j < n → get_or par_marks j false ≡ sent.parity j) →
     tail ≡ tail' → sent.tail ≡ bit_at tail' → found_by own par tail k ≡ found n sent known k
@@ -75,7 +75,7 @@ pub second_by_marks : (row : Row) (sent : ℕ → ℕ → Bool) (known : ℕ →
 second_by_marks row sent known own par own_marks par_marks tail k size own_is par_is each each' tails =
     by_marks row.k (second_sent row sent) (λ i. known (interleaver row i)) own par own_marks par_marks tail (tail_sent sent (row.k + 2)) (step_of row k) size own_is par_is each each' tails refl
 
--- marks that are placed in the order of the word
+-- marks that are placed in word order
 pub placed_all : (row : Row) (values found : List Bool) (i k : ℕ) → IsAnyRow row → row.k ≤ i → ((j : ℕ) → j < i → get_or found (interleaver row j) false ≡ get_or values j false) →
     k < row.k → get_or found k false ≡ get_or values (step_of row k) false
 placed_all row values found i k is_row past each inside =
@@ -145,7 +145,7 @@ module _ (row : Row) (is_row : IsAnyRow row) (sent : ℕ → ℕ → Bool) where
 
 -- ---- the loop over the iterations
 
--- after n iterations of the code, none of which ended it
+-- after n iterations of the code, none of which returned
 pub record IsAfter (row : Row) (sent : ℕ → ℕ → Bool) (word known : List Bool) (n : ℕ) : Type 0 where
   pub marks : (k : ℕ) → k < row.k → get_or known k false ≡ known_after row sent n k
   pub unfilled : (m : ℕ) → m < n → settles_all row sent m ≡ false
@@ -159,7 +159,7 @@ after_none row sent word is_row = record {
   unchecked = λ m below. absurd (omega (arith, below));
 }
 
--- what an iteration finds
+-- the marks of one iteration
 pub record IsIteration (row : Row) (sent : ℕ → ℕ → Bool) (n : ℕ) (second all : List Bool) : Type 0 where
   pub seconds : (k : ℕ) → k < row.k → get_or second k false ≡ known_after row sent (suc n) k
   pub settles : (k : ℕ) → k < row.k → get_or all k false ≡ settled row sent n k
@@ -181,7 +181,7 @@ iterated row sent word known first second all n is_row so_far firsts seconds all
     second_is : (k : ℕ) → k < row.k → get_or second k false ≡ known_after row sent (suc n) k
     second_is k inside = seconds k inside ∙ second_same row is_row sent sent (bit_at first) (first_found row sent (known_after row sent n)) k (λ t p l m. refl) first_is
 
--- whether all are settled, and the word
+-- whether all bits are settled, and the word
 pub filled_is : (row : Row) (sent : ℕ → ℕ → Bool) (n : ℕ) (second all front : List Bool) → IsIteration row sent n second all → length front ≡ row.k → front ≡ take row.k all →
     every_below (length front) (bit_at front) ≡ settles_all row sent n
 filled_is row sent n second all front now size is =

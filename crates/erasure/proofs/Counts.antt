@@ -1,4 +1,4 @@
--- Which coded bits are sent, by how often each is.
+-- Which coded bits are sent, from how often each is sent.
 use Rattle.std.proofs.Common.{◌≡◌, ℕ, zero, suc, ◌+◌, ◌<◌, Bool, true, false, List, length, get_or, refl, ap, ◌∙◌, arith}
 use Rattle.std.specs.Prelude.{cond, ℤ, pos, int_lt}
 use Rattle.std.proofs.lemmas.Bool.{lt-ltb}
@@ -18,7 +18,7 @@ above_positive : (n : ℕ) → int_lt (pos 0) (pos n) ≡ positive n
 above_positive zero = refl
 above_positive (suc n) = lt-ltb 0 (suc n) (omega arith)
 
--- the sum of ones of an item is above 0 exactly where one of them comes from there
+-- an item's count is above 0 exactly if the item is sent
 pub counts_are : (row : Row) (rv m : ℕ) (counts : List (List ℤ)) (values : List ℤ) → IsAnyRow row → length values ≡ m → ((i : ℕ) → i < m → get_or values i (pos 0) ≡ pos 1) →
     counts ≡ summed row.k rv values → (t p : ℕ) → t < 3 → p < row.k + 4 → above_zero counts t p ≡ sent_of row.k rv m t p
 unfolding summed_at sent_of

@@ -1,4 +1,4 @@
--- Sets of states tell which bits are found.
+-- Sets of states determine which bits are found.
 use Rattle.std.proofs.Common.{◌≡◌, ℕ, zero, suc, ◌+◌, ◌*◌, ◌/◌, ◌<◌, ◌≤◌, Bool, true, false, inl, inr, List, ◌∷◌, ◌++◌, length, refl, ap, ap₂, sym, subst, ◌∙◌, arith, length-append}
 use Rattle.std.specs.Prelude.{◌&&◌, ◌||◌, not, cond, min, nat_eq}
 use Rattle.std.proofs.lemmas.Bool.{cases_Bool, true≢false, eq-eqb, ne_eqb}
@@ -99,7 +99,7 @@ set_later own parity set later k known h = record {
     by : (p : ℕ) (u : Bool) → p < 8 → none (known.ones p + step_ones own parity k p u) ≡ (bit_at set p && hides (bit_at own k) (bit_at parity k) p u)
     by p u below = none_sum (known.ones p) (step_ones own parity k p u) ∙ ap₂ ◌&&◌ (sym (known.member p below)) (step_none own parity k p u)
 
--- the set has the states from which n steps and the tail lead on, from index k, with no known bit 1
+-- the set has the states from which n steps from index k, and then the tail, have no known 1
 pub record IsBack (own parity tail : List Bool) (k n : ℕ) (set : List Bool) : Type 0 where
   pub member : (x : ℕ) → x < 8 → bit_at set x ≡ none (best next (step_ones own parity) (tail_ones tail) k n x)
 
@@ -123,7 +123,7 @@ back_earlier own parity tail set earlier k n known h = record {
 
 -- ---- words
 
--- how many known bits 1 a word has, and without bit k
+-- the number of known ones in a word, with bit k and without
 all_ones : List Bool → List Bool → List Bool → List Bool → ℕ
 all_ones own parity tail d = path_cost next (step_ones own parity) 0 0 d + tail_ones tail (end_of next 0 d)
 
@@ -166,7 +166,7 @@ tail_positive tail d =
     (tail_step_positive tail d 2 (state false false a) (tail_bit_is false false a) (tail_parity_is false false a))
 
 module _ (own parity tail : List Bool) where
-  -- a word shows exactly where it has a known bit 1 other than bit k
+  -- a word shows a known 1 exactly if it has one other than bit k
   others_show : (k : ℕ) (d : List Bool) → length d ≡ length own →
       positive (other_ones own parity tail k d) ≡ shows (length own) (sent_by own parity tail) (λ _. false) k d
   unfolding other_ones other_step
@@ -184,7 +184,7 @@ module _ (own parity tail : List Bool) where
       or_false true = refl
       or_false false = refl
 
-  -- all of them, and those without bit k
+  -- all known ones, and those without bit k
   all_is : (k : ℕ) (d : List Bool) → k < length d → bit_at d k ≡ true → all_ones own parity tail d ≡ other_ones own parity tail k d + cond (bit_at own k) 1 0
   unfolding all_ones other_ones other_step
   all_is k d inside bit =
@@ -195,7 +195,7 @@ module _ (own parity tail : List Bool) where
       (λ j other. let differs : nat_eq j k ≡ false = ne_eqb j k other in rw differs refl) in
       rw (path.cost, path.there) (omega (arith, indices))
 
-  -- what a word costs by way of a state at index k, and whether the sets lead through there
+  -- the cost of a word through a state at index k, and whether the sets lead through that state
   by_way : (before after : List Bool) (k n x : ℕ) → IsSet own parity k before → IsBack own parity tail (suc k) n after → x < 8 → ℕ
   by_way before after k n x set back below =
       set.ones x + (cond (parity_bit x true && bit_at parity k) 1 0 + best next (step_ones own parity) (tail_ones tail) (suc k) n (next x true))
@@ -214,7 +214,7 @@ module _ (own parity tail : List Bool) where
       and_assoc true b c = refl
       and_assoc false b c = refl
 
-  -- a word by way of its state at index k
+  -- a word split at its state at index k
   all_split : (us ws : List Bool) (k : ℕ) → length us ≡ k →
       all_ones own parity tail (us ++ true ∷ ws) ≡ path_cost next (step_ones own parity) 0 0 us
       + (cond (bit_at own k) 1 0 + cond (parity_bit (end_of next 0 us) true && bit_at parity k) 1 0)
@@ -231,7 +231,7 @@ module _ (own parity tail : List Bool) where
     | inr (f, ne) ↦ let one : starts y ≡ 1 = rw f refl in absurd (omega (arith, one, h))
   ]
 
-  -- one word that does not show, and words that all show
+  -- a word that shows no known 1, and words that all show one
   hidden_by : (k : ℕ) (d : List Bool) → length d ≡ length own → bit_at d k ≡ true → other_ones own parity tail k d ≡ 0 → found_by own parity tail k ≡ false
   unfolding found
   hidden_by k d size bit nothing =

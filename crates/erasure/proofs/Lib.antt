@@ -1,17 +1,17 @@
--- Where all bits of the word are sent, the first iteration settles them, and there is none before it; once round the
--- reading are all coded bits.
+-- If all bits of the word are sent, the first iteration settles them, and there is no earlier one; one round of the
+-- reading has all coded bits.
 pub mod Whole
--- Where nothing is sent or known, a word with a single 1 shows nothing, so no bit is found; by induction over the
+-- If nothing is sent or known, a word with a single 1 shows nothing, so no bit is found; by induction over the
 -- iterations none ever is.
 pub mod Unsent
--- The code. A set of states has those to which bits lead that have no known bit 1: the zeros of least counts of such bits,
--- which the theory of paths gives. A bit is not found exactly where a step by a 1 leads from the set before it into
--- that from which bits lead on to the tail.
+-- The code. A set has the states reached by steps without a known bit 1: the zeros of a minimum count, which the
+-- theory of paths gives. A bit is not found exactly if a step by a 1 leads from the set in front of the bit into the
+-- set from which steps lead on to the tail.
 pub mod Hiding
--- So both passes over the sets tell which bits are found.
+-- Both passes over the sets determine which bits are found.
 pub mod Passes
--- What is found depends on what is known alone, so the marks of the code are those of the definition, iteration by
+-- Found bits depend on the known bits alone, so the marks in the code are those of the definition, iteration by
 -- iteration.
 pub mod Agree
--- What is sent, by counts.
+-- Sent bits, by counts.
 pub mod Counts

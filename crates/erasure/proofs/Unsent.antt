@@ -1,4 +1,4 @@
--- Blocks of which no coded bit is sent.
+-- Blocks without any sent coded bit.
 use Rattle.std.proofs.Common.{◌≡◌, ℕ, zero, suc, ◌+◌, ◌-◌, ◌*◌, ◌<◌, Bool, true, false, inl, inr, List, ◌∷◌, ◌++◌, length, replicate, refl, ap, ap₂, sym, ◌∙◌, arith, length-append}
 use Rattle.std.specs.Prelude.{◌&&◌, ◌||◌, not, nat_eq}
 use Rattle.std.proofs.lemmas.Bool.{cases_Bool, true≢false}
@@ -31,7 +31,7 @@ one_at n k inside =
       bit_between us ws true k size,
     )
 
--- where nothing is sent or known, nothing is found
+-- if nothing is sent or known, nothing is found
 nothing_found : (n : ℕ) (sent : Sent) (known : ℕ → Bool) (k : ℕ) → k < n →
     ((j : ℕ) → j < n → (sent.information j || known j) ≡ false) → ((j : ℕ) → j < n → sent.parity j ≡ false) →
     ((j : ℕ) → j < 6 → sent.tail j ≡ false) → found n sent known k ≡ false

@@ -1,4 +1,4 @@
--- Blocks of which every coded bit is sent.
+-- Blocks whose coded bits are all sent.
 use Rattle.std.proofs.Common.{◌≡◌, ℕ, ◌+◌, ◌*◌, ◌<◌, ◌≤◌, Bool, true, List, refl, ap, ◌∙◌, arith}
 use Rattle.std.proofs.lemmas.Bool.{and_from, or_left}
 use Rattle.finite.specs.Tests.{every_below}
@@ -13,7 +13,7 @@ use Rattle.turbo_code.proofs.Whole.{whole}
 use Rattle.erasure.specs.Known.{settled, resolves, settles_all, resolvable, sent_of}
 use Rattle.erasure.specs.Laws.{WholeBlockIsResolvable}
 
--- where every bit of the word is sent, the first iteration settles all
+-- if every bit of the word is sent, the first iteration settles all
 pub resolved_at_once : (row : Row) (sent : ℕ → ℕ → Bool) (word : List Bool) → ((k : ℕ) → k < row.k → sent 0 k ≡ true) →
     resolvable row sent word ≡ true
 unfolding resolvable every_below
@@ -22,7 +22,7 @@ resolved_at_once row sent word each = any_below_at 8 0 (resolves row sent word) 
     full : settles_all row sent 0 ≡ true
     full = every_below_all row.k (settled row sent 0) (λ k inside. or_left _ _ (or_left _ _ (each k inside)))
 
--- once round the reading each item is sent
+-- one round of the reading sends each item
 pub all_sent : (k rv m : ℕ) → IsAnySize k → rv < 4 → 3 * (k + 4) ≤ m → (t p : ℕ) → t < 3 → p < k + 4 → sent_of k rv m t p ≡ true
 unfolding sent_of
 all_sent k rv m is_size version many t p stream inside =

@@ -1,5 +1,5 @@
--- Which bits of a block are known after so many iterations, where some of its coded bits are not sent. (own; the code
--- and its reading are those of TS 36.212 sections 5.1.3.2 and 5.1.4.1)
+-- The bits of a punctured block that are known after each iteration. (own; the code and its rate matching are those
+-- in TS 36.212 sections 5.1.3.2 and 5.1.4.1)
 use Rattle.std.specs.Prelude.{ℕ, zero, suc, ◌+◌, ◌*◌, Bool, false, not, ◌&&◌, ◌||◌, List, [], ◌∷◌, nat_eq}
 use Rattle.finite.specs.Lists.{values_below}
 use Rattle.finite.specs.Tests.{any_below, every_below}
@@ -13,37 +13,37 @@ use Rattle.turbo_code.specs.Reading.{item_of}
 
 -- ---- one decoder
 
--- which bits of an encoder are sent: those of the word, its parity bits, and the six tail bits
--- x(K), z(K), x(K + 1), z(K + 1), x(K + 2), z(K + 2)
+-- an encoder's sent bits: the information bits, the parity bits, and the six tail bits x(K), z(K), x(K + 1), z(K +
+-- 1), x(K + 2), z(K + 2)
 pub record Sent : Type 0 where
   pub information : ℕ → Bool
   pub parity : ℕ → Bool
   pub tail : ℕ → Bool
 
--- step j of a word shows a bit 1 that is sent or known: another bit of the word than k, or the parity bit
+-- step j of a word shows a 1 that is sent or known: an information bit other than k, or the parity bit
 abbrev pub step_shows : Sent → (ℕ → Bool) → ℕ → List Bool → ℕ → Bool
 step_shows sent known k word j =
     ((not (nat_eq j k) && bit_at word j) && (sent.information j || known j)) || (parity word j && sent.parity j)
 
--- tail step j shows a bit 1 that is sent
+-- tail step j shows a 1 that is sent
 abbrev pub tail_shows : Sent → List Bool → ℕ → Bool
 tail_shows sent word j = (tail_x word j && sent.tail (2 * j)) || (tail_z word j && sent.tail (2 * j + 1))
 
--- some step of a word of n bits, or of its tail, shows a bit 1 that is sent or known: not bit k of the word
+-- some step of a word with n bits, or of its tail, shows a 1 that is sent or known, other than bit k
 abbrev pub shows : ℕ → Sent → (ℕ → Bool) → ℕ → List Bool → Bool
 shows n sent known k word = any_below n (step_shows sent known k word) || any_below 3 (tail_shows sent word)
 
--- bit k is found: every word of n bits with a 1 there shows another bit 1, so what is sent and known tells bit k
+-- bit k is found: every word of n bits with a 1 there shows another 1, so the sent and known bits determine bit k
 unfoldable pub found : ℕ → Sent → (ℕ → Bool) → ℕ → Bool
 found n sent known k = every_word n (λ word. not (bit_at word k) || shows n sent known k word)
 
--- ---- the iterations; `sent t p` says whether item p of stream t is sent
+-- ---- the iterations; `sent t p` means that item p of stream t is sent
 
--- the six tail bits of an encoder stand at index p and the next, stream after stream
+-- an encoder's six tail bits, at indices p and p + 1 in each stream
 abbrev pub tail_sent : (ℕ → ℕ → Bool) → ℕ → List Bool
 tail_sent sent p = sent 0 p ∷ sent 1 p ∷ sent 2 p ∷ sent 0 (p + 1) ∷ sent 1 (p + 1) ∷ sent 2 (p + 1) ∷ []
 
--- what is sent of the first encoder, and of the second
+-- the sent bits of the first encoder, and of the second
 abbrev pub first_sent : Row → (ℕ → ℕ → Bool) → Sent
 first_sent row sent = record { information = sent 0; parity = sent 1; tail = bit_at (tail_sent sent row.k) }
 
@@ -54,42 +54,43 @@ second_sent row sent = record {
   tail = bit_at (tail_sent sent (row.k + 2));
 }
 
--- the bits that the first decoder finds by those that are known
+-- the bits that the first decoder finds from the known bits
 abbrev pub first_found : Row → (ℕ → ℕ → Bool) → (ℕ → Bool) → ℕ → Bool
 first_found row sent known = found row.k (first_sent row sent) known
 
--- the bits that the second decoder, which works in its own order, finds by those that are known
+-- the bits that the second decoder, which works in its own order, finds from the known bits
 abbrev pub second_found : Row → (ℕ → ℕ → Bool) → (ℕ → Bool) → ℕ → Bool
 second_found row sent known k = found row.k (second_sent row sent) (λ i. known (interleaver row i)) (step_of row k)
 
--- the bits that the second decoder found in the last of n iterations, in each of which it knows what the first found
+-- the bits that the second decoder found in the last of n iterations; in each iteration it knows the bits that the
+-- first decoder found
 unfoldable pub known_after : Row → (ℕ → ℕ → Bool) → ℕ → ℕ → Bool
 known_after row sent zero k = false
 known_after row sent (suc n) k = second_found row sent (first_found row sent (known_after row sent n)) k
 
--- after n iterations one more settles bit k: it is sent, or one of the two decoders finds it
+-- iteration n + 1 settles bit k: the bit is sent, or one of the two decoders finds it
 abbrev pub settled : Row → (ℕ → ℕ → Bool) → ℕ → ℕ → Bool
 settled row sent n k = (sent 0 k || first_found row sent (known_after row sent n) k) || known_after row sent (suc n) k
 
--- the iteration after n others settles every bit
+-- iteration n + 1 settles every bit
 abbrev pub settles_all : Row → (ℕ → ℕ → Bool) → ℕ → Bool
 settles_all row sent n = every_below row.k (settled row sent n)
 
--- the word that the iteration after n others leaves: the sent word, with 0 at every bit that is not settled
+-- the word after iteration n + 1: the sent word, with 0 at every bit that is not settled
 abbrev pub word_after : Row → (ℕ → ℕ → Bool) → List Bool → ℕ → List Bool
 word_after row sent word n = values_below row.k (λ k. bit_at word k && settled row sent n k)
 
--- the iteration after n others is the first that settles every bit, and the word of none before it passes its check
+-- iteration n + 1 is the first that settles every bit, and no earlier word passes the CRC
 abbrev pub resolves : Row → (ℕ → ℕ → Bool) → List Bool → ℕ → Bool
 resolves row sent word n =
     settles_all row sent n
     && every_below n (λ m. not (settles_all row sent m) && not (has_check_24 (word_after row sent word m)))
 
--- a block can be resolved: one of eight iterations is the first that settles every bit, and no word before passes its
--- check
+-- a block can be resolved: one of eight iterations is the first that settles every bit, and no earlier word passes
+-- the CRC
 unfoldable pub resolvable : Row → (ℕ → ℕ → Bool) → List Bool → Bool
 resolvable row sent word = any_below 8 (resolves row sent word)
 
--- item p of stream t is sent, by the first m bits of the reading of K bits from a redundancy version on
+-- item p of stream t is among the first m bits sent from a redundancy version, for streams of K bits and their tails
 unfoldable pub sent_of : ℕ → ℕ → ℕ → ℕ → ℕ → Bool
 sent_of k rv m t p = any_below m (λ i. is_at t p (item_of k rv i))

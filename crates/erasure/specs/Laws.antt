@@ -4,13 +4,13 @@ use Rattle.turbo_code.specs.declared.rows.Row.{Row}
 use Rattle.turbo_code.specs.Table.{IsAnyRow}
 use Rattle.erasure.specs.Known.{resolvable, sent_of}
 
--- a block of which every coded bit is sent can be resolved, whatever its bits
+-- a block whose coded bits are all sent can be resolved, whatever its bits
 abbrev pub WholeBlockIsResolvable : Type 0
 WholeBlockIsResolvable =
     (row : Row) (rv count : ℕ) (word : List Bool) → IsAnyRow row → rv < 4 → 3 * (row.k + 4) ≤ count →
     resolvable row (sent_of row.k rv count) word ≡ true
 
--- a block of which no coded bit is sent cannot be resolved
+-- a block without any sent coded bit cannot be resolved
 abbrev pub UnsentBlockIsNotResolvable : Type 0
 UnsentBlockIsNotResolvable =
     (row : Row) (rv : ℕ) (word : List Bool) → IsAnyRow row → resolvable row (sent_of row.k rv 0) word ≡ false

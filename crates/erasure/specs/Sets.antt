@@ -1,5 +1,5 @@
--- Sets of states in place of words: those to which, and from which, bits lead that show no 1 that is known. (own; the
--- machine is that of TS 36.212 section 5.1.3.2.1)
+-- Sets of states in place of words: states reached or left by steps without a known bit 1. (own; the machine is that
+-- of TS 36.212 section 5.1.3.2.1)
 use Rattle.std.specs.Prelude.{◌≡◌, ℕ, zero, suc, ◌+◌, ◌*◌, ◌/◌, ◌<◌, ◌≤◌, Bool, true, false, not, cond, ◌&&◌, ◌||◌}
 use Rattle.std.specs.Prelude.{List, [], length, slice_index_or, nat_eq, pos, int_lt, ℤ}
 use Rattle.finite.specs.Tables.{sum_at}
@@ -8,22 +8,22 @@ use Rattle.turbo_code.specs.Encoder.{bit_at}
 use Rattle.turbo_code.specs.Machine.{next, parity_bit, tail_bit, tail_parity, first_from, second_from, bit_to}
 use Rattle.erasure.specs.Known.{Sent, found}
 
--- a step from state x by the bit u hides: neither its bit nor its parity bit is a 1 that is known
+-- a step from state x by bit u hides: neither the bit nor its parity bit is a known 1
 abbrev pub hides : Bool → Bool → ℕ → Bool → Bool
 hides own parity x u = not (u && own) && not (parity_bit x u && parity)
 
--- a step leads to state y from a state of the set, and hides
+-- a step that hides leads from the set to state y
 abbrev pub leads_to : Bool → Bool → List Bool → ℕ → Bool
 leads_to own parity set y =
     (bit_at set (first_from y) && hides own parity (first_from y) (bit_to (first_from y) y))
     || (bit_at set (second_from y) && hides own parity (second_from y) (bit_to (second_from y) y))
 
--- a step leads from state x to a state of the set, and hides
+-- a step that hides leads from state x into the set
 abbrev pub leads_from : Bool → Bool → List Bool → ℕ → Bool
 leads_from own parity set x =
     (hides own parity x false && bit_at set (next x false)) || (hides own parity x true && bit_at set (next x true))
 
--- tail step j from state x hides: neither of its two bits is a 1 that is sent
+-- tail step j from state x hides: neither of its two bits is a sent 1
 abbrev pub tail_step_hides : List Bool → ℕ → ℕ → Bool
 tail_step_hides tail j x = not (tail_bit x && bit_at tail (2 * j)) && not (tail_parity x && bit_at tail (2 * j + 1))
 
@@ -31,11 +31,11 @@ tail_step_hides tail j x = not (tail_bit x && bit_at tail (2 * j)) && not (tail_
 abbrev pub tail_hides : List Bool → ℕ → Bool
 tail_hides tail x = (tail_step_hides tail 0 x && tail_step_hides tail 1 (x / 2)) && tail_step_hides tail 2 (x / 2 / 2)
 
--- a step by a 1 that is not known itself leads from one set to the other, and hides
+-- a step that hides, by a 1 that is unknown itself, leads from one set into the other
 abbrev pub leads_through : Bool → List Bool → List Bool → ℕ → Bool
 leads_through parity before after x = (bit_at before x && hides false parity x true) && bit_at after (next x true)
 
--- how many known bits 1 a step has
+-- the number of known ones in a step
 abbrev pub step_ones : List Bool → List Bool → ℕ → ℕ → Bool → ℕ
 step_ones own parity k x u = cond (u && bit_at own k) 1 0 + cond (parity_bit x u && bit_at parity k) 1 0
 
@@ -48,24 +48,24 @@ abbrev pub none : ℕ → Bool
 none zero = true
 none (suc n) = false
 
--- the set has the states to which k steps lead that have no known bit 1
+-- the set has the states reached by k steps without a known bit 1
 pub record IsSet (own parity : List Bool) (k : ℕ) (set : List Bool) : Type 0 where
   pub ones : ℕ → ℕ
   pub least : (x : ℕ) → x < 8 → IsLeastTo next (step_ones own parity) starts 8 k x (ones x)
   pub member : (x : ℕ) → x < 8 → bit_at set x ≡ none (ones x)
 
--- each set up to k has the states to which as many steps lead that have no known bit 1
+-- each set up to k has the states reached by as many steps without a known bit 1
 pub record HasSets (own parity : List Bool) (sets : List (List Bool)) (k : ℕ) : Type 0 where
   pub set : (j : ℕ) → j ≤ k → IsSet own parity j (slice_index_or sets j [])
 
--- which bits of a decoder are known, by lists: those of the word, its parity bits and its tail
+-- a decoder's known bits as lists: information bits, parity bits and tail
 abbrev pub sent_by : List Bool → List Bool → List Bool → Sent
 sent_by own parity tail = record { information = bit_at own; parity = bit_at parity; tail = bit_at tail }
 
--- bit k is found by lists of what is known of a decoder
+-- bit k is found, given a decoder's known bits as lists
 abbrev pub found_by : List Bool → List Bool → List Bool → ℕ → Bool
 found_by own parity tail k = found (length own) (sent_by own parity tail) (λ _. false) k
 
--- the indices of a table whose number is above 0
+-- the indices in a table whose number is above 0
 abbrev pub above_zero : List (List ℤ) → ℕ → ℕ → Bool
 above_zero sums t p = int_lt (pos 0) (sum_at sums t p)

@@ -1,15 +1,14 @@
-//! Which bits one decoder finds.
+//! The bits that one constituent decoder finds.
 
 ghost use Rattle.std.specs.Prelude.{◌≡◌, ℕ, ◌<◌, ◌≤◌, false, length, slice_index_or};
 ghost use Rattle.erasure.specs.Sets.{HasSets, found_by};
 
 use crate::states::{States, any_led_through, earlier_set, later_set, start_set, tail_set};
 
-/// A mark for each bit of a word, and others after them.
+/// A mark for each bit of a word; later entries are not used.
 pub(crate) type Marks = [bool; 1024];
 
-/// Writes the sets of states to which steps without a known bit 1 lead, before the first step and after
-/// each.
+/// Writes, before the first step and after each, the set of states reached by steps without a known bit 1.
 fn forward(own: &[bool], parity: &[bool], sets: &mut [States])
     requires short { length own.now ≤ 1024 }
     requires parities { length parity.now ≡ length own.now }
@@ -24,7 +23,7 @@ fn forward(own: &[bool], parity: &[bool], sets: &mut [States])
     }
 }
 
-/// Which bits are found, from the sets of the forward pass.
+/// Returns the bits that are found, given the sets of the forward pass.
 fn backward(own: &[bool], parity: &[bool], tail: &[bool; 6], sets: &[States]) -> Marks
     requires short { length own.now ≤ 1024 }
     requires parities { length parity.now ≡ length own.now }
@@ -43,8 +42,8 @@ fn backward(own: &[bool], parity: &[bool], tail: &[bool; 6], sets: &[States]) ->
     found
 }
 
-/// Which bits of a word a decoder finds: those where each word with a 1 there has a 1 at a known index too,
-/// among its other bits, its parity bits and its tail.
+/// Returns the bits that a decoder finds: those where each word with a 1 has another known 1, among its information
+/// bits, its parity bits or its tail bits.
 pub(crate) fn find(own: &[bool], parity: &[bool], tail: &[bool; 6]) -> Marks
     requires short { length own.now ≤ 1024 }
     requires parities { length parity.now ≡ length own.now }

@@ -2,13 +2,13 @@
 
 ghost use Rattle.erasure.specs.Laws.{UnsentBlockIsNotResolvable, WholeBlockIsResolvable};
 
-/// A block of which every coded bit is sent can be resolved, whatever its bits: 3(K + 4) bits of the
-/// reading are enough, from any redundancy version on.
+/// A law: a block whose coded bits are all sent can be resolved, whatever its bits. From any redundancy version 3(K +
+/// 4) bits are enough.
 pub fn whole_block_is_resolvable()
     ensures { WholeBlockIsResolvable }
 {}
 
-/// A block of which no coded bit is sent cannot be resolved, whatever its bits.
+/// A law: a block without any sent coded bit cannot be resolved, whatever its bits.
 pub fn unsent_block_is_not_resolvable()
     ensures { UnsentBlockIsNotResolvable }
 {}

@@ -1,6 +1,7 @@
-//! Which blocks of the turbo code can be resolved where some of their coded bits are not sent: which
-//! bits an ideal exchange between the two decoders finds, iteration by iteration, by the bits that are
-//! sent alone. The definition speaks of all words of an encoder, and knows nothing of received values.
+//! Resolvable blocks of the punctured turbo code: which information bits an ideal exchange between the two
+//! constituent decoders finds, iteration by iteration, from the positions of the sent bits alone. The definition
+//! speaks about all words of an encoder, and does not use received values.
+//! Tests: the crate `code_tests`.
 #![tactic(auto)]
 
 mod finding;

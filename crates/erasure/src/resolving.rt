@@ -1,4 +1,4 @@
-//! The iterations of a block of which some coded bits were not sent.
+//! Decoding iterations for a punctured block.
 
 ghost use Rattle.std.specs.Prelude.{◌≡◌, ℕ, ◌+◌, ◌<◌, ◌≤◌, ◌||◌, ◌&&◌, All, pos, false, length, take, slice_index_or};
 ghost use Rattle.finite.specs.Tests.{every_below};
@@ -11,13 +11,13 @@ use crate::finding::{Marks, find};
 use cs_bits::has_check_24;
 use turbo_code::{Row, combine, interleaver};
 
-/// How many iterations are tried.
+/// The number of iterations that are tried.
 const ITERATIONS: usize = 8;
 
-/// For each index of the three streams, how many of the sent bits come from it.
+/// How often each index in the three streams is sent.
 type Counts = [[i32; 1028]; 3];
 
-/// Whether the coded bit is sent.
+/// Returns whether the coded bit at index `p` in stream `t` is sent.
 fn is_sent(counts: &Counts, t: usize, p: usize) -> bool
     requires stream { t < 3 }
     requires index { p < 1028 }
@@ -26,7 +26,7 @@ fn is_sent(counts: &Counts, t: usize, p: usize) -> bool
     counts[t][p] > 0
 }
 
-/// Which tail bits of a decoder are sent, whose tail begins at an index.
+/// Marks the sent bits of a decoder's tail, which begins at index `p`.
 fn tail_of(counts: &Counts, p: usize) -> [bool; 6]
     requires { p ≤ 1026 }
     ensures { result ≡ tail_sent (above_zero counts.now) p }
@@ -41,7 +41,7 @@ fn tail_of(counts: &Counts, p: usize) -> [bool; 6]
     ]
 }
 
-/// Which bits of a stream are sent.
+/// Marks the sent bits in stream `t`.
 fn stream_of(counts: &Counts, row: &Row, t: usize) -> Marks
     requires row { IsAnyRow row.now }
     requires stream { t < 3 }
@@ -55,7 +55,7 @@ fn stream_of(counts: &Counts, row: &Row, t: usize) -> Marks
     marks
 }
 
-/// Which bits of the word are sent or known.
+/// Marks the bits of the word that are sent or known.
 fn own_of(counts: &Counts, row: &Row, known: &Marks) -> Marks
     requires row { IsAnyRow row.now }
     ensures marks { (k : ℕ) → k < row.now.k → slice_index_or result k false ≡
@@ -69,7 +69,7 @@ fn own_of(counts: &Counts, row: &Row, known: &Marks) -> Marks
     marks
 }
 
-/// Which bits of the word are sent or known, in the order of the second decoder.
+/// Marks the bits of the word that are sent or known, in the second decoder's order.
 fn own_in_order_of(counts: &Counts, row: &Row, known: &Marks) -> Marks
     requires row { IsAnyRow row.now }
     ensures marks { (i : ℕ) → i < row.now.k → slice_index_or result i false ≡
@@ -84,7 +84,7 @@ fn own_in_order_of(counts: &Counts, row: &Row, known: &Marks) -> Marks
     marks
 }
 
-/// The marks of the bits of a word.
+/// Returns the marks for the word's K bits.
 fn front_of<'a>(marks: &'a Marks, row: &Row) -> &'a [bool]
     requires row { IsAnyRow row.now }
     ensures marks { result.now ≡ take row.now.k marks.now }
@@ -95,7 +95,7 @@ fn front_of<'a>(marks: &'a Marks, row: &Row) -> &'a [bool]
     &marks[..row.k as usize]
 }
 
-/// The bits that the first decoder finds.
+/// Returns the bits that the first decoder finds.
 fn first_marks(counts: &Counts, row: &Row, known: &Marks) -> Marks
     requires row { IsAnyRow row.now }
     ensures found { (k : ℕ) → k < row.now.k → slice_index_or result k false ≡
@@ -109,7 +109,7 @@ fn first_marks(counts: &Counts, row: &Row, known: &Marks) -> Marks
     )
 }
 
-/// The bits that the second decoder finds, in its own order.
+/// Returns the bits that the second decoder finds, in its own order.
 fn second_in_order_of(counts: &Counts, row: &Row, known: &Marks) -> Marks
     requires row { IsAnyRow row.now }
     ensures found { (k : ℕ) → k < row.now.k → slice_index_or result (step_of row.now k) false ≡
@@ -123,7 +123,7 @@ fn second_in_order_of(counts: &Counts, row: &Row, known: &Marks) -> Marks
     )
 }
 
-/// The bits that the second decoder finds.
+/// Returns the bits that the second decoder finds, in word order.
 fn second_marks(counts: &Counts, row: &Row, known: &Marks) -> Marks
     requires row { IsAnyRow row.now }
     ensures found { (k : ℕ) → k < row.now.k → slice_index_or result k false ≡
@@ -138,7 +138,7 @@ fn second_marks(counts: &Counts, row: &Row, known: &Marks) -> Marks
     marks
 }
 
-/// The bits that are settled: sent, or found by either decoder.
+/// Returns the settled bits: sent, or found by either decoder.
 fn settled_of(counts: &Counts, row: &Row, first: &Marks, second: &Marks) -> Marks
     requires row { IsAnyRow row.now }
     ensures marks { (k : ℕ) → k < row.now.k → slice_index_or result k false ≡
@@ -152,7 +152,7 @@ fn settled_of(counts: &Counts, row: &Row, first: &Marks, second: &Marks) -> Mark
     marks
 }
 
-/// Whether all are marked.
+/// Returns whether all bits are marked.
 fn are_all(marks: &[bool]) -> bool
     ensures { result ≡ every_below (length marks.now) (bit_at marks.now) }
 {
@@ -163,7 +163,7 @@ fn are_all(marks: &[bool]) -> bool
     all
 }
 
-/// The word with 0 at every bit that is not settled.
+/// Returns the word with 0 at every bit that is not settled.
 fn word_of(bits: &[bool], settled: &Marks) -> Marks
     requires { length bits.now ≤ 1024 }
     ensures word { (k : ℕ) → k < length bits.now → slice_index_or result k false ≡
@@ -177,7 +177,7 @@ fn word_of(bits: &[bool], settled: &Marks) -> Marks
     word
 }
 
-/// Whether the block can be resolved, by the items that are sent.
+/// Returns whether the block can be resolved from the coded bits that are sent.
 fn resolves(bits: &[bool], row: &Row, counts: &Counts) -> bool
     requires row { IsAnyRow row.now }
     requires count { length bits.now ≡ row.now.k }
@@ -200,7 +200,7 @@ fn resolves(bits: &[bool], row: &Row, counts: &Counts) -> bool
     false
 }
 
-/// For each index how many of the first bits of the reading come from it.
+/// Returns how often each index occurs in the first `sent` bits from redundancy version `rv`.
 fn counts_of(row: Row, rv: u8, sent: u16) -> Counts
     requires row { IsAnyRow row }
     requires version { rv < 4 }
@@ -211,10 +211,9 @@ fn counts_of(row: Row, rv: u8, sent: u16) -> Counts
     combine(&ones[..sent as usize], row, rv).d
 }
 
-/// Returns whether a block can be resolved by the first `sent` bits of the reading (TS 36.212 section 5.1.4.1), from
-/// each of the four redundancy versions: one of eight iterations of the decoder (own) settles every bit, and no
-/// earlier one decodes a word whose CRC passes (CRC24A). `bits` are the K bits of the block with its CRC, `row` is the
-/// row of either table for K, and `sent` is at most 5,760.
+/// Returns whether `sent` coded bits from each redundancy version resolve a block (TS 36.212 section 5.1.4.1) within
+/// eight iterations (own), without an earlier false pass of CRC24A. `bits` has K bits, CRC included; `row` is the row
+/// for K.
 pub fn fills(bits: &[bool], row: Row, sent: u16) -> bool
     requires row { IsAnyRow row }
     requires count { length bits.now ≡ row.k }

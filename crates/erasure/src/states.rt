@@ -1,4 +1,4 @@
-//! Sets of states of the encoder, to which and from which bits lead that show no known bit 1.
+//! Sets of encoder states, reached or left by steps without a known bit 1.
 
 ghost use Rattle.std.specs.Prelude.{◌≡◌, ℕ, ◌<◌, false, length, slice_index_or, nat_eq};
 ghost use Rattle.finite.specs.Tests.{any_below};
@@ -6,13 +6,13 @@ ghost use Rattle.erasure.specs.Sets.{hides, leads_to, leads_from, leads_through,
 
 use turbo_code::{before, bit_to, next, parity_bit, tail_bit, tail_parity};
 
-/// How many states the encoder has.
+/// The number of encoder states.
 const STATES: usize = 8;
 
 /// A set of states.
 pub(crate) type States = [bool; STATES];
 
-/// Whether a step has no known bit 1.
+/// Returns whether a step has no known bit 1.
 fn is_hidden(own: bool, parity: bool, x: usize, u: bool) -> bool
     requires { x < 8 }
     ensures { result ≡ hides own parity x u }
@@ -20,7 +20,7 @@ fn is_hidden(own: bool, parity: bool, x: usize, u: bool) -> bool
     !(u && own) && !(parity_bit(x, u) && parity)
 }
 
-/// Whether a step without a known bit 1 leads from the set to a state.
+/// Returns whether a step without a known bit 1 leads from the set to state `y`.
 fn is_led_to(own: bool, parity: bool, set: &States, y: usize) -> bool
     requires { y < 8 }
     ensures { result ≡ leads_to own parity set.now y }
@@ -31,7 +31,7 @@ fn is_led_to(own: bool, parity: bool, set: &States, y: usize) -> bool
     by_first || by_second
 }
 
-/// Whether a step without a known bit 1 leads from a state into the set.
+/// Returns whether a step without a known bit 1 leads from state `x` into the set.
 fn is_led_from(own: bool, parity: bool, set: &States, x: usize) -> bool
     requires { x < 8 }
     ensures { result ≡ leads_from own parity set.now x }
@@ -41,7 +41,7 @@ fn is_led_from(own: bool, parity: bool, set: &States, x: usize) -> bool
     by_zero || by_one
 }
 
-/// The states before the first step.
+/// Returns the set before the first step.
 pub(crate) fn start_set() -> States
     ensures set { (x : ℕ) → x < 8 → slice_index_or result x false ≡ nat_eq x 0 }
     ensures size { length result ≡ 8 }
@@ -49,7 +49,7 @@ pub(crate) fn start_set() -> States
     [true, false, false, false, false, false, false, false]
 }
 
-/// The states one step further on.
+/// Returns the set one step later.
 pub(crate) fn later_set(own: bool, parity: bool, set: &States) -> States
     ensures set { (x : ℕ) → x < 8 → slice_index_or result x false ≡ leads_to own parity set.now x }
     ensures size { length result ≡ 8 }
@@ -61,7 +61,7 @@ pub(crate) fn later_set(own: bool, parity: bool, set: &States) -> States
     later
 }
 
-/// The states one step before.
+/// Returns the set one step earlier.
 pub(crate) fn earlier_set(own: bool, parity: bool, set: &States) -> States
     ensures set { (x : ℕ) → x < 8 → slice_index_or result x false ≡ leads_from own parity set.now x }
     ensures size { length result ≡ 8 }
@@ -73,7 +73,7 @@ pub(crate) fn earlier_set(own: bool, parity: bool, set: &States) -> States
     earlier
 }
 
-/// Whether a step by a bit 1 that is not known leads from a state of the first set into the second.
+/// Returns whether a step by an unknown bit 1 leads from state `x` in the first set into the second.
 fn is_led_through(parity: bool, before: &States, after: &States, x: usize) -> bool
     requires { x < 8 }
     ensures { result ≡ leads_through parity before.now after.now x }
@@ -81,7 +81,7 @@ fn is_led_through(parity: bool, before: &States, after: &States, x: usize) -> bo
     before[x] && is_hidden(false, parity, x, true) && after[next(x, true)]
 }
 
-/// Whether a step by a bit 1 that is not known leads from any state of the first set into the second.
+/// Returns whether a step by an unknown bit 1 leads from any state in the first set into the second.
 pub(crate) fn any_led_through(parity: bool, before: &States, after: &States) -> bool
     ensures { result ≡ any_below 8 (leads_through parity before.now after.now) }
 {
@@ -92,7 +92,7 @@ pub(crate) fn any_led_through(parity: bool, before: &States, after: &States) -> 
     any
 }
 
-/// Whether tail step j from a state has no known bit 1.
+/// Returns whether tail step `j` from state `x` has no known bit 1.
 fn is_tail_step_hidden(tail: &[bool; 6], j: usize, x: usize) -> bool
     requires { j < 3 }
     ensures { result ≡ tail_step_hides tail.now j x }
@@ -100,7 +100,7 @@ fn is_tail_step_hidden(tail: &[bool; 6], j: usize, x: usize) -> bool
     !(tail_bit(x) && tail[2 * j]) && !(tail_parity(x) && tail[2 * j + 1])
 }
 
-/// Whether the tail from a state has none.
+/// Returns whether the tail from state `x` has no known bit 1.
 fn is_tail_hidden(tail: &[bool; 6], x: usize) -> bool
     ensures { result ≡ tail_hides tail.now x }
 {
@@ -109,7 +109,7 @@ fn is_tail_hidden(tail: &[bool; 6], x: usize) -> bool
         && is_tail_step_hidden(tail, 2, x / 2 / 2)
 }
 
-/// The states whose tail has none.
+/// Returns the states whose tail has no known bit 1.
 pub(crate) fn tail_set(tail: &[bool; 6]) -> States
     ensures set { (x : ℕ) → x < 8 → slice_index_or result x false ≡ tail_hides tail.now x }
     ensures size { length result ≡ 8 }

@@ -1,4 +1,4 @@
--- Of recordings that agree in the samples of a symbol the same is seen there.
+-- Recordings that agree in a symbol's samples have the same values for the symbol.
 use Rattle.std.proofs.Common.{◌≡◌, ℕ, ◌+◌, ◌*◌, ◌≤◌, List, arith, ap}
 use Rattle.finite.proofs.Lists.{values_below_same}
 use Rattle.cs_num.specs.declared.Sample.{Sample}

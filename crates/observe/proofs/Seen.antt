@@ -1,4 +1,4 @@
--- Sizes of what is seen, and the samples that it is seen of.
+-- Bounds on demodulated values, and the samples that they depend on.
 use Rattle.std.proofs.Common.{◌≡◌, ℕ, ◌+◌, ◌-◌, ◌*◌, ◌<◌, drop, arith, ap, List, ◌∙◌}
 use Rattle.std.specs.Prelude.{slice_range}
 use Rattle.finite.specs.Lists.{values_below}
@@ -28,7 +28,7 @@ unfolding spectrum_at
 spectrum_same f g k h =
     complex_sum_below_same 128 (spectrum_term f k) (spectrum_term g k) (λ n l. ap (λ z. times z (conjugate (w_at (frequency k * n)))) (h n l))
 
--- the symbol at start is what is seen of the samples from there on
+-- the symbol at start is demodulated from the 128 samples there
 pub seen_is : (recording : List Sample) (start : ℕ) → seen_of (sample_at (slice_range recording start (start + 128))) ≡ seen_symbol recording start
 unfolding seen_of seen_symbol seen
 seen_is recording start = values_below_same 72
@@ -36,7 +36,7 @@ seen_is recording start = values_below_same 72
     (λ k l. ap (λ z. rounded z 12) (spectrum_same (sample_at (slice_range recording start (start + 128))) (λ n. sample_at recording (start + n)) k
     (λ n below. ap value_of (get_or-take (start + 128 - start) (drop start recording) n silence (omega arith) ∙ get_or-drop start recording n silence))))
 
--- what is seen of samples is their sums, rounded
+-- the values for samples are their sums, rounded
 pub rounded_is : (samples : ℕ → Cpx) → rounded_values (value_at (spectrum samples)) ≡ seen_of samples
 unfolding rounded_values spectrum seen_of
 rounded_is samples = values_below_same 72

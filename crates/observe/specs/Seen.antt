@@ -1,4 +1,4 @@
--- What is seen of a symbol. (own; the useful part of TS 36.211 section 6.12 read backward, in whole numbers)
+-- OFDM demodulation of one symbol. (own; the useful part of TS 36.211 section 6.12 inverted, in integers)
 use Rattle.std.specs.Prelude.{ℕ, ◌+◌, List}
 use Rattle.finite.specs.Lists.{values_below}
 use Rattle.cs_num.specs.declared.Cpx.{Cpx}
@@ -7,10 +7,10 @@ use Rattle.cs_num.specs.Rounding.{rounded}
 use Rattle.fold128.specs.Spectrum.{spectrum_at}
 use Rattle.cs_num.specs.Complex.{sample_at}
 
--- what is seen at subcarrier k of the symbol whose useful part begins at sample start
+-- the value at subcarrier k for the symbol whose useful part begins at sample start
 unfoldable pub seen : List Sample → ℕ → ℕ → Cpx
 seen recording start k = rounded (spectrum_at (λ n. sample_at recording (start + n)) k) 12
 
--- what is seen at all subcarriers of the symbol whose useful part begins at sample start
+-- the values at all subcarriers for the symbol whose useful part begins at sample start
 unfoldable pub seen_symbol : List Sample → ℕ → List Cpx
 seen_symbol recording start = values_below 72 (seen recording start)

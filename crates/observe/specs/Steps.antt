@@ -1,11 +1,11 @@
--- The code's way to what is seen: sums, and then values.
+-- The steps of the code: sums, then rounded values.
 use Rattle.std.specs.Prelude.{ℕ, List}
 use Rattle.finite.specs.Lists.{values_below}
 use Rattle.cs_num.specs.declared.Cpx.{Cpx}
 use Rattle.cs_num.specs.Rounding.{rounded}
 use Rattle.fold128.specs.Spectrum.{spectrum_at}
 
--- the sums of 128 samples, rounded
+-- the DFT sums over 128 samples, rounded
 unfoldable pub seen_of : (ℕ → Cpx) → List Cpx
 seen_of samples = values_below 72 (λ k. rounded (spectrum_at samples k) 12)
 

@@ -1,4 +1,5 @@
-//! What a receiver sees of one symbol: the 72 sums of its useful part, rounded.
+//! OFDM demodulation of one symbol: the 128-point DFT of its useful part at 72 subcarriers, rounded.
+//! Tests: the crates `low_tests` and `code_tests`.
 #![tactic(auto)]
 
 ghost use Rattle.std.specs.Prelude.{◌≡◌, ℕ, ◌+◌, ◌^◌, ◌≤◌, All, length, slice_range};
@@ -10,10 +11,9 @@ use cs_num::{Cpx, Sample};
 use fold128::transform;
 use sample_file::Recording;
 
-/// The 72 values that are seen of the symbol whose useful part begins at sample `start`: the plain
-/// sums over the 128 samples from there on, divided by 2^12 and rounded. The symbol ends within the
-/// recording. Components have size at most 23,726,080, which is below 2^25. (own; the useful part
-/// of TS 36.211 section 6.12 read backward)
+/// Demodulates the symbol whose useful part begins at sample `start`: the DFT sums over 128 samples at 72
+/// subcarriers, divided by 2^12 and rounded. Components are within 23,726,080, below 2^25. (own; TS 36.211 section
+/// 6.12 inverted)
 pub fn symbol(recording: &Recording, start: usize) -> [Cpx; 72]
     requires { start + 128 ≤ length recording.now }
     ensures value { result ≡ seen_symbol recording.now start }
@@ -23,7 +23,7 @@ pub fn symbol(recording: &Recording, start: usize) -> [Cpx; 72]
     values_of(&window(recording, start))
 }
 
-// The values that are seen of 128 samples.
+// Returns the 72 values for 128 samples.
 fn values_of(samples: &[Sample; 128]) -> [Cpx; 72]
     ensures value { result ≡ seen_of (sample_at samples.now) }
     ensures small { All (IsWithin 23726080) result }
@@ -31,7 +31,7 @@ fn values_of(samples: &[Sample; 128]) -> [Cpx; 72]
     round_all(&transform(samples))
 }
 
-// The 128 samples from `start` on.
+// Returns the 128 samples from `start`.
 fn window(recording: &Recording, start: usize) -> [Sample; 128]
     requires { start + 128 ≤ length recording.now }
     ensures { result ≡ slice_range recording.now start (start + 128) }
@@ -41,7 +41,7 @@ fn window(recording: &Recording, start: usize) -> [Sample; 128]
     samples
 }
 
-// Each sum divided by 2^12 and rounded.
+// Divides each sum by 2^12 and rounds it.
 fn round_all(sums: &[Cpx; 72]) -> [Cpx; 72]
     requires { All (IsWithin 97182023680) sums.now }
     ensures value { result ≡ rounded_values (value_at sums.now) }

@@ -1,4 +1,4 @@
--- The values of frames and their sums.
+-- The values in frames, and their sums.
 use Rattle.std.proofs.Common.{◌≡◌, ℕ, ◌+◌, ◌*◌, ◌%◌, ◌<◌, ◌≤◌, ◌∙◌, List, [], ◌∷◌, length, get_or, ℤ, pos, nat_abs, refl, ap, arith}
 use Rattle.std.specs.Prelude.{map, All}
 use Rattle.std.specs.List.{flat_map}
@@ -23,7 +23,7 @@ use Rattle.conv_code.proofs.Items.{permuting}
 use Rattle.conv_code.proofs.Sums.{length-summed_by, length-summed_by_row}
 use Rattle.pbch.specs.Values.{received_values_by, received_values, summed_values, identity_of}
 
--- what is not read
+-- a default slot, which is never read
 abbrev pub no_slot : SeenSlot
 no_slot = record { symbols = []; number = 0; identity = 0 }
 
@@ -39,7 +39,7 @@ length-received_values slot = length-placed (λ p. slot) (pbch_places slot.ident
 pub received_values-small : (slot : SeenSlot) → AllWithin 127 (received_values slot)
 received_values-small slot = placed-small (λ p. slot) (pbch_places slot.identity)
 
--- they are told by the front of the slot
+-- a frame's values depend only on the front of its slot
 pub front_received : (values : Valuing) (a b : SeenSlot) → LooksAtFront values → HaveOneFront a b → received_values_by values a ≡ received_values_by values b
 front_received values a b looks one =
     looks a b (pbch_places a.identity) one (places_in_front a.identity)
@@ -52,7 +52,7 @@ pub frames_of_slots : (slots : List SeenSlot) (frames : List (List ℤ)) → fra
     flat_map (λ frame. frame) frames ≡ flat_map received_values slots
 frames_of_slots slots frames are = ap (flat_map (λ frame. frame)) are ∙ flat_map-map (λ frame. frame) received_values slots
 
--- frames of at most 480 values have no more together
+-- the number of values in frames of at most 480 each
 pub count_in_frames : (frames : List (List ℤ)) → All (λ (frame : List ℤ). length frame ≤ 480) frames → length (flat_map (λ frame. frame) frames) ≤ 480 * length frames
 count_in_frames [] each = omega arith
 count_in_frames (frame ∷ frames) each =
@@ -61,21 +61,21 @@ count_in_frames (frame ∷ frames) each =
     let both = length-append frame (flat_map (λ frame. frame) frames) in
     omega (arith, first, rest, both)
 
--- and values of small ones are small
+-- joined values have the bound of their frames
 pub small_in_frames : (frames : List (List ℤ)) → RowsWithin 127 frames → AllWithin 127 (flat_map (λ frame. frame) frames)
 small_in_frames [] each = All-nil (λ z. nat_abs z ≤ 127)
 small_in_frames (frame ∷ frames) each =
     All-append (λ z. nat_abs z ≤ 127) frame (flat_map (λ frame. frame) frames) (All-head (AllWithin 127) frame frames each)
     (small_in_frames frames (All-tail (AllWithin 127) frame frames each))
 
--- ---- the reading of 40 bits, from any bit on
+-- ---- the reading of 40 bits, from any bit
 
--- an item is that of the rest by 120
+-- an item depends on its index modulo 120
 same_rest : (i j : ℕ) → i % 120 ≡ j % 120 → item_of 40 i ≡ item_of 40 j
 unfolding item_of
 same_rest i j e = rw e refl
 
--- it goes round
+-- the reading repeats after 120 bits
 goes_round_from : (first : ℕ) → GoesRound 120 (λ i. item_of 40 (first + i))
 goes_round_from first = record { again = again; once = once }
   where
@@ -97,7 +97,7 @@ unfolding summed_values
 length-summed_values identity first received =
     length-summed_by (λ i. item_of 40 (first + i)) 40 (descrambled (pbch_c_init identity) first received)
 
--- of four frames each sum has size at most 2,032
+-- over four frames each sum is within 2,032
 pub summed_values-small : (identity first : ℕ) (received : List ℤ) → AllWithin 127 received → length received ≤ 1920 → RowsWithin 2032 (summed_values identity first received)
 unfolding summed_values summed_by
 summed_values-small identity first received small few =

@@ -1,4 +1,4 @@
--- The three sums of a place, kept in 16 bits.
+-- The three sums at an index, kept in 16 bits.
 use Rattle.std.proofs.Common.{◌≡◌, ℕ, ◌<◌, ◌≤◌, ◌∙◌, List, [], ◌∷◌, length, get_or, ℤ, pos, nat_abs, to_z, of_z, w16, w32, refl, ap, arith}
 use Rattle.std.proofs.lemmas.List.Elements.{All-get_or}
 use Rattle.std.proofs.lemmas.Int.{fits_signed_from_abs, to_z-of_z}
@@ -17,15 +17,15 @@ in_16 z small = to_z-of_z w16 z (fits_signed_from_abs w16 z (omega (arith, small
 in_32 : (z : ℤ) → nat_abs z ≤ 2032 → to_z w32 (of_z w32 z) ≡ z
 in_32 z small = to_z-of_z w32 z (fits_signed_from_abs w32 z (omega (arith, small)))
 
--- cut to 16 bits
+-- a sum cut to 16 bits
 abbrev pub cut : ℤ → ℤ
 cut z = to_z w16 (of_z w16 (to_z w32 (of_z w32 z)))
 
--- and made wide again
+-- a kept sum, extended again
 abbrev pub wide : ℤ → ℤ
 wide z = to_z w32 (of_z w32 (to_z w16 (of_z w16 z)))
 
--- a function of integers that keeps small ones keeps three of them
+-- a function that keeps small integers keeps three of them
 three_kept : (f : ℤ → ℤ) → ((z : ℤ) → nat_abs z ≤ 2032 → f z ≡ z) → (xs : List ℤ) → length xs ≡ 3 → AllWithin 2032 xs →
     f (get_or xs 0 (pos 0)) ∷ f (get_or xs 1 (pos 0)) ∷ f (get_or xs 2 (pos 0)) ∷ [] ≡ xs
 three_kept f keeps xs size small =

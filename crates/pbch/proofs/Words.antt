@@ -1,4 +1,4 @@
--- The master block that values tell is one.
+-- Soft values decode to at most one MIB.
 use Rattle.std.proofs.Common.{◌≡◌, ℕ, ◌≤◌, ◌⊎◌, Bool, List, ℤ, arith, sym, ap, subst, ◌∙◌, bit_xor}
 use Rattle.std.specs.Int.Bits.{xor_assoc, xor_self, xor_zero_l}
 use Rattle.std.proofs.lemmas.Bool.Decides.{nat_tests}
@@ -11,7 +11,7 @@ use Rattle.pbch.specs.Master.{mask, PassesWith, Tells}
 use Rattle.pbch.specs.Laws.{IsOneMaster}
 use Rattle.tailbite.proofs.Only.{one_word}
 
--- values tell no word where the least one has no mask, or has another width
+-- values decode to no word if the minimum-cost word has no mask or a reserved bandwidth code
 pub none_by : (values : List (List ℤ)) (w : List Bool) → IsLeastWord values w →
     ((ports : ℕ) → PassesWith ports w → field w 0 3 ≤ 5 → ⊥) →
     (word : List Bool) (ports : ℕ) → Tells values word ports → ⊥
@@ -19,14 +19,14 @@ none_by values w least refused word ports tells =
     let same : word ≡ w = one_word values word w tells.least least in
     refused ports (subst (PassesWith ports) same tells.check) (subst (λ v. field v 0 3 ≤ 5) same tells.width)
 
--- a mask twice is none
+-- a mask applied twice cancels
 unmasked : (r m : ℕ) → bit_xor r (bit_xor r m) ≡ m
 unmasked r m = sym (xor_assoc r r m) ∙ ap (λ n. bit_xor n m) (xor_self r) ∙ xor_zero_l m
 
 same_mask : (r p q : ℕ) → bit_xor r (mask p) ≡ bit_xor r (mask q) → mask p ≡ mask q
 same_mask r p q e = sym (unmasked r (mask p)) ∙ ap (bit_xor r) e ∙ unmasked r (mask q)
 
--- each count of ports has a mask of its own
+-- each number of ports has its own mask
 same_ports : (p q : ℕ) → (p ≡ 1) ⊎ (p ≡ 2) ⊎ (p ≡ 4) → (q ≡ 1) ⊎ (q ≡ 2) ⊎ (q ≡ 4) → mask p ≡ mask q → p ≡ q
 same_ports p q hp hq e = grind (arith, nat_tests, hp, hq, e)
 

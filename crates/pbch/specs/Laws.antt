@@ -1,9 +1,9 @@
--- Laws of the master blocks.
+-- Laws of MIB decoding.
 use Rattle.std.specs.Prelude.{◌≡◌, List, ℤ}
 use Rattle.pbch.specs.declared.master.Master.{Master}
 use Rattle.pbch.specs.Master.{TellsMaster}
 
--- two masters have the same ports, cost and fields as one another
+-- two decoded MIBs have the same ports, cost and fields
 pub record IsSame (a b : Master) : Type 0 where
   pub ports : a.ports ≡ b.ports
   pub cost : a.cost ≡ b.cost
@@ -13,6 +13,6 @@ pub record IsSame (a b : Master) : Type 0 where
   pub upper : a.mib.upper ≡ b.mib.upper
   pub spare : a.mib.spare ≡ b.mib.spare
 
--- values tell at most one master
+-- soft values decode to at most one MIB
 abbrev pub IsOneMaster : Type 0
 IsOneMaster = (values : List (List ℤ)) (a b : Master) → TellsMaster values a → TellsMaster values b → IsSame a b

@@ -1,4 +1,4 @@
-//! The soft values of the broadcast channel.
+//! Soft values of the PBCH.
 
 ghost use Rattle.std.specs.Prelude.{◌≡◌, ℕ, ◌+◌, ◌*◌, ◌<◌, ◌≤◌, All, length};
 ghost use Rattle.std.specs.List.{flat_map};
@@ -13,10 +13,8 @@ use grid_map::pbch_places;
 use lte_types::CellId;
 use soft_bits::{ReadSlot, Slot, fill_slot};
 
-/// The values of the coded word of 40 bits: at each place and in each stream the sum of the soft values
-/// of all the frames that were sent for it, four of each frame. `slots` are slots 1 of 1 to 4 frames of
-/// one cell that follow one another, and `phase` is the first frame's number modulo 4; all are in one
-/// period of four frames (TS 36.211 section 6.6, TS 36.212 section 5.3.1).
+/// Returns the 40-bit word's soft values, summed over 1 to 4 consecutive frames in one period (TS 36.211 section 6.6,
+/// TS 36.212 section 5.3.1). `slots` has each frame's slot 1; `phase` is the first frame number modulo 4.
 pub fn values(slots: &[Slot], phase: u8) -> [[i32; 3]; 40]
     requires some { 0 < length slots.now }
     requires period { phase + length slots.now ≤ 4 }
@@ -32,8 +30,7 @@ pub fn values(slots: &[Slot], phase: u8) -> [[i32; 3]; 40]
     sums_of(slots[0].id(), 480 * phase as usize, frames.as_slice())
 }
 
-/// The 480 soft values of the broadcast channel in slot 1 of a frame with the normal cyclic prefix, as they
-/// were received.
+/// Returns the 480 soft values received on the PBCH in slot 1 of a frame with the normal cyclic prefix.
 pub fn received<S: ReadSlot>(slot: &S) -> Received
     ensures values { result ≡ received_values_by S.values_by (S.seen_as slot.now) }
     ensures count { length result ≡ 480 }
@@ -44,10 +41,8 @@ pub fn received<S: ReadSlot>(slot: &S) -> Received
     Received::new(&values)
 }
 
-/// The values of the coded word of 40 bits, as `values` gives them, from what was received in frames of the
-/// cell that follow one another. `first` is the number of the first of their bits in the period of four
-/// frames, whose bits are 1,920, or 1,728 with the extended cyclic prefix (TS 36.211 section 6.6.1); it and
-/// 480 for each frame are together at most 1,920.
+/// Returns the 40-bit word's soft values from consecutive frames, which start at bit `first` in the period of 1,920
+/// bits, or 1,728 with the extended prefix (TS 36.211 section 6.6.1). `first` plus 480 per frame is at most 1,920.
 pub fn sums_of(id: CellId, first: usize, frames: &[Received]) -> [[i32; 3]; 40]
     requires period { first + 480 * length frames.now ≤ 1920 }
     ensures values { result ≡ summed_values id first (flat_map (λ frame. frame) frames.now) }
@@ -56,7 +51,7 @@ pub fn sums_of(id: CellId, first: usize, frames: &[Received]) -> [[i32; 3]; 40]
     sums_by(&CellScrambling::new(id), first, frames)
 }
 
-// The values of the coded word of 40 bits by the scrambling bits of the cell.
+// Returns the 40-bit word's soft values, given the cell's scrambling bits.
 pub(crate) fn sums_by(cell: &CellScrambling, first: usize, frames: &[Received]) -> [[i32; 3]; 40]
     requires period { first + 480 * length frames.now ≤ 1920 }
     ensures values { result ≡ summed_values cell.now first (flat_map (λ frame. frame) frames.now) }
@@ -67,7 +62,7 @@ pub(crate) fn sums_by(cell: &CellScrambling, first: usize, frames: &[Received]) 
     combine_from(first, values.as_slice())
 }
 
-// The values of frames, one frame after the other.
+// Returns the values of all frames in order.
 fn joined(frames: &[Received]) -> ArrayVec<i16, 1920>
     requires { length frames.now ≤ 4 }
     ensures values { result.items ≡ flat_map (λ frame. frame) frames.now }

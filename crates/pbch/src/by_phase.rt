@@ -1,4 +1,4 @@
-//! The master block of frames, by the phase of the first.
+//! The MIB in consecutive frames, by the phase of the first.
 
 ghost use Rattle.std.specs.Prelude.{◌≡◌, ℕ, ◌+◌, ◌*◌, ◌^◌, ◌<◌, ◌≤◌, All, nat_abs, length, slice_index_or, pos, None, MatchOption};
 ghost use Rattle.std.specs.List.{flat_map};
@@ -13,10 +13,8 @@ use crate::{CellScrambling, Master, Received, WordSums};
 use soft_bits::Slot;
 use tailbite::{Trellis, least};
 
-/// The master block that frames tell at a phase (TS 36.212 section 5.3.1, TS 36.331 section 6.2.2);
-/// `None` exactly where they tell none: the sums of their values are all 0, or more than a quarter of
-/// them by size speaks against the least word, or that word's check passes with no mask, or the code of
-/// its bandwidth is above 5. `slots` and `phase` are those of `values`.
+/// Decodes the MIB (TS 36.212 section 5.3.1, TS 36.331 section 6.2.2). `None` exactly if all sums are 0, over a
+/// quarter by magnitude opposes the minimum-cost word, its CRC fits no mask, or its bandwidth code exceeds 5.
 pub fn explain_slots(slots: &[Slot], phase: u8, work: &mut Trellis) -> Option<Master>
     requires some { 0 < length slots.now }
     requires period { phase + length slots.now ≤ 4 }
@@ -27,26 +25,24 @@ pub fn explain_slots(slots: &[Slot], phase: u8, work: &mut Trellis) -> Option<Ma
     master_of(&values(slots, phase), work)
 }
 
-/// What frames of a cell tell, by the phase of the first. (own)
+/// Decoding results for a cell's frames, by the phase of the first. (own)
 #[derive(Clone, Copy)]
 pub struct ByPhase {
-    /// The master block at each phase.
+    /// The decoded MIB at each phase.
     pub at: [Option<Master>; 4],
-    /// The sums of the values at each phase.
+    /// The sums of the soft values at each phase.
     pub sums: [WordSums; 4],
 }
 
-// What frames tell at a phase, and the sums that tell it.
+// The decoding result at one phase: the MIB, and the sums that it was decoded from.
 #[derive(Clone, Copy)]
 struct AtPhase {
     master: Option<Master>,
     sums: WordSums,
 }
 
-/// What frames of a cell tell at phases 0 to 3, by its scrambling bits and what was received in each of the frames:
-/// each master block as `explain_slots` gives it, and the sums that tell it, as `values` gives them. A frame has `size`
-/// of the bits of the period: 480, or 432 with the extended cyclic prefix. Where the frames would not be in one
-/// period, there is no master block, and the sums say nothing.
+/// Decodes the MIB at phases 0 to 3 from consecutive frames, each with `size` bits in the period: 480, or 432 with
+/// the extended cyclic prefix. If the frames exceed the period at a phase, it has no MIB.
 pub fn masters(
     cell: &CellScrambling,
     size: usize,
@@ -68,7 +64,7 @@ pub fn masters(
     }
 }
 
-// What frames of this size tell of which the first has this phase.
+// Decodes the MIB if the first frame has this phase.
 fn told_at(
     cell: &CellScrambling,
     size: usize,
@@ -98,8 +94,8 @@ fn told_at(
     }
 }
 
-/// The master block that the values of a coded word of 40 bits tell, at each place and in each stream
-/// one of size at most 2^20; `None` exactly where they tell none, as `explain_slots` says.
+/// Decodes the MIB from the 40-bit word's soft values, three per bit and within 2^20. `None` exactly under the
+/// conditions that `explain_slots` lists.
 pub fn master_of(values: &[[i32; 3]; 40], work: &mut Trellis) -> Option<Master>
     requires { RowsWithin (2 ^ 20) values.now }
     ensures { MatchOption result (TellsNothing values.now) (TellsMaster values.now) }
@@ -117,7 +113,7 @@ pub fn master_of(values: &[[i32; 3]; 40], work: &mut Trellis) -> Option<Master>
     Some(Master { ports, mib, cost })
 }
 
-// The sum of the sizes of the three values of a place.
+// Returns the sum of the magnitudes at one index.
 fn weight_of(place: &[i32; 3]) -> u32
     requires { AllWithin (2 ^ 20) place.now }
     ensures value { result ≡ total_below 3 (λ t. nat_abs (slice_index_or place.now t (pos 0))) }
@@ -126,7 +122,7 @@ fn weight_of(place: &[i32; 3]) -> u32
     place[0].unsigned_abs() + place[1].unsigned_abs() + place[2].unsigned_abs()
 }
 
-/// The sum of the sizes of the values of a coded word of 40 bits, each of size at most 2^20.
+/// Returns the sum of the magnitudes over the 40-bit word's soft values, which are within 2^20.
 pub fn total_of(values: &[[i32; 3]; 40]) -> u32
     requires { RowsWithin (2 ^ 20) values.now }
     ensures { result ≡ total values.now }

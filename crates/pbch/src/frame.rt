@@ -1,4 +1,4 @@
-//! What was received of the broadcast channel in a frame.
+//! The PBCH in one frame.
 
 ghost use Rattle.std.specs.Prelude.{◌≡◌, List, ℤ, ◌≤◌, length};
 ghost use Rattle.finite.specs.Sizes.{AllWithin};
@@ -6,9 +6,8 @@ ghost use Rattle.finite.specs.Sizes.{AllWithin};
 use arrayvec::ArrayVec;
 use std::marker::Model;
 
-/// The soft values of the broadcast channel in one frame, as they were received: 480 with the normal cyclic
-/// prefix, 432 with the extended one (TS 36.211 section 6.6), each from -127 to 127. Contracts see it as the
-/// list of them.
+/// The soft values received on the PBCH in one frame: 480 with the normal cyclic prefix, 432 with the extended one
+/// (TS 36.211 section 6.6), each from -127 to 127. Contracts see a list.
 #[derive(Default, Drop)]
 pub struct Received {
     values: ArrayVec<i16, 480>,
@@ -23,7 +22,7 @@ impl Model for Received {
 }
 
 impl Received {
-    /// What was received in a frame: these values, at most 480, each from -127 to 127.
+    /// Returns the frame with these values, at most 480, each from -127 to 127.
     pub fn new(values: &[i16]) -> Received
         requires few { length values.now ≤ 480 }
         requires sizes { AllWithin 127 values.now }
@@ -34,7 +33,7 @@ impl Received {
         Received { values: kept }
     }
 
-    /// The values, in the order of their places.
+    /// Returns the values in the order of their resource elements.
     pub fn slice(&self) -> &[i16]
         ensures values { result.now ≡ self.now }
         ensures few { length self.now ≤ 480 }
@@ -43,7 +42,7 @@ impl Received {
         self.values.as_slice()
     }
 
-    /// How many values were received in a frame.
+    /// Returns the number of values in the frame.
     pub fn len(&self) -> usize
         ensures value { result ≡ length self.now }
         ensures few { result ≤ 480 }

@@ -1,8 +1,8 @@
-//! Laws of the master blocks.
+//! Laws of MIB decoding.
 
 ghost use Rattle.pbch.specs.Laws.{IsOneMaster};
 
-/// Values tell at most one master block.
+/// A law: soft values decode to at most one MIB.
 pub fn at_most_one_master()
     ensures { IsOneMaster }
 {}

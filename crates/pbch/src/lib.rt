@@ -1,5 +1,6 @@
-//! The master block of frames: the soft values of the broadcast channel in one to four frames, summed by
-//! the places of its coded word, and the block that they tell.
+//! PBCH decoding: the soft values in one to four frames, summed by coded bit, and the MIB (master block) decoded from
+//! the sums (TS 36.211 section 6.6, TS 36.212 section 5.3.1).
+//! Tests: the crate `slot_tests`.
 #![tactic(auto)]
 
 mod block;

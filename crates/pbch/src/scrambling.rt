@@ -1,4 +1,4 @@
-//! The bits that scramble the broadcast channel of a cell.
+//! The PBCH scrambling bits of a cell.
 
 ghost use Rattle.std.specs.Prelude.{◌≡◌, ℕ, ◌+◌, ◌≤◌, length};
 ghost use Rattle.finite.specs.Sizes.{AllWithin};
@@ -10,8 +10,8 @@ use lte_types::CellId;
 use soft_bits::Scrambling;
 use std::marker::Model;
 
-/// The bits that scramble the broadcast channel of a cell in the four frames of a period, made once (TS 36.211 section
-/// 6.6.1). Contracts see it as the cell's identity.
+/// The PBCH scrambling bits of a cell in the four frames of a period, computed once (TS 36.211 section 6.6.1).
+/// Contracts see the cell identity.
 #[derive(Drop)]
 pub struct CellScrambling {
     id: CellId,
@@ -27,7 +27,7 @@ impl Model for CellScrambling {
 }
 
 impl CellScrambling {
-    /// The bits of this cell.
+    /// Returns the bits for this cell.
     pub fn new(id: CellId) -> CellScrambling
         ensures { result ≡ id }
     {
@@ -37,8 +37,7 @@ impl CellScrambling {
         }
     }
 
-    /// Turns values, of which the first is this bit of the period, into those by the bits before scrambling. `first`
-    /// and the count of values are together at most 1,920.
+    /// Descrambles values that start at bit `first` in the period. `first` plus the count is at most 1,920.
     pub fn descramble(&self, first: usize, values: &mut [i16])
         requires few { first + length values.old ≤ 1920 }
         requires sizes { AllWithin 127 values.old }

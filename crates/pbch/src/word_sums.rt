@@ -1,11 +1,11 @@
-//! The sums that tell a coded word.
+//! The sums that a word is decoded from.
 
 ghost use Rattle.std.specs.Prelude.{◌≡◌, List, ℤ, length};
 ghost use Rattle.finite.specs.Sizes.{AllWithin, RowsWithin};
 
 use std::marker::Model;
 
-// The sums at an index of the word, one of each stream, of size at most 2,032. Contracts see it as their list.
+// The sums at one index of the word, one per stream, within 2,032. Contracts see a list.
 #[derive(Clone, Copy)]
 struct SumRow {
     sums: [i16; 3],
@@ -43,8 +43,8 @@ impl SumRow {
     }
 }
 
-/// The sums that tell a coded word of 40 bits: at each index one of each of the three streams, of size
-/// at most 2,032. Contracts see it as the list of the lists of each index. (own)
+/// The sums that a 40-bit word is decoded from: at each index one per stream, within 2,032. Contracts see a list with
+/// a list for each index. (own)
 #[derive(Clone, Copy)]
 pub struct WordSums {
     rows: [SumRow; 40],
@@ -61,7 +61,7 @@ impl Model for WordSums {
 }
 
 impl WordSums {
-    /// The sums of a word: these, by index and stream, each of size at most 2,032.
+    /// Returns the sums for a word, from `rows` by index and stream, each within 2,032.
     pub fn new(rows: &[[i32; 3]; 40]) -> WordSums
         requires { RowsWithin 2032 rows.now }
         ensures { result ≡ rows.now }
@@ -73,7 +73,7 @@ impl WordSums {
         WordSums { rows: kept }
     }
 
-    /// The sums by index and stream, each of size at most 2,032.
+    /// Returns the sums by index and stream, each within 2,032.
     pub fn rows(&self) -> [[i32; 3]; 40]
         ensures rows { result ≡ self.now }
         ensures sizes { RowsWithin 2032 result }

@@ -48,7 +48,7 @@ unfolding hit_at is_hit
 hit_agrees count n2 t a b agree within first =
     rw (peak_agrees count t n2 a b agree (omega (arith, within)), energy_agrees count t a b agree (omega (arith, within)), ruled_out_agrees count n2 t a b agree within first) refl
 
--- the last place that is looked at is 19,345, nine after the last of the span
+-- the last position that matters is 19,345, nine after the span
 pub hits_agree : (count : ℕ) (a b : List Sample) → AgreeBefore count a b → 19473 ≤ count → hits_of a ≡ hits_of b
 unfolding hits_before hits_at
 hits_agree count a b agree within =

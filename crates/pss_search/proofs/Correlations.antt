@@ -1,4 +1,4 @@
--- The correlations are made of sums of products of parts, roots 29 and 34 share them, and the energy slides.
+-- Correlations are sums of dot products, roots 29 and 34 share them, and the energy slides.
 use Rattle.std.proofs.Common.{◌≡◌, ℕ, ◌+◌, ◌-◌, ◌<◌, ◌≤◌, arith, refl, ap, ap₂, sym, subst, ◌∙◌, List, ℤ, pos, ◌+ℤ◌, ◌-ℤ◌, ◌*ℤ◌, neg_ℤ}
 use Rattle.std.proofs.lemmas.Int.{ints}
 use Rattle.finite.specs.Sums.{sum_below, total_below}
@@ -19,7 +19,7 @@ use Rattle.pss_search.specs.declared.products.ProductSums.{ProductSums}
 use Rattle.pss_search.specs.Products.{IsStretchOf, product_at, dot_of, products_of, with_conjugate_of, with_signal_of, wave_re, wave_im, correlation_at}
 use Rattle.pss_search.proofs.Symmetry.{unit, conjugate_between, conjugate_after, conjugate_first, conjugate_middle}
 
--- ---- a sum over 128 places
+-- ---- a sum over 128 samples
 
 by_ends : (g : ℕ → Cpx) → complex_sum_below 128 g
     ≡ plus (g 0) (plus (complex_sum_below 63 (λ k. g (1 + k))) (plus (g 64) (complex_sum_below 63 (λ k. g (65 + k)))))
@@ -63,7 +63,7 @@ ends_im a x m b y n = omega (arith, ints)
 ends : (a x m b y n : Cpx) → plus (minus a (times_j x)) (plus m (plus (minus b (times_j y)) n)) ≡ minus (plus a (plus m (plus b n))) (times_j (plus x y))
 ends a x m b y n = pair (ends_re a.re x.im m.re b.re y.im n.re) (ends_im a.im x.re m.im b.im y.re n.im)
 
--- the sum for root 34 is that of products with the signal of root 29 itself, and a correction for two samples
+-- the correlation with root 34 is the sum of products with the signal of root 29 itself, corrected at two samples
 pub roots_share : (recording : List Sample) (t : ℕ) → correlation_at recording t 2
     ≡ minus (complex_sum_below 128 (λ n. times (sample_at recording (t + n)) (wave 1 n))) (times_j (plus (sample_at recording t) (sample_at recording (t + 64))))
 roots_share recording t =
@@ -85,7 +85,7 @@ roots_share recording t =
         complex_sum_below_same 63 (λ k. times (f (s + k)) (conjugate (wave 2 (s + k)))) (λ k. times (f (s + k)) (wave 1 (s + k)))
         (λ k l. ap (times (f (s + k))) (conjugate_back (wave 1 (s + k)) (wave 2 (s + k)) (each k l)))
 
--- ---- four sums of products of parts
+-- ---- four dot products
 
 with_conjugate_re : (a b c d : ℤ) → a *ℤ c -ℤ b *ℤ neg_ℤ d ≡ a *ℤ c +ℤ b *ℤ d
 with_conjugate_re a b c d = same (ring.minus (ring.times (var a) (var c)) (ring.times (var b) (ring.minus_one (var d)))) (ring.plus (ring.times (var a) (var c)) (ring.times (var b) (var d))) (omega arith)
@@ -96,7 +96,7 @@ with_conjugate_im a b c d = same (ring.plus (ring.times (var a) (ring.minus_one 
 other_order : (a b : ℤ) → a +ℤ b ≡ b +ℤ a
 other_order a b = omega (arith, ints)
 
--- a sum of products of rows that hold parts
+-- a dot product of rows that hold parts
 dot_is : (values : List ℤ) (f g : ℕ → ℤ) (o : ℕ) → o ≤ 128 → values ≡ values_below 256 f →
     dot_of values o (values_below 128 g) ≡ sum_below 128 (λ n. f (o + n) *ℤ g n)
 unfolding dot_of
@@ -105,7 +105,7 @@ dot_is values f g o within e =
     ∙ sum_below_same 128 (product_at (values_below 256 f) o (values_below 128 g)) (λ n. f (o + n) *ℤ g n)
     (λ n l. ap₂ ◌*ℤ◌ (values_below_at f 256 (o + n) (pos 0) (omega (arith, within, l))) (values_below_at g 128 n (pos 0) l))
 
--- by the four sums of products of a stretch that has the place
+-- from the four dot products of a stretch that contains the position
 module _ (recording : List Sample) (stretch : Stretch) (t n2 : ℕ) (held : IsStretchOf recording stretch) (from : stretch.from ≤ t) (reached : t ≤ stretch.from + 128) where
   abbrev p : ℕ → Cpx
   p = wave n2
@@ -132,7 +132,7 @@ module _ (recording : List Sample) (stretch : Stretch) (t n2 : ℕ) (held : IsSt
       dot_is stretch.im (λ n. (sample_at recording (stretch.from + n)).im) g (t - stretch.from) within held.im
       ∙ sum_below_same 128 _ (λ n. (f n).im *ℤ g n) (λ n l. ap (λ i. (sample_at recording i).im *ℤ g n) (there n))
 
-  -- the sum with the conjugate of a signal
+  -- the sum with a signal's conjugate
   pub by_conjugate : with_conjugate_of four ≡ correlation_at recording t n2
   by_conjugate = pair
       (ap₂ ◌+ℤ◌ (re_by (λ n. (p n).re)) (im_by (λ n. (p n).im))
@@ -142,7 +142,7 @@ module _ (recording : List Sample) (stretch : Stretch) (t n2 : ℕ) (held : IsSt
       ∙ sym (sum_below_same 128 (λ n. (times (f n) (conjugate (p n))).im) (λ n. (f n).im *ℤ (p n).re -ℤ (f n).re *ℤ (p n).im) (λ n l. with_conjugate_im (f n).re (f n).im (p n).re (p n).im)
       ∙ sum_below_minus 128 (λ n. (f n).im *ℤ (p n).re) (λ n. (f n).re *ℤ (p n).im)))
 
-  -- and that with the signal itself
+  -- the sum with the signal itself
   pub by_signal : with_signal_of four ≡ complex_sum_below 128 (λ n. times (f n) (p n))
   by_signal = pair
       (ap₂ ◌-ℤ◌ (re_by (λ n. (p n).re)) (im_by (λ n. (p n).im))
@@ -157,14 +157,14 @@ pub energy_slides : (recording : List Sample) (t : ℕ) → energy recording (t 
 unfolding energy
 energy_slides recording t = total_below_slides 128 t (λ i. square (sample_at recording i))
 
--- the first square is a part of it
+-- the first square is part of the energy
 pub first-le : (recording : List Sample) (t : ℕ) → square (sample_at recording t) ≤ energy recording t
 unfolding energy
 first-le recording t =
     let e : t + 0 ≡ t = omega arith in
     subst (λ i. square (sample_at recording i) ≤ total_below 128 (energy_term recording t)) e (total_below-term 128 0 (energy_term recording t) (omega arith))
 
--- it is at most 2 ^ 38 where each square from sample 128 on is at most 2 ^ 31
+-- the energy is at most 2 ^ 38 if each square from sample 128 is at most 2 ^ 31
 pub energy-small : (recording : List Sample) (place : ℕ) → 128 ≤ place → ((k : ℕ) → k < place → square (sample_at recording (k + 128)) ≤ 2147483648) →
     energy recording place ≤ 274877906944
 unfolding energy

@@ -1,11 +1,11 @@
--- Two rows of 256 that are filled with the parts of numbers, place by place.
+-- Two rows of 256 that are filled with numbers' parts, one after the other.
 use Rattle.std.proofs.Common.{◌≡◌, ℕ, ◌+◌, ◌<◌, arith, List, ℤ, pos, length, set, length-set, get_or, ◌∙◌}
 use Rattle.std.proofs.lemmas.List.Edits.{fill_by_more}
 use Rattle.std.proofs.lemmas.List.FromFn.{fill_by_all}
 use Rattle.finite.specs.Lists.{values_below}
 use Rattle.cs_num.specs.declared.Cpx.{Cpx}
 
--- the first n places hold the parts of f
+-- the first n entries hold the parts of f
 pub record Filled (f : ℕ → Cpx) (n : ℕ) (re im : List ℤ) : Type 0 where
   pub whole_re : length re ≡ 256
   pub whole_im : length im ≡ 256

@@ -16,7 +16,7 @@ use Rattle.pss_search.specs.Laws.{IsHitOf, ListIsRight, IsEarlier, ListIsInOrder
 use Rattle.pss_search.proofs.Peaks.{small_peak}
 use Rattle.pss_search.proofs.RightTest.{right_test}
 
--- what stands in the list of one place and root
+-- a hit in the list for one position and root
 record Stands (recording : List Sample) (t n2 : ℕ) (hit : Hit) : Type 0 where
   is_hit : is_hit recording t n2 ≡ true
   found : hit ≡ found recording t n2
@@ -99,13 +99,13 @@ list_is_in_order recording = joined_below-pairs IsEarlier 19200 (λ k. hits_at r
         let q = at_that_place recording (137 + j) y b in
         omega (arith, below, p.0, p.1, q.0, q.1)
 
--- what is listed lies in the span
+-- listed hits lie in the span
 pub listed_in_span : (recording : List Sample) → All IsInSpan (hits_of recording)
 listed_in_span recording k d within =
     let h = listed_is_hit recording (get_or (hits_of recording) k d) (Contains-get_or (hits_of recording) k d within) in
     record { from_first = h.is_hit.from_first; to_last = h.is_hit.to_last; root = omega (arith, h.root) }
 
--- where the parts of all samples have 16 bits, the numbers of what is listed are small
+-- if the parts of all samples have 16 bits, listed numbers are bounded
 energy_small : (recording : List Sample) (t : ℕ) → ((i : ℕ) → IsWithin 32768 (sample_at recording i)) → energy recording t ≤ 2 ^ 38
 unfolding energy
 energy_small recording t within =

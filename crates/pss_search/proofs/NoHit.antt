@@ -1,4 +1,4 @@
--- A place at which no signal's share of the energy is great enough, if only of the least power, has no hit.
+-- A position at which no signal, even with the minimum power, has a large enough fraction of the energy, has no hit.
 use Rattle.std.proofs.Common.{◌≡◌, ℕ, zero, suc, ◌+◌, ◌*◌, ◌<◌, arith, refl, ap, ◌∙◌, Bool, true, false, List, [], ◌++◌, append-nil}
 use Rattle.std.proofs.lemmas.Nat.{mul-le}
 use Rattle.cs_num.specs.declared.Sample.{Sample}
@@ -12,7 +12,7 @@ use Rattle.pss_search.proofs.Symmetry.{power_high}
 use Rattle.pss_search.proofs.Window.{hit_tells}
 use Rattle.pss_search.proofs.Room.{hits_before_more}
 
--- the signal's share is too small
+-- the signal's fraction is too small
 abbrev pub IsFaint : List Sample → ℕ → ℕ → Type 0
 IsFaint recording t n2 = 4 * peak recording n2 t < energy recording t * 1990000
 
@@ -37,7 +37,7 @@ no_hits recording t first second third = joined_below_same {A = Hit} 3 (hit_at r
     each (suc (suc zero)) l = no_hit_of recording t 2 l third
     each (suc (suc (suc n2))) l = absurd (omega (arith, l))
 
--- such a place leaves the list as it is
+-- a position without hits leaves the list unchanged
 pub list_stays : (recording : List Sample) (i : ℕ) → hits_at recording (137 + i) ≡ [] → hits_before recording (i + 1) ≡ hits_before recording i
 unfolding hits_at
 list_stays recording i none = hits_before_more recording i ∙ ap (λ hits. hits_before recording i ++ hits) none ∙ append-nil (hits_before recording i)

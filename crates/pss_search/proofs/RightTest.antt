@@ -1,4 +1,4 @@
--- The test of a hit and its definition agree.
+-- The test for a hit and its definition agree.
 use Rattle.std.proofs.Common.{◌≡◌, ℕ, ◌+◌, ◌-◌, ◌*◌, ◌<◌, ◌≤◌, arith, refl, Bool, true, false, List, nat_lt, nat_le}
 use Rattle.std.specs.Prelude.{◌&&◌}
 use Rattle.std.proofs.lemmas.Bool.Decides.{nat_tests}

@@ -1,4 +1,4 @@
--- The list of hits, place by place: its steps, and its room for 5,760.
+-- The list of hits, position by position: its steps, and its room for 5,760.
 use Rattle.std.proofs.Common.{◌≡◌, ℕ, zero, suc, ◌+◌, ◌<◌, ◌≤◌, arith, refl, ap, sym, subst, ◌∙◌, Bool, true, false, List, [], ◌∷◌, ◌++◌, length, length-append, append-nil, append_assoc}
 use Rattle.std.specs.Prelude.{if◌then◌else◌}
 use Rattle.cs_num.specs.declared.Sample.{Sample}
@@ -16,7 +16,7 @@ use Rattle.pss_search.specs.Laws.{ListIsShort}
 use Rattle.pss_search.proofs.Sparse.{IsSparse, count_more_yes, count_within}
 use Rattle.pss_search.proofs.Window.{hits_sparse}
 
--- whether a place of the span is a hit of the root
+-- a position in the span is a hit with the root
 abbrev pub passes : List Sample → ℕ → ℕ → Bool
 passes recording n2 i = is_hit recording (137 + i) n2
 
@@ -53,7 +53,7 @@ so_far_length recording i (suc n2) =
       length-append (joined_below n2 (hit_at recording (137 + i))) (hit_at recording (137 + i) n2),
     )
 
--- one more place
+-- one more position
 pub hits_before_more : (recording : List Sample) (i : ℕ) → hits_before recording (i + 1) ≡ so_far recording i 3
 unfolding hits_before hits_at
 hits_before_more recording i = joined_below_more i (λ k. joined_below 3 (hit_at recording (137 + k)))
@@ -93,7 +93,7 @@ hits_length recording (suc i) =
     let e : i + 1 ≡ suc i = omega arith in
     subst (λ n. length (hits_before recording n) ≡ counted recording n) e (length_step recording i (hits_length recording i))
 
--- the whole list has room
+-- the complete list has room
 pub list_is_short : ListIsShort
 list_is_short recording =
     omega (
@@ -104,7 +104,7 @@ list_is_short recording =
       count_at_most recording 2 19200 (omega arith),
     )
 
--- one who passes has room
+-- one more hit has room
 pub room : (recording : List Sample) (i n2 : ℕ) → i < 19200 → n2 < 3 → is_hit recording (137 + i) n2 ≡ true → length (so_far recording i n2) < 5760
 room recording i zero l r e =
     omega (
@@ -159,7 +159,7 @@ pub hits_before_none : (recording : List Sample) → hits_before recording 0 ≡
 unfolding hits_before joined_below
 hits_before_none recording = refl
 
--- a list of one hit says that there is one
+-- a list with one hit means that the test passes
 pub one_is_hit : (recording : List Sample) (t n2 : ℕ) (hit : Hit) → hit ∷ [] ≡ hit_at recording t n2 → is_hit recording t n2 ≡ true
 unfolding hit_at
 one_is_hit recording t n2 hit e = settle (is_hit recording t n2) refl

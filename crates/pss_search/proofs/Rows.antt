@@ -1,4 +1,4 @@
--- A sum over 128 places as those of its four rows of 32.
+-- A sum over 128 samples as the sum over four rows of 32.
 use Rattle.std.proofs.Common.{◌≡◌, ℕ, ◌+◌, ◌*◌, ◌≤◌, ℤ, ◌+ℤ◌, ◌∙◌, ap, sym, arith, nat_abs}
 use Rattle.finite.specs.Sums.{sum_below}
 use Rattle.finite.proofs.Integers.{abs-sum}

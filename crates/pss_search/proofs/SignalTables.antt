@@ -1,5 +1,5 @@
--- The samples of the three primary signals, computed once: the useful parts of the symbols that hold them, by the roots 25, 29
--- and 34. (of TS 36.211 sections 6.11.1 and 6.12)
+-- Samples of the three primary signals, computed once: useful parts of symbols with roots 25, 29 and 34. (TS 36.211
+-- sections 6.11.1 and 6.12)
 use Rattle.std.proofs.Common.{◌≡◌, ℕ, zero, suc, ◌<◌, Bool, true, List, [], ◌∷◌, ℤ, pos, negsuc, get_or, refl}
 use Rattle.finite.specs.Sums.{sum_below}
 use Rattle.finite.specs.Tests.{every_below}
@@ -106,7 +106,7 @@ im_34 =
     pos 124 ∷ pos 81 ∷ pos 42 ∷ pos 90 ∷ pos 147 ∷ pos 87 ∷ negsuc 56 ∷ negsuc 111 ∷ negsuc 6 ∷ pos 119 ∷ pos 102 ∷
     negsuc 29 ∷ negsuc 99 ∷ negsuc 21 ∷ pos 91 ∷ pos 94 ∷ negsuc 5 ∷ []
 
--- the tables by the signal's number
+-- the tables by signal number
 unfoldable pub re_of : ℕ → List ℤ
 re_of zero = re_25
 re_of (suc zero) = re_29
@@ -120,7 +120,7 @@ im_of (suc (suc n2)) = im_34
 unfoldable pub samples : ℕ → ℕ → Cpx
 samples n2 n = record { re = get_or (re_of n2) n (pos 0); im = get_or (im_of n2) n (pos 0) }
 
--- sample n of a signal is that of its table
+-- sample n of a signal is the entry in its table
 unfoldable is_sample : ℕ → ℕ → Bool
 is_sample n2 n = is_same (wave n2 n) (samples n2 n)
 

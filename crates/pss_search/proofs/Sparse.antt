@@ -1,9 +1,9 @@
--- Tests of which two numbers that pass stand at least a step apart: at most one number in a step passes.
+-- Tests that pass only numbers a step apart: at most one number in a step passes.
 use Rattle.std.proofs.Common.{◌≡◌, ℕ, zero, suc, ◌+◌, ◌-◌, ◌*◌, ◌<◌, ◌≤◌, arith, refl, ap, sym, ◌∙◌, Bool, true, false}
 use Rattle.finite.proofs.Counts.{count_below}
 use Rattle.finite.proofs.Counts.{count_below_none, count_below_more}
 
--- two numbers that pass are at least ten apart
+-- two passing numbers are at least ten apart
 abbrev pub IsSparse : (ℕ → Bool) → Type 0
 IsSparse p = (i j : ℕ) → i < j → p i ≡ true → p j ≡ true → i + 10 ≤ j
 
@@ -13,14 +13,14 @@ count_more_yes n p e = count_below_more n p ∙ rw e refl
 pub count_more_no : (n : ℕ) (p : ℕ → Bool) → p n ≡ false → count_below (n + 1) p ≡ count_below n p
 count_more_no n p e = count_below_more n p ∙ rw e (omega arith)
 
--- none between two places: the count stays
+-- no number passes in between: the count stays
 count_stays : (p : ℕ → Bool) (n k : ℕ) → ((i : ℕ) → n ≤ i → i < n + k → p i ≡ false) → count_below (n + k) p ≡ count_below n p
 count_stays p n zero h = let e : n + 0 ≡ n = omega arith in rw e refl
 count_stays p n (suc k) h =
     let e : n + suc k ≡ n + k + 1 = omega arith in
     rw e (count_more_no (n + k) p (h (n + k) (omega arith) (omega arith)) ∙ count_stays p n k (λ i a b. h i a (omega arith)))
 
--- a place passes: those before it are ten places lower
+-- a number passes: the earlier ones are ten lower
 low_count : (p : ℕ → Bool) → IsSparse p → (n : ℕ) → p n ≡ true → count_below n p ≡ count_below (n - 9) p
 low_count p sparse n passes =
     let e : n - 9 + (n - (n - 9)) ≡ n = omega arith in

@@ -1,4 +1,4 @@
--- The symmetries of the three signals, how great their samples are, and the sums of their squares, by their tables.
+-- Symmetries, bounds and powers of the three signals, from their tables.
 use Rattle.std.proofs.Common.{◌≡◌, ℕ, zero, suc, ◌+◌, ◌-◌, ◌<◌, ◌≤◌, Bool, true, List, ℤ, [], ◌∷◌, arith, refl, ap, sym, ◌∙◌, pos, get_or, nat_le}
 use Rattle.std.specs.Prelude.{◌&&◌, nat_abs, slice_index_or}
 use Rattle.std.proofs.lemmas.Bool.{and_parts, leb-true}
@@ -33,7 +33,8 @@ wave_mirrored n2 n known low high =
     let f : n - 1 + 1 ≡ n = omega (arith, low) in
     wave_is n2 (128 - n) known (omega (arith, low)) ∙ ap (samples n2) e ∙ here ∙ ap (samples n2) f ∙ sym (wave_is n2 n known high)
 
--- ---- the signal of root 34 is the conjugate of that of root 29, but that at samples 0 and 64 rounding adds j
+-- ---- the signal with root 34 is the conjugate of the one with root 29, except that rounding adds j at samples 0 and
+-- 64
 
 abbrev pub unit : Cpx
 unit = record { re = pos 0; im = pos 1 }
@@ -90,7 +91,7 @@ wave_small n2 n known l =
     let parts = and_parts _ _ (every_below_at 128 (is_small n2) (every_below_at 3 (λ n2. every_below 128 (is_small n2)) all_small n2 known) n l) in
     rw (wave_is n2 n known l) (record { re = leb-true _ _ parts.0; im = leb-true _ _ parts.1 })
 
--- ---- the samples, as the code has them
+-- ---- the samples as they are in the code
 
 pub wave_re_is : (n2 : ℕ) → n2 < 3 → values_below 128 (λ n. get_or (re_of n2) n (pos 0)) ≡ wave_re n2
 unfolding samples
@@ -100,7 +101,7 @@ pub wave_im_is : (n2 : ℕ) → n2 < 3 → values_below 128 (λ n. get_or (im_of
 unfolding samples
 wave_im_is n2 known = values_below_same 128 (λ n. get_or (im_of n2) n (pos 0)) (λ n. (wave n2 n).im) (λ n l. ap (λ z. z.im) (sym (wave_is n2 n known (omega (arith, l)))))
 
--- ---- the sums of the squares
+-- ---- the powers
 
 abbrev tabled_power : ℕ → ℕ
 tabled_power n2 = total_below 128 (λ n. square (samples n2 n))
@@ -127,21 +128,21 @@ power_is (suc zero) known = second_power ∙ power_tabled 1 known
 power_is (suc (suc zero)) known = third_power ∙ power_tabled 2 known
 power_is (suc (suc (suc n2))) known = absurd (omega (arith, known))
 
--- none is much below the first
+-- each power is at least 1,990,000
 pub power_high : (n2 : ℕ) → n2 ≤ 2 → 1990000 ≤ wave_power n2
 power_high zero known = let e : 1996394 ≡ wave_power 0 = power_is 0 (omega arith) in omega (arith, e)
 power_high (suc zero) known = let e : 2001625 ≡ wave_power 1 = power_is 1 (omega arith) in omega (arith, e)
 power_high (suc (suc zero)) known = let e : 2001665 ≡ wave_power 2 = power_is 2 (omega arith) in omega (arith, e)
 power_high (suc (suc (suc n2))) known = absurd (omega (arith, known))
 
--- none is silent, and none is above the third
+-- each power is positive, and the third is the maximum
 pub power_range : (n2 : ℕ) → n2 < 3 → (0 < wave_power n2) × (wave_power n2 ≤ 2001665)
 power_range zero known = let e : 1996394 ≡ wave_power 0 = power_is 0 known in (omega (arith, e), omega (arith, e))
 power_range (suc zero) known = let e : 2001625 ≡ wave_power 1 = power_is 1 known in (omega (arith, e), omega (arith, e))
 power_range (suc (suc zero)) known = let e : 2001665 ≡ wave_power 2 = power_is 2 known in (omega (arith, e), omega (arith, e))
 power_range (suc (suc (suc n2))) known = absurd (omega (arith, known))
 
--- ---- sizes of all
+-- ---- bounds
 
 pub wave_re-small : (n2 : ℕ) → n2 ≤ 2 → AllWithin 255 (wave_re n2)
 wave_re-small n2 known k d l = rw (values_below_at (λ n. (wave n2 n).re) 128 k d l) ((wave_small n2 k (omega (arith, known)) (omega (arith, l))).re)

@@ -1,4 +1,4 @@
--- The grids of the signals, and the signals made of lists that hold them.
+-- The signals' grids, and the signals computed from lists that hold the grids.
 use Rattle.std.proofs.Common.{◌≡◌, ℕ, ◌-◌, arith, sym, subst, Bool, true, false, nat_lt}
 use Rattle.std.specs.Prelude.{All, if◌then◌else◌}
 use Rattle.finite.specs.Lists.{values_below}
@@ -24,7 +24,7 @@ grid-within n2 k = first (nat_lt k 5)
     first true = nothing-within
     first false = second (nat_lt k 67)
 
--- a list that holds the grid makes the wave
+-- a list that holds the grid gives the signal
 pub wave_from : (n2 : ℕ) → useful_part (value_at (values_below 72 (pss_grid n2))) ≡ wave_list n2
 unfolding useful_part
 wave_from n2 = values_below_same 128 (useful_at (value_at (values_below 72 (pss_grid n2)))) (useful_at (pss_grid n2))

@@ -1,4 +1,4 @@
--- A place within 9 rules a place out or does not; two hits of one root stand ten places apart.
+-- Whether a position within 9 rules another out; two hits with one root are at least ten positions apart.
 use Rattle.std.proofs.Common.{◌≡◌, ℕ, ◌+◌, ◌-◌, ◌*◌, ◌<◌, ◌≤◌, arith, refl, ap, sym, ◌∙◌, Bool, true, false, List, nat_lt}
 use Rattle.std.specs.Prelude.{◌&&◌, ◌||◌, ◌==◌}
 use Rattle.std.proofs.lemmas.Bool.Decides.{nat_tests}
@@ -9,7 +9,7 @@ use Rattle.cs_num.specs.declared.Sample.{Sample}
 use Rattle.pss_search.specs.Correlation.{energy, peak, wave_power}
 use Rattle.pss_search.specs.Tests.{is_above, is_level, rules_out, is_ruled_out, is_hit}
 
--- neither fraction is greater and the earlier is not equal: not both
+-- two ratios of which neither is greater are equal, so these tests do not all hold
 clash : (first_energy first_peak second_energy second_peak : ℕ) → 0 < first_energy → 0 < second_energy →
     (nat_lt 0 second_energy && nat_lt 0 first_energy && nat_lt (first_peak * second_energy) (second_peak * first_energy)) ≡ false →
     (nat_lt 0 first_energy && nat_lt 0 second_energy && nat_lt (second_peak * first_energy) (first_peak * second_energy)) ≡ false →
@@ -24,7 +24,7 @@ pub or_false_right : (a b : Bool) → (a || b) ≡ false → b ≡ false
 or_false_right true b e = absurd (true≢false e)
 or_false_right false b e = e
 
--- what a hit's tests say
+-- what a hit's tests imply
 pub record Tells (recording : List Sample) (t n2 : ℕ) : Type 0 where
   pub sounds : 0 < energy recording t
   pub clear : energy recording t * wave_power n2 ≤ 4 * peak recording n2 t
@@ -41,7 +41,7 @@ near_free recording t n2 u free above below first =
     let h = any_below_none 19 (u + 9 - t) (λ d. rules_out recording n2 t (t - 9 + d)) free (omega arith) in
     ap (rules_out recording n2 t) (sym e) ∙ h
 
--- two hits of one root are ten places apart
+-- two hits with one root are at least ten positions apart
 pub hits_sparse : (recording : List Sample) (n2 t u : ℕ) → 9 ≤ t → t < u → is_hit recording t n2 ≡ true → is_hit recording u n2 ≡ true → t + 10 ≤ u
 unfolding rules_out
 hits_sparse recording n2 t u first below p q = settle (nat_lt u (t + 10)) refl

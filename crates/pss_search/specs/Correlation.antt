@@ -1,4 +1,4 @@
--- The correlation of a recording with the primary synchronisation signals. (own)
+-- Correlation of a recording with the primary synchronisation signals. (own)
 use Rattle.std.specs.Prelude.{ℕ, ◌+◌, List}
 use Rattle.cs_num.specs.declared.Cpx.{Cpx}
 use Rattle.cs_num.specs.declared.Sample.{Sample}
@@ -9,15 +9,15 @@ use Rattle.fold128.specs.Symbol.{useful_at, useful_part}
 use Rattle.sync_seq.specs.Middle.{in_middle}
 use Rattle.sync_seq.specs.Primary.{pss_at}
 
--- the grid of a symbol that holds the primary sequence of n2 alone
+-- the grid of a symbol that carries only the primary sequence n2
 abbrev pub pss_grid : ℕ → ℕ → Cpx
 pss_grid n2 = in_middle (pss_at n2)
 
--- p: sample n of the useful part of a symbol that holds the primary sequence of n2 alone
+-- p: sample n in the useful part of a symbol that carries only the primary sequence n2
 unfoldable pub wave : ℕ → ℕ → Cpx
 wave n2 n = useful_at (pss_grid n2) n
 
--- p(0) to p(127), the whole useful part
+-- p(0) to p(127), the complete useful part
 abbrev pub wave_list : ℕ → List Cpx
 wave_list n2 = useful_part (pss_grid n2)
 
@@ -29,7 +29,7 @@ wave_power n2 = total_below 128 (λ n. square (wave n2 n))
 abbrev pub peak_term : (ℕ → Cpx) → List Sample → ℕ → ℕ → Cpx
 peak_term p recording t n = times (sample_at recording (t + n)) (conjugate (p n))
 
--- C: the square of the size of the sum of r(t + n) * conj p(n)
+-- C: the squared magnitude of the sum of r(t + n) * conj p(n)
 unfoldable pub peak : List Sample → ℕ → ℕ → ℕ
 peak recording n2 t = square (complex_sum_below 128 (peak_term (wave n2) recording t))
 

@@ -1,5 +1,5 @@
--- The places where a primary synchronisation signal stands out. The metric of a place is the fraction peak / energy;
--- fractions are compared by cross products, and only places with energy are compared. (own)
+-- Hits: the positions at which a primary synchronisation signal stands out. A position's metric is the ratio peak /
+-- energy; ratios are compared by cross-multiplication, and only positions with energy are compared. (own)
 use Rattle.std.specs.Prelude.{◌≡◌, ℕ, ◌+◌, ◌*◌, ◌^◌, ◌<◌, ◌≤◌, List, [], ◌∷◌, if◌then◌else◌}
 use Rattle.cs_num.specs.declared.Sample.{Sample}
 use Rattle.lte_types.specs.declared.Hit.{Hit}
@@ -10,8 +10,8 @@ use Rattle.pss_search.specs.Tests.{is_hit}
 
 -- ---- the span
 
--- the places of one frame's worth: before the first of them there is just room for the useful part of the symbol
--- before, which has the secondary signal
+-- the positions of one frame; the useful part of the preceding symbol, which carries the secondary signal, just fits
+-- in front of the first
 abbrev pub first_place : ℕ
 first_place = 137
 
@@ -20,20 +20,21 @@ last_place = 19336
 
 -- ---- a hit
 
--- the metric of the first place is greater than that of the second
+-- the first position has a greater metric than the second
 pub record IsAbove (recording : List Sample) (n2 first second : ℕ) : Type 0 where
   pub first_sounds : 0 < energy recording first
   pub second_sounds : 0 < energy recording second
   pub greater : peak recording n2 second * energy recording first < peak recording n2 first * energy recording second
 
--- the metrics of two places are equal
+-- two positions have equal metrics
 pub record IsLevel (recording : List Sample) (n2 first second : ℕ) : Type 0 where
   pub first_sounds : 0 < energy recording first
   pub second_sounds : 0 < energy recording second
   pub equal : peak recording n2 second * energy recording first ≡ peak recording n2 first * energy recording second
 
--- the place t is a hit of n2: it lies in the span of one frame and has energy, four times its peak is at least its
--- energy times the signal's power, no place at distance 1 to 9 is above it, and none before it there is level with it
+-- position t is a hit of n2: it lies in the span of one frame and has energy, four times its peak is at least its
+-- energy times the signal's power, no position at distance 1 to 9 is above it, and none of the earlier ones is level
+-- with it
 pub record IsHit (recording : List Sample) (t n2 : ℕ) : Type 0 where
   pub from_first : first_place ≤ t
   pub to_last : t ≤ last_place
@@ -44,19 +45,19 @@ pub record IsHit (recording : List Sample) (t n2 : ℕ) : Type 0 where
 
 -- ---- the list of hits
 
--- what is told of a hit
+-- the hit of n2 at t as it is listed
 abbrev pub found : List Sample → ℕ → ℕ → Hit
 found recording t n2 = record { t = t; n2 = n2; peak = peak recording n2 t; energy = energy recording t }
 
--- the hit of n2 at t, where there is one
+-- the hit of n2 at t, if there is one
 unfoldable pub hit_at : List Sample → ℕ → ℕ → List Hit
 hit_at recording t n2 = if is_hit recording t n2 then found recording t n2 ∷ [] else []
 
--- the hits at a place, by n2
+-- the hits at a position, by n2
 unfoldable pub hits_at : List Sample → ℕ → List Hit
 hits_at recording t = joined_below 3 (hit_at recording t)
 
--- the hits at the first places of the span, by place
+-- the hits at the span's first positions, in order
 unfoldable pub hits_before : List Sample → ℕ → List Hit
 hits_before recording count = joined_below count (λ i. hits_at recording (first_place + i))
 
@@ -64,13 +65,13 @@ hits_before recording count = joined_below count (λ i. hits_at recording (first
 abbrev pub hits_of : List Sample → List Hit
 hits_of recording = hits_before recording frame_length
 
--- a hit lies in the span of one frame and names one of the three roots
+-- a hit lies in the span of one frame and has one of the three roots
 pub record IsInSpan (hit : Hit) : Type 0 where
   pub from_first : first_place ≤ hit.t
   pub to_last : hit.t ≤ last_place
   pub root : hit.n2 ≤ 2
 
--- the numbers of a hit are small, since a sample's parts have 16 bits
+-- a hit's numbers are bounded, since the parts of a sample have 16 bits
 pub record IsSmallHit (hit : Hit) : Type 0 where
   pub peak : hit.peak ≤ 2 ^ 59
   pub energy : hit.energy ≤ 2 ^ 38

@@ -1,4 +1,4 @@
--- The correlation with a signal by sums of products of parts. (own)
+-- Correlation with a signal from dot products of real and imaginary parts. (own)
 use Rattle.std.specs.Prelude.{◌≡◌, ℕ, zero, suc, ◌+◌, List, ℤ, pos, ◌+ℤ◌, ◌-ℤ◌, ◌*ℤ◌, slice_index_or}
 use Rattle.finite.specs.Sums.{sum_below}
 use Rattle.finite.specs.Lists.{values_below}
@@ -10,33 +10,33 @@ use Rattle.pss_search.specs.declared.products.Stretch.{Stretch}
 use Rattle.pss_search.specs.declared.products.ProductSums.{ProductSums}
 use Rattle.pss_search.specs.Correlation.{wave, peak_term}
 
--- the stretch holds the parts of 256 samples from its place on
+-- the stretch holds the parts of 256 samples from its position
 pub record IsStretchOf (recording : List Sample) (stretch : Stretch) : Type 0 where
   pub re : stretch.re ≡ values_below 256 (λ n. (sample_at recording (stretch.from + n)).re)
   pub im : stretch.im ≡ values_below 256 (λ n. (sample_at recording (stretch.from + n)).im)
 
--- the samples of a signal, in parts
+-- a signal's samples, in parts
 abbrev pub wave_re : ℕ → List ℤ
 wave_re n2 = values_below 128 (λ n. (wave n2 n).re)
 
 abbrev pub wave_im : ℕ → List ℤ
 wave_im n2 = values_below 128 (λ n. (wave n2 n).im)
 
--- the samples of the first two signals, in four lists: real and imaginary parts of the one, and those of the other
+-- the first two signals' samples in four lists: real and imaginary parts for the first, then for the second
 abbrev pub wave_part : ℕ → List ℤ
 wave_part zero = wave_re 0
 wave_part (suc zero) = wave_im 0
 wave_part (suc (suc zero)) = wave_re 1
 wave_part (suc (suc (suc part))) = wave_im 1
 
--- the products of 128 values from place o on with a signal, and their sum
+-- the products of 128 values from o with a signal, and their sum
 abbrev pub product_at : List ℤ → ℕ → List ℤ → ℕ → ℤ
 product_at values o signal n = slice_index_or values (o + n) (pos 0) *ℤ slice_index_or signal n (pos 0)
 
 unfoldable pub dot_of : List ℤ → ℕ → List ℤ → ℤ
 dot_of values o signal = sum_below 128 (product_at values o signal)
 
--- the four sums of products of parts of samples and of a signal
+-- the four dot products of a stretch's parts with a signal's parts
 abbrev pub products_of : Stretch → ℕ → List ℤ → List ℤ → ProductSums
 products_of stretch o re im = record {
   re_re = dot_of stretch.re o re;
@@ -45,18 +45,18 @@ products_of stretch o re im = record {
   re_im = dot_of stretch.re o im;
 }
 
--- the sum of products with the conjugate of the signal, by the sums of products of parts
+-- the sum of products with the signal's conjugate, from dot products
 abbrev pub with_conjugate_of : ProductSums → Cpx
 with_conjugate_of p = record { re = p.re_re +ℤ p.im_im; im = p.im_re -ℤ p.re_im }
 
--- the sum of products with the signal itself, by the sums of products of parts
+-- the sum of products with the signal itself, from dot products
 abbrev pub with_signal_of : ProductSums → Cpx
 with_signal_of p = record { re = p.re_re -ℤ p.im_im; im = p.im_re +ℤ p.re_im }
 
--- the sum whose squared size the peak is
+-- the correlation whose squared magnitude is the peak
 abbrev pub correlation_at : List Sample → ℕ → ℕ → Cpx
 correlation_at recording t n2 = complex_sum_below 128 (peak_term (wave n2) recording t)
 
--- the sums whose squared sizes the peaks of the three signals are
+-- the correlations whose squared magnitudes are the three signals' peaks
 abbrev pub correlations_at : List Sample → ℕ → List Cpx
 correlations_at recording t = values_below 3 (correlation_at recording t)

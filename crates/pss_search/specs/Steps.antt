@@ -1,4 +1,4 @@
--- The code's steps: the list while it grows, and how great its numbers are.
+-- The steps of the code: the list while it grows, and bounds on its numbers.
 use Rattle.std.specs.Prelude.{◌≡◌, ℕ, ◌+◌, ◌%◌, ◌^◌, ◌<◌, ◌≤◌, List, ◌++◌, All, length, slice_index_or, nat_abs, []}
 use Rattle.cs_num.specs.declared.Sample.{Sample}
 use Rattle.cs_num.specs.Complex.{square, sample_at}
@@ -11,21 +11,21 @@ use Rattle.pss_search.specs.Correlation.{peak, energy}
 use Rattle.pss_search.specs.Metrics.{Standing, end_place}
 use Rattle.pss_search.specs.Hits.{first_place, last_place, hit_at, hits_before}
 
--- ---- sizes
+-- ---- bounds
 
--- how great the two numbers of a metric are
+-- bounds on a metric's two numbers
 pub record IsSmallMetric (metric : Metric) : Type 0 where
   pub peak : metric.peak < 2 ^ 70
   pub energy : metric.energy ≤ 2 ^ 38
 
--- a metric is that of place t for n2, and its two numbers are small
+-- a metric belongs to position t and n2, and its two numbers are bounded
 pub record IsMetricOf (recording : List Sample) (n2 t : ℕ) (metric : Metric) : Type 0 where
   pub peak : metric.peak ≡ peak recording n2 t
   pub energy : metric.energy ≡ energy recording t
   pub small_peak : metric.peak < 2 ^ 70
   pub small_energy : metric.energy ≤ 2 ^ 38
 
--- sums of 128 products of a part of a sample and one of a signal, of size at most 255
+-- dot products of 128 sample parts with signal parts, which have magnitude at most 255
 pub record AreSmallProducts (p : ProductSums) : Type 0 where
   pub re_re : nat_abs p.re_re ≤ 1069547520
   pub im_im : nat_abs p.im_im ≤ 1069547520
@@ -34,8 +34,8 @@ pub record AreSmallProducts (p : ProductSums) : Type 0 where
 
 -- ---- a sweep
 
--- the place of a sweep is one of those to be measured or the end, the energy there is known, and the squares of the
--- samples that were seen are no greater than those of 16-bit numbers
+-- the sweep is at a position to be measured or at the end, the energy there is known, and each sample already seen
+-- has a squared magnitude of at most 2^31
 pub record IsReady (recording : List Sample) (place total : ℕ) : Type 0 where
   pub long : 57600 ≤ length recording
   pub first : 128 ≤ place
@@ -43,9 +43,9 @@ pub record IsReady (recording : List Sample) (place total : ℕ) : Type 0 where
   pub energy : total ≡ energy recording place
   pub small : (k : ℕ) → k < place → square (sample_at recording (k + 128)) ≤ 2 ^ 31
 
--- ---- the last 19 places
+-- ---- the last 19 positions
 
--- a row holds the peaks and the energy of place u
+-- a row holds the peaks and the energy at position u
 pub record IsRowOf (recording : List Sample) (u : ℕ) (row : PlaceSums) : Type 0 where
   pub peaks : row.peaks ≡ values_below 3 (λ n2. peak recording n2 u)
   pub energy : row.energy ≡ energy recording u
@@ -55,13 +55,13 @@ pub record IsRowOf (recording : List Sample) (u : ℕ) (row : PlaceSums) : Type 
 abbrev pub empty_row : PlaceSums
 empty_row = record { peaks = []; energy = 0 }
 
--- the rows hold the last 19 places before this one, place u at u modulo 32
+-- the rows hold the last 19 positions, position u at u modulo 32
 pub record HoldsLast (recording : List Sample) (place : ℕ) (rows : List PlaceSums) : Type 0 where
   pub whole : length rows ≡ 32
   pub each : (u : ℕ) → 128 ≤ u → u < place → place ≤ u + 19 →
       IsRowOf recording u (slice_index_or rows (u % 32) empty_row)
 
--- the sweep stands ten places past place t of the span, so that it has all metrics that decide whether t is a hit
+-- the sweep is ten positions past t, so that it has all metrics that decide whether t is a hit
 pub record DecidesOn (recent : Standing) (t : ℕ) : Type 0 where
   pub first : first_place ≤ t
   pub last : t ≤ last_place
@@ -69,6 +69,6 @@ pub record DecidesOn (recent : Standing) (t : ℕ) : Type 0 where
 
 -- ---- the list
 
--- the hits of the first places, and those of the lower roots at the next place
+-- the hits at the first positions, and those of the lower roots at the next position
 abbrev pub so_far : List Sample → ℕ → ℕ → List Hit
 so_far recording i n2 = hits_before recording i ++ joined_below n2 (hit_at recording (first_place + i))

@@ -1,4 +1,4 @@
-//! Which places are hits.
+//! The test that decides which positions are hits.
 
 ghost use Rattle.std.specs.Prelude.{◌≡◌, ◌+◌, ◌≤◌, ◌<◌, [], false, IfSome};
 ghost use Rattle.std.specs.Option.{option_to_list};
@@ -11,14 +11,14 @@ use crate::recent::Recent;
 use crate::signals::Root;
 use lte_types::Hit;
 
-// The first place of the span: the useful part of the symbol before it is in the recording.
+// The first position of the span: the useful part of the preceding symbol just fits in front of it.
 pub(crate) const FIRST_PLACE: usize = 137;
 
-// A quarter of 1,990,000: no signal has less power than that.
+// A quarter of 1,990,000, the lower bound on the signals' powers.
 const QUARTER_OF_LEAST: u64 = 497_500;
 
-// Whether the place may be a hit: some peak is great enough for a signal of the least power. Most places are not, and
-// need no other test.
+// Returns whether some peak at position `t` is large enough for a signal with the minimum power. Most positions fail,
+// and need no other test.
 #[inline(always)]
 pub(crate) fn may_be_hit(recent: &Recent, t: usize) -> bool
     requires decides { DecidesOn recent.now t }
@@ -36,7 +36,7 @@ pub(crate) fn may_be_hit(recent: &Recent, t: usize) -> bool
     least <= third
 }
 
-// The hit of a root at place t, where there is one.
+// Returns the hit for a root at position `t`, if there is one.
 #[tactic(auto, unfolding(crate::specs::Hits::hit_at))]
 pub(crate) fn hit_of(recent: &Recent, root: &Root, t: usize) -> Option<Hit>
     requires decides { DecidesOn recent.now t }
@@ -56,7 +56,7 @@ pub(crate) fn hit_of(recent: &Recent, root: &Root, t: usize) -> Option<Hit>
     }
 }
 
-// Whether the place is a hit, its own metric being known.
+// Returns whether position `t` is a hit, given its own metric.
 #[tactic(auto, using(std::proofs::lemmas::Bool::Decides::nat_tests), unfolding(crate::specs::Tests::is_hit))]
 fn stands_out(recent: &Recent, root: &Root, t: usize, own: Metric) -> bool
     requires decides { DecidesOn recent.now t }
@@ -68,7 +68,7 @@ fn stands_out(recent: &Recent, root: &Root, t: usize, own: Metric) -> bool
         && !is_ruled_out_at(recent, root, t, own)
 }
 
-// Whether some place within 9 of t rules t out.
+// Returns whether a position within 9 of `t` rules `t` out.
 fn is_ruled_out_at(recent: &Recent, root: &Root, t: usize, own: Metric) -> bool
     requires decides { DecidesOn recent.now t }
     requires metric { IsMetricOf recent.now.recording root.now.n2 t own }
@@ -82,7 +82,7 @@ fn is_ruled_out_at(recent: &Recent, root: &Root, t: usize, own: Metric) -> bool
     false
 }
 
-// Whether the place u rules t out: it is above t, or stands before t and is level with it.
+// Returns whether position `u` rules `t` out: it is above `t`, or earlier and level with it.
 #[tactic(auto, using(std::proofs::lemmas::Bool::Decides::nat_tests), unfolding(crate::specs::Tests::rules_out))]
 fn rules_out_at(recent: &Recent, root: &Root, t: usize, own: Metric, u: usize) -> bool
     requires first { 128 ≤ u }

@@ -1,4 +1,5 @@
-//! The places of a recording where a primary synchronisation signal stands out.
+//! PSS detection: the positions in a recording at which a primary synchronisation signal stands out, called hits.
+//! Tests: the crate `code_tests`.
 #![tactic(auto)]
 
 mod choose;
@@ -14,9 +15,8 @@ pub use list::{HitList, hits};
 pub use measure::{Metric, Sweep};
 pub use signals::signal_power;
 
-/// The list of hits in plain words: the test of a place is the definition of a hit, each listed
-/// place is a hit and each hit is listed, the list is in order, so that none stands twice, and it has
-/// at most 5,760.
+/// A law: the test of a position agrees with the definition of a hit; the list has exactly the hits, in order, each
+/// once, and at most 5,760.
 pub fn hits_are_right()
     ensures test { TestIsRight }
     ensures list { ListIsRight }

@@ -16,8 +16,7 @@ use sample_file::Recording;
 use std::alloc::{AllocError, Global};
 use std::marker::Model;
 
-/// A list of hits with room for 5,760, which no recording passes. Contracts see it as the list of
-/// its items.
+/// A list with room for 5,760 hits, which no recording exceeds. Contracts see a list of hits.
 #[derive(Drop)]
 pub struct HitList {
     hits: Vec<Hit>,
@@ -32,7 +31,7 @@ impl Model for HitList {
 }
 
 impl HitList {
-    /// The empty list, with its memory taken. Only memory can be wanting.
+    /// Returns the empty list with all its memory allocated. Fails only if the allocation fails.
     pub fn new(alloc: Global) -> Result<Self, AllocError>
         ensures { IfOk result (λ l. l ≡ []) }
     {
@@ -41,7 +40,7 @@ impl HitList {
         })
     }
 
-    /// The items in order.
+    /// Returns the hits in order.
     pub fn slice(&self) -> &[Hit]
         ensures { result.now ≡ self.now }
     {
@@ -65,10 +64,8 @@ impl HitList {
     }
 }
 
-/// Afterwards the list holds the hits of the recording, by place and then by identity within the
-/// group, each with its peak, at most 2^59, and its energy, at most 2^38, whatever it held before: the
-/// places 137 to 19,336, one frame's worth, at which a primary synchronisation signal stands out. It takes
-/// no memory. (own)
+/// Replaces the list by the recording's hits at the 19,200 positions from 137, ordered by position and then by
+/// identity within the group. Peaks are at most 2^59, energies at most 2^38. Allocates nothing. (own)
 pub fn hits(recording: &Recording, list: &mut HitList)
     ensures list { list.new ≡ hits_of recording.now }
     ensures span { All IsInSpan list.new }
@@ -89,7 +86,7 @@ pub fn hits(recording: &Recording, list: &mut HitList)
     }
 }
 
-// Adds the hit of a root at place i of the span, where there is one.
+// Appends the hit for a root at position `i` in the span, if there is one.
 fn add_of(recent: &Recent, root: &Root, i: usize, list: &mut HitList)
     requires i { i < frame_length }
     requires middle { recent.now.place ≡ i + 147 }

@@ -1,4 +1,4 @@
-//! The metrics of one place after the other.
+//! Metrics, position by position.
 
 ghost use Rattle.std.specs.Prelude.{◌≡◌, ℕ, ◌+◌, ◌*◌, ◌^◌, ◌<◌, ◌≤◌, ◌↔◌, List, All, length, IsNone, IfNone, IfSome};
 ghost use Rattle.cs_num.specs.declared.Sample.{Sample as SampleValue};
@@ -13,23 +13,23 @@ use cs_num::{Cpx, Sample};
 use sample_file::Recording;
 use std::marker::Model;
 
-// The first place that is measured: nine before the first of the span in which hits are looked for.
+// The first position that is measured, nine before the span in which hits are searched.
 const START: usize = 128;
 
-// The place after the last one that is measured, which is nine after the last of the span.
+// One past the last position that is measured, which is nine after the span.
 const END: usize = 19_346;
 
-/// What is measured of a place against one of the three primary signals. (own)
+/// The measurement at one position against one of the three primary signals. (own)
 #[derive(Clone, Copy, Debug, PartialEq, Eq)]
 pub struct Metric {
-    /// The square of the size of the correlation with the signal, below 2^70.
+    /// The squared magnitude of the correlation with the signal, below 2^70.
     pub peak: u128,
-    /// The energy of the 128 samples from the place on, at most 2^38.
+    /// The energy of the 128 samples from the position, at most 2^38.
     pub energy: u64,
 }
 
-// A row of the sweep, what is measured of a place: a peak for each of the three primary signals, at most 2^63, and
-// the energy.
+// A row of the sweep, measured at one position: a peak for each of the three primary signals, at most 2^63, and the
+// energy.
 #[derive(Clone, Copy)]
 pub(crate) struct PlaceSums {
     pub peaks: [u64; 3],
@@ -42,7 +42,7 @@ impl PlaceSums {
         energy: 0,
     };
 
-    // The metric for one identity within the group.
+    // Returns the metric for one identity within the group.
     pub(crate) fn metric(&self, n2: u8) -> Metric
         requires { n2 ≤ 2 }
         ensures { (recording : List SampleValue) → (t : ℕ) → IsRowOf recording t self.now →
@@ -54,7 +54,7 @@ impl PlaceSums {
         }
     }
 
-    // All three metrics.
+    // Returns all three metrics.
     fn metrics(&self) -> [Metric; 3]
         ensures value { (recording : List SampleValue) → (t : ℕ) → IsRowOf recording t self.now →
             result ≡ metrics_at recording t }
@@ -65,9 +65,8 @@ impl PlaceSums {
     }
 }
 
-/// A sweep over the places 128 to 19,345 of a recording, which measures one after the other: those of
-/// one frame's worth, and nine on each side. Contracts see it as the recording's samples and the place
-/// that comes next. It takes no memory. (own)
+/// A sweep that measures the positions 128 to 19,345 in a recording one after the other: one frame, and nine
+/// positions on each side. Contracts see the recording's samples and the next position. Allocates nothing. (own)
 #[derive(Drop)]
 pub struct Sweep<'a> {
     samples: &'a [Sample],
@@ -92,7 +91,7 @@ impl<'a> Model for Sweep<'a> {
 }
 
 impl<'a> Sweep<'a> {
-    /// The sweep before place 128.
+    /// Returns the sweep at position 128.
     pub fn new(recording: &'a Recording) -> Sweep<'a>
         ensures recording { result.recording ≡ recording.now }
         ensures place { result.place ≡ 128 }
@@ -106,7 +105,7 @@ impl<'a> Sweep<'a> {
         }
     }
 
-    /// The place that comes next, 128 to 19,346.
+    /// Returns the next position, 128 to 19,346, which is the end.
     pub fn place(&self) -> usize
         ensures place { result ≡ self.now.place }
         ensures first { 128 ≤ result }
@@ -115,8 +114,8 @@ impl<'a> Sweep<'a> {
         self.place
     }
 
-    /// The metrics of the place against the signals of the identities 0, 1 and 2 within the group;
-    /// the next place then comes. `None` exactly where the place is 19,346, and it then stays.
+    /// Returns the next position's metrics for the identities 0, 1 and 2 within the group, and advances. Returns
+    /// `None`, and stays, exactly if the position is 19,346.
     pub fn step(&mut self) -> Option<[Metric; 3]>
         ensures end { IsNone result ↔ (self.old.place ≡ end_place) }
         ensures stays { IfNone result (self.new ≡ self.old) }
@@ -131,7 +130,7 @@ impl<'a> Sweep<'a> {
         }
     }
 
-    // The metrics of the next place, for all n2, as a row.
+    // Returns the next position's metrics as a row, and advances.
     #[inline(always)]
     pub(crate) fn measure(&mut self) -> Option<PlaceSums>
         ensures end { IsNone result ↔ (self.old.place ≡ end_place) }
@@ -152,7 +151,7 @@ impl<'a> Sweep<'a> {
     }
 }
 
-// The row of three correlations and an energy.
+// Returns the row for three correlations and an energy.
 fn row_of(sums: &[Cpx; 3], total: u64) -> PlaceSums
     requires small { All (IsWithin (2 ^ 31)) sums.now }
     requires few { total ≤ 2 ^ 38 }
@@ -166,7 +165,7 @@ fn row_of(sums: &[Cpx; 3], total: u64) -> PlaceSums
     }
 }
 
-// The square of the size of a number that is so small that 64 bits hold it.
+// Returns the squared magnitude of a number so small that 64 bits hold it.
 fn square_of(number: Cpx) -> u64
     requires { IsWithin (2 ^ 31) number }
     ensures value { result ≡ square number }
@@ -177,7 +176,7 @@ fn square_of(number: Cpx) -> u64
     re * re + im * im
 }
 
-// The energy of the next place: without the first sample of this one, and with the sample behind it.
+// Returns the next position's energy: without the first sample at this one, and with the sample after its last.
 fn next_energy(samples: &[Sample], t: usize, total: u64) -> u64
     requires room { t + 129 ≤ length samples.now }
     requires energy { total ≡ energy samples.now t }
@@ -188,7 +187,7 @@ fn next_energy(samples: &[Sample], t: usize, total: u64) -> u64
     total - energy_part(samples[t]) + energy_part(samples[t + 128])
 }
 
-// The energy of a place.
+// Returns the energy of the 128 samples from `t`.
 fn energy_sum(samples: &[Sample], t: usize) -> u64
     requires { t + 128 ≤ length samples.now }
     ensures value { result ≡ energy samples.now t }
@@ -201,7 +200,7 @@ fn energy_sum(samples: &[Sample], t: usize) -> u64
     sum
 }
 
-// What a sample gives to the energy of a place.
+// Returns a sample's contribution to the energy.
 fn energy_part(sample: Sample) -> u64
     ensures value { result ≡ square (value_of sample) }
     ensures small { result ≤ 2 ^ 31 }

@@ -1,5 +1,5 @@
-//! The correlations of a place with the three signals. The signals of roots 29 and 34 are conjugates of
-//! each other but for two samples, so they share their products.
+//! Correlations with the three signals. The signals with roots 29 and 34 are conjugates except at two samples, so
+//! they share their products.
 
 ghost use Rattle.std.specs.Prelude.{◌≡◌, ℕ, ◌+◌, ◌*◌, ◌^◌, ◌<◌, ◌≤◌, All, length, nat_abs};
 ghost use Rattle.finite.specs.Sizes.{AllWithin};
@@ -12,7 +12,8 @@ ghost use Rattle.pss_search.specs.Steps.{AreSmallProducts};
 use crate::signals::part_of;
 use cs_num::{Cpx, Sample};
 
-// 256 samples of a recording from place `from` on, in parts, so that the machine takes eight at once.
+// 256 samples of a recording from sample `from`, with real and imaginary parts apart, so that the processor takes
+// eight at once.
 #[derive(Clone, Copy)]
 pub(crate) struct Stretch {
     pub from: usize,
@@ -21,7 +22,7 @@ pub(crate) struct Stretch {
 }
 
 impl Stretch {
-    // The stretch of 256 samples from place t on.
+    // Returns the stretch of 256 samples from `t`.
     pub(crate) fn new(samples: &[Sample], t: usize) -> Self
         requires { t + 256 ≤ length samples.now }
         ensures held { IsStretchOf samples.now result }
@@ -36,7 +37,7 @@ impl Stretch {
         Stretch { from: t, re, im }
     }
 
-    // Moves the stretch on where it does not hold the 128 samples from place t on.
+    // Advances the stretch if it does not hold the 128 samples from `t`.
     pub(crate) fn reach(&mut self, samples: &[Sample], t: usize)
         requires room { t + 256 ≤ length samples.now }
         requires held { IsStretchOf samples.now self.old }
@@ -51,10 +52,10 @@ impl Stretch {
     }
 }
 
-// The sum of the products of 128 values from o on with list `part` of the signals' samples. It fits 32 bits, in any
-// order of adding: 128 times 32,768 times 255 is below 2^31.
-// It is not inlined, and knows its list only when it runs: so the machine adds the products of 16 bits in pairs. With
-// a constant list, products with 0, 1 and powers of two become other instructions and break the lanes up.
+// Returns the dot product of 128 values from `o` with list `part` of the signals' samples. It fits 32 bits, in any
+// order of adding: 128 times 32,768 times 255 is below 2^31. Not inlined, and its list is known only at run time: so
+// the compiler adds the 16-bit products in pairs. With a constant list, products with 0, 1 and powers of two become
+// other instructions and break up the lanes.
 #[inline(never)]
 fn dot(values: &[i16; 256], o: usize, part: usize) -> i32
     requires o { o ≤ 128 }
@@ -69,7 +70,7 @@ fn dot(values: &[i16; 256], o: usize, part: usize) -> i32
         + row_sum(values, o, signal, 3)
 }
 
-// The sum of row k of 32 of these products.
+// Returns the sum of row `k`: 32 of these products.
 #[inline(always)]
 fn row_sum(values: &[i16; 256], o: usize, signal: &[i16; 128], k: usize) -> i32
     requires o { o ≤ 128 }
@@ -85,7 +86,7 @@ fn row_sum(values: &[i16; 256], o: usize, signal: &[i16; 128], k: usize) -> i32
     sum
 }
 
-// The product at place n.
+// Returns product `n`.
 #[inline(always)]
 fn product(values: &[i16; 256], o: usize, signal: &[i16; 128], n: usize) -> i32
     requires o { o ≤ 128 }
@@ -97,7 +98,7 @@ fn product(values: &[i16; 256], o: usize, signal: &[i16; 128], n: usize) -> i32
     values[o + n] as i32 * signal[n] as i32
 }
 
-// The sums of products of the parts of 128 samples with those of a signal.
+// The four dot products of 128 samples' parts with a signal's parts.
 #[derive(Clone, Copy)]
 struct ProductSums {
     re_re: i32,
@@ -106,8 +107,8 @@ struct ProductSums {
     re_im: i32,
 }
 
-// The sums of products of parts for the samples from o on of a stretch, with the signal whose real parts are list
-// `part`, and whose imaginary parts are the next.
+// Returns the dot products for a stretch's samples from `o` and the signal whose real parts are list `part`, and
+// whose imaginary parts are the next list.
 #[inline(always)]
 fn product_sums(stretch: &Stretch, o: usize, part: usize) -> ProductSums
     requires o { o ≤ 128 }
@@ -124,7 +125,7 @@ fn product_sums(stretch: &Stretch, o: usize, part: usize) -> ProductSums
 }
 
 impl ProductSums {
-    // The sum of products with the conjugate of the signal.
+    // Returns the sum of products with the signal's conjugate.
     fn with_conjugate(&self) -> Cpx
         requires { AreSmallProducts self.now }
         ensures value { result ≡ with_conjugate_of self.now }
@@ -136,7 +137,7 @@ impl ProductSums {
         }
     }
 
-    // The sum of products with the signal itself.
+    // Returns the sum of products with the signal itself.
     fn with_signal(&self) -> Cpx
         requires { AreSmallProducts self.now }
         ensures value { result ≡ with_signal_of self.now }
@@ -149,8 +150,8 @@ impl ProductSums {
     }
 }
 
-// The correlations of a place with the three signals. The signal of root 34 is the conjugate of that
-// of root 29 plus j at the samples 0 and 64.
+// Returns a position's correlations with the three signals. The signal with root 34 is the conjugate of the one with
+// root 29, plus j at samples 0 and 64.
 #[inline(always)]
 pub(crate) fn correlations(samples: &[Sample], t: usize, stretch: &Stretch) -> [Cpx; 3]
     requires room { t + 128 ≤ length samples.now }

@@ -1,4 +1,4 @@
-//! A sweep with the metrics of the last 19 places.
+//! A sweep with the metrics of the last 19 positions.
 
 ghost use Rattle.std.specs.Prelude.{◌≡◌, ◌+◌, ◌<◌, ◌≤◌};
 ghost use Rattle.pss_search.specs.Metrics.{Standing, end_place};
@@ -8,13 +8,13 @@ use crate::measure::{Metric, PlaceSums, Sweep};
 use sample_file::Recording;
 use std::marker::Model;
 
-// How many places decide whether one is a hit: itself and nine on each side.
+// The number of positions that decide on a hit: its own, and nine on each side.
 const PLACES: usize = 19;
 
-// The rows that are kept: a power of two, so that a place's row is soon found.
+// The number of rows that are kept: a power of two, so that a position's row is found quickly.
 const ROWS: usize = 32;
 
-// The sweep, and the rows of the last 19 places at least, that of place u at u modulo 32.
+// The sweep, and the rows of at least the last 19 positions, position u at u modulo 32.
 #[derive(Drop)]
 pub(crate) struct Recent<'a> {
     sweep: Sweep<'a>,
@@ -33,7 +33,7 @@ impl<'a> Model for Recent<'a> {
 }
 
 impl<'a> Recent<'a> {
-    // The sums before place 128: none yet.
+    // Returns the sweep at position 128, without rows.
     fn empty(recording: &'a Recording) -> Recent<'a>
         ensures recording { result.recording ≡ recording.now }
         ensures place { result.place ≡ 128 }
@@ -44,7 +44,7 @@ impl<'a> Recent<'a> {
         }
     }
 
-    // The sums before place 146: those of all places but the last that decide on the first of the span.
+    // Returns the sweep at position 146, the last that decides on the span's first position.
     pub(crate) fn new(recording: &'a Recording) -> Recent<'a>
         ensures recording { result.recording ≡ recording.now }
         ensures place { result.place ≡ 146 }
@@ -56,7 +56,7 @@ impl<'a> Recent<'a> {
         recent
     }
 
-    // Measures the next place.
+    // Measures the next position.
     #[inline(always)]
     pub(crate) fn advance(&mut self)
         requires { self.old.place < end_place }
@@ -69,7 +69,7 @@ impl<'a> Recent<'a> {
         }
     }
 
-    // The row of one of the last 19 places.
+    // Returns the row of one of the last 19 positions.
     pub(crate) fn row(&self, u: usize) -> PlaceSums
         requires first { 128 ≤ u }
         requires measured { u < self.now.place }
@@ -79,7 +79,7 @@ impl<'a> Recent<'a> {
         self.rows[u % ROWS]
     }
 
-    // The metric of one of the last 19 places.
+    // Returns the metric at one of the last 19 positions.
     pub(crate) fn metric(&self, n2: u8, u: usize) -> Metric
         requires root { n2 ≤ 2 }
         requires first { 128 ≤ u }

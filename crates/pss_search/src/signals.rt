@@ -1,13 +1,13 @@
-//! The samples of the three primary signals, and the sums of their squares.
+//! The samples of the three primary signals, and their powers.
 
 ghost use Rattle.std.specs.Prelude.{◌≡◌, ◌<◌, ◌≤◌};
 ghost use Rattle.finite.specs.Sizes.{AllWithin};
 ghost use Rattle.pss_search.specs.Correlation.{wave_power};
 ghost use Rattle.pss_search.specs.Products.{wave_part};
 
-// The sums of the squares of all 128 samples of the signals of roots 25, 29 and 34, and the samples of the first two:
-// the real parts of root 25, its imaginary parts, and those of root 29. The powers have 128 bits so that the samples
-// begin at a multiple of 16 bytes, where the machine takes eight of them straight from memory.
+// The powers of the signals with roots 25, 29 and 34 over all 128 samples, and the samples of the first two in parts:
+// root 25 real and imaginary, then root 29. The powers have 128 bits so that the samples begin at a multiple of 16
+// bytes, where the processor loads eight at once.
 struct Tables {
     powers: [u128; 3],
     parts: [[i16; 128]; 4],
@@ -58,7 +58,7 @@ static TABLES: Tables = Tables {
     ],
 };
 
-// List `part` of the samples. A caller passes all four, so that none of them is known when it is compiled.
+// Returns list `part` of the samples. A caller passes all four values, so that none is known at compile time.
 pub(crate) fn part_of(part: usize) -> &'static [i16; 128]
     requires { part < 4 }
     ensures value { result.now ≡ wave_part part }
@@ -67,7 +67,7 @@ pub(crate) fn part_of(part: usize) -> &'static [i16; 128]
     &TABLES.parts[part]
 }
 
-// A signal by its identity within the group, with the sum of its squares.
+// A signal's identity within the group, and its power.
 #[derive(Clone, Copy)]
 pub(crate) struct Root {
     pub n2: u8,
@@ -86,8 +86,8 @@ impl Root {
     }
 }
 
-/// The sum of the squares of the sizes of the 128 samples of a signal, by its identity within the group, 0 to 2: at
-/// least 1,990,000, and at most 2,001,665. (own)
+/// Returns the power of a primary signal, the sum over its 128 samples' squared magnitudes, by its identity within
+/// the group, 0 to 2. It is 1,990,000 to 2,001,665. (own)
 pub fn signal_power(n2: u8) -> u64
     requires { n2 ≤ 2 }
     ensures value { result ≡ wave_power n2 }

@@ -1,4 +1,4 @@
--- Recordings that agree have the same samples there.
+-- Recordings that agree up to a count have the same samples below it.
 use Rattle.std.proofs.Common.{◌≡◌, ℕ, ◌<◌, List, get_or, ap, sym, ◌∙◌}
 use Rattle.std.proofs.lemmas.List.{get_or-take}
 use Rattle.cs_num.specs.declared.Sample.{Sample}

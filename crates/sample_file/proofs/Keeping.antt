@@ -1,4 +1,4 @@
--- The first of the samples that come are kept.
+-- Only the first samples of the input are kept.
 use Rattle.std.proofs.Common.{◌≡◌, ℕ, zero, suc, ◌+◌, ◌-◌, ◌*◌, ◌/◌, ◌%◌, ◌≤◌, List, [], ◌∷◌, ◌++◌, length, take, refl, ap, sym, subst, ◌∙◌, arith, min, length-append, length-take-le}
 use Rattle.std.specs.List.{copy_within}
 use Rattle.std.proofs.Math.Seq.{take-nil, take_all}
@@ -13,7 +13,7 @@ use Rattle.sample_file.specs.Reading.{least_bytes, most_bytes, HasReadRecording,
 use Rattle.sample_file.proofs.Samples.{length-of_whole, length-samples_in}
 use Rattle.sample_file.proofs.Progress.{end_taken}
 
--- ---- the samples of the first bytes
+-- ---- the samples in the first bytes
 
 four_more : (n : ℕ) → 4 * suc n ≡ suc (suc (suc (suc (4 * n))))
 four_more n = omega arith
@@ -21,7 +21,7 @@ four_more n = omega arith
 two_more : (n : ℕ) → 2 * suc n ≡ suc (suc (2 * n))
 two_more n = omega arith
 
--- the bytes of the first n samples stand for these
+-- the bytes of the first n samples hold exactly those samples
 pub first_samples : (form : SampleForm) (n : ℕ) (bytes : List ℕ) → samples_in form (take (width form * n) bytes) ≡ take n (samples_in form bytes)
 first_samples Ci16 zero bytes = refl
 first_samples Ci16 (suc n) [] = ap (λ k. samples_of (take k [])) (four_more n)
@@ -38,9 +38,9 @@ first_samples Cu8 (suc n) (a ∷ b ∷ bytes) =
     ap (λ k. samples_of_8 (take k (a ∷ b ∷ bytes))) (two_more n)
     ∙ ap (λ (more : List Sample). record { re = centred a; im = centred b } ∷ more) (first_samples Cu8 n bytes)
 
--- ---- the first of all
+-- ---- the first samples of all
 
--- of two lists one after the other: the first of the one, and of the other as many as are wanted still
+-- the first items of two joined lists: those of the first list, then as many of the second as are missing
 take_joined : (most : ℕ) (xs ys : List Sample) → take most (xs ++ ys) ≡ take most xs ++ take (most - length (take most xs)) ys
 take_joined zero xs ys = refl
 take_joined (suc m) [] ys = let whole : suc m ≡ suc m - 0 = omega arith in ap (λ k. take k ys) whole
@@ -66,9 +66,9 @@ kept_more form most whole bytes before kept after were are =
         let some : min (suc n) (suc m) ≡ suc (min n m) = omega arith in
         ap (λ k. take k (x ∷ l)) some ∙ ap (λ (more : List Sample). x ∷ more) (fewer n m l)
 
--- ---- those of a buffer
+-- ---- samples from a buffer
 
--- as many samples as the bytes have
+-- equal numbers of bytes are equal numbers of samples
 count_of : (form : SampleForm) (m n : ℕ) → width form * m ≡ width form * n → m ≡ n
 count_of Ci16 m n e = omega (arith, e)
 count_of Cu8 m n e = omega (arith, e)
@@ -81,7 +81,7 @@ are_whole : (form : SampleForm) (n w : ℕ) → w ≡ width form * n → w % wid
 are_whole Ci16 n w cut = omega (arith, cut)
 are_whole Cu8 n w cut = omega (arith, cut)
 
--- after the samples of its first bytes the bytes of one that is begun are moved to its front
+-- the samples in the buffer's first bytes are taken, and the bytes of an incomplete one are moved to the front
 pub front_taken_on : (form : SampleForm) (most e w whole : ℕ) (buffer : List ℕ) (before kept after : List Sample) (count : ℕ) → e ≤ length buffer →
     whole ≡ e / width form → w ≡ width form * whole → AreKept most before kept count →
     after ≡ kept ++ samples_in form (take (width form * min whole (most - length kept)) buffer) →
@@ -103,20 +103,20 @@ front_taken_on form most e w whole buffer before kept after count inside parts c
       };
     }
 
--- ---- a front of all
+-- ---- a prefix of all samples
 
 few_samples : (form : SampleForm) (input : List ℕ) → length input ≤ most_bytes form → length (samples_in form input) ≤ most_samples
 few_samples Ci16 input within = let all = length-samples_in Ci16 input in omega (arith, within, all.0)
 few_samples Cu8 input within = let all = length-samples_in Cu8 input in omega (arith, within, all.0)
 
--- a front of as many samples as a recording may have is the recording
+-- a prefix as long as a recording may be is the recording
 pub whole_front : (form : SampleForm) (front : List Sample) (before now : SourceTold) → HasReadFront form most_samples front before now → HasReadRecording form front before now
 whole_front form front before now f =
     let few = few_samples form f.read.input f.read.read.within in
     let all : front ≡ f.recording = f.front_is ∙ take_all most_samples f.recording (subst (λ (l : List Sample). length l ≤ most_samples) (sym f.read.samples) few) in
     subst (λ (l : List Sample). HasReadRecording form l before now) (sym all) f.read
 
--- what was read is a recording
+-- the samples that were read are a recording
 pub recording_is : (form : SampleForm) (recording : List Sample) (before now : SourceTold) → HasReadRecording form recording before now → IsRecording recording
 recording_is form recording before now read = subst IsRecording (sym read.samples) (record {
   least = enough_samples form read.input read.enough;

@@ -1,4 +1,4 @@
--- Samples of bytes that come in pieces: what is known after each read.
+-- The reading of samples in pieces: what is known after each read.
 use Rattle.std.proofs.Common.{◌≡◌, ◌≢◌, ℕ, ◌+◌, ◌-◌, ◌*◌, ◌/◌, ◌%◌, ◌<◌, ◌≤◌, List, [], ◌∷◌, ◌++◌, length, take, drop, length-take-le, length-drop, refl, ap, sym, subst, ◌∙◌, arith, append_assoc, append-nil, length-append}
 use Rattle.std.specs.List.{copy_within}
 use Rattle.std.proofs.Math.Seq.{paste, take-add}
@@ -18,12 +18,12 @@ use Rattle.sample_file.proofs.Samples.{samples_joined, length-of_whole}
 
 -- ---- counts
 
--- two lists of whole samples
+-- two lists of complete samples
 whole_joined : (form : SampleForm) (m n : ℕ) → m % width form ≡ 0 → n % width form ≡ 0 → (m + n) % width form ≡ 0
 whole_joined Ci16 m n a b = omega (arith, a, b)
 whole_joined Cu8 m n a b = omega (arith, a, b)
 
--- whole samples, and then less than one more
+-- complete samples, followed by less than one more
 begun_is_ragged : (form : SampleForm) (m n : ℕ) → m % width form ≡ 0 → 0 < n → n < width form → (m + n) % width form ≢ 0
 begun_is_ragged Ci16 m n a some few = λ e. omega (arith, a, some, few, e)
 begun_is_ragged Cu8 m n a some few = λ e. omega (arith, a, some, few, e)
@@ -48,7 +48,7 @@ one_past : (form : SampleForm) (m : ℕ) → m ≡ width form * most_samples + 1
 one_past Ci16 m h = omega (arith, h)
 one_past Cu8 m h = omega (arith, h)
 
--- the samples taken are of the bytes that were there, but for those left
+-- the samples taken account for all bytes except the ones that are left
 pub taken_count : (form : SampleForm) (bytes : List ℕ) (before now : List Sample) (begun : List ℕ) → TakesSamples form bytes before now begun →
     width form * length now + length begun ≡ width form * length before + length bytes
 taken_count form bytes before now begun t =
@@ -61,21 +61,21 @@ taken_count form bytes before now begun t =
     by_form Ci16 a b c w r m x y z = omega (arith, x, y, z)
     by_form Cu8 a b c w r m x y z = omega (arith, x, y, z)
 
--- the bytes that were read
+-- the number of bytes that were read
 bytes_count : (form : SampleForm) (samples : List Sample) (begun : List ℕ) (before now : SourceTold) (s : HasReadSamples form samples begun before now) →
     length s.whole ≡ width form * length samples
 bytes_count form samples begun before now s =
     sym (length-of_whole form s.whole s.of_whole) ∙ ap (λ l. width form * length l) (sym s.samples_are)
 
--- ---- the samples of a buffer
+-- ---- samples from a buffer
 
--- what is pasted over the front stands first
+-- a piece pasted over the front comes first
 first_pasted : (buffer piece : List ℕ) (n : ℕ) → n ≤ length piece → take n (paste buffer 0 piece n) ≡ take n piece
 first_pasted buffer piece n left =
     let none : 0 + n ≡ n = omega arith in
     subst (λ m. take m (paste buffer 0 piece n) ≡ take n piece) none (take-paste buffer 0 piece n (omega arith) left)
 
--- those of its first bytes are taken, and the bytes left are moved to the front
+-- the samples in the buffer's first bytes are taken, and the bytes left are moved to the front
 front_taken : (form : SampleForm) (w n : ℕ) (buffer : List ℕ) (before now : List Sample) → w + n ≤ length buffer → w % width form ≡ 0 → n < width form →
     now ≡ before ++ samples_in form (take w buffer) →
     TakesSamples form (take (w + n) buffer) before now (take n (copy_within buffer w (w + n) 0))
@@ -106,7 +106,7 @@ end_taken form e w buffer before inside cut =
 
 -- ---- the reading goes on
 
--- after a piece whose samples are taken
+-- after a piece whose samples were taken
 pub taken_on : (form : SampleForm) (n : ℕ) (samples after : List Sample) (begun next left : List ℕ) (before between now : SourceTold) →
     HasReadSamples form samples begun before between → HasReadOn n begun next between now → TakesSamples form next samples after left →
     HasReadSamples form after left before now
@@ -127,14 +127,14 @@ no_piece : (n : ℕ) (piece : List ℕ) → length piece ≡ n → n ≡ 0 → p
 no_piece n [] size zero = refl
 no_piece n (x ∷ piece) size zero = absurd (omega (arith, size, zero))
 
--- at the end of the input no more was read
+-- at the end of the input nothing more was read
 ended_on : (form : SampleForm) (n : ℕ) (samples : List Sample) (begun next : List ℕ) (before between now : SourceTold) (s : HasReadSamples form samples begun before between) →
     HasReadOn n begun next between now → n ≡ 0 → HasRead (s.whole ++ begun) before now
 ended_on form n samples begun next before between now s h zero =
     let all : HasRead ((s.whole ++ begun) ++ h.piece) before now = read_then _ _ before between now s.read h.read in
     subst (λ l. HasRead l before now) (ap (λ l. (s.whole ++ begun) ++ l) (no_piece n h.piece h.count zero) ∙ append-nil (s.whole ++ begun)) all
 
--- it is the end after whole samples
+-- the input ended after a complete sample
 whole_on : (form : SampleForm) (n : ℕ) (samples : List Sample) (begun next : List ℕ) (before between now : SourceTold) (s : HasReadSamples form samples begun before between) →
     HasReadOn n begun next between now → n ≡ 0 → begun ≡ [] → length samples ≤ most_samples → HasReadAll (most_bytes form) s.whole before now
 whole_on form n samples begun next before between now s h zero none few =
@@ -168,7 +168,7 @@ short_on form n samples begun next before between now s h zero none few short = 
   too_short = subst (λ m. m < least_bytes form) (sym (bytes_count form samples begun before between s)) (too_few form (length samples) short);
 }
 
--- it is the end within a sample
+-- the input ended within a sample
 pub ragged_on : (form : SampleForm) (n : ℕ) (samples : List Sample) (begun next : List ℕ) (before between now : SourceTold) → HasReadSamples form samples begun before between →
     HasReadOn n begun next between now → n ≡ 0 → 0 < length begun → length begun < width form →
     width form * length samples + length begun ≤ width form * most_samples → HasReadRagged form before now
@@ -206,7 +206,7 @@ past_on form samples begun before now s past = record {
   past = one_past form (length (s.whole ++ begun)) (length-append s.whole begun ∙ ap (λ m. m + length begun) (bytes_count form samples begun before now s) ∙ past);
 }
 
--- a piece more was read, and no more than one byte past the limit
+-- one more piece was read, at most one byte past the limit
 pub part_on : (form : SampleForm) (n : ℕ) (samples : List Sample) (begun next : List ℕ) (before between now : SourceTold) →
     HasReadSamples form samples begun before between → HasReadOn n begun next between now →
     width form * length samples + length begun + n ≤ width form * most_samples + 1 → HasReadPart (most_bytes form) before now

@@ -1,4 +1,4 @@
--- The samples that bytes stand for.
+-- The samples that bytes hold.
 use Rattle.std.proofs.Common.{◌≡◌, ℕ, suc, ◌+◌, ◌-◌, ◌*◌, ◌/◌, ◌%◌, ◌<◌, ◌≤◌, arith, refl, ap, ◌∙◌, List, [], ◌∷◌, ◌++◌, length, ℤ, pos, negsuc}
 use Rattle.std.specs.Prelude.{nat_abs}
 use Rattle.std.specs.Int.{w16, cast_unsigned}
@@ -21,9 +21,9 @@ two_samples : samples_of_8 (0 ∷ 255 ∷ 128 ∷ 127 ∷ []) ≡
     record { re = negsuc 254; im = pos 255 } ∷ record { re = pos 1; im = negsuc 0 } ∷ []
 two_samples = refl
 
--- ---- bytes of whole samples
+-- ---- bytes of complete samples
 
--- bytes of whole samples, and then others
+-- complete samples, followed by other bytes
 pub samples_joined : (form : SampleForm) (front back : List ℕ) → length front % width form ≡ 0 →
     samples_in form (front ++ back) ≡ samples_in form front ++ samples_in form back
 samples_joined Ci16 [] back whole = refl
@@ -37,7 +37,7 @@ samples_joined Cu8 (a ∷ []) back whole = absurd (omega (arith, whole))
 samples_joined Cu8 (a ∷ b ∷ front) back whole =
     ap (λ more. record { re = centred a; im = centred b } ∷ more) (samples_joined Cu8 front back (omega (arith, whole)))
 
--- a sample for each so many bytes
+-- the number of samples is the number of bytes divided by the width
 pub length-samples_in : (form : SampleForm) (bytes : List ℕ) →
     (width form * length (samples_in form bytes) ≤ length bytes) × (length bytes < width form * length (samples_in form bytes) + width form)
 length-samples_in Ci16 [] = (omega arith, omega arith)
@@ -49,7 +49,7 @@ length-samples_in Cu8 [] = (omega arith, omega arith)
 length-samples_in Cu8 (a ∷ []) = (omega arith, omega arith)
 length-samples_in Cu8 (a ∷ b ∷ bytes) = let rest = length-samples_in Cu8 bytes in (omega (arith, rest.0), omega (arith, rest.1))
 
--- bytes of whole samples
+-- bytes of complete samples
 pub length-of_whole : (form : SampleForm) (bytes : List ℕ) → length bytes % width form ≡ 0 → width form * length (samples_in form bytes) ≡ length bytes
 length-of_whole Ci16 bytes whole = let all = length-samples_in Ci16 bytes in omega (arith, whole, all.0, all.1)
 length-of_whole Cu8 bytes whole = let all = length-samples_in Cu8 bytes in omega (arith, whole, all.0, all.1)
@@ -65,12 +65,12 @@ low n below = grind (arith, nat_tests)
 high : (m : ℕ) → m < 32768 → twos_complement 2 (65536 - suc m) ≡ negsuc m
 high m below = grind (arith, ints, nat_tests)
 
--- a component is the one of its bytes
+-- a component is read back from its bytes
 component_back : (z : ℤ) → nat_abs z ≤ 32767 → component_of (cast_unsigned w16 z % 256) (cast_unsigned w16 z / 256 % 256) ≡ z
 component_back (pos n) small = ap (twos_complement 2) (two_bytes n (omega (arith, small))) ∙ low n (omega (arith, small))
 component_back (negsuc m) small = ap (twos_complement 2) (two_bytes (65536 - suc m) (omega (arith, small))) ∙ high m (omega (arith, small))
 
--- a sample is the one of its bytes
+-- a sample is read back from its bytes
 sample_back : (s : Sample) → IsWithin 32767 (value_of s) → samples_of (sample_bytes s) ≡ s ∷ []
 sample_back s small =
     ap (λ re. record { re = re; im = component_of (cast_unsigned w16 s.im % 256) (cast_unsigned w16 s.im / 256 % 256) } ∷ []) (component_back s.re small.re) ∙

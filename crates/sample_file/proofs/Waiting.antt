@@ -1,4 +1,4 @@
--- Bytes of samples that are written in whole pieces, while the rest waits.
+-- Samples written in full pieces, while the remaining bytes wait.
 use Rattle.std.proofs.Common.{◌≡◌, ℕ, ◌-◌, List, [], ◌++◌, length, take, drop, refl, ap, sym, subst, ◌∙◌, arith, length-drop, length-append, take_all, append_assoc, append-nil}
 use Rattle.std.proofs.lemmas.List.{take-append-drop}
 use Rattle.std.proofs.lemmas.List.Concat.{flat_map-append}
@@ -11,19 +11,19 @@ use Rattle.sample_file.specs.Writing.{HasWrittenPieces}
 
 -- ---- pieces
 
--- at first all waits
+-- at first all bytes wait
 pub waiting_all : (bytes : List ℕ) (before : SinkTold) → HasWrittenPieces bytes bytes before before
 waiting_all bytes before = record { front = []; split = refl; whole_pieces = refl; written = write_nothing before }
 
 all_but : (bytes rest : List ℕ) (before now : SinkTold) → HasWrittenPieces bytes rest before now → WrittenSoFar bytes rest before now
 all_but bytes rest before now p = record { done = p.front; split = p.split; written = p.written }
 
--- where nothing waited, all are bytes that came
+-- if nothing waited, all bytes are new
 pub none_waited : (waiting bytes rest : List ℕ) (before now : SinkTold) → waiting ≡ [] → HasWrittenPieces (waiting ++ bytes) rest before now →
     HasWrittenPieces bytes rest before now
 none_waited waiting bytes rest before now none p = subst (λ l. HasWrittenPieces (l ++ bytes) rest before now) none p
 
--- pieces of the rest's front are written too, and the others of it wait
+-- full pieces from the waiting bytes are written too, and the remaining bytes wait
 pub pieces_on : (bytes rest next more left : List ℕ) (before between now : SinkTold) → HasWrittenPieces bytes rest before between → rest ≡ next ++ more →
     HasWrittenPieces next left between now → HasWrittenPieces bytes (left ++ more) before now
 pieces_on bytes rest next more left before between now p split q = record {
@@ -33,13 +33,13 @@ pieces_on bytes rest next more left before between now p split q = record {
   written = write_then p.front q.front before between now p.written q.written;
 }
 
--- where a front of the rest's front is written, a front of all is
+-- if a prefix of the next bytes is written, a prefix of all bytes is written
 pub pieces_front : (bytes rest next more : List ℕ) (before between now : SinkTold) → HasWrittenPieces bytes rest before between → rest ≡ next ++ more →
     HasWrittenFront next between now → HasWrittenFront bytes before now
 pieces_front bytes rest next more before between now p split front =
     front_on bytes rest next more before between now (all_but bytes rest before between p) split front
 
--- where the room is too little for the rest's front, it was too little for all
+-- if there is too little room for the next bytes, there was too little for all
 pub pieces_short : (bytes rest next more : List ℕ) (before between : SinkTold) → HasWrittenPieces bytes rest before between → rest ≡ next ++ more →
     IsShortOf (length next) between → IsShortOf (length bytes) before
 pieces_short bytes rest next more before between p split short =
@@ -47,25 +47,25 @@ pieces_short bytes rest next more before between p split short =
 
 -- ---- the last piece
 
--- where the rest is written, all is
+-- if the rest is written, everything is written
 pub pieces_whole : (bytes rest : List ℕ) (before between now : SinkTold) → HasWrittenPieces bytes rest before between →
     HasWritten rest between now → HasWritten bytes before now
 pieces_whole bytes rest before between now p written =
     subst (λ l. HasWritten l before now) (sym p.split) (write_then p.front rest before between now p.written written)
 
--- where a front of the rest is written, a front of all is
+-- if a prefix of the rest is written, a prefix of all bytes is written
 pub last_front : (bytes rest : List ℕ) (before between now : SinkTold) → HasWrittenPieces bytes rest before between →
     HasWrittenFront rest between now → HasWrittenFront bytes before now
 last_front bytes rest before between now p front = pieces_front bytes rest rest [] before between now p (sym (append-nil rest)) front
 
--- where the room is too little for the rest, it was too little for all
+-- if there is too little room for the rest, there was too little for all
 pub last_short : (bytes rest : List ℕ) (before between : SinkTold) → HasWrittenPieces bytes rest before between →
     IsShortOf (length rest) between → IsShortOf (length bytes) before
 last_short bytes rest before between p short = pieces_short bytes rest rest [] before between p (sym (append-nil rest)) short
 
 -- ---- the bytes of samples
 
--- what waits, and then the bytes of samples that stand in two lists
+-- the waiting bytes, followed by samples in two lists
 pub waiting_then : (waiting : List ℕ) (rest next left : List Sample) → rest ≡ next ++ left →
     waiting ++ bytes_of rest ≡ (waiting ++ bytes_of next) ++ bytes_of left
 waiting_then waiting rest next left split =
@@ -82,7 +82,7 @@ samples_wait bytes rest waiting more count before now p taken =
     subst (λ l. HasWrittenPieces bytes l before now)
     (waiting_then waiting rest (take count rest) left split ∙ ap (λ l. l ++ bytes_of left) (sym taken)) p
 
--- where no sample is left, what waits is the rest
+-- if no sample is left, only the waiting bytes are left
 pub none_left : (bytes waiting : List ℕ) (left : List Sample) (before now : SinkTold) → left ≡ [] → HasWrittenPieces bytes (waiting ++ bytes_of left) before now →
     HasWrittenPieces bytes waiting before now
 none_left bytes waiting left before now none p =

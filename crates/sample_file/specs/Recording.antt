@@ -1,4 +1,4 @@
--- Recordings: lists of samples, and the bytes that stand for them. (own; the forms of raw captures)
+-- Recordings: lists of samples, and their bytes. (own; the formats of raw captures)
 use Rattle.std.specs.Prelude.{◌≡◌, ℕ, ◌≤◌, ◌+◌, ◌*◌, ◌++◌, List, [], ◌∷◌, length, slice_index, take, All, ℤ, pos, ◌-ℤ◌}
 use Rattle.std.specs.List.{flat_map}
 use Rattle.std.specs.Int.{w16, cast_unsigned}
@@ -11,29 +11,29 @@ use Rattle.sample_file.specs.declared.form.SampleForm.TheVariants.{Ci16, Cu8}
 
 -- ---- a sample and its bytes
 
--- the signed number of two bytes, the low one first: 65,536 less where it is 32,768 or more
+-- the signed number in two bytes, low byte first: 65,536 less if it is 32,768 or more
 abbrev pub component_of : ℕ → ℕ → ℤ
 component_of low high = twos_complement 2 (low + 256 * high)
 
--- the samples that bytes stand for: four bytes each, the real component first
+-- the samples in bytes: four bytes each, real component first
 abbrev pub samples_of : List ℕ → List Sample
 samples_of (a ∷ b ∷ c ∷ d ∷ bytes) = record { re = component_of a b; im = component_of c d } ∷ samples_of bytes
 samples_of bytes = []
 
--- the number that a byte stands for: 0 to 255 in steps of two about 0
+-- the component that a byte stands for: 0 to 255 in steps of two about 0
 abbrev pub centred : ℕ → ℤ
 centred v = pos (2 * v) -ℤ pos 255
 
--- the samples that bytes stand for: two bytes each, the real component first
+-- the samples in bytes: two bytes each, real component first
 abbrev pub samples_of_8 : List ℕ → List Sample
 samples_of_8 (a ∷ b ∷ bytes) = record { re = centred a; im = centred b } ∷ samples_of_8 bytes
 samples_of_8 bytes = []
 
--- the two bytes of a component, the low one first, as two's complement
+-- the two bytes of a component, low byte first, in two's complement
 abbrev pub component_bytes : ℤ → List ℕ
 component_bytes z = little_bytes 2 (cast_unsigned w16 z)
 
--- the four bytes of a sample, the real component first
+-- the four bytes of a sample, real component first
 abbrev pub sample_bytes : Sample → List ℕ
 sample_bytes sample = component_bytes sample.re ++ component_bytes sample.im
 
@@ -41,23 +41,23 @@ sample_bytes sample = component_bytes sample.re ++ component_bytes sample.im
 abbrev pub bytes_of : List Sample → List ℕ
 bytes_of samples = flat_map sample_bytes samples
 
--- a law: the bytes of samples stand for these samples
+-- a law: the bytes of samples are read back as the same samples
 abbrev pub AreReadBack : Type 0
 AreReadBack = (samples : List Sample) → All (λ s. IsWithin 32767 (value_of s)) samples → samples_of (bytes_of samples) ≡ samples
 
--- ---- forms of samples
+-- ---- sample formats
 
--- how many bytes a sample has
+-- the number of bytes per sample
 abbrev pub width : SampleForm → ℕ
 width Ci16 = 4
 width Cu8 = 2
 
--- the samples that bytes stand for
+-- the samples in bytes
 abbrev pub samples_in : SampleForm → List ℕ → List Sample
 samples_in Ci16 bytes = samples_of bytes
 samples_in Cu8 bytes = samples_of_8 bytes
 
--- the sample of the first bytes
+-- the sample in the first bytes
 abbrev pub sample_in : SampleForm → List ℕ → Sample
 sample_in Ci16 bytes = record {
   re = component_of (slice_index bytes 0) (slice_index bytes 1);
@@ -72,6 +72,6 @@ pub record IsRecording (samples : List Sample) : Type 0 where
   pub least : least_samples ≤ length samples
   pub most : length samples ≤ most_samples
 
--- the first samples of two recordings, as many as the count says, are the same
+-- two recordings have the same first `count` samples
 abbrev pub AgreeBefore : ℕ → List Sample → List Sample → Type 0
 AgreeBefore count first second = take count first ≡ take count second

@@ -1,4 +1,4 @@
--- What a recording that was not read is answered with. (own)
+-- Error texts for a recording that was not read. (own)
 use Rattle.std.specs.Prelude.{ℕ, List, codes}
 use Rattle.sample_file.specs.declared.reading.FileError.{FileError}
 use Rattle.sample_file.specs.declared.reading.FileError.TheVariants.{Ragged, TooShort, TooLong, ReadFault, OutOfMemory}

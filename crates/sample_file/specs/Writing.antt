@@ -1,13 +1,13 @@
--- What a sink took when samples were written in pieces (own): what it told before, and what it tells now.
+-- What a sink took while samples were written in pieces: its record before and now. (own)
 use Rattle.std.specs.Prelude.{◌≡◌, ℕ, ◌%◌, ◌++◌, List, length}
 use Rattle.cs_outside.specs.Outside.{SinkTold}
 use Rattle.cs_outside.specs.Streams.{HasWritten}
 
--- the bytes of a piece
+-- the number of bytes in a piece
 abbrev pub piece_bytes : ℕ
 piece_bytes = 16384
 
--- some whole pieces of these bytes were written, and the rest waits
+-- the first of these bytes were written, in full pieces, and the rest waits
 pub record HasWrittenPieces (bytes rest : List ℕ) (before now : SinkTold) : Type 0 where
   pub front : List ℕ
   pub split : bytes ≡ front ++ rest

@@ -1,4 +1,4 @@
-//! The forms of samples.
+//! Sample formats.
 
 ghost use Rattle.std.specs.Prelude.{◌≡◌, ◌≤◌, ◌*◌, ◌++◌, ◌∷◌, [], length, slice_index, take, IfOk};
 ghost use Rattle.sample_file.specs.Recording.{width as width_of, samples_of, samples_of_8, samples_in, sample_in};
@@ -9,18 +9,18 @@ use byteorder::{ByteOrder, LittleEndian};
 use cs_num::Sample;
 use std::alloc::AllocError;
 
-/// How the bytes of a recording stand for its samples, as SigMF names it. (own)
+/// The sample format of a recording's bytes, by its SigMF name. (own)
 #[derive(Clone, Copy, Debug, PartialEq, Eq)]
 pub enum SampleForm {
-    /// Four bytes a sample: the real, then the imaginary component, each a signed 16-bit number with
-    /// its low byte first (`ci16_le`).
+    /// Four bytes per sample: the real, then the imaginary component, each a signed 16-bit number, low byte first
+    /// (`ci16_le`).
     Ci16,
-    /// Two bytes a sample: the real, then the imaginary component, each `2v - 255` for its byte v (`cu8`).
+    /// Two bytes per sample: the real, then the imaginary component, each `2v - 255` for its byte v (`cu8`).
     Cu8,
 }
 
 impl SampleForm {
-    /// The number of bytes of a sample.
+    /// Returns the number of bytes per sample.
     pub fn width(self) -> usize
         ensures value { result ≡ width_of self }
         ensures some { 2 ≤ result }
@@ -32,7 +32,7 @@ impl SampleForm {
         }
     }
 
-    // Appends the samples that bytes stand for.
+    // Appends the samples that `bytes` hold.
     pub(crate) fn append_samples(
         self,
         bytes: &[u8],
@@ -47,8 +47,8 @@ impl SampleForm {
     }
 }
 
-// Appends the samples that bytes stand for, four each. Their memory is asked for first, so that a refusal is final:
-// `extend` would ask once more for less.
+// Appends one sample for each four bytes. Reserves the memory first, so that a refusal is final: `extend` would retry
+// with less.
 fn append_16_bits(bytes: &[u8], samples: &mut Vec<Sample>) -> Result<(), AllocError>
     ensures { IfOk result (λ _. samples.new.items ≡ samples.old.items ++ samples_of bytes.now) }
 {
@@ -57,7 +57,7 @@ fn append_16_bits(bytes: &[u8], samples: &mut Vec<Sample>) -> Result<(), AllocEr
     samples.extend(fours.iter().map(|four| sample_of_four(four)))
 }
 
-// Appends the samples that bytes stand for, two each, in the same way.
+// Appends one sample for each two bytes. Reserves the memory first.
 fn append_8_bits(bytes: &[u8], samples: &mut Vec<Sample>) -> Result<(), AllocError>
     ensures { IfOk result (λ _. samples.new.items ≡ samples.old.items ++ samples_of_8 bytes.now) }
 {
@@ -66,7 +66,7 @@ fn append_8_bits(bytes: &[u8], samples: &mut Vec<Sample>) -> Result<(), AllocErr
     samples.extend(twos.iter().map(|two| sample_of_two(two)))
 }
 
-// The sample of four bytes.
+// Returns the sample in four bytes.
 fn sample_of_four(bytes: &[u8; 4]) -> Sample
     ensures { result ≡ sample_in Ci16 bytes.now }
 {
@@ -76,7 +76,7 @@ fn sample_of_four(bytes: &[u8; 4]) -> Sample
     }
 }
 
-// The sample of two bytes.
+// Returns the sample in two bytes.
 fn sample_of_two(bytes: &[u8; 2]) -> Sample
     ensures { result ≡ sample_in Cu8 bytes.now }
 {
@@ -86,7 +86,7 @@ fn sample_of_two(bytes: &[u8; 2]) -> Sample
     }
 }
 
-// The signed number of two bytes, the low one first.
+// Returns the signed number in two bytes, low byte first.
 fn component(bytes: &[u8]) -> i16
     requires { length bytes.now ≡ 2 }
     ensures { result ≡ component_of (slice_index bytes.now 0) (slice_index bytes.now 1) }
@@ -94,7 +94,7 @@ fn component(bytes: &[u8]) -> i16
     LittleEndian::read_i16(bytes)
 }
 
-// The number that a byte stands for, in steps of two about 0.
+// Returns the component that a byte stands for, in steps of two about 0.
 fn centred(byte: u8) -> i16
     ensures { result ≡ centred byte }
 {

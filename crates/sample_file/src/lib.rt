@@ -1,4 +1,5 @@
-//! Recordings: lists of samples of a length that the receiver takes, how they are read, and the bytes of samples.
+//! Recordings: samples in memory, read from a source of bytes, and samples written to a sink.
+//! Tests: the crates `low_tests` and `fault_tests`.
 #![tactic(auto)]
 
 mod form;

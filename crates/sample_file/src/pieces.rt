@@ -11,12 +11,11 @@ use cs_num::Sample;
 use cs_outside::{Failed, Sink, write_whole};
 use std::marker::Model;
 
-// The bytes of a piece.
+// The number of bytes in a piece.
 const PIECE: usize = 16_384;
 
-/// Writes the bytes of samples, four each, in pieces of 16,384 bytes: each as soon as more samples come than it has
-/// room for, and what is left in the end. So however few samples come at a time, no piece but the last is shorter.
-/// It takes no memory. Contracts see it as the bytes that wait to be written. (own)
+/// Writes samples, four bytes each, in pieces of 16,384 bytes, whatever number is pushed at a time; only the last
+/// piece may be shorter. Allocates nothing. Contracts see the bytes that still wait to be written. (own)
 #[derive(Drop)]
 pub struct PieceWriter {
     buffer: [u8; PIECE],
@@ -32,7 +31,7 @@ impl Model for PieceWriter {
 }
 
 impl PieceWriter {
-    /// A writer with no byte that waits.
+    /// Returns a writer with an empty buffer.
     pub fn new() -> PieceWriter
         ensures { result ≡ [] }
     {
@@ -42,9 +41,8 @@ impl PieceWriter {
         }
     }
 
-    /// Takes the bytes of samples, and writes the pieces that are whole before the last byte. Each call of the sink is
-    /// given all that is left of a piece. `Failed` means that the sink counted a fault, after a front of what waited
-    /// and of these bytes was written; then nothing is said of what waits.
+    /// Adds the samples' bytes and writes each piece that is full. Returns `Failed` if the sink fails; then a prefix
+    /// of the waiting bytes and the new ones was written, and the buffer's contents are unspecified.
     pub fn push<K: Sink>(&mut self, sink: &mut K, samples: &[Sample]) -> Result<(), Failed>
         ensures ok { OnOk result (HasWrittenPieces (self.old ++ bytes_of samples.now) self.new
             (K.told sink.old) (K.told sink.new)) }
@@ -66,7 +64,7 @@ impl PieceWriter {
         Ok(())
     }
 
-    /// Writes the bytes that wait, as the last piece.
+    /// Writes the waiting bytes as the last piece.
     pub fn finish<K: Sink>(self, sink: &mut K) -> Result<(), Failed>
         ensures ok { OnOk result (HasWritten self (K.told sink.old) (K.told sink.new)) }
         ensures front { OnErr result (HasWrittenFront self (K.told sink.old) (K.told sink.new)) }
@@ -77,7 +75,7 @@ impl PieceWriter {
         write_whole(sink, &self.buffer[..self.end])
     }
 
-    // Writes what waits where that is a whole piece.
+    // Writes the waiting bytes if they are a full piece.
     fn make_room<K: Sink>(&mut self, sink: &mut K) -> Result<(), Failed>
         ensures ok { OnOk result (HasWrittenPieces self.old self.new (K.told sink.old) (K.told sink.new)) }
         ensures room { OnOk result (length self.new < piece_bytes) }
@@ -96,7 +94,7 @@ impl PieceWriter {
         Ok(())
     }
 
-    // Takes the bytes of the first samples, as many as there is room for, and gives their number.
+    // Copies as many of the first samples as the buffer has room for, and returns their number.
     fn take_samples(&mut self, samples: &[Sample]) -> usize
         requires room { length self.old < piece_bytes }
         requires some { 0 < length samples.now }

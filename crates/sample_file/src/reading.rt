@@ -1,4 +1,4 @@
-//! A recording read from a source of bytes.
+//! Reading a recording from a source of bytes.
 
 ghost use Rattle.std.specs.Prelude.{◌≡◌, ◌+◌, ◌*◌, ◌^◌, ◌<◌, ◌≤◌, length, take, List, IfOk, IsErr, IsErrOf};
 ghost use Rattle.cs_num.specs.declared.Sample.{Sample as SampleValue};
@@ -32,7 +32,7 @@ pub enum FileError {
     TooLong,
     /// A call of the source failed.
     ReadFault,
-    /// Memory was refused.
+    /// An allocation failed.
     OutOfMemory,
 }
 
@@ -61,20 +61,18 @@ impl From<AllocError> for FileError {
     }
 }
 
-// The most bytes that one call of a source is asked for.
+// The maximum number of bytes that one call to a source requests.
 const PIECE: usize = 16_384;
 
-// The first samples of those that came, and the number of all.
+// The first samples of the input, and the number of all its samples.
 #[derive(Drop)]
 struct Front {
     samples: Vec<Sample>,
     count: usize,
 }
 
-/// Reads a recording of 57,600 to 1,920,000 samples from a source, to its end, each sample as the form
-/// says. The bytes may come in pieces of any size. An input that ends within a sample is ragged, however
-/// short it is. Of one that is too long one byte more than 1,920,000 samples have is read, and nothing after it.
-/// After an error what was read is dropped. (own)
+/// Reads a recording of 57,600 to 1,920,000 samples, to the end of the source. An input that ends within a sample is
+/// ragged, however short; one that is too long is read one byte past the limit. (own)
 pub fn read_as<S: Source>(
     alloc: Global,
     source: &mut S,
@@ -98,8 +96,8 @@ pub fn read_as<S: Source>(
     read_front(alloc, source, form, MOST_SAMPLES)
 }
 
-/// Reads a recording as `read_as` does, to its end, and keeps its first samples alone, as many as `most` says, 57,600 to
-/// 1,920,000; the others are counted and take no memory. (own)
+/// Reads a complete recording like `read_as`, but keeps only its first `most` samples, 57,600 to 1,920,000. The
+/// remaining samples are counted and take no memory. (own)
 pub fn read_front<S: Source>(
     alloc: Global,
     source: &mut S,
@@ -144,8 +142,8 @@ pub fn read_front<S: Source>(
     }
 }
 
-/// Reads a recording of signed 16-bit numbers, four bytes a sample: `read_as` in the form `Ci16`.
-/// Of an input that is too long 7,680,001 bytes are read. (own)
+/// Reads a recording of signed 16-bit numbers, four bytes per sample: `read_as` with `Ci16`. An input that is too
+/// long is read up to byte 7,680,001. (own)
 pub fn read_recording<S: Source>(alloc: Global, source: &mut S) -> Result<Recording, FileError>
     ensures ok { IfOk result (λ recording.
         HasReadRecording Ci16 recording (S.told source.old) (S.told source.new)) }
@@ -165,8 +163,8 @@ pub fn read_recording<S: Source>(alloc: Global, source: &mut S) -> Result<Record
     read_as(alloc, source, SampleForm::Ci16)
 }
 
-/// Reads a recording of 8-bit numbers, two bytes a sample: `read_as` in the form `Cu8`.
-/// Of an input that is too long 3,840,001 bytes are read. (own)
+/// Reads a recording of 8-bit numbers, two bytes per sample: `read_as` with `Cu8`. An input that is too long is read
+/// up to byte 3,840,001. (own)
 pub fn read_cu8<S: Source>(alloc: Global, source: &mut S) -> Result<Recording, FileError>
     ensures ok { IfOk result (λ recording.
         HasReadRecording Cu8 recording (S.told source.old) (S.told source.new)) }
@@ -186,7 +184,7 @@ pub fn read_cu8<S: Source>(alloc: Global, source: &mut S) -> Result<Recording, F
     read_as(alloc, source, SampleForm::Cu8)
 }
 
-// How many bytes a count of samples have, and those of one that is begun.
+// Returns the number of bytes in `samples` samples and `begun` further bytes.
 fn bytes_read(form: SampleForm, samples: usize, begun: usize) -> usize
     requires samples { samples ≤ 2 ^ 40 }
     requires begun { begun ≤ 4 }
@@ -198,7 +196,7 @@ fn bytes_read(form: SampleForm, samples: usize, begun: usize) -> usize
     }
 }
 
-// The recording of these samples, unless they are too few.
+// Returns the recording with these samples, or `TooShort` if they are too few.
 fn recording_of(samples: Vec<Sample>) -> Result<Recording, FileError>
     requires { length samples.items ≤ most_samples }
     ensures ok { IfOk result (λ recording. recording ≡ samples.items) }
@@ -212,8 +210,8 @@ fn recording_of(samples: Vec<Sample>) -> Result<Recording, FileError>
     }
 }
 
-// Takes the samples of the first `end` bytes of the buffer: the first of all are kept, as many as `most` says. Moves
-// the bytes of one that is begun to the front of the buffer, and gives their number.
+// Takes the samples from the buffer's first `end` bytes and keeps the first `most` in all. Moves the bytes of an
+// incomplete sample to the buffer's front and returns their number.
 fn take_front(
     form: SampleForm,
     most: usize,

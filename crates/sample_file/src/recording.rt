@@ -9,8 +9,8 @@ use cs_num::Sample;
 use lte_types::{LEAST_SAMPLES, MOST_SAMPLES};
 use std::marker::Model;
 
-/// A list of 57,600 to 1,920,000 samples at 1.92 million samples per second: 30 ms to one second.
-/// Contracts see it as the list of its samples. (own)
+/// A list of 57,600 to 1,920,000 samples at 1.92 million samples per second: 30 ms to one second. Contracts see a
+/// list of samples. (own)
 #[derive(Drop)]
 pub struct Recording {
     samples: Vec<Sample>,
@@ -25,8 +25,8 @@ impl Model for Recording {
 }
 
 impl Recording {
-    /// The recording with these samples; `None` exactly where their number is below 57,600 or
-    /// above 1,920,000.
+    /// Returns the recording with these samples, or `None` exactly if their number is below 57,600 or above
+    /// 1,920,000.
     pub fn new(samples: Vec<Sample>) -> Option<Self>
         ensures valid { IsSome result ↔ IsRecording samples.items }
         ensures value { IfSome result (λ recording. recording ≡ samples.items) }
@@ -38,7 +38,7 @@ impl Recording {
         }
     }
 
-    /// The number of samples, 57,600 to 1,920,000.
+    /// Returns the number of samples, 57,600 to 1,920,000.
     pub fn len(&self) -> usize
         ensures value { result ≡ length self.now }
         ensures valid { IsRecording self.now }
@@ -46,7 +46,7 @@ impl Recording {
         self.samples.len()
     }
 
-    /// Sample `i`. `i` is below the number of samples.
+    /// Returns sample `i`, which is below the number of samples.
     pub fn get(&self, i: usize) -> Sample
         requires { i < length self.now }
         ensures { result ≡ slice_index_or self.now i silence }
@@ -54,7 +54,7 @@ impl Recording {
         self.samples[i]
     }
 
-    /// All samples in order.
+    /// Returns all samples in order.
     pub fn as_slice(&self) -> &[Sample]
         ensures value { result.now ≡ self.now }
         ensures valid { IsRecording self.now }

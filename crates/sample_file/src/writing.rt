@@ -11,8 +11,8 @@ use cs_num::Sample;
 use cs_outside::{Failed, Sink};
 use std::alloc::{AllocError, Global};
 
-/// The bytes of samples, four each: the real, then the imaginary component, each a signed 16-bit number
-/// with its low byte first. (own)
+/// Returns the samples as bytes, four each: the real, then the imaginary component, each a signed 16-bit number, low
+/// byte first. (own)
 pub fn bytes_of(alloc: Global, samples: &[Sample]) -> Result<Vec<u8>, AllocError>
     ensures { IfOk result (λ bytes. bytes.items ≡ all_bytes samples.now) }
 {
@@ -23,9 +23,8 @@ pub fn bytes_of(alloc: Global, samples: &[Sample]) -> Result<Vec<u8>, AllocError
     Ok(bytes)
 }
 
-/// Writes the bytes of samples to a sink, four each: the real, then the imaginary component, each a signed 16-bit
-/// number with its low byte first. They are written in pieces of 16,384 bytes, the last piece excepted. It takes no
-/// memory. (own)
+/// Writes samples to a sink, four bytes each: the real, then the imaginary component, each a signed 16-bit number,
+/// low byte first. Pieces have 16,384 bytes; only the last may be shorter. Allocates nothing. (own)
 pub fn write_samples<K: Sink>(sink: &mut K, samples: &[Sample]) -> Result<(), Failed>
     ensures ok { OnOk result (HasWritten (all_bytes samples.now) (K.told sink.old) (K.told sink.new)) }
     ensures front { OnErr result (HasWrittenFront (all_bytes samples.now) (K.told sink.old) (K.told sink.new)) }
@@ -40,7 +39,7 @@ pub fn write_samples<K: Sink>(sink: &mut K, samples: &[Sample]) -> Result<(), Fa
     }
 }
 
-// Puts the bytes of samples into a buffer of as many. Inlined it would be a loop over single samples.
+// Writes the samples' bytes into a buffer of exactly that size. Inlined it would be a loop over single samples.
 #[inline(never)]
 pub(crate) fn put_samples(buffer: &mut [u8], samples: &[Sample])
     requires { length buffer.old ≡ 4 * length samples.now }
@@ -51,7 +50,7 @@ pub(crate) fn put_samples(buffer: &mut [u8], samples: &[Sample])
     }
 }
 
-// The bytes of a sample.
+// Returns the four bytes of a sample.
 fn bytes_of_sample(sample: &Sample) -> [u8; 4]
     ensures { result ≡ sample_bytes sample.now }
 {
@@ -60,7 +59,7 @@ fn bytes_of_sample(sample: &Sample) -> [u8; 4]
     bytes
 }
 
-/// A law: the bytes of samples stand for these samples, where no component is below -32,767.
+/// A law: the bytes of samples are read back as the same samples if no component is below -32,767.
 pub fn bytes_are_read_back()
     ensures { AreReadBack }
 {}

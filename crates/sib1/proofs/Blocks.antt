@@ -1,4 +1,4 @@
--- What the larger parts that were put make up.
+-- The appended parts are encodings of the larger fields.
 use Rattle.std.proofs.Common.{◌≡◌, ℕ, ◌+◌, ◌-◌, ◌≤◌, ℤ, pos, ◌-ℤ◌, Bool, true, false, not, List, length, Option, Some, None, refl, ap, ap₂, sym, subst, ◌∙◌, arith}
 use Rattle.std.specs.Prelude.{is_some, IfSome}
 use Rattle.lte_types.specs.declared.si_message.SiMessage.{SiMessage}
@@ -48,7 +48,7 @@ schedule_puts list old a new some p q =
     let e : length list ≡ length list - 1 + 1 = omega (arith, some) in
     puts_bind (from_to 5 0 31) (λ n. times (n + 1) scheduling_info) (length list - 1) list old a new p (subst (λ n. Puts (times n scheduling_info) list a new) e q)
 
--- ---- what may be there
+-- ---- optional parts
 
 pub csg_puts : (o : Option ℕ) (n : ℕ) (old new : State) → o ≡ Some n → IfSome o IsGroup → PutsWithin 27 n old new → Puts (if_present (is_some o) (from_to 27 0 134217727)) o old new
 csg_puts (Some m) n old new e small p =

@@ -1,4 +1,4 @@
--- Bits say something: they begin with a text of the fields, or are refused.
+-- Any bits can be decoded: they begin with an encoding of the fields, or are refused.
 use Rattle.std.proofs.Common.{◌≡◌, ℕ, Bool, true, false, List, [], ◌∷◌, Result, Ok, Err, refl}
 use Rattle.lte_types.specs.declared.sib1.Sib1.{Sib1}
 use Rattle.lte_types.specs.declared.sib1_reason.Sib1Reason.{Sib1Reason}

@@ -1,4 +1,4 @@
--- Bits say one thing.
+-- Bits decode to one result.
 use Rattle.std.proofs.Common.{◌≡◌, ℕ, ◌⊎◌, inl, inr, Bool, true, false, List, [], ◌∷◌, ◌++◌, Result, Ok, Err, refl, ap, ap₂, sym, subst, ◌∙◌, arith}
 use Rattle.cs_bits.specs.Numbers.{number}
 use Rattle.lte_types.specs.declared.sib1.Sib1.{Sib1}
@@ -10,7 +10,7 @@ use Rattle.uper.proofs.Fronts.{one_value, one_place, text_or_refusal}
 use Rattle.sib1.specs.Layout.{sib1}
 use Rattle.sib1.specs.Message.{IsSib1, IsRefused, Says, Writes}
 
--- a field of one bit with one value
+-- a one-bit field with one value
 one_bit : (value : ℕ) (bits front rest : List Bool) → Begins 1 value value bits front rest → (b : Bool) × (front ≡ b ∷ []) × (number front ≡ value)
 one_bit value bits [] rest b = absurd (let w = b.whole in omega (arith, w))
 one_bit value bits (x ∷ []) rest b = (x, refl, let l = b.above in let g = b.below in omega (arith, l, g))

@@ -1,4 +1,4 @@
--- A block has one text.
+-- A block has one encoding.
 use Rattle.std.proofs.Common.{◌≡◌, ℕ, ◌+◌, ◌-◌, pos, ◌+ℤ◌, ◌-ℤ◌, nat_abs, Bool, true, false, cond, not, leb, nat_eq, List, ◌∷◌, length, drop, Option, refl, ap, sym, ◌∙◌, arith}
 use Rattle.std.specs.Prelude.{⊤, is_some}
 use Rattle.std.proofs.Math.IntN.{ -ℤ-+ℤ_cancel}
@@ -15,7 +15,7 @@ use Rattle.uper.proofs.Laws.{Holds, holds_done, holds_bind, within, present_is, 
 use Rattle.sib1.specs.Layout.{digit, mnc, plmn_identity_info, plmn_identity_list, csg_identity, cell_access_related_info, q_rx_lev_min_offset, cell_selection_info, p_max, sib_type, si_periodicity, scheduling_info, scheduling_info_list, tdd_config, si_window_length, sib1}
 use Rattle.lte_types.specs.Parts.{access_of, selection_of}
 
--- what a flag's negation or a shifted number tells
+-- a flag's negation and a shifted number determine the flag and the number
 not_same : (v w : Bool) → not v ≡ not w → v ≡ w
 not_same true true e = refl
 not_same false false e = refl
@@ -181,7 +181,7 @@ once_scheduling_info_list =
     once_bind ⊤ (from_to 5 0 31) entries_of entries_of (once_number 5 0 31)
     (λ v w s r p q. agree_told entries_of (λ list. length list - 1) v w (λ n. once_times (n + 1) scheduling_info once_scheduling_info) further_told)
 
--- ---- the whole message
+-- ---- the complete message
 
 once_tdd_config : Once tdd_config
 unfolding tdd_config

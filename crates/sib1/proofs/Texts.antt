@@ -1,4 +1,4 @@
--- A text of fields is the text that they have.
+-- A block's encoding is the one that `text_of` gives.
 use Rattle.std.proofs.Common.{◌≡◌, Bool, List, Some, refl, sym, subst}
 use Rattle.lte_types.specs.declared.sib1.Sib1.{Sib1}
 use Rattle.lte_types.specs.Same.{same_fields}

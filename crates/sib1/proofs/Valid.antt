@@ -1,4 +1,4 @@
--- What a text stands for is in its ranges.
+-- Decoded fields are in range.
 use Rattle.std.proofs.Common.{◌≡◌, ℕ, zero, suc, ◌+◌, ◌≤◌, pos, ◌-ℤ◌, Bool, true, false, cond, nat_eq, ◌∷◌, refl, ◌∙◌, arith}
 use Rattle.std.specs.Prelude.{IsSome}
 use Rattle.std.proofs.lemmas.List.Elements.{All-from_recursion}

@@ -1,4 +1,4 @@
--- What the parts that were put make up.
+-- The appended parts are encodings of the fields.
 use Rattle.std.proofs.Common.{◌≡◌, ℕ, ◌-◌, ◌≤◌, Bool, true, false, cond, not, nat_eq, List, [], ◌∷◌, length, take, drop, get_or, Option, refl, ap, sym, subst, ◌∙◌, arith}
 use Rattle.std.specs.Prelude.{is_some}
 use Rattle.std.proofs.lemmas.List.{take_all}
@@ -63,7 +63,7 @@ plmn_puts p least old a b c new l first second third fourth =
     (puts_bind flag (λ n. done (let q : Plmn = record { mcc = p.mcc; mnc = p.mnc; reserved = not n } in q)) (not p.reserved) p c new new fourth
     (puts_same (done (negated p)) (negated p) p new new (negated_is p) (puts_done (negated p) new)))))
 
--- the list without its first
+-- the list without its first item
 others_of : {A : Type 0} (first : A) (others : List A) → take (length (first ∷ others) - 1) (drop 1 (first ∷ others)) ≡ others
 others_of first others =
     let e : length (first ∷ others) - 1 ≡ length others = omega arith in

@@ -1,4 +1,4 @@
--- The fields of SystemInformationBlockType1 in their order (TS 36.331 section 6.2.2), each with its bits and range in
+-- The fields of SystemInformationBlockType1 in order (TS 36.331 section 6.2.2), each with its width and range in
 -- unaligned PER (ITU-T X.691).
 use Rattle.std.specs.Prelude.{ℕ, ◌+◌, pos, ℤ, ◌-ℤ◌, not, nat_eq, if◌then◌else◌, List, ◌∷◌}
 use Rattle.lte_types.specs.declared.mnc.Mnc.{Mnc}
@@ -27,8 +27,8 @@ mnc = do
       digits ← times 2 digit
       done (Two digits))
 
--- an entry: PLMN-Identity and cellReservedForOperatorUse, whose 0 is `reserved`; the bit that says whether it has
--- a country code is at least `least`
+-- an entry: PLMN-Identity and cellReservedForOperatorUse, where 0 is `reserved`; the country code's presence bit is
+-- at least `least`
 unfoldable pub plmn_identity_info : ℕ → Grammar Plmn
 plmn_identity_info least = do
   has_mcc ← from_to 1 least 1
@@ -37,7 +37,7 @@ plmn_identity_info least = do
   not_reserved ← flag
   done (record { mcc = mcc; mnc = mnc; reserved = not not_reserved })
 
--- 1 to 6 entries, of which the first has a country code
+-- 1 to 6 entries; the first has a country code
 unfoldable pub plmn_identity_list : Grammar (List Plmn)
 plmn_identity_list = do
   further ← from_to 3 0 5
@@ -95,7 +95,7 @@ p_max = do
 
 -- ---- schedulingInfoList
 
--- SIB-Type: one of 16 codes, or one of 64 after those in the extension's short form
+-- SIB-Type: one of 16 codes, or one of 64 further codes in the extension's short form
 unfoldable pub sib_type : Grammar ℕ
 sib_type = do
   is_extension ← flag
@@ -135,7 +135,7 @@ tdd_config = do
 abbrev pub si_window_length : Grammar ℕ
 si_window_length = from_to 3 0 6
 
--- ---- BCCH-DL-SCH-Message with SystemInformationBlockType1; nonCriticalExtension, where present, follows
+-- ---- BCCH-DL-SCH-Message with SystemInformationBlockType1; nonCriticalExtension, if present, follows
 
 unfoldable pub sib1 : Grammar Sib1
 sib1 = do

@@ -1,4 +1,4 @@
--- What bits say of SystemInformationBlockType1.
+-- How bits are decoded as SystemInformationBlockType1.
 use Rattle.std.specs.Prelude.{◌≡◌, Bool, true, false, List, [], ◌∷◌, length, ◌≤◌, ◌↔◌, if◌then◌else◌, Result, Ok, Err}
 use Rattle.lte_types.specs.declared.sib1.Sib1.{Sib1}
 use Rattle.lte_types.specs.declared.sib1_reason.Sib1Reason.{Sib1Reason}
@@ -6,23 +6,23 @@ use Rattle.lte_types.specs.declared.sib1_reason.Sib1Reason.TheVariants.{NotSib1,
 use Rattle.uper.specs.Texts.{IsText, BeginsWith, Refuses}
 use Rattle.sib1.specs.Layout.{sib1}
 
--- the first two bits, 0 and 1, tell this message from others
+-- the first two bits, 0 and 1, identify this message
 pub record IsSib1 (bits : List Bool) : Type 0 where
   pub rest : List Bool
   pub begins : bits ≡ false ∷ true ∷ rest
 
--- the bits are refused for this reason: another message, or a first bad field and its place
+-- the bits are refused for this reason: another message, or the first bad field and its position
 abbrev pub IsRefused : List Bool → Sib1Reason → Type 0
 IsRefused bits NotSib1 = IsSib1 bits → ⊥
 IsRefused bits (BadFields place) = IsSib1 bits × Refuses sib1 bits place
 IsRefused bits _ = ⊥
 
--- what the bits say: they begin with a text of the fields, whatever follows; or they are refused
+-- the bits begin with an encoding of the fields, whatever follows; or they are refused
 abbrev pub Says : List Bool → Result Sib1 Sib1Reason → Type 0
 Says bits (Ok fields) = BeginsWith sib1 bits fields
 Says bits (Err reason) = IsRefused bits reason
 
--- the text of the fields was written; or it has more than 1,000 bits, and nothing was
+-- the encoding of the fields was written; or it has more than 1,000 bits, and nothing was written
 pub record Writes (fields : Sib1) (did : Bool) (bits : List Bool) : Type 0 where
   pub text : List Bool
   pub is_text : IsText sib1 text fields

@@ -1,4 +1,4 @@
-//! Texts and what they stand for.
+//! Laws of the encodings.
 
 ghost use Rattle.std.specs.Prelude.{◌≡◌, ◌↔◌, [], ◌++◌, Bool, true, List, Some, Result, Ok};
 ghost use Rattle.lte_types.specs.declared.sib1.Sib1.{Sib1 as Fields};
@@ -9,11 +9,8 @@ ghost use Rattle.sib1.specs.Layout.{sib1};
 ghost use Rattle.sib1.specs.Message.{Says, Writes};
 ghost use Rattle.sib1.specs.Text.{text_of};
 
-/// Bits say one thing: they begin with a text of one block or are refused for one reason, and not both.
-///
-/// A text of a block stands for it, whatever bits follow, and for no other block. A block has one text at
-/// most, no text is a front of another, and what has a text is in its ranges. `text_of` is that text. What
-/// was written is read, and nothing else.
+/// A law: bits begin with the encoding of one block or are refused for one reason. Later bits are ignored, blocks are
+/// in range, `text_of` is a block's only encoding and no prefix of another, and `read` inverts `write`.
 pub fn texts_and_bits()
     ensures one_answer { (bits : List Bool) (a b : Result Fields Sib1Reason)
         → Says bits a → Says bits b → a ≡ b }

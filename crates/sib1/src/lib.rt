@@ -1,5 +1,6 @@
-//! SystemInformationBlockType1 as bits (TS 36.331 section 6.2.2, in unaligned PER, ITU-T X.691): read and
-//! written by one grammar, `specs/Layout.antt`.
+//! SystemInformationBlockType1 in unaligned PER (TS 36.331 section 6.2.2, ITU-T X.691), decoded and encoded by one
+//! grammar, `specs/Layout.antt`.
+//! Tests: the crate `code_tests`.
 #![tactic(auto)]
 
 mod laws;

@@ -1,4 +1,4 @@
-//! plmn-IdentityList, read.
+//! Decoding plmn-IdentityList.
 
 ghost use Rattle.std.specs.Prelude.{◌≡◌, ◌≤◌, ◌<◌, IfOk};
 ghost use Rattle.uper.specs.Grammar.{times, if_present};
@@ -55,7 +55,7 @@ fn read_mnc(reader: &mut Reader<'_>) -> Result<Mnc, usize>
     }
 }
 
-// An entry; with `least` 1 it has to have a country code.
+// Reads an entry; with `least` 1 it must have a country code.
 fn read_plmn_identity_info(reader: &mut Reader<'_>, least: u32) -> Result<Plmn, usize>
     requires { least ≤ 1 }
     ensures { Reads (plmn_identity_info least) reader.old result reader.new }

@@ -1,4 +1,4 @@
-//! schedulingInfoList, read.
+//! Decoding schedulingInfoList.
 
 ghost use Rattle.std.specs.Prelude.{◌≡◌, ◌≤◌};
 ghost use Rattle.uper.specs.Grammar.{times};

@@ -1,4 +1,4 @@
-//! SystemInformationBlockType1, read.
+//! Decoding SystemInformationBlockType1.
 
 ghost use Rattle.std.specs.Prelude.{◌≡◌, ◌≤◌, pos, ◌-ℤ◌, length, true, false, IfOk};
 ghost use Rattle.lte_types.specs.Ranges.{IsValid};
@@ -56,7 +56,7 @@ fn read_q_rx_lev_min_offset(reader: &mut Reader<'_>, present: bool) -> Result<Op
     }
 }
 
-// q-RxLevMin by its number.
+// Returns q-RxLevMin, in units of 2 dBm, for its encoded number.
 fn q_rx_lev_min_of(number: u32) -> i8
     requires { number ≤ 48 }
     ensures { result ≡ pos number -ℤ pos 70 }
@@ -64,7 +64,7 @@ fn q_rx_lev_min_of(number: u32) -> i8
     number as i8 - 70
 }
 
-// p-Max by its number.
+// Returns p-Max, in dBm, for its encoded number.
 fn p_max_of(number: u32) -> i8
     requires { number ≤ 63 }
     ensures { result ≡ pos number -ℤ pos 30 }
@@ -143,7 +143,7 @@ fn read_fields(reader: &mut Reader<'_>) -> Result<Sib1, usize>
     })
 }
 
-// Whether the message is of this type.
+// Returns whether the first two bits identify SystemInformationBlockType1.
 fn is_sib1(bits: &[bool]) -> bool
     ensures is { result ≡ true → IsSib1 bits.now }
     ensures is_other { result ≡ false → IsSib1 bits.now → ⊥ }
@@ -151,11 +151,9 @@ fn is_sib1(bits: &[bool]) -> bool
     matches!(bits, [false, true, ..])
 }
 
-/// The fields that the bits (at most 1,000) begin with, by the order, lengths and ranges of TS 36.331
-/// section 6.2.2. What follows them, an extension too, is not looked at.
-///
-/// `NotSib1` exactly where the first two bits are not 0 and 1. Otherwise `BadFields` with the place of the
-/// first bit of the first field that is cut off or out of its range; no other reason comes.
+/// Decodes the fields at the front of `bits`, at most 1,000 (TS 36.331 section 6.2.2); later bits, extensions too,
+/// are ignored. `NotSib1` unless the first two bits are 0 and 1; otherwise `BadFields` with the first bad field's
+/// position.
 pub fn read(bits: &[bool]) -> Result<Sib1, Sib1Reason>
     requires { length bits.now ≤ 1000 }
     ensures answer { Says bits.now result }

@@ -1,4 +1,4 @@
-//! plmn-IdentityList, written.
+//! Encoding plmn-IdentityList.
 
 ghost use Rattle.std.specs.Prelude.{◌≤◌, ℕ, All, length, IfSome, is_some, true, if◌then◌else◌};
 ghost use Rattle.lte_types.specs.Ranges.{AreDigits, HasDigits, IsValidPlmn, ArePlmns};
@@ -43,7 +43,7 @@ fn put_mnc(sheet: &mut Sheet, code: &Mnc)
     }
 }
 
-// An entry, as one that may do without a country code, and, where it has one, as one that may not.
+// Appends an entry. With a country code it is also valid as the first entry, which must have one.
 fn put_plmn_identity_info(sheet: &mut Sheet, network: &Plmn)
     requires { IsValidPlmn network.now }
     ensures { (least : ℕ) → least ≤ (if is_some network.now.mcc then 1 else 0)

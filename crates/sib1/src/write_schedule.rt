@@ -1,4 +1,4 @@
-//! schedulingInfoList, written.
+//! Encoding schedulingInfoList.
 
 ghost use Rattle.std.specs.Prelude.{◌≤◌, All, length};
 ghost use Rattle.lte_types.specs.Ranges.{IsValidMessage, AreMessages};

@@ -1,4 +1,4 @@
-//! SystemInformationBlockType1, written.
+//! Encoding SystemInformationBlockType1.
 
 ghost use Rattle.std.specs.Prelude.{◌≡◌, ◌≤◌, ◌<◌, ◌≤ℤ◌, ◌-ℤ◌, [], pos, negsuc, false, IfSome, is_some, if◌then◌else◌};
 ghost use Rattle.lte_types.specs.Ranges.{IsGroup, IsLevelOffset, IsPower, IsTddConfig, IsAccess, IsSelection, IsValid};
@@ -45,7 +45,7 @@ fn put_q_rx_lev_min_offset(sheet: &mut Sheet, value: Option<u8>)
     }
 }
 
-// The number of q-RxLevMin.
+// Returns the encoded number for q-RxLevMin.
 fn number_of_q_rx_lev_min(level: i8) -> u32
     requires low { negsuc 69 ≤ℤ level }
     requires high { level ≤ℤ negsuc 21 }
@@ -55,7 +55,7 @@ fn number_of_q_rx_lev_min(level: i8) -> u32
     (level + 70) as u32
 }
 
-// The number of p-Max.
+// Returns the encoded number for p-Max.
 fn number_of_p_max(power: i8) -> u32
     requires low { negsuc 29 ≤ℤ power }
     requires high { power ≤ℤ pos 33 }
@@ -112,9 +112,8 @@ fn put_fields(sheet: &mut Sheet, fields: &Sib1)
     sheet.put(fields.tag as u32, 5);
 }
 
-/// Writes the whole text of the fields, each of which is in its range and which have no extension, to
-/// `out`, which is empty before; `read` answers with these fields, whatever bits follow. False exactly
-/// where the text has more than 1,000 bits, and `out` is then empty.
+/// Writes the encoding of `fields`, which are in range and have no extension, to `out`, which must be empty. Returns
+/// false, and leaves `out` empty, exactly if it has more than 1,000 bits.
 pub fn write(fields: &Sib1, out: &mut Writer) -> bool
     requires empty { out.old ≡ [] }
     requires valid { IsValid fields.now }

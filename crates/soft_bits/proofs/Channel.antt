@@ -1,4 +1,4 @@
--- The soft values of a list of places, and descrambled values.
+-- Soft values of a list of resource elements, and descrambled values.
 use Rattle.std.proofs.Common.{◌≡◌, ℕ, ◌+◌, ◌*◌, ◌/◌, ◌%◌, ◌<◌, ◌≤◌, Bool, true, false, List, [], ◌∷◌, length, get_or, ℤ, pos, negsuc, nat_abs, inl, inr, refl, ap, subst, sym, arith}
 use Rattle.std.specs.Prelude.{All, int_div, ◌*ℤ◌, nat_lt, if◌then◌else◌}
 use Rattle.std.proofs.Math.Path.{fun_ext}
@@ -14,7 +14,7 @@ use Rattle.grid_map.specs.Place.{place}
 use Rattle.soft_bits.specs.Soft.{SeenSlot, soft_value, soft_values, equalised, pilot_energy}
 use Rattle.soft_bits.specs.Places.{values_at, in_subframe, placed_values, placed_value, descrambled_value, turned_by, descrambled}
 
--- ---- the values of places
+-- ---- the values of resource elements
 
 two_values : (slot : SeenSlot) (p : Place) → length (values_at slot p) ≡ 2
 unfolding soft_values
@@ -23,7 +23,7 @@ two_values slot p = refl
 twos : (slot : Place → SeenSlot) (places : List Place) → HaveSize 2 (λ p. values_at (slot p) p) places
 twos slot places k d inside = two_values (slot (get_or places k d)) (get_or places k d)
 
--- two a place
+-- two values per resource element
 pub length-placed : (slot : Place → SeenSlot) (places : List Place) → length (placed_values slot places) ≡ 2 * length places
 unfolding placed_values
 length-placed slot places = let all = length-pieces 2 (λ p. values_at (slot p) p) places (twos slot places) in omega (arith, all)
@@ -34,7 +34,7 @@ unfolding placed_values
 placed-at slot places i inside =
     get_or-pieces 2 (λ p. values_at (slot p) p) places i (place 0 0) (pos 0) (omega arith) (twos slot places) (omega (arith, inside))
 
--- ---- they are small
+-- ---- bounds
 
 pub soft_value-small : (z : ℤ) (energy : ℕ) → nat_abs (soft_value z energy) ≤ 127
 soft_value-small z energy = elim (eqb_tells energy 0) [
@@ -66,7 +66,7 @@ placed-small slot places =
     All-from_get_or (λ z. nat_abs z ≤ 127) (placed_values slot places) (pos 0)
     (λ i below. subst (λ z. nat_abs z ≤ 127) (sym (placed-at slot places i (let size = length-placed slot places in omega (arith, size, below)))) (placed_value-small slot places i))
 
--- ---- a place of a subframe whose slots are both one
+-- ---- an element in a subframe whose slots are both the same
 
 pub one_slot : (slot : SeenSlot) → in_subframe slot slot ≡ (λ (p : Place). slot)
 one_slot slot = fun_ext (λ (p : Place). same (nat_lt p.symbol 7))
@@ -87,7 +87,7 @@ unfolding descrambled
 descrambled-at c_init first values i inside =
     values_below_at (λ i. descrambled_value (gold_bit c_init (first + i)) (get_or values i (pos 0))) (length values) i (pos 0) inside
 
--- by the first bits of the sequence
+-- descrambling with the first bits of the sequence
 pub turned-descrambled : (bits : List Bool) (c_init first : ℕ) (values : List ℤ) → ((k : ℕ) → k < first + length values → get_or bits k false ≡ gold_bit c_init k) →
     turned_by (λ k. get_or bits k false) first values ≡ descrambled c_init first values
 unfolding descrambled

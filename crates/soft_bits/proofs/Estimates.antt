@@ -6,7 +6,7 @@ use Rattle.cs_num.specs.declared.Cpx.{Cpx}
 use Rattle.cs_num.specs.Complex.{multiple}
 use Rattle.soft_bits.specs.Estimate.{place_by, between_by, line_by}
 
--- it is that of the pilots up to the last alone
+-- the line depends only on the pilots up to the last
 pub line-same : (step last : ℕ) (f g : ℕ → Cpx) (shift k : ℕ) → (k < place_by step shift last → (k - shift) / step < last) →
     ((i : ℕ) → i < last + 1 → f i ≡ g i) → line_by step last f shift k ≡ line_by step last g shift k
 line-same step last f g shift k inside same = first (nat_lt k (place_by step shift 0))

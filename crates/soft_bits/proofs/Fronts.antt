@@ -1,4 +1,4 @@
--- The values of places in the first four symbols of a slot are told by its front.
+-- Soft values in a slot's first four symbols depend only on its front.
 use Rattle.std.proofs.Common.{◌≡◌, ℕ, Bool, true, false, nat_eq, ◌+◌, ◌*◌, ◌/◌, ◌%◌, ◌<◌, length, get_or, pos, ap, ap₂, sym, ◌∙◌, arith}
 use Rattle.std.specs.Prelude.{if◌then◌else◌}
 use Rattle.std.proofs.lemmas.List.{ext_get_or}

@@ -1,4 +1,4 @@
--- Layouts: the lines that those of ports 0 and 1, and of ports 2 and 3, make.
+-- Layouts: the lines for ports 0 and 1, and for ports 2 and 3.
 use Rattle.std.proofs.Common.{◌≡◌, ℕ, ◌+◌, ◌*◌, ◌/◌, ◌%◌, ◌<◌, ◌≤◌, ◌⊎◌, inl, inr, Bool, true, false, nat_eq, arith, refl, ap, ap₂, ◌∙◌}
 use Rattle.std.specs.Prelude.{if◌then◌else◌}
 use Rattle.std.proofs.Math.Path.{fun_ext}
@@ -12,7 +12,7 @@ use Rattle.soft_bits.specs.Layout.{IsLayout, laid_out}
 use Rattle.soft_bits.specs.Lines.{Line, lower_line, upper_line}
 use Rattle.soft_bits.specs.Soft.{SeenSlot, pattern_symbol, pattern_sent}
 
--- by a pattern
+-- the line for a pattern
 pub lower_is : (pattern : Pattern) (slot : SeenSlot) (first residue : ℕ) → first ≡ slot.identity % 3 → residue ≡ pattern_first pattern slot.identity 0 →
     laid_out (record { pattern = pattern; step = 3; last = 23; first = first; residue = residue; early = 0; late = pattern.later }) slot ≡ lower_line pattern slot
 unfolding pattern_symbol pattern_sent
@@ -22,7 +22,7 @@ lower_is pattern slot first residue e f = rw (e, f) refl
 abbrev line : ℕ → (ℕ → ℕ) → (ℕ → Cpx) → Line
 line n symbol sent = record { step = 6; last = 11; first = n; symbol = symbol; sent = sent }
 
--- pilot i is value i of the second symbol
+-- pilot i is value i in the second symbol
 pub upper_is : (port first : ℕ) (slot : SeenSlot) → first ≡ upper_first port slot.identity slot.number →
     laid_out (record { pattern = port_0; step = 6; last = 11; first = first; residue = first; early = 1; late = 1 }) slot ≡ upper_line port slot
 upper_is port first slot e =

@@ -1,4 +1,5 @@
--- Lines of pilots: those of the ports of a carrier, what they are by patterns, the channel along them, and that they look at the front of a slot.
+-- Lines of pilots: one for each port, by its pattern, the channel along them, and their dependence on the slot's
+-- front alone.
 use Rattle.std.proofs.Common.{◌≡◌, ℕ, zero, suc, ◌+◌, ◌-◌, ◌*◌, ◌/◌, ◌<◌, ◌≤◌, ◌⊎◌, inl, inr, Bool, true, false, arith, List, ℤ, pos, refl, ap, ap₂, sym, subst, ◌∙◌}
 use Rattle.std.specs.Prelude.{if◌then◌else◌, ◌*ℤ◌}
 use Rattle.std.proofs.Math.Path.{fun_ext}
@@ -31,18 +32,18 @@ pub lower_energy_is : (pattern : Pattern) (slot : SeenSlot) → pattern_energy p
 unfolding pattern_energy pattern_seen line_energy
 lower_energy_is pattern slot = refl
 
--- the channel along the line of the first port of a carrier
+-- the channel along the first port's line
 pub line_channel_is : (carrier : Carrier) (slot : SeenSlot) (k : ℕ) → line_channel (line_of carrier 0 slot) slot k ≡ pattern_channel (pattern_of carrier 0) slot k
 line_channel_is carrier slot k = sym (lower_channel_is (pattern_of carrier 0) slot k)
 
--- once anything is itself
+-- one times a number is the number
 pub once : (z : Cpx) → multiple 1 z ≡ z
 once z = pair (one-times z.re) (one-times z.im)
   where
     one-times : (x : ℤ) → pos 1 *ℤ x ≡ x
     one-times x = omega (arith, ints)
 
--- of one port, the energy of all ports is that of its pilots
+-- with one port, the energy over all ports is that port's pilot energy
 pub energy_of_one : (carrier : Carrier) (slot : SeenSlot) → ports_of carrier ≡ 1 → ports_energy carrier slot ≡ pattern_energy (pattern_of carrier 0) slot
 unfolding ports_energy total_below
 energy_of_one carrier slot one =
@@ -69,7 +70,7 @@ few_ports FourPorts = omega arith
 
 -- ---- any port
 
--- its pilots stand in the first five symbols, on subcarriers; there are as many as have room, 24 or 12
+-- the pilots are in the first five symbols, on the 72 subcarriers, which 24 or 12 pilots fill
 pub record IsLine (line : Line) : Type 0 where
   pub some : 1 ≤ line.step
   pub counted : 1 ≤ line.step / 3
@@ -106,9 +107,9 @@ is_line carrier port slot = by port
     by (suc zero) = low (pattern_of carrier 1) (later-early carrier 1)
     by (suc (suc n)) = high (suc (suc n)) (omega arith)
 
--- ---- the channel along the pilots that are kept
+-- ---- the channel along the kept pilots
 
--- between two of them
+-- between two pilots
 between-last : (step last first k : ℕ) → ((step ≡ 3) × (last ≡ 23)) ⊎ ((step ≡ 6) × (last ≡ 11)) → k < place_by step first last → (k - first) / step < last
 between-last step last first k (inl (s, l)) inside = subst (λ n. (k - first) / n < last) (sym s) (rw l (omega (arith, rw (s, l) at inside)))
 between-last step last first k (inr (s, l)) inside = subst (λ n. (k - first) / n < last) (sym s) (rw l (omega (arith, rw (s, l) at inside)))
@@ -124,19 +125,19 @@ along_is line is slot k =
     one_less : (n : ℕ) → n + 1 - 1 ≡ n
     one_less n = omega arith
 
--- along those of a port of a carrier, so many times
+-- a port's channel along its kept pilots, times `scale`
 pub port_along : (scale : ℕ) (carrier : Carrier) (port : ℕ) (slot : SeenSlot) (k : ℕ) →
     multiple (scale / (line_of carrier port slot).step) (along (seen_line (line_of carrier port slot) slot) k) ≡ port_channel scale carrier port slot k
 port_along scale carrier port slot k =
     ap (multiple (scale / (line_of carrier port slot).step)) (along_is (line_of carrier port slot) (is_line carrier port slot) slot k)
 
--- ---- they look at the front of a slot
+-- ---- dependence on a slot's front
 
 module _ (a b : SeenSlot) (one : HaveOneFront a b) where
   pub front_seen : (symbol k : ℕ) → symbol < 5 → seen_at a symbol k ≡ seen_at b symbol k
   front_seen symbol k below = ap (λ (values : List Cpx). value_at values k) (one.symbols symbol below)
 
-  -- a slot with the symbols of the first, and this identity and number
+  -- a slot with the first slot's symbols, and this identity and number
   abbrev slot_with : ℕ → ℕ → SeenSlot
   slot_with identity number = record { symbols = a.symbols; number = number; identity = identity }
 

@@ -1,4 +1,4 @@
--- The values of pairs of places: how many they are, each of them, and their sizes.
+-- Soft values of resource element pairs: their number, each value, and their bounds.
 use Rattle.std.proofs.Common.{◌≡◌, ℕ, zero, suc, ◌+◌, ◌-◌, ◌*◌, ◌/◌, ◌%◌, ◌<◌, ◌≤◌, inl, inr, List, [], ◌∷◌, length, get_or, ℤ, pos, arith, refl, ap, ap₂, sym, take, ◌++◌, ◌∙◌, length-append}
 use Rattle.std.specs.Prelude.{nat_abs}
 use Rattle.std.proofs.Math.ListN.{get_or-append}
@@ -46,7 +46,7 @@ unfolding joined_below
 all-fours zero f each = All-nil (λ z. nat_abs z ≤ 127)
 all-fours (suc n) f each = All-append (λ z. nat_abs z ≤ 127) (joined_below n f) (f n) (all-fours n f each) (each n)
 
--- four more are written
+-- four more values are written
 pub four_more : (i : ℕ) (f : ℕ → List ℤ) (values four : List ℤ) → length (f i) ≡ 4 → 4 * i + 4 ≤ length values → take (4 * i) values ≡ joined_below i f → four ≡ f i →
     take (4 * (i + 1)) (put_mid (4 * i) (4 * i + 4 - 4 * i) values four) ≡ joined_below (i + 1) f
 four_more i f values four size room before here =
@@ -54,7 +54,7 @@ four_more i f values four size room before here =
     take-put_mid (4 * i) (4 * i + 4 - 4 * i) values four (4 * (i + 1)) (omega (arith, long)) (omega (arith, room))
     ∙ ap₂ (λ (xs ys : List ℤ). xs ++ ys) before here ∙ sym (joined_below_more i f)
 
--- all are
+-- all values are written
 pub fours_done : (i n : ℕ) (f : ℕ → List ℤ) (values : List ℤ) → length values ≡ 4 * n → i ≡ n → take (4 * i) values ≡ joined_below i f → values ≡ joined_below n f
 fours_done i n f values whole last so_far =
     sym (take_all (4 * i) values (omega (arith, whole, last))) ∙ so_far ∙ ap (λ (m : ℕ). joined_below m f) last
@@ -66,7 +66,7 @@ pair-small a energy =
     All-cons (λ z. nat_abs z ≤ 127) (soft_value a.re energy) (soft_value a.im energy ∷ []) (soft_value-small a.re energy)
     (All-cons (λ z. nat_abs z ≤ 127) (soft_value a.im energy) [] (soft_value-small a.im energy) (All-nil (λ z. nat_abs z ≤ 127)))
 
--- of a pair, by any channels
+-- the points of a pair, for any channels
 pub points-small : (h g : Cpx) (energy : ℕ) (a b : Cpx) → AllWithin 127 (point_values h g energy a b)
 points-small h g energy a b =
     All-append (λ z. nat_abs z ≤ 127) (soft_pair (first_point h g a b) energy) (soft_pair (second_point h g a b) energy)

@@ -1,4 +1,4 @@
--- Sizes of what was seen and sent at the pilots.
+-- Bounds on the values received and sent at the pilots.
 use Rattle.std.proofs.Common.{◌≡◌, ℕ, ◌*◌, ◌^◌, ◌≤◌, ◌/◌, ◌+◌, ◌⊎◌, arith, inl, inr, List, [], ◌∷◌, All, get_or, slice_index_or, ℤ, zero, suc}
 use Rattle.std.proofs.lemmas.List.Elements.{All-nil, All-head, All-tail}
 use Rattle.std.specs.Prelude.{nat_abs}
@@ -16,7 +16,7 @@ use Rattle.lte_types.specs.Carrier.{ports_of}
 use Rattle.soft_bits.specs.Lines.{Line, line_of, line_place, line_seen, line_energy, port_energy, ports_energy}
 use Rattle.soft_bits.proofs.Lines.{is_line}
 
--- what holds of all values and of the one past the end holds at each place
+-- a property of all values and of the default holds at each index
 all_at : {A : Type 0} (P : A → Type 0) (xs : List A) (i : ℕ) (d : A) → P d → All P xs → P (get_or xs i d)
 all_at P [] i d base all = base
 all_at P (x ∷ xs) zero d base all = All-head P x xs all
@@ -50,7 +50,7 @@ line_energy-within line slot small =
     total_below-within (line.last + 1) (2 ^ 51) (λ i. square (line_seen line slot i))
     (λ i few. let h = square-within (line_seen line slot i) (2 ^ 25) (line_seen-within line slot i small) in omega (arith, h))
 
--- the energy of a port, as if it had 24 pilots
+-- a port's energy, scaled to 24 pilots
 pub as_24 : (step last energy : ℕ) → ((step ≡ 3) × (last ≡ 23)) ⊎ ((step ≡ 6) × (last ≡ 11)) → energy ≤ (last + 1) * 2 ^ 51 → step / 3 * energy ≤ 24 * 2 ^ 51
 as_24 step last energy (inl (s, l)) few = rw s (omega (arith, rw l at few))
 as_24 step last energy (inr (s, l)) few = rw s (omega (arith, rw l at few))

@@ -1,22 +1,22 @@
--- The front of a slot: its first five symbols, of which the first four carry the broadcast channel in slot 1, and the
--- first and the fifth, or the second, the reference signals (TS 36.211 sections 6.6.4 and 6.10.1.2).
+-- The front of a slot: its first five symbols. The first four carry the PBCH in slot 1; the first and the fifth, or
+-- the second, carry the reference signals (TS 36.211 sections 6.6.4 and 6.10.1.2).
 use Rattle.std.specs.Prelude.{◌≡◌, ℕ, ◌%◌, ◌<◌, List, [], slice_index_or}
 use Rattle.grid_map.specs.declared.Place.{Place}
 use Rattle.grid_map.specs.Place.{place}
 use Rattle.soft_bits.specs.Soft.{SeenSlot}
 use Rattle.soft_bits.specs.Places.{Valuing}
 
--- two slots of one cell with one number have the same front
+-- two slots with the same number, cell identity and front
 pub record HaveOneFront (a b : SeenSlot) : Type 0 where
   pub number : a.number ≡ b.number
   pub identity : a.identity ≡ b.identity
   pub symbols : (symbol : ℕ) → symbol < 5 → slice_index_or a.symbols symbol [] ≡ slice_index_or b.symbols symbol []
 
--- places are in the first four symbols of a slot
+-- the resource elements are in the first four symbols of a slot
 abbrev pub AreInFront : List Place → Type 0
 AreInFront places = (i : ℕ) → (slice_index_or places i (place 0 0)).symbol % 7 < 4
 
--- a way to make soft values looks at the front of a slot alone where all places are in its first four symbols
+-- soft values depend only on a slot's front if all resource elements are in its first four symbols
 abbrev pub LooksAtFront : Valuing → Type 0
 LooksAtFront values =
     (a b : SeenSlot) (places : List Place) → HaveOneFront a b → AreInFront places → values (λ p. a) places ≡ values (λ p. b) places

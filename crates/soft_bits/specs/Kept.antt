@@ -1,4 +1,4 @@
--- What the code makes a slot of, and what it keeps beside it.
+-- What the code builds a slot from, and what it keeps with the slot.
 use Rattle.std.specs.Prelude.{ℕ, ◌-◌, ◌*◌, ◌^◌, ◌<◌, ◌≤◌, ◌≡◌, List, All, length}
 use Rattle.finite.specs.Lists.{values_below}
 use Rattle.cs_num.specs.declared.Cpx.{Cpx}
@@ -10,36 +10,36 @@ use Rattle.soft_bits.specs.Estimate.{line_by}
 use Rattle.soft_bits.specs.Lines.{Line, line_of, line_pilots, ports_energy}
 use Rattle.soft_bits.specs.Soft.{SeenSlot, AreSmall}
 
--- the slot of what was seen
+-- the slot that was received
 abbrev pub slot_of : Seen → SeenSlot
 slot_of seen = record { symbols = seen.symbols.now; number = seen.number; identity = seen.id }
 
--- the pilots of a port: how far one is from the next, where the first stands, and all of them
+-- a port's pilots: the distance in subcarriers, the first subcarrier, and their values
 pub record SeenLine : Type 0 where
   pub step : ℕ
   pub first : ℕ
   pub pilots : List Cpx
 
--- the pilots of a line, as they are kept
+-- a line's pilots, as they are kept
 abbrev pub seen_line : Line → SeenSlot → SeenLine
 seen_line line slot = record { step = line.step; first = line.first; pilots = line_pilots line slot }
 
--- the pilots of each antenna port of a carrier in a slot
+-- each antenna port's pilots in a slot
 abbrev pub lines_of : Carrier → SeenSlot → List SeenLine
 lines_of carrier slot = values_below (ports_of carrier) (λ port. seen_line (line_of carrier port slot) slot)
 
--- the channel along a port's pilots at a subcarrier, as many times as there are subcarriers from pilot to pilot
+-- the channel at a subcarrier from a port's pilots, times their distance in subcarriers
 abbrev pub along : SeenLine → ℕ → Cpx
 along seen k = line_by seen.step (length seen.pilots - 1) (value_at seen.pilots) seen.first k
 
--- a port's pilots fill the 72 subcarriers, and are small
+-- a port's pilots fill the 72 subcarriers, and are bounded
 pub record IsFilled (seen : SeenLine) : Type 0 where
   pub whole : seen.step * length seen.pilots ≡ 72
   pub first : seen.first < seen.step
   pub few : seen.step ≤ 6
   pub small : All (IsWithin (180 * 2 ^ 25)) seen.pilots
 
--- what is kept of a slot: the pilots of each port of its carrier, and their energy, made once
+-- the data that is kept with a slot: each port's pilots, and their energy, computed once
 pub record IsKept (carrier : Carrier) (slot : SeenSlot) (lines : List SeenLine) (energy : ℕ) : Type 0 where
   pub number : slot.number < 20
   pub small : AreSmall slot.symbols

@@ -1,4 +1,4 @@
--- How the code lays out the pilots of an antenna port: one form for all ports.
+-- The layout of an antenna port's pilots in the code: one form for all ports.
 use Rattle.std.specs.Prelude.{ℕ, ◌/◌, ◌%◌, ◌<◌, ◌≡◌, ◌⊎◌, nat_eq, if◌then◌else◌}
 use Rattle.cs_num.specs.declared.Cpx.{Cpx}
 use Rattle.crs.specs.Reference.{IsPattern, pattern_reference}
@@ -7,16 +7,16 @@ use Rattle.soft_bits.specs.Estimate.{place_by}
 use Rattle.soft_bits.specs.Lines.{Line}
 use Rattle.soft_bits.specs.Soft.{SeenSlot}
 
--- the symbol that has the pilot at a subcarrier: the first where a value of it stands there, else the second
+-- the symbol with the pilot at a subcarrier: `early` if the residue matches, otherwise `late`
 abbrev pub symbol_with : Layout → ℕ → ℕ
 symbol_with layout k = if nat_eq (k % 6) layout.residue then layout.early else layout.late
 
--- the value that is sent at a subcarrier
+-- the value sent at a subcarrier
 abbrev pub sent_with : Layout → SeenSlot → ℕ → Cpx
 sent_with layout slot k =
     pattern_reference layout.pattern slot.identity slot.number (symbol_with layout k) (k / 6)
 
--- the line of pilots that a layout makes of a slot
+-- the line of pilots that a layout gives for a slot
 abbrev pub laid_out : Layout → SeenSlot → Line
 laid_out layout slot = record {
   step = layout.step;

@@ -1,5 +1,5 @@
--- The pilots of an antenna port of a slot as a line of data, and the channel along it, by the carrier and the port's
--- number (TS 36.211 section 6.10.1.2). (own)
+-- An antenna port's pilots in a slot as a line of data, and the channel along it, by carrier and port number (TS
+-- 36.211 section 6.10.1.2). (own)
 use Rattle.std.specs.Prelude.{ℕ, zero, suc, ◌+◌, ◌*◌, ◌/◌, ◌%◌, List}
 use Rattle.finite.specs.Sums.{total_below}
 use Rattle.finite.specs.Lists.{values_below}
@@ -12,8 +12,8 @@ use Rattle.crs.specs.Reference.{pattern_of, upper_first, reference}
 use Rattle.soft_bits.specs.Estimate.{place_by, line_by}
 use Rattle.soft_bits.specs.Soft.{SeenSlot, seen_at, pattern_symbol, pattern_sent}
 
--- a line of pilots: the subcarriers from one to the next, the number of the last, the subcarrier of the first, the
--- symbol of the slot that has pilot i, and what is sent there
+-- a line of pilots: their distance in subcarriers, the number of the last, the first subcarrier, and for pilot i its
+-- symbol in the slot and the value sent
 pub record Line : Type 0 where
   pub step : ℕ
   pub last : ℕ
@@ -21,7 +21,7 @@ pub record Line : Type 0 where
   pub symbol : ℕ → ℕ
   pub sent : ℕ → Cpx
 
--- ports 0 and 1 have 24 pilots, every third subcarrier of two symbols together
+-- ports 0 and 1 have 24 pilots, at every third subcarrier of two symbols together
 abbrev pub lower_line : Pattern → SeenSlot → Line
 lower_line pattern slot = record {
   step = 3;
@@ -31,7 +31,7 @@ lower_line pattern slot = record {
   sent = pattern_sent pattern slot.identity slot.number;
 }
 
--- ports 2 and 3 have 12, every sixth subcarrier of the slot's second symbol
+-- ports 2 and 3 have 12 pilots, at every sixth subcarrier of the slot's second symbol
 abbrev pub upper_line : ℕ → SeenSlot → Line
 upper_line port slot = record {
   step = 6;
@@ -41,7 +41,7 @@ upper_line port slot = record {
   sent = reference slot.identity slot.number 1;
 }
 
--- the line of the port of a carrier with a number
+-- the line for a carrier's port number
 abbrev pub line_of : Carrier → ℕ → SeenSlot → Line
 line_of carrier zero = lower_line (pattern_of carrier 0)
 line_of carrier (suc zero) = lower_line (pattern_of carrier 1)
@@ -49,7 +49,8 @@ line_of carrier (suc (suc n)) = upper_line (suc (suc n))
 
 -- ---- any line
 
--- the subcarrier of pilot i, what was seen there, and the channel there, times the square of a reference's size
+-- the subcarrier of pilot i, the value received there, and the channel there, times the squared magnitude of a
+-- reference
 abbrev pub line_place : Line → ℕ → ℕ
 line_place line i = place_by line.step line.first i
 
@@ -59,30 +60,30 @@ line_seen line slot i = seen_at slot (line.symbol i) (line_place line i)
 abbrev pub line_pilot : Line → SeenSlot → ℕ → Cpx
 line_pilot line slot i = times (line_seen line slot i) (conjugate (line.sent i))
 
--- all pilots, in the order of subcarriers
+-- all pilots, by subcarrier
 abbrev pub line_pilots : Line → SeenSlot → List Cpx
 line_pilots line slot = values_below (line.last + 1) (line_pilot line slot)
 
--- the channel at a subcarrier, as many times as there are subcarriers from pilot to pilot
+-- the channel at a subcarrier, times the pilots' distance in subcarriers
 unfoldable pub line_channel : Line → SeenSlot → ℕ → Cpx
 line_channel line slot k = line_by line.step line.last (line_pilot line slot) line.first k
 
--- the energy of the pilots
+-- the pilot energy
 unfoldable pub line_energy : Line → SeenSlot → ℕ
 line_energy line slot = total_below (line.last + 1) (λ i. square (line_seen line slot i))
 
 -- ---- the ports of a carrier
 
--- the channel of a port at a subcarrier, so many times
+-- a port's channel at a subcarrier, times `scale`
 abbrev pub port_channel : ℕ → Carrier → ℕ → SeenSlot → ℕ → Cpx
 port_channel scale carrier port slot k =
     multiple (scale / (line_of carrier port slot).step) (line_channel (line_of carrier port slot) slot k)
 
--- the energy of the pilots of a port, as if it had 24: those of ports 2 and 3, which have 12, count twice
+-- a port's pilot energy, scaled to 24 pilots: ports 2 and 3, which have 12, count twice
 abbrev pub port_energy : Carrier → SeenSlot → ℕ → ℕ
 port_energy carrier slot port =
     (line_of carrier port slot).step / 3 * line_energy (line_of carrier port slot) slot
 
--- the energy of the pilots of all ports
+-- the pilot energy over all ports
 unfoldable pub ports_energy : Carrier → SeenSlot → ℕ
 ports_energy carrier slot = total_below (ports_of carrier) (port_energy carrier slot)

@@ -1,5 +1,5 @@
--- The soft values of pairs of places that antenna ports send by transmit diversity (TS 36.211 section 6.3.4.3, without
--- its factor; the receiver is own), and those of a carrier's ports, one or several.
+-- Soft values of resource element pairs under transmit diversity (TS 36.211 section 6.3.4.3, without its factor; the
+-- receiver is own), and of resource elements for any number of ports.
 use Rattle.std.specs.Prelude.{ℕ, ◌+◌, ◌*◌, ◌/◌, ◌%◌, nat_eq, if◌then◌else◌, List, ◌++◌, ℤ, length, slice_index_or}
 use Rattle.finite.specs.Lists.{joined_below}
 use Rattle.cs_num.specs.declared.Cpx.{Cpx}
@@ -13,31 +13,28 @@ use Rattle.soft_bits.specs.Lines.{port_channel, ports_energy}
 use Rattle.soft_bits.specs.Places.{Valuing, placed_values}
 use Rattle.soft_bits.specs.Soft.{SeenSlot, seen_at, soft_pair}
 
--- what stands for the first point of a pair, by the channels h and k of the two ports, where a and b were seen at its
--- two places
+-- the combined amplitude for a pair's first point, received as a and b over the two ports' channels h and k
 abbrev pub first_point : Cpx → Cpx → Cpx → Cpx → Cpx
 first_point h k a b = plus (times (conjugate h) a) (times k (conjugate b))
 
--- what stands for the second point of a pair, by the channels h and k of the two ports, where a and b were seen at
--- its two places
+-- the combined amplitude for a pair's second point, received as a and b over the two ports' channels h and k
 abbrev pub second_point : Cpx → Cpx → Cpx → Cpx → Cpx
 second_point h k a b = minus (times (conjugate h) b) (times k (conjugate a))
 
--- the four values of the points of a pair, by these channels and the energy of the pilots: those of the first point,
--- then those of the second
+-- a pair's four soft values for these channels and the pilot energy: the first point, then the second
 abbrev pub point_values : Cpx → Cpx → ℕ → Cpx → Cpx → List ℤ
 point_values h k energy a b = soft_pair (first_point h k a b) energy ++ soft_pair (second_point h k a b) energy
 
--- ---- pairings: by which ports pairs are sent
+-- ---- pairings: the ports that send each pair
 
--- the carrier, how many times the channels of its ports are taken, and the two ports that send pair number i
+-- a carrier, the factor on its ports' channels, and the two ports that send pair i
 pub record Pairing : Type 0 where
   pub carrier : Carrier
   pub scale : ℕ
   pub lower : ℕ → ℕ
   pub upper : ℕ → ℕ
 
--- one port sends all, and no pairs
+-- one port sends everything, without pairs
 abbrev pub alone : Pairing
 alone = record { carrier = OnePort; scale = 3; lower = λ i. 0; upper = λ i. 0 }
 
@@ -45,40 +42,40 @@ alone = record { carrier = OnePort; scale = 3; lower = λ i. 0; upper = λ i. 0 
 abbrev pub over_two : Pairing
 over_two = record { carrier = TwoPorts; scale = 3; lower = λ i. 0; upper = λ i. 1 }
 
--- four ports send the pairs of even number over ports 0 and 2, those of odd number over ports 1 and 3
+-- four ports send even pairs over ports 0 and 2, and odd pairs over ports 1 and 3
 abbrev pub over_four : Pairing
 over_four = record { carrier = FourPorts; scale = 6; lower = λ i. i % 2; upper = λ i. 2 + i % 2 }
 
--- ---- the values of pairs
+-- ---- soft values of pairs
 
--- the four values of pair number i by what was seen at its two places, and by the channels at a subcarrier
+-- the four soft values of pair i, from its two received values and the channels at a subcarrier
 abbrev pub seen_by : Pairing → ℕ → SeenSlot → ℕ → Cpx → Cpx → List ℤ
 seen_by pairing i slot k =
     point_values (port_channel pairing.scale pairing.carrier (pairing.lower i) slot k)
     (port_channel pairing.scale pairing.carrier (pairing.upper i) slot k) (ports_energy pairing.carrier slot)
 
--- the four values of pair number i at two places of the slot's subframe, whose symbols 7 to 13 are those of its second
--- slot; the channels are those at the first place
+-- the four soft values of pair i at two resource elements in a subframe, where symbols 7 to 13 belong to the second
+-- slot; the channels are those at the first element
 unfoldable pub pair_values : Pairing → ℕ → SeenSlot → Place → Place → List ℤ
 pair_values pairing i slot p q =
     seen_by pairing i slot p.k (seen_at slot (p.symbol % 7) p.k) (seen_at slot (q.symbol % 7) q.k)
 
--- pair i of a list of places takes the places 2i and 2i + 1; `slot` says which slot has a place
+-- pair i has the elements 2i and 2i + 1 in a list; `slot` gives the slot of an element
 abbrev pub pair_at : Pairing → (Place → SeenSlot) → List Place → ℕ → List ℤ
 pair_at pairing slot places i =
     let first = slice_index_or places (2 * i) (place 0 0) in
     pair_values pairing i (slot first) first (slice_index_or places (2 * i + 1) (place 0 0))
 
--- the values of all pairs, one pair after the other
+-- the soft values of all pairs, in order
 unfoldable pub paired_by : Pairing → Valuing
 paired_by pairing slot places = joined_below (length places / 2) (pair_at pairing slot places)
 
 -- ---- one port or several
 
--- the values of places of a carrier: with one port one place after the other, with several one pair after the other
+-- the soft values of resource elements: with one port element by element, with several ports pair by pair
 abbrev pub values_over : Carrier → Pairing → Valuing
 values_over carrier pairing = if nat_eq (ports_of carrier) 1 then placed_values else paired_by pairing
 
--- the values of places by a pairing, of its carrier
+-- the soft values of resource elements for a pairing
 abbrev pub valued_by : Pairing → Valuing
 valued_by pairing = values_over pairing.carrier pairing

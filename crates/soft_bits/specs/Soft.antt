@@ -1,4 +1,4 @@
--- The channel estimate of a slot, and the soft values of its places. (own)
+-- Channel estimation in a slot, and the soft values of its resource elements. (own)
 use Rattle.std.specs.Prelude.{ℕ, ◌/◌, ◌%◌, ◌^◌, nat_eq, if◌then◌else◌, List, [], ◌∷◌, All, slice_index_or, ℤ, pos}
 use Rattle.std.specs.Prelude.{◌*ℤ◌, int_div}
 use Rattle.finite.specs.Sums.{total_below}
@@ -9,47 +9,46 @@ use Rattle.crs.specs.declared.pattern.Pattern.{Pattern}
 use Rattle.crs.specs.Reference.{port_0, is_pattern_place, pattern_reference}
 use Rattle.soft_bits.specs.Estimate.{pilot_place, estimate}
 
--- a slot as it was seen: its symbols, its number and the identity of its cell
+-- a received slot: its symbols, its number and the cell identity
 pub record SeenSlot : Type 0 where
   pub symbols : List (List Cpx)
   pub number : ℕ
   pub identity : ℕ
 
--- the seen value at a place
+-- the value received at a resource element
 abbrev pub seen_at : SeenSlot → ℕ → ℕ → Cpx
 seen_at slot symbol k = value_at (slice_index_or slot.symbols symbol []) k
 
--- components of what is seen have size at most 2^25
+-- received components have magnitude at most 2^25
 abbrev pub AreSmall : List (List Cpx) → Type 0
 AreSmall symbols = All (All (IsWithin (2 ^ 25))) symbols
 
--- the subcarrier of pilot i of 24, the reference places of two symbols of a slot
--- (TS 36.211 section 6.10.1.2)
+-- the subcarrier of pilot i of 24, the reference elements in two symbols of a slot (TS 36.211 section 6.10.1.2)
 abbrev pub pilot_subcarrier : ℕ → ℕ → ℕ
 pilot_subcarrier identity i = pilot_place (identity % 3) i
 
--- ---- for any pattern of reference signals
+-- ---- any pattern of reference signals
 
--- the symbol that holds pilot i
+-- the symbol with pilot i
 unfoldable pub pattern_symbol : Pattern → ℕ → ℕ → ℕ
 pattern_symbol pattern identity i =
     if is_pattern_place pattern identity 0 (pilot_subcarrier identity i) then 0 else pattern.later
 
--- what was seen at pilot i
+-- the value received at pilot i
 unfoldable pub pattern_seen : Pattern → SeenSlot → ℕ → Cpx
 pattern_seen pattern slot i = seen_at slot (pattern_symbol pattern slot.identity i) (pilot_subcarrier slot.identity i)
 
--- what was sent at pilot i
+-- the value sent at pilot i
 unfoldable pub pattern_sent : Pattern → ℕ → ℕ → ℕ → Cpx
 pattern_sent pattern identity number i =
     pattern_reference pattern identity number (pattern_symbol pattern identity i) (pilot_subcarrier identity i / 6)
 
--- the channel at a pilot, times the square of the reference's size
+-- the channel at a pilot, times the squared magnitude of the reference
 unfoldable pub pattern_pilot : Pattern → SeenSlot → ℕ → Cpx
 pattern_pilot pattern slot i =
     times (pattern_seen pattern slot i) (conjugate (pattern_sent pattern slot.identity slot.number i))
 
--- the energy of the pilots
+-- the pilot energy
 unfoldable pub pattern_energy : Pattern → SeenSlot → ℕ
 pattern_energy pattern slot = total_below 24 (λ i. square (pattern_seen pattern slot i))
 
@@ -57,7 +56,7 @@ pattern_energy pattern slot = total_below 24 (λ i. square (pattern_seen pattern
 unfoldable pub pattern_channel : Pattern → SeenSlot → ℕ → Cpx
 pattern_channel pattern slot k = estimate (pattern_pilot pattern slot) (slot.identity % 3) k
 
--- ---- for port 0 with the normal prefix
+-- ---- port 0 with the normal prefix
 
 abbrev pub pilot_symbol : ℕ → ℕ → ℕ
 pilot_symbol = pattern_symbol port_0
@@ -76,21 +75,20 @@ channel = pattern_channel port_0
 
 -- ---- soft values
 
--- six times a component by the energy of the pilots, rounded toward zero and clamped to -127 to 127;
--- 0 where no pilot was seen
+-- six times a component divided by the pilot energy, rounded toward zero and clamped to -127 to 127; 0 if the energy
+-- is 0
 abbrev pub soft_value : ℤ → ℕ → ℤ
 soft_value component energy =
     if nat_eq energy 0 then pos 0 else clamped (int_div (pos 6 *ℤ component) (pos energy)) 127
 
--- the two soft values of what stands for an amplitude: of the bit in the real part, then of that in the imaginary
--- part
+-- an amplitude's two soft values: for the bit in the real part, then for the bit in the imaginary part
 abbrev pub soft_pair : Cpx → ℕ → List ℤ
 soft_pair amplitude energy = soft_value amplitude.re energy ∷ soft_value amplitude.im energy ∷ []
 
--- a place equalised: what was seen there times the conjugate of the channel
+-- an equalised resource element: its received value times the conjugate of the channel
 abbrev pub equalised : SeenSlot → ℕ → ℕ → Cpx
 equalised slot symbol k = times (seen_at slot symbol k) (conjugate (channel slot k))
 
--- the soft values of a place
+-- a resource element's soft values
 unfoldable pub soft_values : SeenSlot → ℕ → ℕ → List ℤ
 soft_values slot symbol k = soft_pair (equalised slot symbol k) (pilot_energy slot)

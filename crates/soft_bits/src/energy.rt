@@ -1,4 +1,4 @@
-//! The energy of the pilots of a slot.
+//! The pilot energy of a slot.
 
 ghost use Rattle.std.specs.Prelude.{◌≡◌, ◌+◌, ◌*◌, ◌^◌, ◌<◌, ◌≤◌};
 ghost use Rattle.cs_num.specs.Complex.{square};
@@ -11,8 +11,8 @@ use crate::Seen;
 use crate::layout::{Layout, layout_of};
 use crate::pilots::seen_of;
 
-/// The energy of the pilots of all antenna ports of a slot: the sum of the squares of the sizes of what was seen at
-/// their reference places, where those of ports 2 and 3 count twice. It is at most 24 * 2^51 a port.
+/// Returns a slot's pilot energy over all antenna ports: the sum of squared magnitudes at their reference elements,
+/// with ports 2 and 3 counted twice. At most 24 * 2^51 per port.
 pub fn energy_of(seen: &Seen) -> u64
     ensures value { result ≡ ports_energy seen.now.carrier (slot_of seen.now) }
     ensures few { result ≤ ports_of seen.now.carrier * (24 * 2 ^ 51) }
@@ -24,7 +24,7 @@ pub fn energy_of(seen: &Seen) -> u64
     sum
 }
 
-// The energy of the pilots of one port, as if it had 24.
+// Returns one port's pilot energy, scaled to 24 pilots.
 fn energy_of_port(seen: &Seen, port: u8) -> u64
     requires { port < ports_of seen.now.carrier }
     ensures value { result ≡ port_energy seen.now.carrier (slot_of seen.now) port }
@@ -34,7 +34,7 @@ fn energy_of_port(seen: &Seen, port: u8) -> u64
     u64::from(layout.step / 3) * energy_along(seen, &layout)
 }
 
-// The energy of the pilots of a layout.
+// Returns the pilot energy for a layout.
 fn energy_along(seen: &Seen, layout: &Layout) -> u64
     requires { IsLayout layout.now }
     ensures value { result ≡ line_energy (laid_out layout.now (slot_of seen.now)) (slot_of seen.now) }
@@ -47,7 +47,7 @@ fn energy_along(seen: &Seen, layout: &Layout) -> u64
     sum
 }
 
-// What pilot i gives to the energy.
+// Returns pilot `i`'s contribution to the energy.
 fn energy_part(seen: &Seen, layout: &Layout, i: u8) -> u64
     requires valid { IsLayout layout.now }
     requires i { i ≤ layout.now.last }

@@ -1,4 +1,4 @@
-//! How the pilots of an antenna port stand in a slot: one form for all ports.
+//! The layout of an antenna port's pilots in a slot: one form for all ports.
 
 ghost use Rattle.std.specs.Prelude.{◌≡◌, ◌<◌, ◌≤◌};
 ghost use Rattle.crs.specs.Reference.{IsPattern};
@@ -11,9 +11,9 @@ ghost use Rattle.soft_bits.specs.Lines.{line_of, lower_line, upper_line};
 use crate::Seen;
 use crs::{Pattern, first_of_pattern, first_of_upper};
 
-/// Where the pilots of an antenna port stand in a slot, and by which pattern they have their values. They stand at
-/// every `step` subcarriers from `first` on, and the last has the number `last`. One at a subcarrier k is in the symbol
-/// `early` where k modulo 6 is `residue`, and in the symbol `late` elsewhere; it is value k / 6 of its symbol.
+/// The layout of an antenna port's pilots in a slot, and the pattern of their values. Pilots are `step` subcarriers
+/// apart from `first`, and the last has the number `last`. A pilot at subcarrier k is in the symbol `early` if k
+/// modulo 6 is `residue`, otherwise in `late`; it is value k / 6 of its symbol.
 #[derive(Clone, Copy)]
 pub(crate) struct Layout {
     pub pattern: Pattern,
@@ -30,7 +30,7 @@ impl Layout {
     ghost use Rattle.soft_bits.specs.Estimate.{place_by};
     ghost use Rattle.soft_bits.specs.Layout.{IsLayout, symbol_with};
 
-    /// The subcarrier of pilot i.
+    /// Returns the subcarrier of pilot `i`.
     pub(crate) fn subcarrier(&self, i: u8) -> u8
         requires valid { IsLayout self.now }
         requires i { i ≤ self.now.last }
@@ -40,7 +40,7 @@ impl Layout {
         self.first + self.step * i
     }
 
-    /// The symbol that has the pilot at a subcarrier.
+    /// Returns the symbol with the pilot at subcarrier `k`.
     pub(crate) fn symbol_at(&self, k: u8) -> u8
         requires { IsLayout self.now }
         ensures value { result ≡ symbol_with self.now k }
@@ -54,7 +54,7 @@ impl Layout {
     }
 }
 
-/// The layout of the pilots of an antenna port.
+/// Returns the pilot layout of an antenna port.
 pub(crate) fn layout_of(seen: &Seen, port: u8) -> Layout
     requires { port < ports_of seen.now.carrier }
     ensures line { laid_out result (slot_of seen.now) ≡ line_of seen.now.carrier port (slot_of seen.now) }
@@ -67,7 +67,7 @@ pub(crate) fn layout_of(seen: &Seen, port: u8) -> Layout
     }
 }
 
-// Port 0 or 1, by its pattern: every third subcarrier of two symbols together.
+// Returns the layout of port 0 or 1 for its pattern: every third subcarrier, in two symbols together.
 fn lower_layout(seen: &Seen, pattern: Pattern) -> Layout
     requires pattern { IsPattern pattern }
     requires later { pattern.later < 5 }
@@ -85,7 +85,7 @@ fn lower_layout(seen: &Seen, pattern: Pattern) -> Layout
     }
 }
 
-// Port 2 or 3: every sixth subcarrier of the slot's second symbol, with the values of port 0.
+// Returns the layout of port 2 or 3: every sixth subcarrier in the slot's second symbol, with the values of port 0.
 fn upper_layout(seen: &Seen, port: u8) -> Layout
     ensures line { laid_out result (slot_of seen.now) ≡ upper_line port (slot_of seen.now) }
     ensures valid { IsLayout result }

@@ -1,4 +1,6 @@
-//! The channel estimate of a slot from its reference signals, and the soft values of its places.
+//! Channel estimation and demapping: a slot's channel from its reference signals, and the soft values of its resource
+//! elements.
+//! Tests: the crates `code_tests` and `slot_tests`.
 #![tactic(auto)]
 
 mod energy;

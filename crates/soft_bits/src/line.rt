@@ -6,7 +6,8 @@ ghost use Rattle.soft_bits.specs.Estimate.{between_by, line_by};
 
 use cs_num::Cpx;
 
-/// The line through pilots that stand at every `step` subcarriers of the 72, `step` times.
+/// Returns the line through the pilots at subcarrier `k`, times `step`. The pilots are `step` subcarriers apart and
+/// fill all 72.
 pub(crate) fn line(pilots: &[Cpx], step: u8, first: u8, k: u8) -> Cpx
     requires pilots { All (IsWithin (180 * 2 ^ 25)) pilots.now }
     requires whole { step * length pilots.now ≡ 72 }
@@ -31,7 +32,7 @@ pub(crate) fn line(pilots: &[Cpx], step: u8, first: u8, k: u8) -> Cpx
     }
 }
 
-// The line at r subcarriers from pilot i on the way to the next, `step` times.
+// Returns the line at `r` subcarriers after pilot `i`, times `step`.
 fn between(pilots: &[Cpx], step: u8, i: usize, r: u8) -> Cpx
     requires pilots { All (IsWithin (180 * 2 ^ 25)) pilots.now }
     requires few { step ≤ 6 }

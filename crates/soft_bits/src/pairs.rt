@@ -1,4 +1,4 @@
-//! The soft values of lists of places that are sent two by two.
+//! Soft values of resource elements that are sent in pairs.
 
 ghost use Rattle.std.specs.Prelude.{◌≡◌, ◌*◌, ◌%◌, ◌<◌, All, length};
 ghost use Rattle.finite.specs.Sizes.{AllWithin};
@@ -8,10 +8,8 @@ ghost use Rattle.soft_bits.specs.Pairs.{pair_values, paired_by};
 use crate::{PortSlot, Ports, point_values, slot_of};
 use grid_map::Place;
 
-/// Writes the soft values of places of a subframe over the whole of `values`, two a place, in the order of the places,
-/// which are taken two by two. A place in symbols 0 to 6 is one of the subframe's first slot, and one in symbols 7 to
-/// 13 one of its second; both places of a pair are in one slot, that of the first of them. There is an even count of
-/// places.
+/// Fills `values` with the soft values for pairs of resource elements, two per element, in order. Symbols 7 to 13
+/// belong to the second slot; both elements in a pair are in one slot. The count is even.
 pub(crate) fn fill_pairs<K: Ports>(
     first: &PortSlot<K>,
     second: &PortSlot<K>,
@@ -31,7 +29,7 @@ pub(crate) fn fill_pairs<K: Ports>(
     }
 }
 
-// The four values of the two places of pair number i.
+// Returns the four soft values of pair `i`.
 fn pair_at<K: Ports>(
     i: usize,
     first: &PortSlot<K>,

@@ -1,4 +1,4 @@
-//! The pilots of an antenna port in a slot: what was seen at its reference places, against what was sent.
+//! An antenna port's pilots in a slot: the received values at its reference elements against the values sent.
 
 ghost use Rattle.std.specs.Prelude.{◌≡◌, ℕ, ◌+◌, ◌/◌, ◌*◌, ◌^◌, ◌<◌, ◌≤◌, All, IsTrue, length, replicate, take};
 ghost use Rattle.cs_num.specs.Complex.{IsWithin, nothing};
@@ -16,9 +16,9 @@ use crs::pattern_pilots;
 use cs_num::Cpx;
 use std::marker::Model;
 
-/// The pilots of an antenna port in a slot, in the order of subcarriers: what was seen at each reference place times
-/// the conjugate of what was sent (TS 36.211 section 6.10.1.2). A port has 24 or 12. Contracts see them as a line:
-/// the subcarriers from one to the next, the first subcarrier, and their list.
+/// An antenna port's 24 or 12 pilots in a slot, by subcarrier: the value received at each reference element times the
+/// conjugate of the value sent (TS 36.211 section 6.10.1.2). Contracts see a line: the distance in subcarriers, the
+/// first subcarrier, and the pilots.
 #[derive(Drop)]
 pub struct Pilots {
     step: u8,
@@ -35,7 +35,7 @@ impl Model for Pilots {
         (3 ≤ s.step) × IsFilled (record { step = s.step; first = s.first; pilots = take (72 / s.step) s.values }) };
 }
 
-// No pilots that were seen: room that is not used.
+// Empty pilots, for entries that are not used.
 impl Default for Pilots {
     ghost is_default = { λ s. s ≡ record { step = 3; first = 0; pilots = replicate 24 nothing } };
 
@@ -49,7 +49,7 @@ impl Default for Pilots {
 }
 
 impl Pilots {
-    /// The pilots, 24 or 12. Components have size at most 180 * 2^25.
+    /// Returns the pilots, 24 or 12. Components are within 180 * 2^25.
     pub fn values(&self) -> &[Cpx]
         ensures value { result.now ≡ self.now.pilots }
         ensures small { All (IsWithin (180 * 2 ^ 25)) result.now }
@@ -58,7 +58,7 @@ impl Pilots {
         &self.values[..72 / self.step as usize]
     }
 
-    /// The subcarriers from one pilot to the next: 3 or 6.
+    /// Returns the distance between pilots in subcarriers: 3 or 6.
     pub fn step(&self) -> u8
         ensures value { result ≡ self.now.step }
         ensures few { result ≤ 6 }
@@ -66,7 +66,7 @@ impl Pilots {
         self.step
     }
 
-    /// These pilots once more.
+    /// Returns a copy of the pilots.
     pub fn copied(&self) -> Pilots
         ensures { result ≡ self.now }
     {
@@ -77,9 +77,8 @@ impl Pilots {
         }
     }
 
-    /// The channel at a subcarrier, 0 to 71, times the square of a reference's size, as many times as there are
-    /// subcarriers from one pilot to the next: linear between two pilots, and level before the first and from the
-    /// last on. Components have size at most 1080 * 2^25. (own)
+    /// Returns the channel at subcarrier `k`, 0 to 71, times the squared magnitude of a reference and the pilots'
+    /// distance in subcarriers: linear between pilots, level outside them. Components are within 1080 * 2^25. (own)
     pub fn channel(&self, k: u8) -> Cpx
         requires { k < 72 }
         ensures value { result ≡ along self.now k }
@@ -89,8 +88,8 @@ impl Pilots {
     }
 }
 
-/// The 24 pilots of a slot by port 0 are reference places of symbols 0 and 4, and each such place is one of
-/// them (TS 36.211 section 6.10.1.2).
+/// A law: the 24 pilots of port 0 in a slot are exactly the reference elements in symbols 0 and 4 (TS 36.211 section
+/// 6.10.1.2).
 pub fn pilots_are_the_reference_places()
     ensures inside { (identity i : ℕ) → i < 24 → pilot_subcarrier identity i < 72 }
     ensures each { (identity i : ℕ) →
@@ -99,7 +98,7 @@ pub fn pilots_are_the_reference_places()
         (k / 3 < 24) × (k ≡ pilot_subcarrier identity (k / 3)) × (symbol ≡ pilot_symbol identity (k / 3)) }
 {}
 
-/// The pilots of an antenna port in a slot. `port` is below the count of the carrier's ports.
+/// Returns an antenna port's pilots in a slot. `port` is below the carrier's port count.
 pub fn pilots_of(seen: &Seen, port: u8) -> Pilots
     requires { port < ports_of seen.now.carrier }
     ensures { result ≡ seen_line (line_of seen.now.carrier port (slot_of seen.now)) (slot_of seen.now) }
@@ -112,7 +111,7 @@ pub fn pilots_of(seen: &Seen, port: u8) -> Pilots
     }
 }
 
-// All pilots of a layout, and 0 behind them.
+// Returns all pilots of a layout, followed by zeros.
 fn values_of(seen: &Seen, layout: &Layout) -> [Cpx; 24]
     requires { IsLayout layout.now }
     ensures value { take (layout.now.last + 1) result
@@ -128,7 +127,7 @@ fn values_of(seen: &Seen, layout: &Layout) -> [Cpx; 24]
     values
 }
 
-// What is sent in the later symbol of a layout, which ports 2 and 3 do not have: their one symbol is both.
+// Returns the values sent in the later symbol of a layout. Ports 2 and 3 have only one symbol, which is both.
 fn late_of(seen: &Seen, layout: &Layout, early: &[(u8, Cpx); 12]) -> [(u8, Cpx); 12]
     requires valid { IsLayout layout.now }
     requires early { early.now ≡ pattern_list layout.now.pattern seen.now.id seen.now.number layout.now.early }
@@ -141,7 +140,7 @@ fn late_of(seen: &Seen, layout: &Layout, early: &[(u8, Cpx); 12]) -> [(u8, Cpx);
     }
 }
 
-// Pilot i, by the values of both symbols.
+// Returns pilot `i`, given the values sent in both symbols.
 fn pilot_of(
     seen: &Seen,
     layout: &Layout,
@@ -160,7 +159,7 @@ fn pilot_of(
     seen_of(seen, layout, i).mul(sent.conj())
 }
 
-// What was seen at pilot i.
+// Returns the value received at pilot `i`.
 pub(crate) fn seen_of(seen: &Seen, layout: &Layout, i: u8) -> Cpx
     requires valid { IsLayout layout.now }
     requires i { i ≤ layout.now.last }
@@ -171,7 +170,7 @@ pub(crate) fn seen_of(seen: &Seen, layout: &Layout, i: u8) -> Cpx
     seen.symbols[layout.symbol_at(k) as usize][k as usize]
 }
 
-// What was sent at a subcarrier with a pilot, by the values of both symbols.
+// Returns the value sent at a subcarrier with a pilot, given the values sent in both symbols.
 fn sent_at(
     seen: &Seen,
     layout: &Layout,

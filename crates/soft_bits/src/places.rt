@@ -1,4 +1,4 @@
-//! The values of a channel: the soft values of its places.
+//! Soft values of a channel's resource elements.
 
 ghost use Rattle.std.specs.Prelude.{◌≡◌, ◌*◌, ◌<◌, All, length};
 ghost use Rattle.finite.specs.Sizes.{AllWithin};
@@ -10,8 +10,8 @@ use crate::value::soft_of;
 use crate::{PortSlot, Ports};
 use grid_map::Place;
 
-/// Writes the soft values of places of a subframe of a cell with one antenna port over the whole of `values`, two a
-/// place, in the order of the places. A place in symbols 7 to 13 is one of the subframe's second slot.
+/// Fills `values` with the soft values of resource elements, two each, in order, for a cell with one antenna port.
+/// Symbols 7 to 13 belong to the subframe's second slot.
 pub(crate) fn fill_soft<K: Ports>(
     first: &PortSlot<K>,
     second: &PortSlot<K>,
@@ -32,14 +32,14 @@ pub(crate) fn fill_soft<K: Ports>(
     }
 }
 
-/// The one of two slots of a subframe that has a symbol: symbols 7 to 13 are those of the second.
+/// Returns the slot in a subframe that contains `symbol`: symbols 7 to 13 belong to the second.
 pub fn slot_of<'a, S>(first: &'a S, second: &'a S, symbol: u8) -> &'a S
     ensures { result.now ≡ slot_with first.now second.now symbol }
 {
     if symbol < 7 { first } else { second }
 }
 
-// The soft values of one place.
+// Returns the soft values of one resource element.
 fn soft_at<K: Ports>(slot: &PortSlot<K>, place: &Place) -> [i16; 2]
     requires one { ports_of K.pairing.carrier ≡ 1 }
     requires normal { prefix_of K.pairing.carrier ≡ normal }

@@ -1,4 +1,4 @@
-//! How many antenna ports send, and by which of them each pair of points.
+//! The number of antenna ports, and the ports that send each pair.
 
 ghost use Rattle.std.specs.Prelude.{◌≡◌, ◌<◌, ◌≤◌};
 ghost use Rattle.lte_types.specs.Carrier.{prefix_of, ports_of};
@@ -7,22 +7,22 @@ ghost use Rattle.soft_bits.specs.Pairs.{Pairing, alone};
 
 use lte_types::Carrier;
 
-/// A kind of carrier with the normal prefix, and the ports by which each pair of points is sent (TS 36.211 section
+/// A transmission scheme with the normal prefix, and the ports that send each pair of points (TS 36.211 section
 /// 6.3.4.3).
 pub trait Ports {
     ghost pairing: { Pairing };
 
-    /// The carrier.
+    /// Returns the cyclic prefix and port count.
     fn carrier() -> Carrier
         ensures value { result ≡ pairing.carrier }
         ensures normal { prefix_of pairing.carrier ≡ normal };
 
-    /// How many times the channel of each port is taken: 3, and 6 where a port has 12 pilots.
+    /// Returns the factor on each port's channel: 3, or 6 if some port has 12 pilots.
     fn scale() -> u8
         ensures value { result ≡ pairing.scale }
         ensures few { result ≤ 6 };
 
-    /// The two ports that send pair number `i`; of one port, that port twice.
+    /// Returns the two ports that send pair `i`; with one port, that port twice.
     fn pair(i: usize) -> (u8, u8)
         ensures lower { result.0 ≡ pairing.lower i }
         ensures upper { result.1 ≡ pairing.upper i }

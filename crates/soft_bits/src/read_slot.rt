@@ -1,4 +1,4 @@
-//! A way to read a slot: its soft values, whatever antenna ports send them.
+//! Reading a slot: its soft values, whatever antenna ports send it.
 
 ghost use Rattle.std.specs.Prelude.{◌≡◌, ◌*◌, ◌%◌, ◌<◌, All, length};
 ghost use Rattle.finite.specs.Sizes.{AllWithin};
@@ -15,7 +15,7 @@ use cs_num::Cpx;
 use grid_map::Place;
 use lte_types::{Carrier, CellId};
 
-/// A slot that was seen, with a way to make the soft values of its places.
+/// A received slot, and the way to compute its soft values.
 pub trait ReadSlot: Drop {
     ghost seen_as: { Self → SeenSlot };
 
@@ -23,27 +23,27 @@ pub trait ReadSlot: Drop {
 
     ghost values_by: { Valuing };
 
-    /// The slot with these symbols. `number` is 0 to 19, and components have size at most 2^25.
+    /// Returns the slot with these symbols. `number` is 0 to 19, and components are within 2^25.
     fn of(seen: [[Cpx; 72]; 7], number: u8, id: CellId) -> Self
         requires number { number < 20 }
         requires small { AreSmall seen }
         ensures { seen_as result ≡ record { symbols = seen; number = number; identity = id } };
 
-    /// The carrier of a cell whose slots are read in this way.
+    /// Returns the cyclic prefix and port count for which slots are read in this way.
     fn carrier() -> Carrier
         ensures { result ≡ carrier };
 
-    /// The identity of the cell.
+    /// Returns the cell identity.
     fn cell(&self) -> CellId
         ensures { result ≡ (seen_as self.now).identity };
 
-    /// The slot's number in its frame, 0 to 19.
+    /// Returns the slot number in the frame, 0 to 19.
     fn slot_number(&self) -> u8
         ensures value { result ≡ (seen_as self.now).number }
         ensures valid { result < 20 };
 
-    /// Writes the soft values of places of a subframe, whose slots these two are, over the whole of `values`, two a
-    /// place. A place in symbols 7 to 13 is one of the second slot. There is an even count of places.
+    /// Fills `values` with the soft values of resource elements, two each, in the subframe of this slot and `second`.
+    /// Symbols 7 to 13 belong to `second`. The count of elements is even.
     fn fill(&self, second: &Self, places: &[Place], values: &mut [i16])
         requires inside { All (λ p. (p.symbol < 14) × (p.k < 72)) places.now }
         requires even { length places.now % 2 ≡ 0 }
@@ -51,7 +51,7 @@ pub trait ReadSlot: Drop {
         ensures values { values.new ≡ values_by (in_subframe (seen_as self.now) (seen_as second.now)) places.now }
         ensures sizes { AllWithin 127 values.new };
 
-    /// A law: the values of places in the first four symbols of a slot hang on its first five symbols alone.
+    /// A law: soft values in a slot's first four symbols depend only on its first five symbols.
     fn looks_at_front()
         ensures { LooksAtFront values_by };
 }
@@ -90,8 +90,7 @@ impl<K: Ports> ReadSlot for PortSlot<K> {
     fn looks_at_front() {}
 }
 
-/// Writes the soft values of places of a channel that stands in one slot over the whole of `values`, two a place. There
-/// is an even count of places.
+/// Fills `values` with the soft values of resource elements in one slot, two each. The count of elements is even.
 pub fn fill_slot<S: ReadSlot>(slot: &S, places: &[Place], values: &mut [i16])
     requires inside { All (λ p. (p.symbol < 14) × (p.k < 72)) places.now }
     requires even { length places.now % 2 ≡ 0 }

@@ -1,4 +1,4 @@
-//! Scrambled values, by the bits before scrambling.
+//! Descrambling of soft values.
 
 ghost use Rattle.std.specs.Prelude.{◌≡◌, ℕ, ◌+◌, ◌^◌, ◌<◌, ◌≤◌, false, length, nat_abs, slice_index_or};
 ghost use Rattle.finite.specs.Sizes.{AllWithin};
@@ -7,11 +7,11 @@ ghost use Rattle.soft_bits.specs.Places.{descrambled_value, descrambled, turned_
 
 use std::marker::Model;
 
-// How many bits of a sequence a channel takes at most: the broadcast channel in four frames.
+// The maximum number of bits that a channel takes from a sequence: the PBCH in four frames.
 const MOST: usize = 1920;
 
-/// The first 1,920 bits of a sequence that scrambles, made once (TS 36.211 section 7.2). Contracts see it as the
-/// sequence's c_init.
+/// The first 1,920 bits of a scrambling sequence, computed once (TS 36.211 section 7.2). Contracts see the sequence's
+/// c_init.
 #[derive(Drop)]
 pub struct Scrambling {
     c_init: u32,
@@ -27,7 +27,7 @@ impl Model for Scrambling {
 }
 
 impl Scrambling {
-    /// The bits of this sequence. `c_init` is below 2^31.
+    /// Returns the bits of the sequence with `c_init`, which is below 2^31.
     pub fn new(c_init: u32) -> Scrambling
         requires { c_init < 2 ^ 31 }
         ensures { result ≡ c_init }
@@ -37,7 +37,7 @@ impl Scrambling {
         Scrambling { c_init, bits }
     }
 
-    /// Turns values by scrambled bits into those by the bits before scrambling, as `descramble` does.
+    /// Descrambles values like the free function `descramble`.
     pub fn descramble(&self, first: usize, values: &mut [i16])
         requires few { first + length values.old ≤ 1920 }
         requires sizes { AllWithin 127 values.old }
@@ -48,10 +48,8 @@ impl Scrambling {
     }
 }
 
-/// Turns values by scrambled bits into those by the bits before scrambling: a value changes its sign
-/// where the scrambling bit is 1. Bit `first` of the sequence of `c_init` scrambles the first of them
-/// (TS 36.211 section 7.2). `c_init` is below 2^31, and `first` and the count of values together are
-/// at most 1,920.
+/// Descrambles values: their sign changes where the scrambling bit is 1 (TS 36.211 section 7.2). Bit `first` of the
+/// sequence with `c_init`, below 2^31, scrambles the first value. `first` plus the count is at most 1,920.
 pub fn descramble(c_init: u32, first: usize, values: &mut [i16])
     requires c_init { c_init < 2 ^ 31 }
     requires few { first + length values.old ≤ 1920 }
@@ -64,7 +62,7 @@ pub fn descramble(c_init: u32, first: usize, values: &mut [i16])
     turn_by(&bits, first, values);
 }
 
-// Writes the first `count` bits of the sequence of `c_init`, and leaves those behind them.
+// Writes the first `count` bits of the sequence with `c_init`, and leaves later entries unchanged.
 fn write_first_bits(c_init: u32, count: usize, bits: &mut [bool])
     requires c_init { c_init < 2 ^ 31 }
     requires room { count ≤ length bits.old }
@@ -73,7 +71,7 @@ fn write_first_bits(c_init: u32, count: usize, bits: &mut [bool])
     gold::fill(c_init, &mut bits[..count]);
 }
 
-// Turns values by bits of which number `first` is that of the first value.
+// Negates each value whose bit is 1; bit `first` belongs to the first value.
 fn turn_by(bits: &[bool; 1920], first: usize, values: &mut [i16])
     requires few { first + length values.old ≤ 1920 }
     requires sizes { AllWithin 127 values.old }
@@ -85,7 +83,7 @@ fn turn_by(bits: &[bool; 1920], first: usize, values: &mut [i16])
     }
 }
 
-// A value by the bit before scrambling.
+// Returns `value`, negated if the scrambling bit is 1.
 fn turned(value: i16, scrambling: bool) -> i16
     requires { nat_abs value ≤ 127 }
     ensures value { result ≡ descrambled_value scrambling value }

@@ -1,4 +1,4 @@
-//! A slot as it was seen, before its pilots are made.
+//! A received slot, before its pilots are computed.
 
 ghost use Rattle.std.specs.Prelude.{◌<◌, ◌≤◌, length};
 ghost use Rattle.soft_bits.specs.Soft.{AreSmall};
@@ -6,9 +6,8 @@ ghost use Rattle.soft_bits.specs.Soft.{AreSmall};
 use cs_num::Cpx;
 use lte_types::{Carrier, CellId};
 
-/// The symbols that were seen of a slot, from its first one on, its number, 0 to 19, the identity of its cell, and the
-/// cell's carrier. There are at least five, so that all with reference signals are among them, and components have size
-/// at most 2^25.
+/// A slot's received symbols from its first, the slot number, 0 to 19, the cell identity, and the cyclic prefix and
+/// port count. At least five symbols, so that all with reference signals are included; components are within 2^25.
 #[derive(Clone, Copy)]
 pub struct Seen<'a> {
     pub symbols: &'a [[Cpx; 72]],

@@ -1,4 +1,4 @@
-//! A slot as it was seen.
+//! A received slot.
 
 ghost use Rattle.std.specs.Prelude.{◌≡◌, ℕ, ◌*◌, ◌^◌, ◌<◌, ◌≤◌, List};
 ghost use Rattle.cs_num.specs.declared.Cpx.{Cpx};
@@ -14,7 +14,7 @@ use cs_num::Cpx;
 use lte_types::CellId;
 use std::marker::{Model, PhantomData};
 
-// The values of a symbol's subcarriers. Contracts see it as their list.
+// The values at a symbol's subcarriers. Contracts see a list.
 #[derive(Drop)]
 struct Symbol {
     values: [Cpx; 72],
@@ -41,7 +41,7 @@ impl Symbol {
     }
 }
 
-// The symbols of a slot.
+// Returns a slot's symbols.
 fn symbols_of(seen: [[Cpx; 72]; 7]) -> [Symbol; 7]
     ensures { result ≡ seen }
 {
@@ -56,7 +56,7 @@ fn symbols_of(seen: [[Cpx; 72]; 7]) -> [Symbol; 7]
     ]
 }
 
-// The pilots of each antenna port of a slot.
+// Returns each antenna port's pilots in a slot.
 fn lines_of(seen: &Seen) -> ArrayVec<Pilots, 4>
     ensures { result.items ≡ pilots_of_ports seen.now.carrier (slot_of seen.now) }
 {
@@ -67,8 +67,8 @@ fn lines_of(seen: &Seen) -> ArrayVec<Pilots, 4>
     lines
 }
 
-/// Seven observed symbols of 72 subcarriers each, with the slot's number, 0 to 19, the identity of the cell, and the
-/// antenna ports that send. Contracts see it as the record of the first three. The pilots of each port are made once.
+/// Seven received symbols with 72 subcarriers each, the slot number, 0 to 19, the cell identity, and the antenna
+/// ports that send. Contracts see the first three. Each port's pilots are computed once.
 #[derive(Drop)]
 pub struct PortSlot<K: Ports> {
     symbols: [Symbol; 7],
@@ -93,7 +93,7 @@ impl<K: Ports> Model for PortSlot<K> {
 }
 
 impl<K: Ports> PortSlot<K> {
-    /// The slot with these symbols. `number` is 0 to 19, and components have size at most 2^25.
+    /// Returns the slot with these symbols. `number` is 0 to 19, and components are within 2^25.
     pub fn new(seen: [[Cpx; 72]; 7], number: u8, id: CellId) -> PortSlot<K>
         requires number { number < 20 }
         requires small { AreSmall seen }
@@ -117,14 +117,14 @@ impl<K: Ports> PortSlot<K> {
         }
     }
 
-    /// The identity of the cell.
+    /// Returns the cell identity.
     pub fn id(&self) -> CellId
         ensures { result ≡ self.now.identity }
     {
         self.id
     }
 
-    /// The slot's number in its frame, 0 to 19.
+    /// Returns the slot number in the frame, 0 to 19.
     pub fn number(&self) -> u8
         ensures value { result ≡ self.now.number }
         ensures valid { result < 20 }
@@ -132,7 +132,8 @@ impl<K: Ports> PortSlot<K> {
         self.number
     }
 
-    /// The seen value at a place. `symbol` is 0 to 6 and `k` 0 to 71; components have size at most 2^25.
+    /// Returns the value received at a resource element. `symbol` is 0 to 6 and `k` 0 to 71; components are within
+    /// 2^25.
     pub fn seen(&self, symbol: u8, k: u8) -> Cpx
         requires symbol { symbol < 7 }
         requires k { k < 72 }
@@ -142,7 +143,7 @@ impl<K: Ports> PortSlot<K> {
         self.symbols[symbol as usize].at(k)
     }
 
-    /// The pilots of an antenna port.
+    /// Returns an antenna port's pilots.
     pub fn pilots(&self, port: u8) -> &Pilots
         requires { port < ports_of K.pairing.carrier }
         ensures { result.now ≡ seen_line (line_of K.pairing.carrier port self.now) self.now }
@@ -150,8 +151,8 @@ impl<K: Ports> PortSlot<K> {
         &self.lines[port as usize]
     }
 
-    /// The channel of an antenna port at a subcarrier, 0 to 71, times the square of a reference's size, as many times
-    /// as `Ports::scale` says. Components have size at most 180 * 2^25 times it: 540 * 2^25 of one port or two.
+    /// Returns an antenna port's channel at subcarrier `k`, 0 to 71, times the squared magnitude of a reference and
+    /// `Ports::scale`. Components are within 180 * 2^25 times the scale: 540 * 2^25 for one or two ports.
     pub fn channel(&self, port: u8, k: u8) -> Cpx
         requires port { port < ports_of K.pairing.carrier }
         requires k { k < 72 }
@@ -163,8 +164,8 @@ impl<K: Ports> PortSlot<K> {
         pilots.channel(k).scaled(K::scale() / pilots.step())
     }
 
-    /// The energy of the pilots of all ports: the sum of the squares of the sizes of what was seen at their reference
-    /// places, where those of ports 2 and 3 count twice. It is at most 24 * 2^51 a port.
+    /// Returns the pilot energy over all ports: the sum of squared magnitudes at their reference elements, with ports
+    /// 2 and 3 counted twice. At most 24 * 2^51 per port.
     pub fn energy(&self) -> u64
         ensures value { result ≡ ports_energy K.pairing.carrier self.now }
         ensures few { result ≤ ports_of K.pairing.carrier * (24 * 2 ^ 51) }

@@ -1,4 +1,4 @@
-//! The soft values of a place.
+//! Soft values of a resource element.
 
 ghost use Rattle.std.specs.Prelude.{◌≡◌, ℕ, ◌*◌, ◌^◌, ◌<◌, ◌≤◌, nat_abs};
 ghost use Rattle.finite.specs.Sizes.{AllWithin};
@@ -10,10 +10,8 @@ ghost use Rattle.soft_bits.specs.Soft.{soft_pair, soft_value, soft_values};
 use crate::{PortSlot, Ports, Slot};
 use cs_num::{Cpx, clamp_div};
 
-/// The soft values of a place: of the bit in the real part, then of that in the imaginary part. A
-/// value is from -127 to 127; above 0 it speaks for the bit 0, below 0 for the bit 1, and 0 for
-/// neither. `symbol` is 0 to 6 and `k` 0 to 71. The channel is taken from the reference signals of
-/// antenna port 0 (TS 36.211 section 6.10.1); the estimate is own.
+/// Returns a resource element's soft values, real part first: -127 to 127, positive for bit 0. `symbol` is 0 to 6,
+/// `k` 0 to 71. The channel is estimated (own) from antenna port 0 (TS 36.211 section 6.10.1).
 pub fn soft(slot: &Slot, symbol: u8, k: u8) -> [i16; 2]
     requires symbol { symbol < 7 }
     requires k { k < 72 }
@@ -23,7 +21,7 @@ pub fn soft(slot: &Slot, symbol: u8, k: u8) -> [i16; 2]
     soft_of(slot, symbol, k)
 }
 
-// The soft values of a place of a slot of a cell with one antenna port.
+// Returns a resource element's soft values in a cell with one antenna port.
 pub(crate) fn soft_of<K: Ports>(slot: &PortSlot<K>, symbol: u8, k: u8) -> [i16; 2]
     requires one { ports_of K.pairing.carrier ≡ 1 }
     requires normal { prefix_of K.pairing.carrier ≡ normal }
@@ -39,9 +37,8 @@ pub(crate) fn soft_of<K: Ports>(slot: &PortSlot<K>, symbol: u8, k: u8) -> [i16; 
     )
 }
 
-/// The soft values of a place at which this was seen, by three times the channel there and the energy of the pilots.
-/// Components of what was seen have size at most 2^25, those of the channel at most 540 * 2^25, and the energy is at
-/// most 24 * 2^51.
+/// Returns the soft values of a received value, given three times the channel there and the pilot energy. Components
+/// are within 2^25 and 540 * 2^25, and the energy is at most 24 * 2^51.
 pub fn soft_pair(seen: Cpx, channel: Cpx, energy: u64) -> [i16; 2]
     requires seen { IsWithin (2 ^ 25) seen }
     requires channel { IsWithin (540 * 2 ^ 25) channel }
@@ -53,7 +50,7 @@ pub fn soft_pair(seen: Cpx, channel: Cpx, energy: u64) -> [i16; 2]
     [value_of(value.re, energy), value_of(value.im, energy)]
 }
 
-// The soft value of a component.
+// Returns the soft value of a component.
 #[tactic(auto, using(std::proofs::lemmas::Bool::Decides::nat_tests))]
 fn value_of(component: i64, energy: u64) -> i16
     requires component { nat_abs component ≤ 1080 * 2 ^ 50 }

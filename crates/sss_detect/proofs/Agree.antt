@@ -1,4 +1,4 @@
--- In recordings that agree a hit tells the same identity and place.
+-- In recordings that agree a hit has the same identity and frame start.
 use Rattle.std.proofs.Common.{◌≡◌, ℕ, ◌+◌, ◌-◌, ◌≤◌, List, arith, refl, ap}
 use Rattle.std.proofs.Math.Path.{fun_ext}
 use Rattle.cs_num.specs.declared.Sample.{Sample}

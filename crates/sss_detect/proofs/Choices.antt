@@ -1,4 +1,4 @@
--- The best pair is the first of the greatest.
+-- The best pair is the first maximum.
 use Rattle.std.proofs.Common.{◌≡◌, ℕ, zero, suc, ◌-◌, ◌<◌, ◌≤◌, ◌⊎◌, inl, inr, arith, refl, ap, sym, subst, ◌∙◌, Bool, true, false, ℤ, ◌<ℤ◌, ◌≤ℤ◌, int_lt}
 use Rattle.std.specs.Prelude.{if◌then◌else◌}
 use Rattle.std.proofs.lemmas.Int.{ints}
@@ -30,7 +30,7 @@ equal-le a = omega (arith, ints)
 before_or_last : (k n : ℕ) → k ≤ suc n → (k ≤ n) ⊎ (k ≡ suc n)
 before_or_last k n l = grind arith
 
--- ---- the first greatest of a row
+-- ---- the first maximum in a row
 
 pub first_greatest-le : (f : ℕ → ℤ) (n : ℕ) → first_greatest f n ≤ n
 unfolding first_greatest
@@ -63,16 +63,16 @@ first_greatest_first f (suc n) k l = settle (int_lt (f (first_greatest f n)) (f 
     settle true e p before = under _ _ _ (first_greatest_is f n k (omega arith)) (less _ _ e)
     settle false e p before = before p
 
--- one step of the row
+-- one step along the row
 pub first_greatest_more : (f : ℕ → ℤ) (n : ℕ) → 0 < n →
     first_greatest f n ≡ (if int_lt (f (first_greatest f (n - 1))) (f n) then n else first_greatest f (n - 1))
 unfolding first_greatest
 first_greatest_more f zero l = absurd (omega arith)
 first_greatest_more f (suc n) l = let e : suc n - 1 ≡ n = omega arith in rw e refl
 
--- ---- groups of a half, one after the other
+-- ---- the groups for a half-frame, one after the other
 
--- the group is the first of the greatest of f 0 to f n
+-- the group is the first maximum in f 0 to f n
 pub record IsBestSoFar (f : ℕ → ℤ) (n : ℕ) (best : GroupScore) : Type 0 where
   pub group : best.n1 ≡ first_greatest f n
   pub score : best.score ≡ f best.n1
@@ -118,7 +118,7 @@ zero_chosen scores a b e g t =
     ap (λ z. int_lt (scores z Zero) (scores (best_group scores Five) Five)) (sym e) ∙ ap (λ f. int_lt (scores a Zero) (scores f Five)) (sym g) ∙ t in
     rw above (ap (λ n. (n, Zero)) e)
 
--- the best group of a half against another of it
+-- the best group for a half-frame against another group
 in_half : (scores : ℕ → Half → ℤ) (half : Half) (m : ℕ) → m ≤ 167 → scores m half ≤ℤ scores (best_group scores half) half
 in_half scores half m l = first_greatest_is (λ n1. scores n1 half) 167 m l
 
@@ -166,7 +166,7 @@ best_pair_is_best scores = settle (int_lt (scores (best_group scores Zero) Zero)
     settle true e = five_best scores (less _ _ e)
     settle false e = zero_best scores (not_less _ _ e)
 
--- ---- and the only one
+-- ---- uniqueness
 
 -- neither of two best pairs comes before the other
 not_before : (scores : ℕ → Half → ℤ) (n m : ℕ) (half other : Half) → IsBest scores n half → IsBest scores m other → IsBefore n half m other → ⊥

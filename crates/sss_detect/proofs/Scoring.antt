@@ -1,4 +1,4 @@
--- Scores by way of lists, sizes of agreements, and what a hit is scored by.
+-- Scores from lists, bounds on agreements, and the symbols that give a hit's scores.
 use Rattle.std.proofs.Common.{◌≡◌, ◌≢◌, ℕ, zero, suc, ◌+◌, ◌-◌, ◌*◌, ◌/◌, ◌%◌, ◌^◌, ◌<◌, ◌≤◌, length, arith, refl, ap, ap₂, sym, ◌∙◌, List, Bool, ℤ, pos, ◌+ℤ◌, ◌*ℤ◌, slice_index_or}
 use Rattle.std.proofs.Math.Path.{fun_ext}
 use Rattle.std.proofs.lemmas.Int.{ints, unsigned_abs-mul}
@@ -24,7 +24,7 @@ use Rattle.lte_types.specs.declared.numerology.Prefix.{Prefix}
 use Rattle.lte_types.specs.Numerology.{symbol_step}
 use Rattle.sss_detect.specs.Identity.{prefix_scores}
 
--- a sum over the even and the odd places
+-- a sum over even and odd indices
 by_twos : (n : ℕ) (f : ℕ → ℤ) → sum_below (2 * n) f ≡ sum_below n (λ i. f (2 * i + 0)) +ℤ sum_below n (λ i. f (2 * i + 1))
 unfolding sum_below
 by_twos zero f = refl
@@ -35,7 +35,7 @@ by_twos (suc n) f =
     let before = by_twos n f in
     rw (e, z, o) (omega (arith, ints, before))
 
--- the even places do not see the shift of the odd ones, and these see that of the even ones modulo 8
+-- even values do not depend on the odd shift, and odd values depend on the even shift modulo 8
 even_alone : (s c z : List Bool) (n2 even odd other i : ℕ) → shifted_value s c z n2 even odd (2 * i + 0) ≡ shifted_value s c z n2 even other (2 * i + 0)
 even_alone s c z n2 even odd other i =
     let e : (2 * i + 0) % 2 ≡ 0 = omega arith in
@@ -50,7 +50,7 @@ odd_alone s c z n2 even odd i =
     odd_value_at : List Bool → List Bool → List Bool → ℕ → ℕ → ℕ → ℕ → ℤ
     odd_value_at s c z n2 odd n r = sign_at s (n + odd) *ℤ sign_at c (n + n2 + 3) *ℤ sign_at z (n + r)
 
--- both sums give the score
+-- both sums together are the score
 pub sums_score : (agreements : List ℤ) (n2 n1 : ℕ) (half : Half) →
     places_sum agreements n2 (even_shift half n1) 0 0 31 +ℤ places_sum agreements n2 (even_shift half n1 % 8) (odd_shift half n1) 1 31 ≡ score_by agreements n2 n1 half
 unfolding places_sum score_by sss_at
@@ -91,7 +91,7 @@ score_same p q r s n2 h g = fun_ext (λ n1. fun_ext (λ half. at n1 half))
         (λ n. sss_at n1 n2 half n *ℤ agreement p r n2 n) (λ n. sss_at n1 n2 half n *ℤ agreement q s n2 n)
         (λ n l. ap (λ x. sss_at n1 n2 half n *ℤ x) (agree n l))
 
--- the symbols that are seen as lists give the scores of a hit
+-- demodulated symbols as lists give a hit's scores
 pub scores_of_hit : (prefix : Prefix) (recording : List Sample) (hit : Hit) →
     score (value_at (seen_symbol recording hit.t)) (value_at (seen_symbol recording (hit.t - symbol_step prefix))) hit.n2 ≡ prefix_scores prefix recording hit
 unfolding seen_symbol
@@ -101,7 +101,7 @@ scores_of_hit prefix recording hit = score_same
     (λ k l. values_below_at (seen recording hit.t) 72 k nothing l)
     (λ k l. values_below_at (seen recording (hit.t - symbol_step prefix)) 72 k nothing l)
 
--- ---- sizes
+-- ---- bounds
 
 pub places_sum_more : (agreements : List ℤ) (n2 even odd first n : ℕ) →
     places_sum agreements n2 even odd first (n + 1)

@@ -1,4 +1,4 @@
--- The second pair is the first of the greatest of the others, and a row of scores gives both one after the other.
+-- The second pair is the first maximum among the others, and one pass over the scores finds both.
 use Rattle.std.proofs.Common.{◌≡◌, ◌≢◌, ℕ, ◌+◌, ◌-◌, ◌<◌, ◌≤◌, ◌⊎◌, inl, inr, arith, refl, ap, ap₂, sym, subst, ◌∙◌, Bool, true, false, ℤ, ◌<ℤ◌, ◌≤ℤ◌, int_lt, nat_lt}
 use Rattle.std.specs.Prelude.{if◌then◌else◌}
 use Rattle.std.proofs.lemmas.Bool.Decides.{nat_tests}
@@ -12,15 +12,15 @@ use Rattle.sss_detect.specs.Second.{IsSecond, pair_at, place_of, score_at, left_
 use Rattle.sss_detect.specs.Laws.{SecondPairIsSecond, OnlyOneIsSecond}
 use Rattle.sss_detect.proofs.Choices.{less, not_less, under, equal-le, first_greatest-le, first_greatest_is, first_greatest_first, best_pair_is_best, only_one_is_best, same_pair}
 
--- ---- places
+-- ---- pair numbers
 
--- the first greatest of the first count of f
+-- the first maximum among the first `count` values
 pub record IsTop (f : ℕ → ℤ) (count top : ℕ) : Type 0 where
   pub inside : top < count
   pub greatest : (k : ℕ) → k < count → f k ≤ℤ f top
   pub first : (k : ℕ) → k < top → f k <ℤ f top
 
--- and that of those but one
+-- the first maximum when one index is removed
 pub record IsNext (f : ℕ → ℤ) (count taken next : ℕ) : Type 0 where
   pub inside : next < count
   pub another : next ≢ taken
@@ -30,7 +30,7 @@ pub record IsNext (f : ℕ → ℤ) (count taken next : ℕ) : Type 0 where
 before_or_last : (k n : ℕ) → k < n + 1 → (k < n) ⊎ (k ≡ n)
 before_or_last k n l = grind arith
 
--- one more place
+-- one more index
 top_kept : (f : ℕ → ℤ) (n top : ℕ) → IsTop f n top → f n ≤ℤ f top → IsTop f (n + 1) top
 top_kept f n top p l = record { inside = omega (arith, p.inside); greatest = λ k b. at k (before_or_last k n b); first = p.first }
   where
@@ -64,7 +64,7 @@ next_passed f n taken next p t l = record {
     at k (inl b) o = lt-le _ _ (under _ _ _ (p.greatest k b o) l)
     at k (inr e) o = subst (λ i. f i ≤ℤ f n) (sym e) (equal-le (f n))
 
--- the place that was the top is the next one when the last is the top
+-- the earlier maximum comes second if the last value is the maximum
 next_from_top : (f : ℕ → ℤ) (n top : ℕ) → IsTop f n top → IsNext f (n + 1) n top
 next_from_top f n top p = record {
   inside = omega (arith, p.inside);
@@ -78,7 +78,7 @@ next_from_top f n top p = record {
 abbrev choices : (ℕ → Half → ℤ) → ℕ → ℕ → Ranking
 choices scores top next = record { best = choice_of scores (pair_at top); second = choice_of scores (pair_at next) }
 
--- these are the two best of the first count of all pairs
+-- these are the two best among the first `count` pairs
 pub record AreBestTwo (scores : ℕ → Half → ℤ) (count : ℕ) (ranking : Ranking) : Type 0 where
   pub top : ℕ
   pub next : ℕ
@@ -112,7 +112,7 @@ first_two scores first other ranking a b e = settle (int_lt (score_at scores 0) 
     settle true t is = record { top = 1; next = 0; is = is; is_top = top_passed (score_at scores) 1 0 (one_alone (score_at scores)) (less _ _ t); is_next = next_from_top (score_at scores) 1 0 (one_alone (score_at scores)) }
     settle false t is = record { top = 0; next = 1; is = is; is_top = top_kept (score_at scores) 1 0 (one_alone (score_at scores)) (not_less _ _ t); is_next = other_alone (score_at scores) }
 
--- the two best of those before a pair and of it
+-- the two best pairs when another one follows
 abbrev with_next : Ranking → Choice → Ranking
 with_next before next =
     if int_lt before.best.score next.score then record { best = next; second = before.best }
@@ -138,7 +138,7 @@ one_more scores n before ranking next p a e = settle (int_lt (f p.top) (f n)) (i
     settle false true t v is = record { top = p.top; next = n; is = is; is_top = top_kept f n p.top p.is_top (not_less _ _ t); is_next = next_passed f n p.top p.next p.is_next p.is_top.inside (less _ _ v) }
     settle false false t v is = record { top = p.top; next = p.next; is = is; is_top = top_kept f n p.top p.is_top (not_less _ _ t); is_next = next_kept f n p.top p.next p.is_next (not_less _ _ v) }
 
--- ---- pairs and their places
+-- ---- pairs and their numbers
 
 place-le : (m : ℕ) (half : Half) → m ≤ 167 → place_of (m, half) < 336
 place-le m Zero l = omega arith
@@ -168,7 +168,7 @@ group-le i l = settle (nat_lt i 168) refl
     settle true t = grind (arith, nat_tests)
     settle false t = omega arith
 
--- what comes before stands at a lower place
+-- an earlier pair has a lower number
 before_is : (m n : ℕ) (half other : Half) → m ≤ 167 → IsBefore m half n other → place_of (m, half) < place_of (n, other)
 before_is m n Zero Zero l b = b
 before_is m n Zero Five l b = omega arith
@@ -188,7 +188,7 @@ top_is_best scores top p = record {
   first = λ m other l b. subst (λ z. z <ℤ score_at scores top) (score_there scores m other l) (p.first (place_of (m, other)) (lower_place top m other l b));
 }
 
--- another pair stands at another place
+-- a different pair has a different number
 another_place : (i m : ℕ) (other : Half) → m ≤ 167 → (m, other) ≢ pair_at i → place_of (m, other) ≢ i
 another_place i m other l o e = o (sym (pair_at_place m other l) ∙ ap pair_at e)
 
@@ -216,7 +216,7 @@ left-le taken i = settle (nat_lt i taken)
     settle true = omega arith
     settle false = omega arith
 
--- each other place is left
+-- each other index remains
 record IsLeft (taken k : ℕ) : Type 0 where
   at : ℕ
   is : left_without taken at ≡ k
@@ -276,7 +276,7 @@ only_one_is_second scores n1 half p =
     (λ b. lt-not_le _ _ (second.first n1 half p.known p.another b) (p.greatest (second_pair scores).0 (second_pair scores).1 second.known second.another))
     (λ b. lt-not_le _ _ (p.first (second_pair scores).0 (second_pair scores).1 second.known second.another b) (second.greatest n1 half p.known p.another)))
 
--- the row of all pairs gives the ranking
+-- one pass over all pairs gives the ranking
 pub all_pairs : (scores : ℕ → Half → ℤ) (ranking : Ranking) → AreBestTwo scores 336 ranking → ranking ≡ ranking_of scores
 unfolding ranking_of
 all_pairs scores ranking p =

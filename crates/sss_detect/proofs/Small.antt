@@ -1,4 +1,4 @@
--- Scores of what is seen of two symbols fit into 64 bits.
+-- Scores of two demodulated symbols fit into 64 bits.
 use Rattle.std.proofs.Common.{◌≡◌, ℕ, ◌+◌, ◌*◌, ◌<◌, ◌≤◌, length, arith, List, All, ℤ, pos, ◌+ℤ◌, ◌-ℤ◌, ◌*ℤ◌, slice_index_or}
 use Rattle.std.specs.Prelude.{nat_abs, neg_ℤ}
 use Rattle.std.proofs.lemmas.Int.{ints, unsigned_abs-mul}
@@ -20,7 +20,7 @@ use Rattle.sync_seq.proofs.SecondaryValues.{sss-size}
 use Rattle.sss_detect.specs.Scores.{agreement}
 use Rattle.sss_detect.specs.Steps.{agreements_of, score_by}
 
--- the sum of two products, by the sum of the sizes of two factors
+-- a sum of two products, bounded by the sum of two factors' magnitudes
 both_within : (x y s t : ℤ) (a n : ℕ) → nat_abs x ≤ a → nat_abs y ≤ a → nat_abs s + nat_abs t ≤ n → nat_abs (x *ℤ s +ℤ y *ℤ t) ≤ a * n
 both_within x y s t a n p q e =
     let xs = product_within x s a (nat_abs s) (a * nat_abs s) p (omega arith) (omega arith) in
@@ -28,7 +28,7 @@ both_within x y s t a n p q e =
     let both = mul-le a (nat_abs s + nat_abs t) a n (omega arith) e in
     omega (arith, xs, yt, both, abs-sum (x *ℤ s) (y *ℤ t))
 
--- both components of a number times the conjugate of another
+-- the sum of both components when a number is multiplied by another's conjugate
 turned_sum : (x y s t : ℤ) → (x *ℤ s -ℤ y *ℤ neg_ℤ t) +ℤ (x *ℤ neg_ℤ t +ℤ y *ℤ s) ≡ x *ℤ (s -ℤ t) +ℤ y *ℤ (s +ℤ t)
 turned_sum x y s t = same
     (ring.plus (ring.minus (ring.times (var x) (var s)) (ring.times (var y) (ring.minus_one (var t)))) (ring.plus (ring.times (var x) (ring.minus_one (var t))) (ring.times (var y) (var s))))
@@ -55,7 +55,7 @@ channel_sizes a value m n p q =
 real_part : (x y s t : ℤ) → x *ℤ s -ℤ y *ℤ neg_ℤ t ≡ x *ℤ s +ℤ y *ℤ t
 real_part x y s t = same (ring.minus (ring.times (var x) (var s)) (ring.times (var y) (ring.minus_one (var t)))) (ring.plus (ring.times (var x) (var s)) (ring.times (var y) (var t))) (omega arith)
 
--- an agreement is smaller than what the sizes of the components alone tell
+-- an agreement is smaller than bounds on the components alone imply
 agreement-small : (primary secondary value : Cpx) (m n : ℕ) → IsWithin m primary → IsWithin m secondary → IsWithin n value →
     nat_abs (times secondary (conjugate (times primary (conjugate value)))).re ≤ m * (m * (2 * n))
 agreement-small primary secondary value m n p s v =
@@ -65,7 +65,7 @@ agreement-small primary secondary value m n p s v =
 within_at : (values : List Cpx) (k : ℕ) → length values ≡ 72 → k < 72 → All (IsWithin 23726080) values → IsWithin 23726080 (value_at values k)
 within_at values k long below small = All-get_or (IsWithin 23726080) values k nothing (omega (arith, long, below)) small
 
--- 254 times the square of 23,726,080
+-- agreements are within 254 times the square of 23,726,080
 pub agreements-small : (primary secondary : List Cpx) (n2 : ℕ) → length primary ≡ 72 → length secondary ≡ 72 → All (IsWithin 23726080) primary → All (IsWithin 23726080) secondary →
     AllWithin 142983425530265600 (agreements_of (value_at primary) (value_at secondary) n2)
 unfolding agreements_of

@@ -1,5 +1,4 @@
--- The identity group and the half of a frame that a hit belongs to. (own; the signals are those of TS 36.211 section
--- 6.11)
+-- The identity group and the half-frame for a hit. (own; the signals are those in TS 36.211 section 6.11)
 use Rattle.std.specs.Prelude.{ℕ, zero, suc, ◌-◌, ◌<◌, ◌≤◌, List, ℤ, ◌<ℤ◌, ◌≤ℤ◌, int_lt, if◌then◌else◌}
 use Rattle.cs_num.specs.declared.Sample.{Sample}
 use Rattle.lte_types.specs.declared.frame.Half.{Half}
@@ -10,45 +9,44 @@ use Rattle.lte_types.specs.Numerology.{normal, symbol_step}
 use Rattle.observe.specs.Seen.{seen}
 use Rattle.sss_detect.specs.Scores.{score}
 
--- the first pair of a group and a half comes before the second: subframe 0 before subframe 5, and then the lower group
+-- the first pair comes before the second: subframe 0 before subframe 5, then the lower group
 abbrev pub IsBefore : ℕ → Half → ℕ → Half → Type 0
 IsBefore m Zero n Zero = m < n
 IsBefore m Zero n Five = Unit {0}
 IsBefore m Five n Zero = ⊥
 IsBefore m Five n Five = m < n
 
--- among all 336 pairs this one has the greatest score, and each before it a smaller one
+-- among all 336 pairs this one has the maximum score, and each earlier one a smaller score
 pub record IsBest (scores : ℕ → Half → ℤ) (n1 : ℕ) (half : Half) : Type 0 where
   pub known : n1 ≤ 167
   pub greatest : (m : ℕ) (other : Half) → m ≤ 167 → scores m other ≤ℤ scores n1 half
   pub first : (m : ℕ) (other : Half) → m ≤ 167 → IsBefore m other n1 half → scores m other <ℤ scores n1 half
 
--- the place of the first greatest of f 0 to f n
+-- the index of the first maximum in f 0 to f n
 unfoldable pub first_greatest : (ℕ → ℤ) → ℕ → ℕ
 first_greatest f zero = 0
 first_greatest f (suc n) = if int_lt (f (first_greatest f n)) (f (suc n)) then suc n else first_greatest f n
 
--- the best group of a half
+-- the best group for a half-frame
 abbrev pub best_group : (ℕ → Half → ℤ) → Half → ℕ
 best_group scores half = first_greatest (λ n1. scores n1 half) 167
 
--- the best pair of a group and a half
+-- the best pair: an identity group and a half-frame
 unfoldable pub best_pair : (ℕ → Half → ℤ) → ℕ × Half
 best_pair scores =
     if int_lt (scores (best_group scores Zero) Zero) (scores (best_group scores Five) Five)
     then (best_group scores Five, Five)
     else (best_group scores Zero, Zero)
 
--- the scores of a hit by a cyclic prefix: those of what is seen of the primary symbol at the hit and of the secondary
--- one, which is one symbol before it
+-- a hit's scores for a cyclic prefix, from the primary symbol at the hit and the secondary symbol just in front of it
 abbrev pub prefix_scores : Prefix → List Sample → Hit → ℕ → Half → ℤ
 prefix_scores prefix recording hit = score (seen recording hit.t) (seen recording (hit.t - symbol_step prefix)) hit.n2
 
--- the identity group and the half of a hit by a cyclic prefix
+-- a hit's identity group and half-frame for a cyclic prefix
 unfoldable pub prefix_identity : Prefix → List Sample → Hit → ℕ × Half
 prefix_identity prefix recording hit = best_pair (prefix_scores prefix recording hit)
 
--- ---- identities by the normal cyclic prefix
+-- ---- the normal cyclic prefix
 
 abbrev pub scores_of : List Sample → Hit → ℕ → Half → ℤ
 scores_of recording hit = prefix_scores normal recording hit

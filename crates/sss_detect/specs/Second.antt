@@ -1,4 +1,4 @@
--- The second pair of a group and a half, and the two best ones with their scores. (own)
+-- The second pair, and the two best pairs with their scores. (own)
 use Rattle.std.specs.Prelude.{◌≢◌, ℕ, ◌+◌, ◌-◌, ◌≤◌, List, ℤ, ◌<ℤ◌, ◌≤ℤ◌, nat_lt, if◌then◌else◌}
 use Rattle.cs_num.specs.declared.Sample.{Sample}
 use Rattle.lte_types.specs.declared.frame.Half.{Half}
@@ -9,7 +9,7 @@ use Rattle.sss_detect.specs.declared.rank.Choice.{Choice}
 use Rattle.sss_detect.specs.declared.rank.Ranking.{Ranking}
 use Rattle.sss_detect.specs.Identity.{IsBefore, first_greatest, best_pair, prefix_scores}
 
--- among the 335 other pairs than the best this one has the greatest score, and each of them before it a smaller one
+-- among the 335 pairs other than the best this one has the maximum score, and each earlier one a smaller score
 pub record IsSecond (scores : ℕ → Half → ℤ) (best : ℕ × Half) (n1 : ℕ) (half : Half) : Type 0 where
   pub known : n1 ≤ 167
   pub another : (n1, half) ≢ best
@@ -17,7 +17,7 @@ pub record IsSecond (scores : ℕ → Half → ℤ) (best : ℕ × Half) (n1 : �
   pub first : (m : ℕ) (other : Half) → m ≤ 167 → (m, other) ≢ best → IsBefore m other n1 half →
       scores m other <ℤ scores n1 half
 
--- the pairs in their order, and the place of each
+-- the pairs in order, and the number of each
 abbrev pub pair_at : ℕ → ℕ × Half
 pair_at place = if nat_lt place 168 then (place, Zero) else (place - 168, Five)
 
@@ -25,19 +25,19 @@ abbrev pub place_of : ℕ × Half → ℕ
 place_of (n1, Zero) = n1
 place_of (n1, Five) = 168 + n1
 
--- the scores by places
+-- the scores by pair number
 abbrev pub score_at : (ℕ → Half → ℤ) → ℕ → ℤ
 score_at scores place = scores (pair_at place).0 (pair_at place).1
 
--- place i of the places that are left when one is taken away
+-- index i among those that remain when one is removed
 abbrev pub left_without : ℕ → ℕ → ℕ
 left_without taken i = if nat_lt i taken then i else i + 1
 
--- the first greatest of f 0 to f (n + 1) when one is taken away
+-- the first maximum in f 0 to f (n + 1) when one index is removed
 abbrev pub next_greatest : (ℕ → ℤ) → ℕ → ℕ → ℕ
 next_greatest f taken n = left_without taken (first_greatest (λ i. f (left_without taken i)) n)
 
--- the second pair: the best of those that are left when the best one is taken away
+-- the second pair: the best that remains when the best pair is removed
 unfoldable pub second_pair : (ℕ → Half → ℤ) → ℕ × Half
 second_pair scores = pair_at (next_greatest (score_at scores) (place_of (best_pair scores)) 334)
 
@@ -52,6 +52,6 @@ ranking_of scores = record {
   second = choice_of scores (second_pair scores);
 }
 
--- the two best pairs of a hit by a cyclic prefix, with their scores
+-- a hit's two best pairs for a cyclic prefix, with their scores
 unfoldable pub prefix_ranking : Prefix → List Sample → Hit → Ranking
 prefix_ranking prefix recording hit = ranking_of (prefix_scores prefix recording hit)

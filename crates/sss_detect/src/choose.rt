@@ -1,4 +1,4 @@
-//! The choice of a group and a half.
+//! Choosing an identity group and a half-frame.
 
 ghost use Rattle.std.specs.Prelude.{◌≡◌, ◌^◌, ◌≤◌, All, int_lt, if◌then◌else◌};
 ghost use Rattle.finite.specs.Sizes.{AllWithin};
@@ -11,18 +11,15 @@ use crate::score::{ShiftSums, agreements};
 use cs_num::Cpx;
 use lte_types::Half;
 
-// A group with its score.
+// An identity group with its score.
 #[derive(Clone, Copy)]
 struct GroupScore {
     n1: u16,
     score: i128,
 }
 
-/// The identity group, 0 to 167, and the half whose secondary sequence has the greatest score
-/// beside what is seen of a primary and a secondary symbol: the sum over the 62 values of the
-/// secondary sequence times the real part of what is seen of the secondary symbol, turned by what
-/// is seen of the primary one. Of equal scores subframe 0 comes first, and then the lower group.
-/// `n2` is 0 to 2, and components have size at most 2^25. (own)
+/// Returns the identity group, 0 to 167, and the half-frame whose secondary sequence scores highest against the
+/// demodulated symbols. Ties go to subframe 0, then the lower group. `n2` is 0 to 2, components within 2^25. (own)
 pub fn best(pss_seen: &[Cpx; 72], sss_seen: &[Cpx; 72], n2: u8) -> (u16, Half)
     requires member { n2 ≤ 2 }
     requires primary { All (IsWithin (2 ^ 25)) pss_seen.now }
@@ -33,7 +30,7 @@ pub fn best(pss_seen: &[Cpx; 72], sss_seen: &[Cpx; 72], n2: u8) -> (u16, Half)
     best_by(&agreements(pss_seen, sss_seen, n2), n2)
 }
 
-// The best pair that agreements give.
+// Returns the best pair for a list of agreements.
 fn best_by(agreements: &[i64; 62], n2: u8) -> (u16, Half)
     requires small { AllWithin (2 ^ 59) agreements.now }
     requires member { n2 ≤ 2 }
@@ -49,7 +46,7 @@ fn best_by(agreements: &[i64; 62], n2: u8) -> (u16, Half)
     }
 }
 
-// The best group of a half.
+// Returns the best group for a half-frame.
 fn best_of_half(sums: &ShiftSums, half: Half) -> GroupScore
     requires { AllWithin (2 ^ 59) sums.now.agreements.now }
     ensures group { result.n1 ≡ best_group (score_by sums.now.agreements.now sums.now.n2) half }
@@ -62,7 +59,7 @@ fn best_of_half(sums: &ShiftSums, half: Half) -> GroupScore
     best
 }
 
-// A group with its score.
+// Returns a group with its score.
 fn scored(sums: &ShiftSums, n1: u16, half: Half) -> GroupScore
     requires small { AllWithin (2 ^ 59) sums.now.agreements.now }
     requires group { n1 ≤ 167 }
@@ -75,7 +72,7 @@ fn scored(sums: &ShiftSums, n1: u16, half: Half) -> GroupScore
     }
 }
 
-// The one of greater score, and of equals the first.
+// Returns the group with the greater score, the first if they are equal.
 fn better_group(first: GroupScore, second: GroupScore) -> GroupScore
     ensures { result ≡ (if int_lt first.score second.score then second else first) }
 {

@@ -1,5 +1,6 @@
-//! The identity of a hit: the group and the half of a frame whose secondary synchronisation
-//! sequence agrees best with what is seen.
+//! SSS detection: the identity group and the half-frame for a PSS detection (a hit), from the secondary
+//! synchronisation sequence that agrees best with the received symbols.
+//! Tests: the crate `code_tests`.
 #![tactic(auto)]
 
 mod choose;
@@ -22,9 +23,8 @@ use rank::best_two;
 pub use rank::{Choice, Ranking};
 use sample_file::Recording;
 
-/// The identity group and the half of a frame of a hit, by a cyclic prefix: `best` of the primary symbol that is
-/// seen at the hit and of the secondary symbol one symbol before it (TS 36.211 section 6.11). `t` is at least the
-/// samples of a symbol with its prefix, the primary symbol ends within the recording, and `n2` is 0 to 2.
+/// Returns a hit's identity group and half-frame for a cyclic prefix (TS 36.211 section 6.11), by `best`. Both
+/// symbols, the secondary one just in front of the primary, lie within the recording. `n2` is 0 to 2.
 pub fn identity_with(recording: &Recording, hit: &Hit, prefix: Prefix) -> (u16, Half)
     requires after { symbol_step prefix ≤ hit.now.t }
     requires within { hit.now.t + 128 ≤ length recording.now }
@@ -40,8 +40,8 @@ pub fn identity_with(recording: &Recording, hit: &Hit, prefix: Prefix) -> (u16, 
     )
 }
 
-/// The identity group and the half of a frame of a hit by the normal cyclic prefix: the secondary symbol is 137
-/// samples before the primary one. `t`, the primary symbol and `n2` are as for `identity_with`.
+/// Returns a hit's identity group and half-frame for the normal cyclic prefix: the secondary symbol is 137 samples
+/// before the primary one. The conditions are those for `identity_with`.
 pub fn identity(recording: &Recording, hit: &Hit) -> (u16, Half)
     requires after { symbol_step normal ≤ hit.now.t }
     requires within { hit.now.t + 128 ≤ length recording.now }
@@ -52,8 +52,8 @@ pub fn identity(recording: &Recording, hit: &Hit) -> (u16, Half)
     identity_with(recording, hit, Prefix::NORMAL)
 }
 
-/// The place of the cell that a hit tells by a cyclic prefix: its identity, and the sample at which its first frame
-/// starts. `t`, the primary symbol and `n2` are as for `identity_with`.
+/// Returns the cell identity and the sample at which its first frame starts, for a hit and a cyclic prefix. The
+/// conditions are those for `identity_with`.
 pub fn place_with(recording: &Recording, hit: &Hit, prefix: Prefix) -> CellPlace
     requires after { symbol_step prefix ≤ hit.now.t }
     requires within { hit.now.t + 128 ≤ length recording.now }
@@ -67,8 +67,8 @@ pub fn place_with(recording: &Recording, hit: &Hit, prefix: Prefix) -> CellPlace
     }
 }
 
-/// How clear the choice was of `identity_with`: that pair and the second, each with its score. `t`, the primary symbol
-/// and `n2` are as there. Each score is the whole sum, which 64 bits hold. (own)
+/// Returns the pair that `identity_with` chooses, and the second, each with its complete score, which fits 64 bits.
+/// The conditions are those for `identity_with`. (own)
 pub fn ranking_with(recording: &Recording, hit: &Hit, prefix: Prefix) -> Ranking
     requires after { symbol_step prefix ≤ hit.now.t }
     requires within { hit.now.t + 128 ≤ length recording.now }
@@ -87,13 +87,13 @@ pub fn ranking_with(recording: &Recording, hit: &Hit, prefix: Prefix) -> Ranking
     )
 }
 
-/// The best pair in plain words: it is the first of the pairs of greatest score, and no other is.
+/// A law: the best pair is the first with the maximum score, and no other pair is.
 pub fn best_pair_is_first_of_greatest()
     ensures best { BestPairIsBest }
     ensures only { OnlyOneIsBest }
 {}
 
-/// The second pair in plain words: it is the first of the others of greatest score, and no other is.
+/// A law: the second pair is the first with the maximum score among the others, and no other pair is.
 pub fn second_pair_is_first_of_the_others()
     ensures second { SecondPairIsSecond }
     ensures only { OnlyOneIsSecond }

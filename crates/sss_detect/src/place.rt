@@ -1,4 +1,4 @@
-//! Where the frame of a hit begins, and the number of its cell.
+//! The frame start and the cell identity.
 
 ghost use Rattle.std.specs.Prelude.{◌≡◌, ◌<◌, ◌≤◌};
 ghost use Rattle.lte_types.specs.Identity.{cell_of};
@@ -7,8 +7,7 @@ ghost use Rattle.sss_detect.specs.Place.{start_by_hit};
 
 use lte_types::{CellId, FRAME_LENGTH, Half, Hit};
 
-/// The sample, modulo the 19,200 of a frame, at which the frames of a hit begin whose primary
-/// signal stands in this half.
+/// Returns the sample, modulo the 19,200 in a frame, at which frames begin if a hit's primary signal is in `half`.
 pub fn frame_start(hit: &Hit, half: Half) -> u32
     ensures value { result ≡ start_by_hit hit.now.t half }
     ensures small { result < frame_length }
@@ -17,8 +16,7 @@ pub fn frame_start(hit: &Hit, half: Half) -> u32
     (hit.t % frame + (frame - half.primary_start())) % frame
 }
 
-/// The identity of the cell of a group and an identity within it. `n1` is 0 to 167 and `n2` is 0
-/// to 2.
+/// Returns the cell identity for a group and an identity within it. `n1` is 0 to 167 and `n2` is 0 to 2.
 pub fn cell_id(n1: u16, n2: u8) -> CellId
     requires group { n1 ≤ 167 }
     requires member { n2 ≤ 2 }

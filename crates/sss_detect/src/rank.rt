@@ -1,4 +1,4 @@
-//! The two best pairs of a group and a half, with their scores.
+//! The two best pairs, each an identity group and a half-frame, with their scores.
 
 ghost use Rattle.std.specs.Prelude.{◌≡◌, ◌<◌, ◌≤◌, All, int_lt, if◌then◌else◌};
 ghost use Rattle.finite.specs.Sizes.{AllWithin};
@@ -11,7 +11,7 @@ use crate::score::{ShiftSums, agreements};
 use cs_num::Cpx;
 use lte_types::Half;
 
-/// An identity group, 0 to 167, and a half of a frame, with the score of their secondary sequence. (own)
+/// An identity group, 0 to 167, and a half-frame, with the score for their secondary sequence. (own)
 #[derive(Clone, Copy, Debug, PartialEq, Eq)]
 pub struct Choice {
     pub n1: u16,
@@ -19,14 +19,14 @@ pub struct Choice {
     pub score: i64,
 }
 
-/// The best pair of a group and a half, and the second: the best of the 335 others. (own)
+/// The best pair, and the second: the best of the 335 others. (own)
 #[derive(Clone, Copy, Debug, PartialEq, Eq)]
 pub struct Ranking {
     pub best: Choice,
     pub second: Choice,
 }
 
-// The two best pairs beside what is seen of a primary and a secondary symbol.
+// Returns the two best pairs for demodulated primary and secondary symbols.
 pub(crate) fn best_two(pss_seen: &[Cpx; 72], sss_seen: &[Cpx; 72], n2: u8) -> Ranking
     requires member { n2 ≤ 2 }
     requires primary { All (IsWithin 23726080) pss_seen.now }
@@ -36,7 +36,7 @@ pub(crate) fn best_two(pss_seen: &[Cpx; 72], sss_seen: &[Cpx; 72], n2: u8) -> Ra
     best_two_by(&agreements(pss_seen, sss_seen, n2), n2)
 }
 
-// The two best pairs by agreements, which have size at most 254 times the square of 23,726,080.
+// Returns the two best pairs for agreements within 254 times the square of 23,726,080.
 fn best_two_by(agreements: &[i64; 62], n2: u8) -> Ranking
     requires small { AllWithin 142983425530265600 agreements.now }
     requires member { n2 ≤ 2 }
@@ -50,7 +50,7 @@ fn best_two_by(agreements: &[i64; 62], n2: u8) -> Ranking
     ranking
 }
 
-// The pair at a place of all, with its score.
+// Returns pair number `place`, with its score.
 fn scored_pair(sums: &ShiftSums, place: u16) -> Choice
     requires small { AllWithin 142983425530265600 sums.now.agreements.now }
     requires place { place < 336 }
@@ -64,7 +64,7 @@ fn scored_pair(sums: &ShiftSums, place: u16) -> Choice
     }
 }
 
-// The pair at a place of all: those of subframe 0, and then those of subframe 5.
+// Returns pair number `place`: first the pairs of subframe 0, then those of subframe 5.
 fn pair_at(place: u16) -> (u16, Half)
     requires { place < 336 }
     ensures pair { result ≡ pair_of place }
@@ -77,7 +77,7 @@ fn pair_at(place: u16) -> (u16, Half)
     }
 }
 
-// Two pairs, the first of which stands before the other.
+// Ranks two pairs by score, `first` in front if they are equal.
 fn in_order(first: Choice, other: Choice) -> Ranking
     ensures { result ≡ (if int_lt first.score other.score
         then record { best = other; second = first } else record { best = first; second = other }) }
@@ -95,7 +95,7 @@ fn in_order(first: Choice, other: Choice) -> Ranking
     }
 }
 
-// The two best of the pairs before one and of this one.
+// Returns the two best pairs when `next` follows those already ranked.
 fn with_next(before: Ranking, next: Choice) -> Ranking
     ensures { result ≡ (if int_lt before.best.score next.score
         then record { best = next; second = before.best }
@@ -117,7 +117,7 @@ fn with_next(before: Ranking, next: Choice) -> Ranking
     }
 }
 
-// The one of greater score, and of equals the first.
+// Returns the pair with the greater score, the first if they are equal.
 fn better_pair(first: Choice, later: Choice) -> Choice
     ensures { result ≡ (if int_lt first.score later.score then later else first) }
 {

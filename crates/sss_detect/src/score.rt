@@ -11,7 +11,7 @@ use cs_num::Cpx;
 use lte_types::Half;
 use sync_seq::{MIDDLE, pss, sss_shifts, sss_sign};
 
-// What the two symbols say of each value of a secondary sequence.
+// Returns the agreements at all values of the secondary sequence.
 pub(crate) fn agreements(primary: &[Cpx; 72], secondary: &[Cpx; 72], n2: u8) -> [i64; 62]
     requires member { n2 ≤ 2 }
     requires primary { All (IsWithin (2 ^ 25)) primary.now }
@@ -27,7 +27,7 @@ pub(crate) fn agreements(primary: &[Cpx; 72], secondary: &[Cpx; 72], n2: u8) -> 
     out
 }
 
-// What two subcarriers say of a value.
+// Returns the agreement at one subcarrier, given the primary sequence's value there.
 fn agree(primary: Cpx, secondary: Cpx, value: Cpx) -> i64
     requires primary { IsWithin (2 ^ 25) primary }
     requires secondary { IsWithin (2 ^ 25) secondary }
@@ -39,8 +39,8 @@ fn agree(primary: Cpx, secondary: Cpx, value: Cpx) -> i64
     secondary.mul(channel.conj()).re
 }
 
-/// The sums of agreements, with the signs of secondary sequences: over the even places for each shift of these,
-/// and over the odd ones for each shift of these and each shift of the even ones modulo 8.
+/// Sums of agreements with the signs of secondary sequences: over even indices for each even shift, and over odd
+/// indices for each odd shift with each even shift modulo 8.
 #[derive(Drop)]
 pub(crate) struct ShiftSums<'a> {
     pub agreements: &'a [i64; 62],
@@ -53,7 +53,7 @@ pub(crate) struct ShiftSums<'a> {
 }
 
 impl<'a> ShiftSums<'a> {
-    /// The sums for an identity within its group.
+    /// Returns the sums for an identity within the group.
     pub(crate) fn new(agreements: &'a [i64; 62], n2: u8) -> ShiftSums<'a>
         requires small { AllWithin (2 ^ 59) agreements.now }
         requires member { n2 ≤ 2 }
@@ -70,7 +70,7 @@ impl<'a> ShiftSums<'a> {
         }
     }
 
-    /// The score of a group and a half.
+    /// Returns the score for a group in a half-frame.
     pub(crate) fn score_of(&self, n1: u16, half: Half) -> i128
         requires small { AllWithin (2 ^ 59) self.now.agreements.now }
         requires group { n1 ≤ 167 }
@@ -81,7 +81,7 @@ impl<'a> ShiftSums<'a> {
     }
 }
 
-// The sums over the even places.
+// Returns the sums over even indices.
 fn even_sums(agreements: &[i64; 62], n2: u8) -> [i128; 31]
     requires small { AllWithin (2 ^ 59) agreements.now }
     requires member { n2 ≤ 2 }
@@ -94,7 +94,7 @@ fn even_sums(agreements: &[i64; 62], n2: u8) -> [i128; 31]
     sums
 }
 
-// The sums over the odd places.
+// Returns the sums over odd indices.
 fn odd_sums(agreements: &[i64; 62], n2: u8) -> [i128; 248]
     requires small { AllWithin (2 ^ 59) agreements.now }
     requires member { n2 ≤ 2 }
@@ -107,7 +107,7 @@ fn odd_sums(agreements: &[i64; 62], n2: u8) -> [i128; 248]
     sums
 }
 
-// The sum over every other place from `first` on, with the signs of the sequence of these shifts.
+// Returns the sum over every other index from `first`, with the signs of the sequence with shifts `even` and `odd`.
 fn places_sum(agreements: &[i64; 62], n2: u8, even: usize, odd: usize, first: usize) -> i128
     requires small { AllWithin (2 ^ 59) agreements.now }
     requires member { n2 ≤ 2 }
@@ -124,7 +124,7 @@ fn places_sum(agreements: &[i64; 62], n2: u8, even: usize, odd: usize, first: us
     sum
 }
 
-// A number with a sign. A product, since a branch by the sign would go wrong every other time.
+// Applies a sign by multiplication: a branch on the sign would be mispredicted every other time.
 fn signed(number: i64, sign: i8) -> i64
     requires small { nat_abs number ≤ 2 ^ 59 }
     requires sign { nat_abs sign ≡ 1 }

@@ -1,4 +1,4 @@
--- A pass back over the places, kept by its loop.
+-- A backward pass over the positions: its loop invariant.
 use Rattle.std.proofs.Common.{◌≡◌, ◌≢◌, ℕ, zero, suc, ◌+◌, ◌-◌, ◌*◌, ◌^◌, ◌<◌, ◌≤◌, Bool, true, false, List, [], length, get_or, set, ℤ, inl, inr, refl, ap, ap₂, ◌∙◌, arith, get_or-set_same}
 use Rattle.std.specs.Prelude.{min, nat_lt}
 use Rattle.std.proofs.lemmas.Bool.{cases_lt}
@@ -10,18 +10,18 @@ use Rattle.tailbite.specs.Costs.{AreCosts, HaveCosts, shared_cost}
 use Rattle.tailbite.specs.Passes.{told_bit, IsPass}
 use Rattle.tailbite.proofs.Windows.{shift_below}
 
--- the entry of a row of rows
+-- an entry in a list of rows
 abbrev pub entry : List (List ℕ) → ℕ → ℕ → ℕ
 entry rows k x = get_or (get_or rows k []) x 0
 
--- the rows are those of the places from i on
+-- the rows from position i are those of a pass
 pub record IsPassAt (values : List (List ℤ)) (ends : ℕ → ℕ) (rows : List (List ℕ)) (i : ℕ) : Type 0 where
   pub place : i ≤ length values
   pub count : length values < length rows
   pub cost : (k m x : ℕ) → i ≤ k → k + m ≡ length values → x < 64 → entry rows k x ≡ best shift (step_cost values) ends k m x
   pub room : (k x : ℕ) → i ≤ k → k ≤ length values → x < 64 → entry rows k x ≤ 2 ^ 30 + (length values - k) * (3 * 2 ^ 20)
 
--- at the end no place is left
+-- at the end no position is left
 pub pass_end : (values : List (List ℤ)) (ends : List ℕ) (rows : List (List ℕ)) → length values < length rows →
     ((x : ℕ) → x < 64 → get_or ends x 0 ≤ 2 ^ 30) → IsPassAt values (λ x. get_or ends x 0) (set rows (length values) ends) (length values)
 pass_end values ends rows inside small = record {
@@ -36,13 +36,13 @@ pass_end values ends rows inside small = record {
       rw (here, get_or-set_same rows (length values) ends [] inside) (let h = small x below in omega (arith, h));
 }
 
--- the sums that a row is compared by
+-- the sums that are compared for a row
 same_sums : (costs row : List ℕ) (values : List (List ℤ)) (ends : ℕ → ℕ) (i m x : ℕ) (b : Bool) → AreCosts (get_or values i []) costs →
     ((x : ℕ) → x < 64 → get_or row x 0 ≡ best shift (step_cost values) ends (suc i) m x) → x < 64 →
     shared_cost costs x b + get_or row (shift x b) 0 ≡ step_cost values i x b + best shift (step_cost values) ends (suc i) m (shift x b)
 same_sums costs row values ends i m x b are known below = ap₂ ◌+◌ (are.cost x b below) (known (shift x b) (shift_below x b below))
 
--- one place back
+-- one position back
 pub pass_step : (values : List (List ℤ)) (ends : ℕ → ℕ) (costs : List ℕ) (rows rows' : List (List ℕ)) (j i : ℕ) →
     IsPassAt values ends rows j → j ≡ i + 1 → AreCosts (get_or values i []) costs →
     ((x : ℕ) → x < 64 → entry rows' i x ≡ least_out shift (shared_cost costs) (get_or rows (i + 1) []) x) →
@@ -82,7 +82,7 @@ pass_step values ends costs rows rows' j i known next are least growth others co
         ∙ ap₂ min (same_sums costs (get_or rows (i + 1) []) values ends i m x false are row_is below)
         (same_sums costs (get_or rows (i + 1) []) values ends i m x true are row_is below))
 
--- at the start all places are passed
+-- at the start all positions are passed
 pub pass_start : (values : List (List ℤ)) (ends : ℕ → ℕ) (rows : List (List ℕ)) (i : ℕ) → length values ≤ 64 → IsPassAt values ends rows i → i ≤ 0 →
     IsPass values ends rows
 pass_start values ends rows i short known done = record {
@@ -90,7 +90,7 @@ pass_start values ends rows i short known done = record {
   room = λ k x inside below. let h = known.room k x (omega (arith, done)) inside below in omega (arith, h, short);
 }
 
--- what is told is the bit with which the least cost begins
+-- the bit that the tables give is the first on the minimum-cost path
 pub told_best : (values : List (List ℤ)) (tables : List (List ℕ)) (ends : ℕ → ℕ) (rows : List (List ℕ)) → HaveCosts values tables (length values) →
     IsPass values ends rows → (k m x : ℕ) → k + suc m ≡ length values → x < 64 → told_bit tables rows k x ≡ best_bit shift (step_cost values) ends k m x
 told_best values tables ends rows have passed k m x size below =

@@ -1,4 +1,4 @@
--- A word of the code is a path from a state back to it, and its cost is the path's.
+-- A word of the code is a path from a state back to the same state, and costs as much as the path.
 use Rattle.std.proofs.Common.{◌≡◌, ℕ, zero, suc, ◌+◌, ◌<◌, ◌≤◌, Bool, List, [], ◌∷◌, ◌++◌, length, map, get_or, ℤ, refl, sym, ◌∙◌, arith, append_assoc, length-append}
 use Rattle.finite.specs.Sums.{total_below}
 use Rattle.trellis.specs.Paths.{end_of, path_cost}
@@ -34,7 +34,7 @@ same_triple v f g h =
     let h6 = h 6 (omega arith) in
     rw (h0, h1, h2, h3, h4, h5, h6) refl
 
--- the cost of a word, from a place on, is that of its path
+-- from any position, a word costs as much as its path
 cost-path : (values : List (List ℤ)) (word before after : List Bool) → word ≡ before ++ after → 6 ≤ length word →
     total_from (cost_at values word) (length before) (length after)
     ≡ path_cost shift (step_cost values) (length before) (end_of shift (end_of shift 0 word) before) after
@@ -50,7 +50,7 @@ cost-path values word before (b ∷ after) e h =
     let x = end_of-append shift s before (b ∷ []) in
     rw (← here, ← k, ← x, ih) refl
 
--- the cost of a word is that of its path, which starts and ends in the state of its last six bits
+-- a word costs as much as its path, which starts and ends in the state of its last six bits
 pub word_cost-path : (values : List (List ℤ)) (word : List Bool) → length word ≡ length values → 6 ≤ length word →
     word_cost values word ≡ path_cost shift (step_cost values) 0 (end_of shift 0 word) word
 unfolding word_cost total_below

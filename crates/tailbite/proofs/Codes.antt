@@ -1,4 +1,4 @@
--- The coded bits of the steps by their numbers.
+-- The coded bits of steps, as numbers.
 use Rattle.std.proofs.Common.{◌≡◌, ℕ, ◌+◌, ◌-◌, ◌*◌, ◌/◌, ◌^◌, ◌<◌, ◌≤◌, Bool, true, false, cond, List, length, map, get_or, ℤ, inl, inr, refl, ap, sym, ◌∙◌, arith}
 use Rattle.std.specs.Prelude.{◌&&◌, nat_lt}
 use Rattle.std.specs.Bool.{beq}
@@ -12,11 +12,11 @@ use Rattle.conv_code.specs.Cost.{triple_cost}
 use Rattle.tailbite.specs.Machine.{window_bit, branch_cost}
 use Rattle.tailbite.specs.Costs.{even_codes, spread_costs, code_cost, AreCosts}
 
--- the number of the coded bits of the step from x by b
+-- the number of the coded bits in the step from x by b
 abbrev code_of : ℕ → Bool → ℕ
 code_of x b = cond (xor b (odd x)) (7 - get_or even_codes (x / 2) 0) (get_or even_codes (x / 2) 0)
 
--- it has the three coded bits
+-- the number has the three coded bits
 abbrev tells_bits : ℕ → Bool → Bool
 tells_bits x b =
     beq (parity (map (window_bit x b) taps_0)) (odd (code_of x b / 4)) &&
@@ -64,9 +64,9 @@ count_of_codes : length even_codes ≡ 32
 unfolding even_codes
 count_of_codes = refl
 
--- ---- the table of a place
+-- ---- one position's table
 
--- what it has for the pairs of states below h
+-- the table's costs for the pairs of states below h
 pub record HasPairs (v : List ℤ) (costs : List ℕ) (h : ℕ) : Type 0 where
   pub size : length costs ≡ 64
   pub former : (k : ℕ) → k < h → get_or costs k 0 ≡ code_cost v (get_or even_codes k 0)
@@ -74,7 +74,7 @@ pub record HasPairs (v : List ℤ) (costs : List ℕ) (h : ℕ) : Type 0 where
   pub former_small : (k : ℕ) → k < h → get_or costs k 0 ≤ 3 * 2 ^ 20
   pub latter_small : (k : ℕ) → k < h → get_or costs (k + 32) 0 ≤ 3 * 2 ^ 20
 
--- the costs by code, spread, have them for all
+-- the costs by code, spread, are right for all pairs
 pub spread_pairs : (v : List ℤ) (by_code costs : List ℕ) → costs ≡ spread_costs by_code →
     ((p : ℕ) → p < 8 → get_or by_code p 0 ≡ code_cost v p) → ((p : ℕ) → p < 8 → get_or by_code p 0 ≤ 3 * 2 ^ 20) → HasPairs v costs 32
 unfolding spread_costs

@@ -1,4 +1,4 @@
--- The two edges into each state, and the row of least costs one step on.
+-- The two edges into each state, and the row of minimum costs one step on.
 use Rattle.std.proofs.Common.{◌≡◌, ℕ, suc, ◌+◌, ◌*◌, ◌/◌, ◌%◌, ◌<◌, ◌≤◌, Bool, true, false, List, [], get_or, ℤ, refl, inl, inr, arith}
 use Rattle.std.proofs.lemmas.Bool.{cases_lt}
 use Rattle.finite.specs.Bits.{odd}

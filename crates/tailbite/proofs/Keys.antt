@@ -1,4 +1,4 @@
--- The keys that passes give are bounds and keys of words, and the least key is that of the least word.
+-- The keys that passes give are bounds and keys of words, and the minimum key belongs to the minimum-cost word.
 use Rattle.std.proofs.Common.{◌≡◌, ℕ, ◌+◌, ◌-◌, ◌*◌, ◌/◌, ◌%◌, ◌^◌, ◌<◌, ◌≤◌, Bool, List, [], length, max, get_or, set, ℤ, refl, ap, sym, ◌∙◌, subst, inl, inr, arith, get_or-set_other, get_or-set_same}
 use Rattle.std.specs.Prelude.{min}
 use Rattle.std.proofs.lemmas.Bool.Decides.{eqb_tells}
@@ -26,7 +26,7 @@ use Rattle.tailbite.proofs.Branches.{word_cost-path}
 
 -- ---- words and paths
 
--- the path of a word that starts in s ends there, and costs what the word does
+-- the path of a word that starts in s ends there, and costs as much as the word
 round : (values : List (List ℤ)) (s : ℕ) (word : List Bool) → length word ≡ length values → 6 ≤ length values → s < 64 → end_of shift 0 word ≡ s →
     (end_of shift s word ≡ s) × (word_cost values word ≡ path_cost shift (step_cost values) 0 s word)
 round values s word size long below is = (
@@ -38,9 +38,9 @@ round values s word size long below is = (
 wide : (n : ℕ) → n ≤ 64 → 2 ^ n ≤ scale
 wide n short = pow_mono {j = 64} short
 
--- ---- what a pass gives
+-- ---- results of a pass
 
--- the word that the rows tell from state s on
+-- the word along the minimum-cost path from state s
 abbrev told_word : List (List ℤ) → List (List ℕ) → List (List ℕ) → ℕ → List Bool
 told_word values tables rows s = walked shift (told_bit tables rows) 0 (length values) s
 
@@ -55,7 +55,7 @@ told_cost values ends tables rows s have passed below =
     first_least_is_best shift (step_cost values) ends 0 (length values) s (told_word values tables rows s) (told_first values ends tables rows s have passed below)
     ∙ sym (passed.cost 0 (length values) s (omega arith) below)
 
--- where an end in s is free, no word that starts in s has a smaller key
+-- if an end in s is free, no word that starts in s has a smaller key
 pub pass_bound : (values : List (List ℤ)) (ends : ℕ → ℕ) (tables : List (List ℕ)) (rows : List (List ℕ)) (s : ℕ) → HaveCosts values tables (length values) → IsPass values ends rows →
     6 ≤ length values → length values ≤ 64 → s < 64 → ends s ≡ 0 → IsBound values s (get_or (get_or rows 0 []) s 0 * scale + number (told_word values tables rows s))
 pass_bound values ends tables rows s have passed long short below free word size is =
@@ -66,7 +66,7 @@ pass_bound values ends tables rows s have passed long short below free word size
     let told = told_cost values ends tables rows s have passed below in
     omega (arith, cost, free_end, least, told)
 
--- no word that starts in s, and so ends there, costs less than what the least cost to s is beyond what the start in s costs
+-- no word that starts in s, and so ends there, costs less than the minimum cost to s without the cost of a start in s
 pub cost_bound : (values : List (List ℤ)) (starts : ℕ → ℕ) (s m : ℕ) → 6 ≤ length values → s < 64 →
     IsLeastTo shift (step_cost values) starts 64 (length values) s m → IsBound values s ((m - starts s) * scale)
 cost_bound values starts s m long below to word size is =
@@ -74,7 +74,7 @@ cost_bound values starts s m long below to word size is =
     let to_s = to.least s word below size back in
     omega (arith, cost, to_s)
 
--- where the path ends in s too, and that is free, it is a word's
+-- if the path ends in s too, where the end is free, its key is the key of a word
 pub pass_key : (values : List (List ℤ)) (ends : ℕ → ℕ) (tables : List (List ℕ)) (rows : List (List ℕ)) (s : ℕ) → HaveCosts values tables (length values) → IsPass values ends rows →
     6 ≤ length values → s < 64 → ends s ≡ 0 → end_of shift s (told_word values tables rows s) ≡ s →
     IsWordKey values (get_or (get_or rows 0 []) s 0 * scale + number (told_word values tables rows s))
@@ -87,7 +87,7 @@ pass_key values ends tables rows s have passed long below free closed =
     let told = told_cost values ends tables rows s have passed below in
     (word, size, omega (arith, cost, free_end, told))
 
--- where only an end in s is free
+-- the key if only an end in s is free
 pub pass_key_or_far : (values : List (List ℤ)) (ends : ℕ → ℕ) (tables : List (List ℕ)) (rows : List (List ℕ)) (s : ℕ) → HaveCosts values tables (length values) → IsPass values ends rows →
     6 ≤ length values → s < 64 → ((x : ℕ) → x < 64 → ends x ≡ ends_in far s x) →
     IsKeyOrFar values (get_or (get_or rows 0 []) s 0 * scale + number (told_word values tables rows s))
@@ -101,13 +101,13 @@ pass_key_or_far values ends tables rows s have passed long below are small =
           absurd (omega (arith, costs, told, small))
     ]
 
--- ---- the least key
+-- ---- the minimum key
 
--- the greater of two bounds
+-- the greater of two bounds is a bound
 pub greater_bound : (values : List (List ℤ)) (s m n : ℕ) → IsBound values s m → IsBound values s n → IsBound values s (max m n)
 greater_bound values s m n one other word size is = let h = one word size is in let h' = other word size is in omega (arith, h, h')
 
--- the lesser of two
+-- the lesser of two keys is a key
 pub least_or_far : (values : List (List ℤ)) (m n : ℕ) → IsKeyOrFar values m → IsKeyOrFar values n → IsKeyOrFar values (min m n)
 least_or_far values m n one other = elim (min_cases m n) [ inl e ↦ rw e one | inr e ↦ rw e other ]
 
@@ -121,7 +121,7 @@ bounds_with values bounds start m inside are here = record {
   ];
 }
 
--- the key of every word is below that of a far end
+-- the key of any word is below that of a far end
 below_far : (values : List (List ℤ)) (word : List Bool) → length word ≡ length values → length values ≤ 64 → RowsWithin (2 ^ 20) values →
     word_key values word < far * scale
 below_far values word size short sizes =
@@ -130,7 +130,7 @@ below_far values word size short sizes =
     let power : 2 ^ length word ≤ 2 ^ 64 = pow_mono {j = 64} (omega (arith, size, short)) in
     omega (arith, cost, below, power, short)
 
--- what is no more than every bound is the least key, if it is a key
+-- a key that is at most every bound is the minimum key
 pub no_bound_below : (values : List (List ℤ)) (bounds : List ℕ) (start m : ℕ) → length values ≤ 64 → RowsWithin (2 ^ 20) values → AreBounds values bounds →
     ((x : ℕ) → x < 64 → get_or bounds start 0 ≤ get_or bounds x 0) → m ≤ get_or bounds start 0 → IsKeyOrFar values m → IsLeastKey values m
 no_bound_below values bounds start m short sizes are least no_less is =
@@ -147,7 +147,7 @@ no_bound_below values bounds start m short sizes are least no_less is =
     let h' = below_far values some size short sizes in
     record { reached = is (omega (arith, h, h')); least = lower }
 
--- what is read from it
+-- the word and the cost that a minimum key holds
 pub record IsDecoded (values : List (List ℤ)) (m : ℕ) (word : List Bool) : Type 0 where
   pub word_is : IsLeastWord values word
   pub cost_is : m / scale ≡ word_cost values word
@@ -172,7 +172,7 @@ decoded values m word known short sizes bits =
       small = omega (arith, high, cost, short);
     }
 
--- the same, for an array of n places
+-- the word and the cost for an array of n positions
 pub decoded_array : (n : ℕ) (values : List (List ℤ)) (m : ℕ) (word : List Bool) → length values ≡ n → IsLeastKey values m → n ≤ 64 →
     RowsWithin (2 ^ 20) values → word ≡ bits_of n (m % scale) → IsDecoded values m word
 decoded_array n values m word e known short sizes bits = decoded values m word known (rw e short) sizes (rw e bits)

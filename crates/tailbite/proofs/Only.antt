@@ -1,4 +1,4 @@
--- The least word is one; where all values speak for a word, it is that.
+-- The minimum-cost word is unique; if all values speak for a word, it is that word.
 use Rattle.std.proofs.Common.{◌≡◌, ℕ, ◌<◌, inl, inr, Bool, List, [], length, get_or, ℤ, pos, refl, sym, ◌∙◌, arith, ap}
 use Rattle.finite.specs.Sums.{total_below}
 use Rattle.finite.specs.Lists.{values_below}
@@ -14,7 +14,7 @@ use Rattle.trellis.proofs.Exists.{some_first_least}
 use Rattle.tailbite.specs.Laws.{IsOneWord, IsSomeWord}
 use Rattle.tailbite.specs.Clean.{Speaks, IsOnlyLeast}
 
--- a word's coded bits cost nothing where the values speak for them
+-- a word's coded bits cost nothing if the values speak for them
 pub free_place : (values : List (List ℤ)) (word : List Bool) → Speaks values word → (k : ℕ) → k < length values → cost_at values word k ≡ 0
 free_place values word speaks k below =
     let here = speaks.place k below in
@@ -23,7 +23,7 @@ free_place values word speaks k below =
     let c = here.third.free in
     omega (arith, a, b, c)
 
--- a word that costs nothing at a place has the coded bits there
+-- a word that costs nothing at a position has the coded bits for which the values speak
 pub same_place : (values : List (List ℤ)) (u word : List Bool) → Speaks values word → (k : ℕ) → k < length values → cost_at values u k ≡ 0 →
     coded_bits u k ≡ coded_bits word k
 same_place values u word speaks k below h =
@@ -50,7 +50,7 @@ only_least values word least long size speaks is =
     same_place values least word speaks k below (terms_zero (length values) (cost_at values least) zero_least k below))
     ∙ ap (λ n. values_below n (coded_bits word)) same_size)
 
--- there is only one least word
+-- there is only one minimum-cost word
 pub one_word : IsOneWord
 one_word values u w hu hw =
     elim (either_before u w (hu.size ∙ sym hw.size)) [

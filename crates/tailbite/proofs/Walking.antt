@@ -1,4 +1,4 @@
--- A walk by the bits of places and states, kept by its loop.
+-- A walk by the bits at positions and states: its loop invariant.
 use Rattle.std.proofs.Common.{◌≡◌, ℕ, suc, ◌+◌, ◌-◌, ◌*◌, ◌^◌, ◌<◌, ◌≤◌, Bool, true, false, cond, refl, sym, ◌∙◌, arith}
 use mir.Val.{bool_byte}
 use Rattle.std.proofs.Math.Nat.{pow-suc}
@@ -8,7 +8,7 @@ use Rattle.trellis.proofs.Walks.{length-walked}
 use Rattle.tailbite.specs.Machine.{shift}
 use Rattle.tailbite.proofs.Windows.{shift_below}
 
--- after k of n bits: the number of these, the state that they lead to, and that the whole walk goes on from there
+-- after k of n bits: their number, the state after them, and the rest of the walk from there
 pub record IsWalkAt (bit_at : ℕ → ℕ → Bool) (n start k word state : ℕ) : Type 0 where
   pub state_below : state < 64
   pub small : word < 2 ^ k

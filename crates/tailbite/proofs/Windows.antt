@@ -23,7 +23,7 @@ newest : (x : ℕ) (b c : Bool) → x < 64 → window_bit (shift x b) c 1 ≡ b
 newest x false c h = let e : (x / 2 + 0) / 2 ^ 5 % 2 ≡ 0 = omega arith in rw e refl
 newest x true c h = let e : (x / 2 + 32) / 2 ^ 5 % 2 ≡ 1 = omega arith in rw e refl
 
--- the others move on
+-- the other bits move on
 move_on : (x : ℕ) (b : Bool) (t : ℕ) → t < 5 → (x / 2 + cond b 32 0) / 2 ^ (4 - t) % 2 ≡ x / 2 ^ (5 - t) % 2
 move_on x false zero h = omega arith
 move_on x true zero h = omega arith
@@ -42,7 +42,7 @@ moved x b c t k =
     let e : 5 - suc t ≡ 4 - t = omega arith in
     rw e (ap (λ n. eqb n 1) (move_on x b t (omega arith)))
 
--- the bit t + 1 steps back is one of the old state's, where fewer bits were read
+-- the bit t + 1 steps back is in the old state if fewer bits were read
 pub older : (x : ℕ) (bs : List Bool) (c : Bool) (t : ℕ) → x < 64 → t < 6 → length bs ≤ t →
     window_bit (end_of shift x bs) c (suc t) ≡ window_bit x c (suc (t - length bs))
 older x [] c t h k before = let e : t - 0 ≡ t = omega arith in rw e refl
@@ -50,7 +50,7 @@ older x (b ∷ bs) c t h k before =
     let e : t - length bs ≡ suc (t - suc (length bs)) = omega arith in
     older (shift x b) bs c t (shift_below x b h) k (omega arith) ∙ rw e (moved x b c (t - suc (length bs)) (omega arith))
 
--- and else one of the bits that were read
+-- the bit t + 1 steps back is among the bits read if there are enough
 pub recent : (x : ℕ) (bs : List Bool) (c : Bool) (t : ℕ) → x < 64 → t < 6 → suc t ≤ length bs →
     window_bit (end_of shift x bs) c (suc t) ≡ get_or bs (length bs - suc t) false
 recent x [] c t h k inside = absurd (omega arith)
@@ -73,7 +73,7 @@ back_inside k t n h below =
 back_outside : (k t n : ℕ) → k < t → t ≤ n → (k + n - t) % n ≡ k + n - t
 back_outside k t n h below = let lt : k + n - t < n = omega arith in mod-eq_of_lt lt
 
--- the bit of the window is the bit of the word, cyclically
+-- the window's bit is the word's bit, cyclically
 pub window-cyclic : (before : List Bool) (b : Bool) (after : List Bool) (t : ℕ) → t < 7 → 6 ≤ length (before ++ b ∷ after) →
     window_bit (end_of shift (end_of shift 0 (before ++ b ∷ after)) before) b t ≡ bit_back (before ++ b ∷ after) (length before) t
 window-cyclic before b after zero h size =
@@ -96,7 +96,7 @@ window-cyclic before b after (suc t) h size =
           ∙ recent 0 word b (t - length before) (omega arith) (omega arith) (omega (arith, le)) ∙ ap (λ i. get_or word i false) e)
     ]
 
--- a number below 64 is told by its six bits
+-- a number below 64 is determined by its six bits
 odd_same : (a b : ℕ) → odd a ≡ odd b → a % 2 ≡ b % 2
 odd_same a b h = grind (arith, nat_tests)
 
@@ -110,7 +110,7 @@ same_state x y hx hy h =
     let h5 : x / 1 % 2 ≡ y / 1 % 2 = odd_same (x / 1) (y / 1) (h 5 (omega arith)) in
     omega arith
 
--- six bits make the state, whatever it was before
+-- six bits determine the state, whatever it was before
 pub same_end : (x y : ℕ) (bs : List Bool) → x < 64 → y < 64 → 6 ≤ length bs → end_of shift x bs ≡ end_of shift y bs
 same_end x y bs hx hy size = same_state _ _ (end_below x bs hx) (end_below y bs hy)
     (λ t below. recent x bs false t hx below (omega arith) ∙ sym (recent y bs false t hy below (omega arith)))

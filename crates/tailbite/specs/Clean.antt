@@ -4,17 +4,17 @@ use Rattle.conv_code.specs.Code.{tapped_bit, taps_0, taps_1, taps_2}
 use Rattle.cs_bits.specs.Signs.{SpeaksFor}
 use Rattle.tailbite.specs.LeastWord.{IsLeastWord}
 
--- the three values of a place speak for the coded bits of a word at place k
+-- the three values at position k speak for the word's coded bits there
 pub record PlaceSpeaks (v : List ℤ) (word : List Bool) (k : ℕ) : Type 0 where
   pub first : SpeaksFor (slice_index_or v 0 (pos 0)) (tapped_bit taps_0 word k)
   pub second : SpeaksFor (slice_index_or v 1 (pos 0)) (tapped_bit taps_1 word k)
   pub third : SpeaksFor (slice_index_or v 2 (pos 0)) (tapped_bit taps_2 word k)
 
--- the values of every place speak for the coded bits of a word
+-- the values at every position speak for the word's coded bits
 pub record Speaks (values : List (List ℤ)) (word : List Bool) : Type 0 where
   pub place : (k : ℕ) → k < length values → PlaceSpeaks (slice_index_or values k []) word k
 
--- where all values speak for a word, it is the only least word, for 6 bits and more
+-- if all values speak for a word of at least 6 bits, it is the only minimum-cost word
 abbrev pub IsOnlyLeast : Type 0
 IsOnlyLeast =
     (values : List (List ℤ)) (word least : List Bool) → 6 ≤ length values → length word ≡ length values →

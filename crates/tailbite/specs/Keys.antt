@@ -1,15 +1,16 @@
--- Keys: the cost of a word and its number in one number, so that the least key is that of the least word (own).
+-- Keys: a word's cost and the word's number in one number, so that the minimum key belongs to the minimum-cost word
+-- (own).
 use Rattle.std.specs.Prelude.{◌≡◌, ℕ, ◌*◌, ◌^◌, ◌<◌, ◌≤◌, Bool, List, length, slice_index, ℤ}
 use Rattle.trellis.specs.Paths.{end_of}
 use Rattle.trellis.specs.Words.{key}
 use Rattle.conv_code.specs.Cost.{word_cost}
 use Rattle.tailbite.specs.Machine.{shift}
 
--- what a unit of cost weighs in a key: more than the number of every word
+-- the weight of one cost unit in a key: more than the number of any word
 abbrev pub scale : ℕ
 scale = 2 ^ 64
 
--- what an end costs that is not the start state: more than every word
+-- the cost of an end that is not the start state: more than the cost of any word
 abbrev pub far : ℕ
 far = 2 ^ 30
 
@@ -17,7 +18,7 @@ far = 2 ^ 30
 abbrev pub word_key : List (List ℤ) → List Bool → ℕ
 word_key values = key scale (word_cost values)
 
--- m is the key of a word of as many bits as there are places
+-- m is the key of a word with one bit per position
 abbrev pub IsWordKey : List (List ℤ) → ℕ → Type 0
 IsWordKey values m = (word : List Bool) × (length word ≡ length values) × (word_key values word ≡ m)
 
@@ -26,15 +27,15 @@ abbrev pub IsBound : List (List ℤ) → ℕ → ℕ → Type 0
 IsBound values s m =
     (word : List Bool) → length word ≡ length values → end_of shift 0 word ≡ s → m ≤ word_key values word
 
--- the row has for each state a bound: no word whose path starts there has a key below it
+-- the row has a bound for each state: no word whose path starts there has a smaller key
 pub record AreBounds (values : List (List ℤ)) (bounds : List ℕ) : Type 0 where
   pub bound : (s : ℕ) → s < 64 → IsBound values s (slice_index bounds s)
 
--- m is the key of a word, where it is below the keys of far ends
+-- m is the key of a word, if it is below the keys of far ends
 abbrev pub IsKeyOrFar : List (List ℤ) → ℕ → Type 0
 IsKeyOrFar values m = m < far * scale → IsWordKey values m
 
--- m is the least key of a word
+-- m is the minimum key of a word
 pub record IsLeastKey (values : List (List ℤ)) (m : ℕ) : Type 0 where
   pub reached : IsWordKey values m
   pub least : (word : List Bool) → length word ≡ length values → m ≤ word_key values word

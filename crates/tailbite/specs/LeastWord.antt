@@ -1,9 +1,9 @@
--- The word that received values speak for (own).
+-- The minimum-cost word for received values (own).
 use Rattle.std.specs.Prelude.{◌≡◌, ◌<◌, ◌≤◌, Bool, List, length, ℤ}
 use Rattle.trellis.specs.Words.{IsBefore}
 use Rattle.conv_code.specs.Cost.{word_cost}
 
--- no word of as many bits as there are places costs less, and each that stands before it costs more
+-- no word with one bit per position costs less, and each that is lexicographically earlier costs more
 pub record IsLeastWord (values : List (List ℤ)) (word : List Bool) : Type 0 where
   pub size : length word ≡ length values
   pub least : (other : List Bool) → length other ≡ length values → word_cost values word ≤ word_cost values other

@@ -6,26 +6,26 @@ use Rattle.trellis.specs.Rows.{least_in}
 use Rattle.conv_code.specs.Code.{parity, taps_0, taps_1, taps_2}
 use Rattle.conv_code.specs.Cost.{triple_cost}
 
--- the state after the bit b
+-- the state after input bit b
 abbrev pub shift : ℕ → Bool → ℕ
 shift x b = x / 2 + cond b 32 0
 
--- the bit t steps back, where the state was x before the newest bit b; it has weight 2 ^ (6 - t) in x
+-- the bit t steps back, if the state was x before the newest bit b; it has weight 2 ^ (6 - t) in x
 abbrev pub window_bit : ℕ → Bool → ℕ → Bool
 window_bit x b zero = b
 window_bit x b (suc t) = odd (x / 2 ^ (5 - t))
 
--- what the three values of a place speak against the coded bits of the step from x by b
+-- the cost of the step from x by b against one position's values
 abbrev pub branch_cost : List ℤ → ℕ → Bool → ℕ
 branch_cost v x b =
     triple_cost v (parity (map (window_bit x b) taps_0)) (parity (map (window_bit x b) taps_1))
     (parity (map (window_bit x b) taps_2))
 
--- what the step at place k costs
+-- the cost of a step at position k
 abbrev pub step_cost : List (List ℤ) → ℕ → ℕ → Bool → ℕ
 step_cost values k = branch_cost (slice_index_or values k [])
 
--- the two states from which a step leads to x, and the bit that does
+-- the two states that have a step to x, and its input bit
 abbrev pub first_from : ℕ → ℕ
 first_from x = 2 * (x % 32)
 
@@ -35,6 +35,6 @@ second_from x = 2 * (x % 32) + 1
 abbrev pub newest_bit : ℕ → Bool
 newest_bit x = odd (x / 32)
 
--- the least cost to x, where the row has the least cost to each state one step before
+-- the minimum cost to x, if the row has the minimum cost to each state one step before
 abbrev pub forward_least : List ℤ → List ℕ → ℕ → ℕ
 forward_least v row x = least_in (branch_cost v) row (first_from x) (newest_bit x) (second_from x) (newest_bit x)

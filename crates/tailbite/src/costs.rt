@@ -1,4 +1,4 @@
-//! The costs of all steps, made once for all passes.
+//! Step costs, computed once for all passes.
 
 ghost use Rattle.std.specs.Prelude.{◌≡◌, ℕ, ◌*◌, ◌^◌, ◌<◌, ◌≤◌, length, slice_index};
 ghost use Rattle.finite.specs.Sizes.{AllWithin, RowsWithin};
@@ -7,11 +7,12 @@ ghost use Rattle.tailbite.specs.Costs.{AreCosts, HaveCosts, code_cost, shared_co
 use crate::steps::next;
 use conv_code::against;
 
-/// The costs of a place's steps: at h that of the steps from state 2h by 0 and from 2h + 1 by 1, which have the
-/// same coded bits, and at h + 32 that of the steps from 2h by 1 and from 2h + 1 by 0, which have the opposite ones.
+/// The step costs at one position. Entry h is the cost of the steps from state 2h by 0 and from 2h + 1 by 1, which
+/// have the same coded bits; entry h + 32 is that of the steps from 2h by 1 and from 2h + 1 by 0, which have the
+/// opposite bits.
 pub type StepCosts = [u32; 64];
 
-/// What the values of a place speak against each three coded bits.
+/// Returns the cost of each three coded bits against one position's values.
 fn code_costs(values: &[i32; 3]) -> [u32; 8]
     requires { AllWithin (2 ^ 20) values.now }
     ensures costs { (p : ℕ) → p < 8 → slice_index result p ≡ code_cost values.now p }
@@ -24,8 +25,8 @@ fn code_costs(values: &[i32; 3]) -> [u32; 8]
     costs
 }
 
-/// What the steps of a place cost, by what each three coded bits cost.
-// Written out, the table is put together from parts of vectors; by a loop each cost is looked up alone.
+/// Returns one position's step costs, given the cost of each three coded bits.
+// Written out, the table is assembled from parts of vectors; in a loop each cost would be looked up alone.
 fn spread(by_code: &[u32; 8]) -> StepCosts
     ensures { result ≡ spread_costs by_code.now }
 {
@@ -43,7 +44,7 @@ fn spread(by_code: &[u32; 8]) -> StepCosts
     ]
 }
 
-/// What the steps of a place cost.
+/// Returns the step costs for one position's values.
 fn costs_of(values: &[i32; 3]) -> StepCosts
     requires { AllWithin (2 ^ 20) values.now }
     ensures { AreCosts values.now result }
@@ -51,8 +52,8 @@ fn costs_of(values: &[i32; 3]) -> StepCosts
     spread(&code_costs(values))
 }
 
-/// Writes what the steps of each place cost by its values, which are at most 2^20 in size: a table for each place, of
-/// which there are at least as many as places.
+/// Writes one table of step costs per position. `tables` has at least as many entries as `values`, which are within
+/// 2^20.
 pub fn fill_costs(values: &[[i32; 3]], tables: &mut [StepCosts])
     requires room { length values.now ≤ length tables.old }
     requires sizes { RowsWithin (2 ^ 20) values.now }
@@ -64,7 +65,7 @@ pub fn fill_costs(values: &[[i32; 3]], tables: &mut [StepCosts])
     }
 }
 
-/// What the step from state x, which is below 64, by the bit b costs.
+/// Returns the cost of the step from state `x`, below 64, with input bit `b`.
 pub fn cost_at(costs: &StepCosts, x: usize, b: bool) -> u32
     requires { x < 64 }
     ensures { result ≡ shared_cost costs.now x b }

@@ -1,9 +1,10 @@
-//! The least word of the tail-biting code: of all words of 6 to 64 bits the one whose coded bits the
-//! received values speak against least, and the first of equals in lexicographic order.
-//! The search goes over the 64 states of the encoder in which a word may start and end, and leaves out those from which
-//! a bound shows that no word is less.
-//! Its steps stand here too: what those of a place cost, the state that one leads to, and a row of least costs one
-//! step on.
+//! Maximum-likelihood decoding of the tail-biting convolutional code (TS 36.212 section 5.1.3.1): finds, among all
+//! words of 6 to 64 bits, the one with the minimum cost. A word costs the sum of the magnitudes of the received
+//! values against its coded bits; if several words have the minimum cost, the first in lexicographic order is taken.
+//! The search covers the 64 encoder states in which a word may start and end, and leaves out those for which a bound
+//! shows that no word costs less.
+//! The single steps are published too: step costs, the next state, and a row of minimum costs one step on.
+//! Tests: the crate `code_tests`.
 #![tactic(auto)]
 
 mod costs;

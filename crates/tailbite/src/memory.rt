@@ -6,8 +6,8 @@ use crate::costs::StepCosts;
 use crate::passes::CostRow;
 use std::alloc::{AllocError, Global};
 
-/// The working memory of a search, for words of every length: for each of up to 64 places the costs of its steps, and
-/// the least costs from its states, and from those after the last place, to any end and to one.
+/// Working memory for words up to 64 bits long: the step costs at each position, and two sets of rows with the
+/// minimum cost from each state, to any end state and to a single one.
 #[derive(Drop)]
 pub struct Trellis {
     pub(crate) tables: Vec<StepCosts>,
@@ -19,7 +19,7 @@ pub struct Trellis {
 }
 
 impl Trellis {
-    /// Takes the memory.
+    /// Allocates the memory. Fails only if an allocation fails.
     pub fn new(alloc: Global) -> Result<Trellis, AllocError> {
         let tables = vec![in alloc; [0; 64]; 64]?;
         let free = vec![in alloc; [0; 64]; 65]?;

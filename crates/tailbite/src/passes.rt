@@ -1,4 +1,4 @@
-//! Passes over the places: the least cost from each state to an end, and to each state from any start.
+//! Passes over the trellis: the minimum cost from each state to an end, and to each state from any start.
 
 ghost use Rattle.std.specs.Prelude.{◌≡◌, ◌≢◌, ℕ, ◌+◌, ◌*◌, ◌^◌, ◌<◌, ◌≤◌, false, [], length};
 ghost use Rattle.std.specs.Prelude.{slice_index, slice_index_or};
@@ -13,11 +13,12 @@ ghost use Rattle.tailbite.specs.Passes.{IsPass, told_bit};
 use crate::costs::StepCosts;
 use crate::steps::next;
 
-/// A cost for each state.
+/// One cost per state.
 pub type CostRow = [u32; 64];
 
-/// Writes the row of least costs from each state, one step before the given row.
-// Inlined, the loops are not compiled into vector instructions; nor is one that writes both states of a pair.
+/// Writes the row of minimum costs from each state, one step before the given row.
+// If inlined, the loops are not compiled into vector instructions; neither is a loop that writes both states of a
+// pair.
 #[inline(never)]
 fn step_back(costs: &StepCosts, row: &CostRow, earlier: &mut CostRow)
     requires small { (y : ℕ) → y < 64 → slice_index costs.now y ≤ 3 * 2 ^ 20 }
@@ -37,7 +38,7 @@ fn step_back(costs: &StepCosts, row: &CostRow, earlier: &mut CostRow)
     }
 }
 
-/// Writes row i by row i + 1.
+/// Writes row `i` from row `i + 1`.
 fn write_earlier(costs: &StepCosts, rows: &mut [CostRow], i: usize)
     requires inside { i + 1 < length rows.old }
     requires small { (y : ℕ) → y < 64 → slice_index costs.now y ≤ 3 * 2 ^ 20 }
@@ -55,8 +56,8 @@ fn write_earlier(costs: &StepCosts, rows: &mut [CostRow], i: usize)
     step_back(costs, &later[0], &mut earlier[i]);
 }
 
-/// Writes, for each place, the least cost from each state to an end, with what `ends` says of the state in which it
-/// ends; the row after the last place is that of the ends.
+/// Writes, for each position, the minimum cost from each state to an end, including the end state's cost in `ends`.
+/// The row after the last position is `ends`.
 pub(crate) fn pass(values: &[[i32; 3]], tables: &[StepCosts], ends: &CostRow, rows: &mut [CostRow])
     requires places { length values.now ≤ 64 }
     requires tables { length values.now ≤ length tables.now }
@@ -74,8 +75,8 @@ pub(crate) fn pass(values: &[[i32; 3]], tables: &[StepCosts], ends: &CostRow, ro
     }
 }
 
-/// The row of least costs to each state, one step after the given row, whose costs are at most 2^31; those of the steps
-/// are at most 3 * 2^20.
+/// Returns the row of minimum costs to each state, one step after the given row. The given costs are at most 2^31,
+/// the step costs at most 3 * 2^20.
 #[inline(never)]
 pub fn step_on(costs: &StepCosts, row: &CostRow) -> CostRow
     requires small { (y : ℕ) → y < 64 → slice_index costs.now y ≤ 3 * 2 ^ 20 }
@@ -92,7 +93,8 @@ pub fn step_on(costs: &StepCosts, row: &CostRow) -> CostRow
     later
 }
 
-/// The least cost of a path through all places to each state, with what `starts` says of the state in which it starts.
+/// Returns the minimum cost of a path through all positions to each state, including the start state's cost in
+/// `starts`.
 pub(crate) fn reach(values: &[[i32; 3]], tables: &[StepCosts], starts: &CostRow) -> CostRow
     requires places { length values.now ≤ 64 }
     requires tables { length values.now ≤ length tables.now }
@@ -109,8 +111,8 @@ pub(crate) fn reach(values: &[[i32; 3]], tables: &[StepCosts], starts: &CostRow)
     row
 }
 
-/// The bit with which the least cost from a state begins, where the row has the least costs one step on: of two equal
-/// costs that of the bit 0 counts, since its word stands first.
+/// Returns the first bit on the minimum-cost path from a state, if `row` has the minimum costs one step on. Bit 0
+/// wins a tie, since its word is lexicographically first.
 fn bit_from(costs: &StepCosts, row: &CostRow, state: usize) -> bool
     requires state { state < 64 }
     requires small { (y : ℕ) → y < 64 → slice_index costs.now y ≤ 3 * 2 ^ 20 }
@@ -126,8 +128,8 @@ fn bit_from(costs: &StepCosts, row: &CostRow, state: usize) -> bool
     costs[opposite] + row[half + 32] < costs[same] + row[half]
 }
 
-/// The word of `count` bits that the rows of a pass tell from the start state on, as a number, and the state in which
-/// it ends.
+/// Returns the word of `count` bits along the minimum-cost path from `start`, as a number, and the state in which the
+/// path ends.
 pub(crate) fn walk(
     tables: &[StepCosts],
     rows: &[CostRow],

@@ -1,12 +1,13 @@
-//! The search for the least key, over the states in which a word may start and end. A key is the cost of a word
-//! times 2^64 plus its number: it tells words of equal cost apart, and the least key is that of the least word.
+//! The search for the minimum key, over the states in which a word may start and end. A key is a word's cost times
+//! 2^64 plus the word as a number: keys distinguish words with equal cost, and the minimum key belongs to the
+//! minimum-cost word.
 //!
-//! A pass back with every end free gives each state the least cost of a path that starts there, wherever it ends. A
-//! pass on, in which a start costs so much the less as that is more, then gives each state a bound: a path that starts
-//! and ends there is one of those that end there, so it costs no less than these cost beyond what its own start does.
-//! Where the bound of a state is below the key of a word that was found, the key of the least path from it, wherever
-//! that ends, is another one. The start states are then searched in order of their bounds, until none is below the
-//! least key that was found.
+//! A backward pass with every end free gives each state the minimum cost of a path that starts there, wherever it
+//! ends. A forward pass, in which a start costs less where this minimum is higher, then gives each state a bound: a
+//! path that starts and ends in the state costs at least the minimum cost of reaching it, less the cost of starting
+//! there. If a state's bound is below the key of a word already found, the key of the minimum-cost path from the
+//! state, wherever that ends, is another bound. The start states are then searched in order of their bounds, until
+//! none is below the minimum key that was found.
 
 ghost use Rattle.std.specs.Prelude.{◌≡◌, ℕ, ◌+◌, ◌-◌, ◌*◌, ◌^◌, ◌<◌, ◌≤◌, length, slice_index};
 ghost use Rattle.finite.specs.Sizes.{RowsWithin};
@@ -24,27 +25,27 @@ use cs_bits::Bits;
 
 const STATES: usize = 64;
 
-/// The weight of a unit of cost in a key: more than the number of every word.
+/// The weight of one cost unit in a key: more than the number of any word.
 const SCALE: u128 = 0x1_0000_0000_0000_0000;
 
-/// More than the cost of every word.
+/// More than the cost of any word.
 const FAR: u32 = 0x4000_0000;
 
-/// The key of a cost and the number of a word.
+/// Returns the key for a cost and a word's number.
 fn key_of(cost: u32, word: u64) -> u128
     ensures { result ≡ cost * scale + word }
 {
     cost as u128 * SCALE + word as u128
 }
 
-/// What the ends cost where all are free.
+/// Returns the end costs if every end is free.
 fn free_ends() -> CostRow
     ensures { (x : ℕ) → x < 64 → slice_index result x ≡ 0 }
 {
     [0; STATES]
 }
 
-/// What starts or ends cost where only one state is free, which is below 64: the others cost more than every word.
+/// Returns the start or end costs if only `state`, below 64, is free: the other states cost more than any word.
 pub fn free_at(state: usize) -> CostRow
     requires { state < 64 }
     ensures row { (x : ℕ) → x < 64 → slice_index result x ≡ ends_in far state x }
@@ -55,7 +56,7 @@ pub fn free_at(state: usize) -> CostRow
     row
 }
 
-/// The least key of a path through all places from the start state that ends there.
+/// Returns the minimum key of a path through all positions that starts and ends in `start`.
 fn key_from(values: &[[i32; 3]], tables: &[StepCosts], rows: &mut [CostRow], start: usize) -> u128
     requires low { 6 ≤ length values.now }
     requires high { length values.now ≤ 64 }
@@ -72,7 +73,8 @@ fn key_from(values: &[[i32; 3]], tables: &[StepCosts], rows: &mut [CostRow], sta
     key_of(rows[0][start], word)
 }
 
-/// What each start costs in the pass on: so much the less as the least cost of a path from it is more.
+/// Returns the start costs for the forward pass: the higher the minimum cost from a state, the less a start there
+/// costs.
 fn starts_by(from: &CostRow) -> CostRow
     ensures starts { (x : ℕ) → x < 64 → slice_index result x ≡ far - slice_index from.now x }
     ensures room { (x : ℕ) → x < 64 → slice_index result x ≤ 2 ^ 30 }
@@ -84,7 +86,7 @@ fn starts_by(from: &CostRow) -> CostRow
     starts
 }
 
-/// Writes what the least cost to each state is beyond what a start in it costs, as a key.
+/// Writes, as a key, the minimum cost to each state less the cost of a start there.
 fn fill_bounds(starts: &CostRow, to: &CostRow, bounds: &mut [u128; 64])
     ensures { (x : ℕ) → x < 64 →
         slice_index bounds.new x ≡ (slice_index to.now x - slice_index starts.now x) * scale }
@@ -94,8 +96,8 @@ fn fill_bounds(starts: &CostRow, to: &CostRow, bounds: &mut [u128; 64])
     }
 }
 
-/// Raises the bounds below `least` to the keys of the least paths from their states, wherever those end. The answer is
-/// the least of `least` and the keys of those paths that end where they start, which are the paths of words.
+/// Raises the bounds below `least` to the keys of the minimum-cost paths from their states. Returns the minimum of
+/// `least` and the keys of those paths that end where they start, since these are words.
 fn raise_bounds(
     values: &[[i32; 3]],
     tables: &[StepCosts],
@@ -128,7 +130,7 @@ fn raise_bounds(
     least
 }
 
-/// A state of least bound.
+/// Returns a state with the minimum bound.
 fn state_of_least(bounds: &[u128; 64]) -> usize
     ensures state { result < 64 }
     ensures least { (x : ℕ) → x < 64 → slice_index bounds.now result ≤ slice_index bounds.now x }
@@ -142,7 +144,7 @@ fn state_of_least(bounds: &[u128; 64]) -> usize
     least
 }
 
-/// The least key of a word.
+/// Returns the minimum key of a word.
 fn least_key(
     values: &[[i32; 3]],
     tables: &[StepCosts],
@@ -168,7 +170,7 @@ fn least_key(
     least = raise_bounds(values, tables, free, &mut bounds, least);
     start = state_of_least(&bounds);
     while bounds[start] < least {
-        // The least key from a state is its best bound, and it is not below the least one any more.
+        // The minimum key from a state is its best bound, and is no longer below `least`.
         let key = key_from(values, tables, rows, start);
         bounds[start] = key;
         least = least.min(key);
@@ -177,7 +179,7 @@ fn least_key(
     least
 }
 
-/// The least word and its cost, by the costs of all steps.
+/// Returns the minimum-cost word and its cost, given the step costs.
 fn least_of<const N: usize>(
     values: &[[i32; 3]; N],
     tables: &[StepCosts],
@@ -198,9 +200,8 @@ fn least_of<const N: usize>(
     (Bits::of_number((key % SCALE) as u64), (key / SCALE) as u32)
 }
 
-/// The least word and its cost: no word of N bits costs less by these values, and each that stands before
-/// it in lexicographic order (bit 0 first, 0 before 1) costs more. A value speaks for the coded bit 0 where
-/// it is above 0, for 1 where it is below; a word costs the sizes of those that speak against it.
+/// Returns the word of N bits with the minimum cost, the first in lexicographic order if several have it, and its
+/// cost. A positive value speaks for bit 0; a word costs the magnitudes of the values against it.
 pub fn least<const N: usize>(values: &[[i32; 3]; N], work: &mut Trellis) -> (Bits<N>, u32)
     requires low { 6 ≤ N }
     requires high { N ≤ 64 }
@@ -212,8 +213,7 @@ pub fn least<const N: usize>(values: &[[i32; 3]; N], work: &mut Trellis) -> (Bit
     least_of(values, &work.tables, &mut work.free, &mut work.rows)
 }
 
-/// The least word and its cost, as `least` tells them, by the costs of the steps of each place, which `fill_costs`
-/// writes.
+/// Returns the minimum-cost word and its cost like `least`, from step costs that `fill_costs` wrote.
 pub fn least_by<const N: usize>(
     values: &[[i32; 3]; N],
     tables: &[StepCosts],

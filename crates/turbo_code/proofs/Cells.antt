@@ -10,7 +10,7 @@ use Rattle.sub_block.specs.Items.{item}
 use Rattle.sub_block.proofs.Cells.{length-cells_read, cells_read-at}
 use Rattle.turbo_code.specs.Reading.{v0, v1, v2, in_turn, buffer}
 
--- ---- two lists in turn
+-- ---- two lists interlaced
 
 length-in_turn : (xs ys : List Item) → length (in_turn xs ys) ≡ length xs + length ys
 length-in_turn [] ys = omega arith

@@ -1,4 +1,4 @@
--- Where the bits of a word, its parity bits and both tails stand in the three streams of its coded word.
+-- Positions of information bits, parity bits and both tails in a codeword's three streams.
 use Rattle.std.proofs.Common.{◌≡◌, ℕ, ◌+◌, ◌-◌, ◌<◌, Bool, false, List, [], ◌∷◌, ◌++◌, length, get_or, replicate, ap, sym, ◌∙◌, arith, length-append}
 use Rattle.std.proofs.lemmas.List.{get_or-append-add}
 use Rattle.std.proofs.Math.ListN.{get_or-append}
@@ -41,7 +41,7 @@ stream_tail bits a b c d n j size inside =
     ∙ ap (λ m. get_or (bits ++ (a ∷ b ∷ c ∷ d ∷ [])) (m + j) false) (sym size)
     ∙ get_or-append-add bits (a ∷ b ∷ c ∷ d ∷ []) j false
 
--- ---- the coded word of a word of K bits
+-- ---- the codeword for K bits
 
 module _ (row : Row) (word : List Bool) (size : length word ≡ row.k) where
   pub information_at : (k : ℕ) → k < row.k → bit_of (coded row word) (item 0 k) ≡ bit_at word k

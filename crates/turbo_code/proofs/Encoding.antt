@@ -1,4 +1,4 @@
--- What the loop over a word keeps of an encoder, and the lists that the loops fill.
+-- The invariant of the loop over a word, and the lists that the loops fill.
 use Rattle.std.proofs.Common.{◌≡◌, ℕ, suc, ◌+◌, ◌-◌, ◌<◌, ◌≤◌, Bool, false, List, [], ◌∷◌, ◌++◌, length, get_or, set, replicate, take, drop, refl, ap, ap₂, sym, subst, ◌∙◌, arith}
 use Rattle.std.proofs.lemmas.List.{length-set, drop-replicate}
 use Rattle.std.proofs.lemmas.Slice.{drop-append-drop}
@@ -13,13 +13,13 @@ use Rattle.finite.specs.Bits.{xor}
 use Rattle.finite.proofs.Bits.{false-xor}
 use Rattle.turbo_code.specs.Encoder.{back, before, next, bit_at, parity, parities, tail_x, tail_z, interleaved, stream, coded}
 
--- the register shows the last three bits
+-- the register holds the last three bits
 pub record Shows (register : Register) (past : List Bool) : Type 0 where
   pub one : register.one ≡ back past 1
   pub two : register.two ≡ back past 2
   pub three : register.three ≡ back past 3
 
--- after k bits of the word
+-- the loop after k bits
 pub record AreParities (word : List Bool) (k : ℕ) (found : List Bool) (register : Register) : Type 0 where
   pub size : length found ≡ 1024
   pub at : (j : ℕ) → j < k → get_or found j false ≡ parity word j
@@ -81,7 +81,7 @@ interleaved_is row word i found count short past size at =
 
 -- ---- a stream
 
--- zeros, with the bits and then the tail written over their beginning
+-- zeros whose beginning is overwritten by the bits and then the tail
 pub stream_is : (bits tail : List Bool) → length bits ≤ 1024 → length tail ≡ 4 →
     (first : List Bool) → first ≡ take 0 (replicate 1028 false) ++ bits ++ drop (0 + length bits) (replicate 1028 false) →
     take (length bits) first ++ tail ++ drop (length bits + length tail) first ≡ stream bits tail
@@ -94,7 +94,7 @@ stream_is bits tail short four first is =
     let rest = drop-append-drop k zeros bits (k + length tail) (omega arith) refl ∙ drop-replicate (k + length tail) 1028 false ∙ ap (λ n. replicate n false) left in
     ap (λ xs. take k xs ++ tail ++ drop (k + length tail) xs) same ∙ ap₂ (λ xs ys. xs ++ tail ++ ys) (take-append_seam bits (drop k zeros)) rest
 
--- ---- the coded word
+-- ---- the codeword
 
 pub coded_is : (row : Row) (u v : List Bool) (s0 s1 s2 ax az bx bz pa pb : List Bool) →
     v ≡ interleaved row u → pa ≡ parities u → pb ≡ parities v →

@@ -1,4 +1,4 @@
--- Each bit of the reading is one of a stream.
+-- Each bit in the reading is a bit in a stream.
 use Rattle.std.proofs.Common.{◌≡◌, ℕ, suc, ◌+◌, ◌*◌, ◌%◌, ◌<◌, List, [], ◌∷◌, length, subst, arith, mod-lt}
 use Rattle.std.specs.Prelude.{All}
 use Rattle.std.proofs.lemmas.List.Elements.{All-append, All-cons, All-drop, All-take}
@@ -13,7 +13,7 @@ use Rattle.turbo_code.specs.Table.{IsAnySize}
 use Rattle.turbo_code.specs.Reading.{v0, v1, v2, in_turn, buffer, turned, start, reading, item_of}
 use Rattle.turbo_code.proofs.Round.{reading_count}
 
--- one of the first m indices of a stream
+-- one of the first m indices in a stream
 abbrev IsBelow : ℕ → Item → Type 0
 IsBelow m here = (here.stream < 3) × (here.index < m)
 

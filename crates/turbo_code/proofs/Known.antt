@@ -1,4 +1,4 @@
--- The definitions at words and sizes whose code and reading are known.
+-- The definitions at words and sizes with known results.
 use Rattle.std.proofs.Common.{◌≡◌, true, false, [], ◌∷◌, map, refl}
 use Rattle.sub_block.specs.Matrix.{columns, turbo_columns}
 use Rattle.sub_block.specs.Items.{item, bits_in}
@@ -6,16 +6,16 @@ use Rattle.turbo_code.specs.Table.{row, interleaver}
 use Rattle.turbo_code.specs.Encoder.{before, parities, tail_x, tail_z}
 use Rattle.turbo_code.specs.Reading.{start, buffer, reading, item_of}
 
--- the interleaver of K = 144
+-- the interleaver for K = 144
 indices_of_144 : map (interleaver (row 144 17 108)) (0 ∷ 1 ∷ 2 ∷ 3 ∷ []) ≡ 0 ∷ 125 ∷ 34 ∷ 15 ∷ []
 unfolding interleaver
 indices_of_144 = refl
 
--- where its reading starts
+-- where the four redundancy versions start for K = 144
 starts_of_144 : map (start 144) (0 ∷ 1 ∷ 2 ∷ 3 ∷ []) ≡ 10 ∷ 130 ∷ 250 ∷ 370 ∷ []
 starts_of_144 = refl
 
--- the first bits that are sent
+-- the first bits sent for K = 144
 sent_of_144 : map (item_of 144 0) (0 ∷ 1 ∷ 2 ∷ 3 ∷ 4 ∷ []) ≡ item 0 28 ∷ item 0 60 ∷ item 0 92 ∷ item 0 124 ∷ item 0 12 ∷ []
 unfolding item_of reading buffer bits_in columns turbo_columns
 sent_of_144 = refl

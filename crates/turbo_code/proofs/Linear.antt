@@ -1,4 +1,4 @@
--- The encoder is linear: the parity and tail bits of a sum of two words are the sums of theirs.
+-- The encoder is linear: the parity and tail bits for a sum are the sums of the words' parity and tail bits.
 use Rattle.std.proofs.Common.{◌≡◌, ℕ, zero, suc, ◌<◌, ◌≤◌, Bool, false, List, ◌++◌, length, replicate, get_or, refl, ap, ap₂, sym, ◌∙◌, arith}
 use Rattle.finite.specs.Bits.{xor}
 use Rattle.finite.specs.Lists.{values_below}
@@ -8,7 +8,7 @@ use Rattle.turbo_code.specs.Encoder.{bit_at, back, before, register_bit, parity,
 
 -- ---- sums of words
 
--- the sum of two words, bit by bit, as long as the first
+-- two words added bit by bit, as long as the first
 unfoldable pub word_sum : List Bool → List Bool → List Bool
 word_sum u w = values_below (length u) (λ k. xor (bit_at u k) (bit_at w k))
 
@@ -20,7 +20,7 @@ pub word_sum_at : (u w : List Bool) (k : ℕ) → k < length u → bit_at (word_
 unfolding word_sum
 word_sum_at u w k inside = values_below_at (λ k. xor (bit_at u k) (bit_at w k)) (length u) k false inside
 
--- added twice, a word is gone
+-- a word added twice cancels
 pub word_sum_again : (u w : List Bool) → length w ≡ length u → word_sum u (word_sum u w) ≡ w
 unfolding word_sum
 word_sum_again u w size =
@@ -29,11 +29,11 @@ word_sum_again u w size =
 
 -- ---- the register
 
--- two sums of three bits
+-- two sums of three bits, regrouped
 xor_swap₃ : (a b c d e f : Bool) → xor (xor (xor a b) (xor c d)) (xor e f) ≡ xor (xor (xor a c) e) (xor (xor b d) f)
 xor_swap₃ a b c d e f = ap (λ x. xor x (xor e f)) (xor_swap a b c d) ∙ xor_swap (xor a c) (xor b d) e f
 
--- each past bit of the register of a sum is the sum of both
+-- past register bits for a sum are the sums of the words' past register bits
 before-word_sum : (u w : List Bool) (k : ℕ) → k ≤ length u → (i : ℕ) →
     get_or (before (word_sum u w) k) i false ≡ xor (get_or (before u k) i false) (get_or (before w k) i false)
 unfolding before

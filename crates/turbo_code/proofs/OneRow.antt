@@ -1,4 +1,4 @@
--- The row of a size is the only one.
+-- Each size has only one row.
 use Rattle.std.proofs.Common.{◌≡◌, ℕ, Bool, true, inl, refl}
 use Rattle.std.specs.Prelude.{◌&&◌, ◌||◌, not, nat_eq}
 use Rattle.std.specs.List.{list_all}
@@ -21,11 +21,11 @@ further_alike : list_all first_alike further_rows ≡ true
 unfolding rows further_rows first_alike alike
 further_alike = refl
 
--- rows with the same three numbers
+-- rows with the same three numbers are equal
 pub same_row : (k l f1 g1 f2 g2 : ℕ) → k ≡ l → f1 ≡ g1 → f2 ≡ g2 → row k f1 f2 ≡ row l g1 g2
 same_row k l f1 g1 f2 g2 a b c = rw (a, b, c) refl
 
--- of either table
+-- each size has only one row in both tables together
 pub one_any_row : (r s : Row) → IsAnyRow r → IsAnyRow s → r.k ≡ s.k → r ≡ s
 unfolding first_alike alike
 one_any_row r s a b same =

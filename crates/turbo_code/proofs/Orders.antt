@@ -1,4 +1,4 @@
--- The order of the second encoder, and back: what fills the two orders, and that they undo each other.
+-- The second encoder's order and its inverse: the loops that fill them, and that each undoes the other.
 use Rattle.std.proofs.Common.{◌≡◌, ◌≢◌, ℕ, ◌+◌, ◌<◌, ◌≤◌, inl, inr, List, length, get_or, set, take, refl, ap, sym, subst, ◌∙◌, arith, get_or-set_same, get_or-set_other}
 use Rattle.std.specs.Prelude.{nat_eq}
 use Rattle.std.specs.List.{range_with_len}
@@ -20,7 +20,7 @@ in_order_is d row values found i is_row past size each =
     let high = (is_small row is_row).high in
     front_is d row.k (λ j. get_or values (interleaver row j) d) found (omega (arith, high, size)) (λ j below. each j (omega (arith, past, below)))
 
--- one more value, at its index in the word
+-- the list after one more value, placed at its index in the word
 pub placed_more : {A : Type 0} (d : A) (row : Row) (values found : List A) (i : ℕ) (v : A) → IsAnyRow row → i < row.k → length found ≡ 1024 →
     v ≡ get_or values i d → ((j : ℕ) → j < i → get_or found (interleaver row j) d ≡ get_or values j d) →
     (j : ℕ) → j < i + 1 → get_or (set found (interleaver row i) v) (interleaver row j) d ≡ get_or values j d
@@ -37,7 +37,7 @@ placed_more d row values found i v is_row inside size is each j below = elim (ca
     permutes : Permutes row.k (interleaver row)
     permutes = all_permute row is_row
 
--- the step that reads a bit
+-- the step that reads a bit is found from the bit's index
 pub step_is : (row : Row) (i : ℕ) → IsAnyRow row → i < row.k → step_of row (interleaver row i) ≡ i
 step_is row i is_row inside =
     let permutes = all_permute row is_row in
@@ -48,7 +48,7 @@ step_is row i is_row inside =
     ∙ ne_eqb (interleaver row j) (interleaver row i) (λ e. let same = permutes.one_to_one j i (omega (arith, before, inside)) inside e in absurd (omega (arith, same, before))))
     (λ l. ap (λ m. nat_eq (interleaver row m) (interleaver row i)) (at i inside) ∙ eq-eqb (interleaver row i) (interleaver row i) refl)
 
--- a bit is read at one of the steps, and there it is the bit that is read
+-- bit k is read at the step that the inverse of the interleaver gives
 pub record IsReadAtStep (row : Row) (k : ℕ) : Type 0 where
   pub below : step_of row k < row.k
   pub there : interleaver row (step_of row k) ≡ k

@@ -1,4 +1,4 @@
--- The interleaver of each row, by computation: three rounds of i := back (y - f2 i^2) lead from an index back.
+-- Each row's interleaver is a permutation, by computation: three rounds of i := back (y - f2 i^2) invert it.
 use Rattle.std.proofs.Common.{◌≡◌, ℕ, ◌+◌, ◌-◌, ◌*◌, ◌%◌, ◌<◌, Bool, true, false, inl, inr, List, [], ◌∷◌, length, get_or, refl, ap, subst, sym, ◌∙◌, arith, suc, zero, mod-lt}
 use Rattle.std.specs.Prelude.{◌&&◌, nat_eq, nat_lt}
 use Rattle.std.proofs.lemmas.Bool.{eqb-true, ltb-true, and_parts, false≢true}
@@ -8,17 +8,17 @@ use Rattle.turbo_code.specs.declared.rows.Row.{Row}
 use Rattle.turbo_code.specs.Table.{rows, further_rows, interleaver}
 use Rattle.turbo_code.specs.Laws.{Permutes, RowsPermute}
 
--- the inverse of each row's f1 modulo K
+-- each row's f1, inverted modulo K
 backs : List ℕ
 backs =
     3 ∷ 51 ∷ 35 ∷ 41 ∷ 111 ∷ 17 ∷ 5 ∷ 77 ∷ 101 ∷ 233 ∷ 87 ∷ 61 ∷ 285 ∷ 151 ∷ 233 ∷ 263 ∷
     329 ∷ 479 ∷ 497 ∷ 257 ∷ 493 ∷ 137 ∷ 617 ∷ 595 ∷ 319 ∷ 361 ∷ 753 ∷ 305 ∷ 495 ∷ 641 ∷ 991 ∷ []
 
--- those of the further rows
+-- each further row's f1, inverted modulo K
 further_backs : List ℕ
 further_backs = 55 ∷ 61 ∷ 189 ∷ 157 ∷ []
 
--- the index that the interleaver leads to y
+-- the index that the interleaver maps to y
 index_back : Row → ℕ → ℕ → ℕ
 index_back r back y =
     let a = (back * y) % r.k in
@@ -31,7 +31,7 @@ both_ways r back i = nat_eq (index_back r back (interleaver r i)) i && nat_eq (i
 row_test : Row → ℕ → Bool
 row_test r back = nat_lt 0 r.k && every_below r.k (both_ways r back)
 
--- each row passes with its inverse
+-- each row passes the test with its inverse
 rows_test : List Row → List ℕ → Bool
 rows_test [] backs = true
 rows_test (r ∷ rs) [] = false

@@ -1,4 +1,4 @@
--- The numbers of states, and the encoder's register.
+-- The encoder's register as a state number.
 use Rattle.std.proofs.Common.{◌≡◌, ℕ, zero, suc, ◌+◌, ◌/◌, ◌≤◌, Bool, true, false, cond, List, [], ◌∷◌, length, take, refl, ap, sym, subst, ◌∙◌, arith}
 use Rattle.std.proofs.lemmas.List.{length-take-le, take_all}
 use Rattle.std.proofs.Math.Seq.{take-suc}
@@ -9,11 +9,11 @@ use Rattle.finite.specs.Bits.{xor}
 use Rattle.turbo_code.specs.Encoder.{bit_at, back, before, parity}
 use Rattle.turbo_code.specs.Machine.{parity_bit, next, tail_bit, tail_parity}
 
--- the state of three bits, the latest first
+-- the state number for three bits, latest first
 abbrev pub state : Bool → Bool → Bool → ℕ
 state a b c = cond a 4 0 + cond b 2 0 + cond c 1 0
 
--- the state after the bits of a list, the latest first
+-- the state after a list's bits, latest first
 abbrev pub state_of : List Bool → ℕ
 state_of past = state (back past 1) (back past 2) (back past 3)
 
@@ -75,7 +75,7 @@ half_is true false true = refl
 half_is true true false = refl
 half_is true true true = refl
 
--- the state before index k of a word
+-- the state before a word's index k
 abbrev pub state_at : List Bool → ℕ → ℕ
 state_at word k = state_of (before word k)
 
@@ -86,7 +86,7 @@ state_more word k = next_is (back (before word k) 1) (back (before word k) 2) (b
 pub parity_at : (word : List Bool) (k : ℕ) → parity_bit (state_at word k) (bit_at word k) ≡ parity word k
 parity_at word k = parity_is (back (before word k) 1) (back (before word k) 2) (back (before word k) 3) (bit_at word k)
 
--- the cost and the end of a path through the first k bits of a word
+-- a path through a word's first k bits: its cost and its end
 pub record IsPath (c : ℕ → ℕ → Bool → ℕ) (word : List Bool) (k : ℕ) (bits : List Bool) : Type 0 where
   pub cost : path_cost next c 0 0 bits ≡ total_below k (λ j. c j (state_at word j) (bit_at word j))
   pub there : end_of next 0 bits ≡ state_at word k
@@ -103,6 +103,6 @@ path_to c word (suc k) h =
       there = end_of-append next 0 (take k word) (bit_at word k ∷ []) ∙ ap (λ x. next x (bit_at word k)) known.there ∙ state_more word k;
     })
 
--- and through the whole word
+-- the path through a complete word
 pub path_is : (c : ℕ → ℕ → Bool → ℕ) (word : List Bool) → IsPath c word (length word) word
 path_is c word = subst (IsPath c word (length word)) (take_all (length word) word (omega arith)) (path_to c word (length word) (omega arith))

@@ -1,4 +1,4 @@
--- Once round the buffer from a start: what the search of an item needs.
+-- One round of the buffer from a start, as the search for an item uses it.
 use Rattle.std.proofs.Common.{◌≡◌, ℕ, ◌+◌, ◌-◌, ◌*◌, ◌%◌, ◌<◌, ◌≤◌, List, length, get_or, ap, sym, subst, ◌∙◌, arith}
 use Rattle.std.proofs.Math.Nat.{mul-le-mul_left}
 use Rattle.sub_block.specs.declared.Item.{Item}

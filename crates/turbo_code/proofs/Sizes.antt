@@ -1,4 +1,4 @@
--- How large the sums are: in each round of the reading each coded bit is sent once.
+-- The magnitude of the sums: each round of the reading sends each coded bit once.
 use Rattle.std.proofs.Common.{◌≡◌, ℕ, ◌+◌, ◌*◌, ◌<◌, ◌≤◌, List, [], length, ℤ, pos, refl, arith}
 use Rattle.std.specs.Prelude.{nat_abs}
 use Rattle.std.proofs.lemmas.Nat.{mod-mul-add}
@@ -14,7 +14,7 @@ use Rattle.turbo_code.proofs.TableFacts.{is_small_size}
 use Rattle.turbo_code.proofs.Round.{reading_count}
 use Rattle.turbo_code.proofs.Whole.{whole}
 
--- an item is the same one in each round of the reading
+-- a bit has the same item in each round
 in_round : (k rv q i : ℕ) → IsAnySize k → i < 3 * (k + 4) → item_of k rv (q * (3 * (k + 4)) + i) ≡ item_of k rv i
 unfolding item_of
 in_round k rv q i size below = rw (reading_count k rv size, mod-mul-add q (3 * (k + 4)) i below, mod-eq_of_lt below) refl
@@ -25,7 +25,8 @@ goes_round k rv size version = record {
   once = (whole k rv size version).reads.once;
 }
 
--- in so many rounds of the smallest size's 180 coded bits each sum is at most as many times the greatest value
+-- over a number of rounds with 180 coded bits each, the fewest for any size, each sum is at most that many times the
+-- bound on the values
 pub sizes : (k rv : ℕ) → IsAnySize k → rv < 4 → (values : List ℤ) (bound rounds : ℕ) → AllWithin bound values → length values ≤ rounds * 180 →
     RowsWithin (rounds * bound) (summed k rv values)
 unfolding summed

@@ -8,11 +8,11 @@ use Rattle.sub_block.specs.Items.{summed_at}
 use Rattle.sub_block.proofs.Sums.{table_by_stream}
 use Rattle.turbo_code.specs.Reading.{item_of, summed}
 
--- after the first m values, the sums are those of the definition, and not large
+-- after the first m values the sums are those of the definition, within their bound
 abbrev pub AreSums : ℕ → ℕ → List ℤ → ℕ → List (List ℤ) → Type 0
 AreSums k rv values m sums = tables.AreSums 3 1028 (2 ^ 15) (λ i. (item_of k rv i).stream) (λ i. (item_of k rv i).index) values m sums
 
--- all values
+-- after all values the sums are those of the definition
 pub sums_all : (k rv : ℕ) (values : List ℤ) (m : ℕ) (sums : List (List ℤ)) → m ≡ length values → AreSums k rv values m sums → sums ≡ summed k rv values
 unfolding summed
 sums_all k rv values m sums e known =
@@ -20,7 +20,7 @@ sums_all k rv values m sums e known =
     ∙ table_by_stream (item_of k rv) values m 3 1028
     ∙ ap (λ i. values_below 3 (λ t. values_below 1028 (summed_at (item_of k rv) values i t))) e
 
--- the sum of an item
+-- the sum at an item
 pub summed-at : (k rv : ℕ) (values : List ℤ) (t p : ℕ) → t < 3 → p < 1028 →
     sum_at (summed k rv values) t p ≡ summed_at (item_of k rv) values (length values) t p
 unfolding summed

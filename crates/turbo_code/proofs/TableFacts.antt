@@ -1,4 +1,4 @@
--- What holds of each row of the table, by computation.
+-- Facts about each row in the table, by computation.
 use Rattle.std.proofs.Common.{◌≡◌, ℕ, zero, suc, ◌+◌, ◌*◌, ◌<◌, ◌≤◌, ◌⊎◌, inl, inr, Bool, true, List, [], ◌∷◌, length, get_or, refl, ap, subst, ◌∙◌, arith}
 use Rattle.std.specs.Prelude.{◌&&◌, nat_eq, nat_le, nat_lt}
 use Rattle.std.specs.List.{Contains, list_all}
@@ -11,7 +11,7 @@ use Rattle.turbo_code.specs.declared.rows.Row.{Row}
 use Rattle.turbo_code.specs.Table.{rows, further_rows, row, IsRow, IsAnyRow, IsAnySize}
 use Rattle.turbo_code.specs.Reading.{buffer}
 
--- what a list's items pass, its item k passes
+-- item k in a list passes a test that all items pass
 passes : (test : Row → Bool) (rs : List Row) → list_all test rs ≡ true → (k : ℕ) (r : Row) → k < length rs → get_or rs k r ≡ r → test r ≡ true
 passes test [] h k r l e = absurd (omega (arith, l))
 passes test (x ∷ xs) h zero r l e = subst (λ y. test y ≡ true) e (and_parts (test x) (list_all test xs) h).0
@@ -24,7 +24,7 @@ pub any_row_passes : (test : Row → Bool) → list_all test rows ≡ true → l
 any_row_passes test h further r (inl (k, l, e)) = passes test rows h k r l e
 any_row_passes test h further r (inr (k, l, e)) = passes test further_rows further k r l e
 
--- ---- sizes of a row's numbers
+-- ---- bounds on a row's numbers
 
 pub record IsSmall (r : Row) : Type 0 where
   pub low : 56 ≤ r.k
@@ -60,7 +60,7 @@ pub record IsSmallSize (k : ℕ) : Type 0 where
   pub low : 56 ≤ k
   pub high : k ≤ 1024
 
--- the row of a size
+-- a row for each size
 pub any_row_of : (k : ℕ) → IsAnySize k → (r : Row) × IsAnyRow r × (r.k ≡ k)
 any_row_of k (inl (r, h, e)) = (r, inl h, e)
 any_row_of k (inr (r, h, e)) = (r, inr h, e)
@@ -95,7 +95,7 @@ bits_count k size =
     subst (λ n. length (bits_in (nulls (n + 4)) (buffer (matrix_rows (n + 4)))) ≡ 3 * (n + 4)) e
     (eqb-true _ _ (any_row_passes count_test all_counted all_further_counted r h))
 
--- ---- the search for a row of a list
+-- ---- the search for a row in a list
 
 pub row_at : (rows : List Row) (k : ℕ) (d : Row) → k < length rows → Contains rows (get_or rows k d)
 row_at rows k d h = Contains-get_or rows k d h

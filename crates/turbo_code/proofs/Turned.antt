@@ -1,4 +1,4 @@
--- The list from an index on and round.
+-- A rotated list.
 use Rattle.std.proofs.Common.{◌≡◌, ℕ, ◌+◌, ◌-◌, ◌%◌, ◌<◌, ◌≤◌, ◌⊎◌, inl, inr, Bool, List, length, get_or, take, drop, ap, sym, ◌∙◌, arith, mod-eq_of_lt, add_comm, length-append, length-drop}
 use Rattle.std.specs.Prelude.{nat_le, cond}
 use Rattle.std.specs.List.{count_by}

@@ -1,4 +1,4 @@
--- A walk along the reading passes the nulls, and comes from each bit to the next one.
+-- A walk along the reading skips the nulls and goes from each bit to the next.
 use Rattle.std.proofs.Common.{◌≡◌, ℕ, suc, ◌+◌, ◌-◌, ◌*◌, ◌%◌, ◌<◌, ◌≤◌, [], ◌∷◌, length, get_or, drop, refl, ap, sym, ◌∙◌, arith, drop_of_length-le, length-drop, mod-eq_of_lt, mod-lt, inl, inr, ◌⊎◌}
 use Rattle.std.proofs.lemmas.Bool.{cases_lt}
 use Rattle.std.proofs.lemmas.List.{get_or-drop, drop-drop}
@@ -22,7 +22,7 @@ at_start k rv size version = record {
   rest = refl;
 }
 
--- the walk, where it stands at cell m of r rows, and this is the item that is there
+-- the walk is at cell m of r rows, and the cell holds this item
 pub record Meets (k rv bit r m : ℕ) (here : Item) : Type 0 where
   pub at : IsAt k rv bit m
   pub rows : r ≡ matrix_rows (k + 4)
@@ -38,12 +38,12 @@ opened k rv bit r m here c =
     drop-cons (round_cells r rv) m (item 0 0) (let inside = c.inside in omega (arith, long, inside))
     ∙ rw (more, c.cell, known.cell m c.inside) refl
 
--- what is left, in terms of the rows
+-- the remaining bits, in terms of the rows
 left : (k rv bit r m : ℕ) (here : Item) → Meets k rv bit r m here →
     bits_in (32 * r - (k + 4)) (drop m (round_cells r rv)) ≡ drop bit (reading k rv)
 left k rv bit r m here c = let known = c.at.rest in rw c.rows known
 
--- a null is passed
+-- the walk skips a null
 pub null_passed : (k rv bit r m : ℕ) (here : Item) → Meets k rv bit r m here → here.index < 32 * r - (k + 4) → IsAt k rv bit (m + 1)
 null_passed k rv bit r m here c null =
     let same = sym (bits_in-skipped (32 * r - (k + 4)) here (drop (m + 1) (round_cells r rv)) null)
@@ -55,7 +55,7 @@ null_passed k rv bit r m here c null =
       rest = rw c.rows at same;
     }
 
--- a bit is the one that comes next, and behind it are those behind it
+-- a cell that is not a null holds the next bit, and the later bits follow
 found : (k rv bit r m : ℕ) (here : Item) → Meets k rv bit r m here → 32 * r - (k + 4) ≤ here.index →
     drop bit (reading k rv) ≡ item here.stream (here.index - (32 * r - (k + 4))) ∷ bits_in (32 * r - (k + 4)) (drop (m + 1) (round_cells r rv))
 found k rv bit r m here c some =
@@ -85,7 +85,7 @@ bit_passed k rv bit r m here c some more =
       rest = rw c.rows at same;
     }
 
--- behind the last bit of the round the walk is at its start again
+-- after the round's last bit the walk is at its start again
 pub behind : (k rv bit r m : ℕ) (here : Item) → Meets k rv bit r m here → 32 * r - (k + 4) ≤ here.index → (cell : ℕ) →
     ((bit + 1) % (3 * (k + 4)) ≡ 0 → cell ≡ 0) → (((bit + 1) % (3 * (k + 4)) ≡ 0 → ⊥) → cell ≡ m + 1) →
     IsAt k rv ((bit + 1) % (3 * (k + 4))) cell
@@ -102,7 +102,7 @@ behind k rv bit r m here c some cell first next = settle (cases_lt (bit + 1) (3 
         let none : (bit + 1) % (3 * (k + 4)) ≡ 0 = ap (λ n. n % (3 * (k + 4))) whole ∙ mod_self (3 * (k + 4)) in
         rw (none, first none) (at_start k rv c.at.size c.at.version)
 
--- some cell from here on is a bit
+-- the walk does not reach the end of the round while a bit is left
 pub never_past : (k rv bit r m : ℕ) → IsAt k rv bit m → r ≡ matrix_rows (k + 4) → 96 * r ≤ m → ⊥
 unfolding bits_in
 never_past k rv bit r m at rows past =
@@ -116,9 +116,9 @@ never_past k rv bit r m at rows past =
     let zero = ap length rest in
     omega (arith, some, zero, count, inside)
 
--- ---- a walk that has made so many steps
+-- ---- a walk after i steps
 
--- what it meets next is the item of that bit of the reading, which goes round
+-- the walk's next item is the item for bit i in the reading
 pub item_here : (k rv i : ℕ) (s : Standing) → IsAnySize k → s ≡ standing k rv (i % (3 * (k + 4))) → item_of s.k s.rv s.bit ≡ item_of k rv i
 unfolding item_of
 item_here k rv i s size at =
@@ -130,7 +130,7 @@ item_here k rv i s size at =
     ∙ ap (λ j. get_or (reading k rv) j (item 0 0)) again
     ∙ sym (ap (λ n. get_or (reading k rv) (i % n) (item 0 0)) count)
 
--- and then it has made one more
+-- one more step
 pub one_more : (k rv i : ℕ) (s : Standing) → s ≡ standing k rv (i % (3 * (k + 4))) →
     standing s.k s.rv ((s.bit + 1) % (3 * (s.k + 4))) ≡ standing k rv ((i + 1) % (3 * (k + 4)))
 one_more k rv i s at =

@@ -1,4 +1,4 @@
--- Each coded bit stands in the reading once.
+-- Each coded bit occurs in the reading once.
 use Rattle.std.proofs.Common.{◌≡◌, ℕ, zero, suc, ◌+◌, ◌-◌, ◌*◌, ◌%◌, ◌<◌, inl, inr, Bool, List, [], ◌∷◌, length, get_or, refl, ap, ap₂, sym, subst, ◌∙◌, arith, mod-lt}
 use Rattle.std.specs.Prelude.{nat_eq, cond}
 use Rattle.std.specs.List.{count_by}
@@ -21,7 +21,7 @@ use Rattle.turbo_code.proofs.Turned.{count-turned}
 use Rattle.turbo_code.proofs.Round.{reading_count}
 use Rattle.turbo_code.proofs.Inside.{item_inside}
 
--- ---- the cells of the third stream: those of a matrix, turned by one
+-- ---- the third stream's cells: those of a matrix, shifted by one
 
 third : ℕ → ℕ → ℕ
 third r m = (cell Turbo r m + 1) % (32 * r)

@@ -1,15 +1,15 @@
--- The turbo code's two encoders and their coded word (TS 36.212 section 5.1.3.2).
+-- The turbo code's two constituent encoders and their codeword (TS 36.212 section 5.1.3.2).
 use Rattle.std.specs.Prelude.{ℕ, zero, suc, ◌-◌, Bool, false, List, [], ◌∷◌, ◌++◌, length, replicate, slice_index_or}
 use Rattle.finite.specs.Bits.{xor}
 use Rattle.finite.specs.Lists.{values_below}
 use Rattle.turbo_code.specs.declared.rows.Row.{Row}
 use Rattle.turbo_code.specs.Streams.{in_order}
 
--- bit k of a word
+-- a word's bit k
 abbrev pub bit_at : List Bool → ℕ → Bool
 bit_at word k = slice_index_or word k false
 
--- a(k - t), where the list has a(k - 1), a(k - 2), .., a(0); it is 0 before the first
+-- a(k - t), where the list holds a(k - 1), a(k - 2), .., a(0); 0 before the first
 abbrev pub back : List Bool → ℕ → Bool
 back past t = slice_index_or past (t - 1) false
 
@@ -17,12 +17,12 @@ back past t = slice_index_or past (t - 1) false
 abbrev pub next : List Bool → Bool → Bool
 next past u = xor (xor u (back past 2)) (back past 3)
 
--- a(k - 1), .., a(0) of a word, the latest first
+-- a word's register bits a(k - 1), .., a(0), latest first
 unfoldable pub before : List Bool → ℕ → List Bool
 before word zero = []
 before word (suc k) = next (before word k) (bit_at word k) ∷ before word k
 
--- a(k) of a word
+-- a word's register bit a(k)
 abbrev pub register_bit : List Bool → ℕ → Bool
 register_bit word k = next (before word k) (bit_at word k)
 
@@ -30,11 +30,11 @@ register_bit word k = next (before word k) (bit_at word k)
 abbrev pub parity : List Bool → ℕ → Bool
 parity word k = xor (xor (register_bit word k) (back (before word k) 1)) (back (before word k) 3)
 
--- the parity bits of a word
+-- a word's parity bits
 unfoldable pub parities : List Bool → List Bool
 parities word = values_below (length word) (parity word)
 
--- the register before tail step j: after the word, each tail step has added a bit 0
+-- the register before tail step j: each tail step has shifted in a 0 after the word
 abbrev pub before_tail : List Bool → ℕ → List Bool
 before_tail word j = replicate j false ++ before word (length word)
 
@@ -46,7 +46,7 @@ tail_x word j = xor (back (before_tail word j) 2) (back (before_tail word j) 3)
 unfoldable pub tail_z : List Bool → ℕ → Bool
 tail_z word j = xor (back (before_tail word j) 1) (back (before_tail word j) 3)
 
--- the word in the order of the second encoder
+-- the word in the second encoder's order
 abbrev pub interleaved : Row → List Bool → List Bool
 interleaved row word = in_order false row word
 
@@ -54,7 +54,7 @@ interleaved row word = in_order false row word
 abbrev pub stream : List Bool → List Bool → List Bool
 stream bits tail = bits ++ tail ++ replicate (1024 - length bits) false
 
--- the three streams of a word
+-- a word's codeword, in three streams
 unfoldable pub coded : Row → List Bool → List (List Bool)
 coded row u =
     let v = interleaved row u in

@@ -1,4 +1,4 @@
--- The order in which a coded word is sent, and the sums of what was received (TS 36.212 section 5.1.4.1).
+-- Rate matching: the order in which a codeword is sent, and the sums of received values (TS 36.212 section 5.1.4.1).
 use Rattle.std.specs.Prelude.{ℕ, ◌+◌, ◌*◌, ◌%◌, Bool, false, List, [], ◌∷◌, ◌++◌, length, take, drop, slice_index_or, ℤ}
 use Rattle.finite.specs.Lists.{values_below}
 use Rattle.sub_block.specs.declared.Code.TheVariants.{Turbo}
@@ -6,7 +6,7 @@ use Rattle.sub_block.specs.declared.Item.{Item}
 use Rattle.sub_block.specs.Matrix.{matrix_rows, nulls, cell}
 use Rattle.sub_block.specs.Items.{item, cells_read, bits_in, summed_at}
 
--- the streams in a matrix of r rows, read; the third from one cell further on
+-- the three streams as read from a matrix of r rows; the third starts one cell later
 abbrev pub v0 : ℕ → List Item
 v0 r = cells_read Turbo r 0
 
@@ -16,7 +16,7 @@ v1 r = cells_read Turbo r 1
 abbrev pub v2 : ℕ → List Item
 v2 r = values_below (32 * r) (λ m. item 2 ((cell Turbo r m + 1) % (32 * r)))
 
--- two lists of one length in turn, item by item
+-- two lists interlaced, item by item
 abbrev pub in_turn : List Item → List Item → List Item
 in_turn [] ys = ys
 in_turn (x ∷ xs) [] = x ∷ xs
@@ -26,26 +26,26 @@ in_turn (x ∷ xs) (y ∷ ys) = x ∷ y ∷ in_turn xs ys
 unfoldable pub buffer : ℕ → List Item
 buffer r = v0 r ++ in_turn (v1 r) (v2 r)
 
--- where the reading starts in the rows of K + 4 bits, for a redundancy version
+-- the first cell that a redundancy version reads, for streams of K + 4 bits
 abbrev pub start : ℕ → ℕ → ℕ
 start k rv = matrix_rows (k + 4) * (24 * rv + 2)
 
--- a list from index s on, and then from its beginning
+-- a list rotated to start at index s
 abbrev pub turned : ℕ → List Item → List Item
 turned s cells = drop s cells ++ take s cells
 
--- the coded bits of three streams of K + 4 bits, once round the buffer
+-- one round of the buffer without its nulls: the coded bits in three streams of K + 4 bits
 unfoldable pub reading : ℕ → ℕ → List Item
 reading k rv = bits_in (nulls (k + 4)) (turned (start k rv) (buffer (matrix_rows (k + 4))))
 
--- the item of bit i of the reading, which goes round without end
+-- the item for bit i in the reading, which repeats without end
 unfoldable pub item_of : ℕ → ℕ → ℕ → Item
 item_of k rv i = slice_index_or (reading k rv) (i % length (reading k rv)) (item 0 0)
 
--- the bit of a coded word that is an item
+-- a codeword's bit at an item
 abbrev pub bit_of : List (List Bool) → Item → Bool
 bit_of d p = slice_index_or (slice_index_or d p.stream []) p.index false
 
--- for each of three streams and 1,028 indices, the sum of the values that the reading maps to it
+-- for each of 1,028 indices in each of three streams, the sum of the values that the reading maps there
 unfoldable pub summed : ℕ → ℕ → List ℤ → List (List ℤ)
 summed k rv values = values_below 3 (λ t. values_below 1028 (summed_at (item_of k rv) values (length values) t))

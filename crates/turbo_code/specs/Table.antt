@@ -1,4 +1,4 @@
--- The table of block sizes and of the internal interleaver (TS 36.212 section 5.1.3.2.3).
+-- The table of block sizes and interleaver coefficients (TS 36.212 section 5.1.3.2.3).
 use Rattle.std.specs.Prelude.{ℕ, ◌+◌, ◌*◌, ◌%◌, ◌≡◌, ◌⊎◌, List, [], ◌∷◌, nat_eq}
 use Rattle.std.specs.List.{Contains, position_or_len, range_with_len}
 use Rattle.turbo_code.specs.declared.rows.Row.{Row}
@@ -18,15 +18,15 @@ rows =
     row 720 79 120 ∷ row 768 217 48 ∷ row 800 17 80 ∷ row 864 17 48 ∷
     row 928 15 58 ∷ row 992 65 124 ∷ row 1024 31 64 ∷ []
 
--- a row of the table
+-- a row in the table
 abbrev pub IsRow : Row → Type 0
 IsRow r = Contains rows r
 
--- a K of the table
+-- a K in the table
 abbrev pub IsSize : ℕ → Type 0
 IsSize k = (r : Row) × Contains rows r × (r.k ≡ k)
 
--- further rows, of the sizes 40, 136, 280 and 336 of DCI format 1C (TS 36.213 table 7.1.7.2.3-1): K, f1, f2
+-- the further rows, for the sizes 40, 136, 280 and 336 of DCI format 1C (TS 36.213 table 7.1.7.2.3-1): K, f1, f2
 unfoldable pub further_rows : List Row
 further_rows = row 64 7 16 ∷ row 160 21 120 ∷ row 304 37 76 ∷ row 360 133 90 ∷ []
 
@@ -37,17 +37,17 @@ IsFurtherRow r = Contains further_rows r
 abbrev pub IsFurtherSize : ℕ → Type 0
 IsFurtherSize k = (r : Row) × Contains further_rows r × (r.k ≡ k)
 
--- a row of either table, and its K
+-- a row in either table, and its K
 abbrev pub IsAnyRow : Row → Type 0
 IsAnyRow r = IsRow r ⊎ IsFurtherRow r
 
 abbrev pub IsAnySize : ℕ → Type 0
 IsAnySize k = IsSize k ⊎ IsFurtherSize k
 
--- which information bit the second encoder reads after i others
+-- the index of the information bit that the second encoder reads at step i
 unfoldable pub interleaver : Row → ℕ → ℕ
 interleaver r i = (r.f1 * i + r.f2 * i * i) % r.k
 
--- which step of the second encoder reads bit k: the inverse of the interleaver
+-- the step at which the second encoder reads bit k: the inverse of the interleaver
 abbrev pub step_of : Row → ℕ → ℕ
 step_of r k = position_or_len (λ i. nat_eq (interleaver r i) k) (range_with_len 0 r.k)

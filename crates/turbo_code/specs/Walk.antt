@@ -1,11 +1,11 @@
--- A walk along the reading, bit after bit. (own)
+-- A walk along the reading, bit by bit. (own)
 use Rattle.std.specs.Prelude.{◌≡◌, ℕ, ◌+◌, ◌*◌, ◌<◌, drop}
 use Rattle.sub_block.specs.Matrix.{matrix_rows, nulls}
 use Rattle.sub_block.specs.Items.{bits_in}
 use Rattle.turbo_code.specs.Table.{IsAnySize}
 use Rattle.turbo_code.specs.Reading.{buffer, start, turned, reading}
 
--- where a walk stands: the size, the redundancy version, and the bit of the round that comes next
+-- a walk's position: the size, the redundancy version, and the round's next bit
 pub record Standing : Type 0 where
   pub k : ℕ
   pub rv : ℕ
@@ -14,7 +14,7 @@ pub record Standing : Type 0 where
 abbrev pub standing : ℕ → ℕ → ℕ → Standing
 standing k rv bit = record { k = k; rv = rv; bit = bit }
 
--- the cells of the round from this one on hold the bits of the reading from this one on, of which there are some
+-- from this cell the round holds the reading from this bit, and at least one bit is left
 pub record IsAt (k rv bit cell : ℕ) : Type 0 where
   pub size : IsAnySize k
   pub version : rv < 4

@@ -1,4 +1,4 @@
-//! The two encoders and the coded word.
+//! The two constituent encoders and the codeword (TS 36.212 section 5.1.3.2).
 
 ghost use Rattle.std.specs.Prelude.{◌≡◌, ◌+◌, ◌<◌, ◌≤◌, ◌∷◌, ◌++◌, [], false, length, take, drop};
 ghost use Rattle.turbo_code.specs.Table.{IsAnyRow, IsAnySize, IsRow, IsSize, interleaver};
@@ -7,14 +7,14 @@ ghost use Rattle.turbo_code.specs.Encoder.{coded, interleaved, parities, stream,
 
 use crate::Row;
 
-/// A coded word: K, and three streams of K bits and four tail bits each, padded with zeros.
+/// A codeword: K, and three streams of K bits and four tail bits each, padded with zeros.
 #[derive(Clone, Copy, Drop)]
 pub struct Coded {
     pub k: u16,
     pub d: [[bool; 1028]; 3],
 }
 
-/// The last three bits of an encoder's register: a(k - 1), a(k - 2), a(k - 3).
+/// An encoder's last three register bits: a(k - 1), a(k - 2), a(k - 3).
 #[derive(Drop)]
 struct Register {
     one: bool,
@@ -22,21 +22,21 @@ struct Register {
     three: bool,
 }
 
-/// The bits x and z of an encoder's three tail steps.
+/// The bits x and z in an encoder's three tail steps.
 #[derive(Drop)]
 struct Tail {
     x: [bool; 3],
     z: [bool; 3],
 }
 
-/// What one encoder adds to a word: its parity bits, followed by zeros, and its tail.
+/// One constituent encoder's output for a word: its parity bits, padded with zeros, and its tail.
 #[derive(Drop)]
 struct Constituent {
     parities: [bool; 1024],
     tail: Tail,
 }
 
-/// Takes the next bit of the word, and gives its parity bit.
+/// Shifts `bit` into the register and returns its parity bit.
 fn step(register: &mut Register, bit: bool) -> bool
     ensures last { register.new.one ≡ xor (xor bit register.old.two) register.old.three }
     ensures second { register.new.two ≡ register.old.one }
@@ -51,7 +51,7 @@ fn step(register: &mut Register, bit: bool) -> bool
     parity
 }
 
-/// The three steps that lead the register back to zeros.
+/// Returns the tail bits: three steps that lead the register back to zero.
 fn tail_of(register: &Register) -> Tail
     ensures x { result.x ≡ xor register.now.two register.now.three
         ∷ xor register.now.one register.now.two ∷ xor false register.now.one ∷ [] }
@@ -68,7 +68,7 @@ fn tail_of(register: &Register) -> Tail
     }
 }
 
-/// One encoder's parity bits and tail bits for a word.
+/// Returns one constituent encoder's parity bits and tail bits for a word.
 fn encoder_of(word: &[bool]) -> Constituent
     requires { length word.now ≤ 1024 }
     ensures parities { take (length word.now) result.parities ≡ parities word.now }
@@ -91,8 +91,8 @@ fn encoder_of(word: &[bool]) -> Constituent
     }
 }
 
-/// Returns the index of the bit that the second encoder reads after `i` others (TS 36.212 section 5.1.3.2.3).
-/// `row` is a row of either table; `i` and the answer are below its K.
+/// Returns the index of the bit that the second encoder reads at step `i` (TS 36.212 section 5.1.3.2.3). `row` is a
+/// row of either table; `i` and the result are below its K.
 pub fn interleaver(row: &Row, i: usize) -> usize
     requires row { IsAnyRow row.now }
     requires inside { i < row.now.k }
@@ -104,7 +104,7 @@ pub fn interleaver(row: &Row, i: usize) -> usize
     (f1 * i + f2 * i * i) % row.k as usize
 }
 
-/// The word in the order of the second encoder, followed by zeros.
+/// Returns the word in the second encoder's order, padded with zeros.
 fn in_order(word: &[bool], row: &Row) -> [bool; 1024]
     requires row { IsAnyRow row.now }
     requires count { length word.now ≡ row.now.k }
@@ -118,7 +118,7 @@ fn in_order(word: &[bool], row: &Row) -> [bool; 1024]
     bits
 }
 
-/// Writes the bits into a stream, from an index on.
+/// Copies `bits` into `stream`, starting at `index`.
 fn write_at(stream: &mut [bool], index: usize, bits: &[bool])
     requires { index + length bits.now ≤ length stream.old }
     ensures { stream.new ≡ take index stream.old ++ bits.now ++ drop (index + length bits.now) stream.old }
@@ -126,7 +126,7 @@ fn write_at(stream: &mut [bool], index: usize, bits: &[bool])
     stream[index..index + bits.len()].copy_from_slice(bits);
 }
 
-/// A stream: its bits, its four tail bits, and zeros.
+/// Returns a stream: its bits, its four tail bits, and zeros.
 fn stream_of(bits: &[bool], tail: &[bool; 4]) -> [bool; 1028]
     requires { length bits.now ≤ 1024 }
     ensures { result ≡ stream bits.now tail.now }
@@ -137,8 +137,8 @@ fn stream_of(bits: &[bool], tail: &[bool; 4]) -> [bool; 1028]
     stream
 }
 
-/// Encodes K bits (TS 36.212 section 5.1.3.2) into the word itself, the parity bits of the first encoder and those of
-/// the second, which reads the word in the interleaver's order. `row` is a row of either table, and `bits` has K bits.
+/// Encodes K bits (TS 36.212 section 5.1.3.2): the word itself, the first encoder's parity bits, and those of the
+/// second, which reads the word interleaved. `row` is a row of either table; `bits` has K bits.
 pub fn encode(bits: &[bool], row: Row) -> Coded
     requires row { IsAnyRow row }
     requires count { length bits.now ≡ row.k }

@@ -1,14 +1,14 @@
-//! Laws of the interleaver and of the reading.
+//! Laws of the interleaver and of rate matching.
 
 ghost use Rattle.turbo_code.specs.Laws.{ReadingIsWhole, RowsPermute};
 
-/// States that the interleaver of each row of both tables is a permutation of the indices 0 to K - 1.
+/// A law: in both tables, each row's interleaver permutes the indices 0 to K - 1.
 pub fn rows_permute()
     ensures { RowsPermute }
 {}
 
-/// States that one round of the buffer, without its nulls, has the 3(K + 4) coded bits, each once, for each K of either
-/// table and each redundancy version.
+/// A law: for each K in either table and each redundancy version, one round of the buffer, without its nulls,
+/// contains each of the 3(K + 4) coded bits once.
 pub fn reading_is_whole()
     ensures { ReadingIsWhole }
 {}

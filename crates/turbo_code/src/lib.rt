@@ -1,6 +1,6 @@
-//! The turbo code of rate 1/3 (TS 36.212 sections 5.1.3.2 and 5.1.4.1): the table of block sizes, the
-//! coded word, its encoder as a machine, the cyclic reading of its bits, and the sums of received values by
-//! coded bit.
+//! The LTE turbo code, with rate 1/3 (TS 36.212 sections 5.1.3.2 and 5.1.4.1): block sizes, the encoder and its
+//! states, rate matching, and the sums of received values by coded bit.
+//! Tests: the crate `code_tests`.
 #![tactic(auto)]
 
 mod encoder;

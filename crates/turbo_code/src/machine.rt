@@ -1,47 +1,46 @@
-//! The encoder as a machine of 8 states. A state has the last three bits of the register, the latest with
-//! weight 4.
+//! The encoder as an 8-state machine. A state holds the register's last three bits, the latest with weight 4.
 
 ghost use Rattle.std.specs.Prelude.{◌≡◌, ◌/◌, ◌<◌};
 ghost use Rattle.finite.specs.Bits.{odd};
 ghost use Rattle.turbo_code.specs.Machine.{bit_to, first_from, next, parity_bit, register, second_from};
 ghost use Rattle.turbo_code.specs.Machine.{tail_bit, tail_parity};
 
-/// The bit a(k - 1) of a state.
+/// Returns a state's bit a(k - 1).
 fn latest(x: usize) -> bool
     ensures { result ≡ odd (x / 4) }
 {
     x / 4 % 2 == 1
 }
 
-/// The bit a(k - 2).
+/// Returns a state's bit a(k - 2).
 fn middle(x: usize) -> bool
     ensures { result ≡ odd (x / 2) }
 {
     x / 2 % 2 == 1
 }
 
-/// The bit a(k - 3).
+/// Returns a state's bit a(k - 3).
 fn oldest(x: usize) -> bool
     ensures { result ≡ odd x }
 {
     x % 2 == 1
 }
 
-/// Returns the register bit of a step from state `x` by the bit `u` (TS 36.212 section 5.1.3.2.1).
+/// Returns the register's new bit when state `x` takes the input bit `u` (TS 36.212 section 5.1.3.2.1).
 pub fn register(x: usize, u: bool) -> bool
     ensures { result ≡ register x u }
 {
     u ^ middle(x) ^ oldest(x)
 }
 
-/// Returns the parity bit of a step from state `x` by the bit `u`.
+/// Returns the parity bit for a step from state `x` with input bit `u`.
 pub fn parity_bit(x: usize, u: bool) -> bool
     ensures { result ≡ parity_bit x u }
 {
     register(x, u) ^ latest(x) ^ oldest(x)
 }
 
-/// Returns the state after a step from state `x` by the bit `u`. States are below 8.
+/// Returns the state after a step from state `x` with input bit `u`. States are below 8.
 pub fn next(x: usize, u: bool) -> usize
     requires { x < 8 }
     ensures next { result ≡ next x u }
@@ -50,7 +49,7 @@ pub fn next(x: usize, u: bool) -> usize
     x / 2 + if register(x, u) { 4 } else { 0 }
 }
 
-/// Returns the two states from which a step leads to state `x`, which is below 8.
+/// Returns the two states that have a step to state `x`. States are below 8.
 pub fn before(x: usize) -> (usize, usize)
     requires { x < 8 }
     ensures first { result.0 ≡ first_from x }
@@ -61,21 +60,21 @@ pub fn before(x: usize) -> (usize, usize)
     (first, first + 1)
 }
 
-/// Returns the bit of the step from state `p` to state `x`, if a step leads there.
+/// Returns the input bit for the step from state `p` to state `x`, if there is one.
 pub fn bit_to(p: usize, x: usize) -> bool
     ensures { result ≡ bit_to p x }
 {
     register(p, latest(x))
 }
 
-/// Returns the bit x of a tail step, which leads from state `x` to `x / 2` (TS 36.212 section 5.1.3.2.2).
+/// Returns the systematic bit for a tail step, which leads from state `x` to `x / 2` (TS 36.212 section 5.1.3.2.2).
 pub fn tail_bit(x: usize) -> bool
     ensures { result ≡ tail_bit x }
 {
     middle(x) ^ oldest(x)
 }
 
-/// Returns the parity bit of a tail step from state `x`.
+/// Returns the parity bit for a tail step from state `x`.
 pub fn tail_parity(x: usize) -> bool
     ensures { result ≡ tail_parity x }
 {

@@ -1,4 +1,4 @@
-//! The cyclic reading of a coded word, and the sums of received values.
+//! Rate matching: the order in which a codeword is sent, and the sums of received values by coded bit.
 
 ghost use Rattle.std.specs.Prelude.{◌≡◌, ℕ, ◌+◌, ◌*◌, ◌%◌, ◌^◌, ◌<◌, ◌≤◌, length, nat_abs, slice_index_or};
 ghost use Rattle.finite.specs.Lists.{values_below};
@@ -13,14 +13,14 @@ use crate::{Coded, Row};
 use std::marker::Model;
 use sub_block::{Code, Item, cell_at};
 
-/// The sum of the received values for each index of each of the three streams.
+/// The sums of received values, one for each index in each stream.
 #[derive(Clone, Copy, Drop)]
 pub struct Combined {
     pub k: u16,
     pub d: [[i32; 1028]; 3],
 }
 
-/// Cell j of the circular buffer.
+/// Returns cell `j` of the circular buffer, for streams of `rows` rows.
 fn buffer_at(rows: usize, j: usize) -> Item
     requires rows { rows ≤ 33 }
     requires inside { j < 96 * rows }
@@ -49,9 +49,8 @@ fn buffer_at(rows: usize, j: usize) -> Item
     }
 }
 
-/// A walk along the reading of three streams of K + 4 bits, over the cells of the buffer from the start of a
-/// redundancy version on, round and round. Contracts see the size, the version, and the bit of the round that comes
-/// next.
+/// A walk along three streams of K + 4 bits in the order in which they are sent: round and round the circular buffer,
+/// from a redundancy version's start. Contracts see the size, the version, and the round's next bit.
 #[derive(Drop)]
 struct Walk {
     k: u16,
@@ -71,7 +70,7 @@ impl Model for Walk {
 }
 
 impl Walk {
-    /// The walk before the first bit.
+    /// Returns the walk before its first bit.
     fn new(k: u16, rv: u8) -> Walk
         requires size { IsAnySize k }
         requires version { rv < 4 }
@@ -85,7 +84,7 @@ impl Walk {
         }
     }
 
-    /// The item of the bit that comes next, which the walk then passes.
+    /// Returns the next bit's item, and steps past it.
     fn step(&mut self) -> Item
         ensures item { result ≡ item_of self.old.k self.old.rv self.old.bit }
         ensures below_three { result.stream < 3 }
@@ -111,7 +110,7 @@ impl Walk {
     }
 }
 
-/// The item of bit i of the cyclic reading of three streams of k bits with their tails.
+/// Returns the item for bit `i` in redundancy version `rv`, for three streams of `k` bits and their tails.
 fn item_in(k: u16, rv: u8, i: usize) -> Item
     requires size { IsAnySize k }
     requires version { rv < 4 }
@@ -126,8 +125,8 @@ fn item_in(k: u16, rv: u8, i: usize) -> Item
     walk.step()
 }
 
-/// Returns bit `i` of the cyclic reading of a coded word from the start of redundancy version `rv`, 0 to 3
-/// (TS 36.212 section 5.1.4.1). `i` is at most 5,760.
+/// Returns a codeword's bit `i` after rate matching for redundancy version `rv`, 0 to 3 (TS 36.212 section 5.1.4.1).
+/// `i` is at most 5,760.
 pub fn match_out(coded: &Coded, rv: u8, i: usize) -> bool
     requires size { IsAnySize coded.now.k }
     requires version { rv < 4 }
@@ -137,8 +136,7 @@ pub fn match_out(coded: &Coded, rv: u8, i: usize) -> bool
     bit_at(coded, &item_in(coded.k, rv, i))
 }
 
-/// Fills `bits`, at most 5,760, with the first bits of the cyclic reading of a coded word: bit `i` is that of
-/// `match_out`.
+/// Fills `bits`, at most 5,760, with a codeword's first bits after rate matching: bit `i` is that of `match_out`.
 pub fn match_all(coded: &Coded, rv: u8, bits: &mut [bool])
     requires size { IsAnySize coded.now.k }
     requires version { rv < 4 }
@@ -151,7 +149,7 @@ pub fn match_all(coded: &Coded, rv: u8, bits: &mut [bool])
     }
 }
 
-/// The bit of a coded word that is an item.
+/// Returns a codeword's bit at the item `at`.
 fn bit_at(coded: &Coded, at: &Item) -> bool
     requires size { IsAnySize coded.now.k }
     requires stream { at.now.stream < 3 }
@@ -161,7 +159,7 @@ fn bit_at(coded: &Coded, at: &Item) -> bool
     coded.d[at.stream][at.index]
 }
 
-/// Adds the value to the sum of an item.
+/// Adds `value` to the sum at the item `at`.
 fn add_at(sums: &mut [[i32; 1028]; 3], at: &Item, value: &i16)
     requires stream { at.now.stream < 3 }
     requires index { at.now.index < 1028 }
@@ -172,8 +170,8 @@ fn add_at(sums: &mut [[i32; 1028]; 3], at: &Item, value: &i16)
     sums[at.stream][at.index] += *value as i32;
 }
 
-/// Returns the sum of the values that the reading from redundancy version `rv`, 0 to 3, maps to each coded bit, at most
-/// one in every 180 values. `row` is a row of either table, and there are at most 5,760 values.
+/// Returns, for each coded bit, the sum of the values that redundancy version `rv`, 0 to 3, maps to it. `row` is a
+/// row of either table. At most 5,760 values, so each sum has at most 32 terms.
 pub fn combine(values: &[i16], row: Row, rv: u8) -> Combined
     requires row { IsAnyRow row }
     requires version { rv < 4 }

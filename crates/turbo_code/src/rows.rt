@@ -1,11 +1,11 @@
-//! The tables of block sizes and of the interleaver.
+//! The table of block sizes and interleaver coefficients.
 
 ghost use Rattle.std.specs.Prelude.{◌≡◌, ◌+◌, MatchOption};
 ghost use Rattle.std.specs.List.{Contains};
 ghost use Rattle.turbo_code.specs.declared.rows.Row.{Row};
 ghost use Rattle.turbo_code.specs.Table.{IsFurtherRow, IsFurtherSize, IsRow, IsSize};
 
-/// A row of the table: the number K of information bits and the two coefficients of the interleaver.
+/// A row in the table: the number K of information bits and the two interleaver coefficients.
 #[derive(Clone, Copy, Debug, PartialEq, Eq, Drop)]
 pub struct Row {
     pub k: u16,
@@ -19,7 +19,7 @@ macro_rules! table {
     };
 }
 
-// K, f1 and f2 of the sizes in use (TS 36.212 table 5.1.3-3).
+// K, f1 and f2 for the sizes in use (TS 36.212 table 5.1.3-3).
 const ROWS: [Row; 31] = table![
     (56, 19, 42),
     (80, 11, 20),
@@ -54,10 +54,10 @@ const ROWS: [Row; 31] = table![
     (1024, 31, 64)
 ];
 
-// K, f1 and f2 of the sizes that format 1C adds (TS 36.212 table 5.1.3-3).
+// K, f1 and f2 for the sizes that format 1C adds (TS 36.212 table 5.1.3-3).
 const FURTHER_ROWS: [Row; 4] = table![(64, 7, 16), (160, 21, 120), (304, 37, 76), (360, 133, 90)];
 
-// The row, of these, of a block of this many bits, with 24 check bits after them.
+// Returns the row for a block of `size` bits and its CRC-24, or `None` if `rows` has none.
 fn row_in(rows: &[Row], size: u16) -> Option<Row>
     ensures { MatchOption result ((r : Row) × Contains rows.now r × (r.k ≡ size + 24) → ⊥)
         (λ row. Contains rows.now row × (row.k ≡ size + 24)) }
@@ -70,7 +70,7 @@ fn row_in(rows: &[Row], size: u16) -> Option<Row>
     None
 }
 
-/// Returns the row of a block of `size` bits and its CRC-24. `None` exactly if `size` plus 24 is not a K of the
+/// Returns the row for a block of `size` bits and its CRC-24. `None` exactly if `size` plus 24 is not a K in the
 /// table.
 pub fn row_of(size: u16) -> Option<Row>
     ensures { MatchOption result (IsSize (size + 24) → ⊥) (λ row. IsRow row × (row.k ≡ size + 24)) }
@@ -78,8 +78,8 @@ pub fn row_of(size: u16) -> Option<Row>
     row_in(&ROWS, size)
 }
 
-/// Returns the further row of a block of `size` bits and its CRC-24, which sizes 40, 136, 280 and 336 have
-/// (TS 36.213 table 7.1.7.2.3-1). `None` exactly if `size` plus 24 is not a K of the further rows.
+/// Returns the further row for a block of `size` bits and its CRC-24: sizes 40, 136, 280 and 336 (TS 36.213 table
+/// 7.1.7.2.3-1). `None` exactly if `size` plus 24 is not a K in the further rows.
 pub fn further_row_of(size: u16) -> Option<Row>
     ensures { MatchOption result (IsFurtherSize (size + 24) → ⊥) (λ row. IsFurtherRow row × (row.k ≡ size + 24)) }
 {

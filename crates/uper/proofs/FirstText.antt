@@ -1,4 +1,4 @@
--- Where one text stands for the values that pass a test, it is the first.
+-- If the values that pass a test have only one encoding, it is the first.
 use Rattle.std.proofs.Common.{◌≡◌, ℕ, zero, suc, ◌^◌, ◌<◌, ◌≤◌, ◌⊎◌, inl, inr, Bool, true, false, ◌&&◌, nat_le, if◌then◌else◌, List, [], ◌∷◌, ◌++◌, length, take, drop, Option, Some, None, refl, ap, sym, subst, ◌∙◌, arith}
 use Rattle.std.specs.Option.{option_map, option_or}
 use Rattle.std.proofs.lemmas.Bool.{le-leb, lt-leb, cases_lt}
@@ -8,7 +8,7 @@ use Rattle.cs_bits.proofs.Numbers.{number_below, number_of_bits, length-bits_of,
 use Rattle.uper.specs.Grammar.{Grammar, done, field}
 use Rattle.uper.specs.Texts.{Begins, IsText, first_some, after_field, first_text}
 
--- ---- the first of so many
+-- ---- the first of n options
 
 pub none_before : {A : Type 0} (n : ℕ) (f : ℕ → Option A) → ((j : ℕ) → j < n → f j ≡ None) → first_some n f ≡ None
 unfolding first_some
@@ -26,7 +26,7 @@ first_some_is (suc n) i f v l e h = by (λ before. first_some_is n i f v before 
         let same : i ≡ n = omega (arith, l, last) in
         rw (none_before n f (λ j k. h j (omega (arith, k, last)))) (ap f (sym same) ∙ e)
 
--- what is found is one of them
+-- a value that is found is one of the options
 pub record Found {A : Type 0} (n : ℕ) (f : ℕ → Option A) (v : A) : Type 0 where
   pub at : ℕ
   pub inside : at < n
@@ -45,14 +45,14 @@ first_some_found {A} (suc n) f v e = by (λ h. first_some_found n f v h) (first_
         let l = before.inside in
         record { at = before.at; inside = omega (arith, l); is = before.is }
 
--- ---- a text that is found is one, and its value passes the test
+-- ---- an encoding that is found is valid, and its value passes the test
 
 pub record Passes {A : Type 0} (test : A → Bool) (grammar : Grammar A) (text : List Bool) : Type 0 where
   pub value : A
   pub is_text : IsText grammar text value
   pub passes : test value ≡ true
 
--- the parts of a text that begins with a field
+-- an encoding that begins with a field, in parts
 record Parts (width least greatest n : ℕ) (rest : Option (List Bool)) (text : List Bool) : Type 0 where
   bits : List Bool
   above : least ≤ n
@@ -118,7 +118,7 @@ first_text_passes {A} test (field width least greatest next) text e =
       passes = inner.passes;
     }
 
--- ---- where it is the only one, it is the first
+-- ---- an only encoding is the first
 
 pub first_text_is : {A : Type 0} (test : A → Bool) (g : Grammar A) (text : List Bool) (x : A) → IsText g text x → test x ≡ true
     → ((other : List Bool) (y : A) → IsText g other y → test y ≡ true → other ≡ text) → first_text test g ≡ Some text
@@ -149,7 +149,7 @@ first_text_is {A} test (field width least greatest next) text x s t only =
     n_below : n < 2 ^ width
     n_below = subst (λ w. n < 2 ^ w) begins.whole (number_below front)
 
-    -- a text of what follows is one of the whole
+    -- a field followed by an encoding of the rest is an encoding
     whole : (m : ℕ) (bits : List Bool) (y : A) → m < 2 ^ width → least ≤ m → m ≤ greatest → IsText (next m) bits y → IsText (field width least greatest next) (bits_of width m ++ bits) y
     whole m bits y l a b r =
         let number_is : number (bits_of width m) ≡ m = number_of_bits width m l in (

@@ -1,4 +1,4 @@
--- Bits begin with one text of a grammar, or are refused at one place.
+-- Bits begin with one encoding, or are refused at one position.
 use Rattle.std.proofs.Common.{◌≡◌, ℕ, ◌+◌, inl, inr, Bool, List, [], ◌∷◌, ◌++◌, length, Result, Ok, Err, refl, ap, ap₂, sym, subst, ◌∙◌, arith}
 use Rattle.std.proofs.lemmas.List.{append-nil, length-append}
 use Rattle.uper.specs.Cursor.{Cursor}
@@ -13,7 +13,7 @@ start bits = record { bits = bits; place = 0 }
 start_is : (bits : List Bool) (at : Cursor) → at.bits ≡ bits → at.place ≡ 0 → at ≡ start bits
 start_is bits at e f = ap₂ (λ bits place. let c : Cursor = record { bits = bits; place = place } in c) e f
 
--- ---- two answers of one reading
+-- ---- a reading has one result
 
 value_of : {A : Type 0} → A → Result (A × Cursor) ℕ → A
 value_of x (Ok y) = y.0
@@ -42,7 +42,7 @@ same_place p q r e f = ap place_of (sym e ∙ f)
 not_ok_and_err : {A : Type 0} (x : A × Cursor) (p : ℕ) (r : Result (A × Cursor) ℕ) → r ≡ Ok x → r ≡ Err p → ⊥
 not_ok_and_err x p r e f = absurd cc
 
--- ---- what is read from the first bit on
+-- ---- reading from the first bit
 
 pub begins_with : {A : Type 0} (t : Grammar A) (bits : List Bool) (at new : Cursor) (x : A) → at.bits ≡ bits → at.place ≡ 0 → reading t at ≡ Ok (x, new) → BeginsWith t bits x
 begins_with t bits at new x e f read =
@@ -64,7 +64,7 @@ refuses_at t bits at place e f read =
           subst (λ p. Refuses t bits p) (omega (arith, same)) none.refuses
     ]
 
--- ---- and nothing else
+-- ---- uniqueness
 
 is_read : {A : Type 0} (t : Grammar A) (bits : List Bool) (x : A) (b : BeginsWith t bits x) → reading t (start bits) ≡ Ok (x, past (start bits) (length b.text))
 is_read t bits x b = text_is_read t (start bits) b.text b.rest x (omega arith) b.parts b.is_text
@@ -86,7 +86,7 @@ empty_of : (bits : List Bool) → length bits ≡ 0 → bits ≡ []
 empty_of [] e = refl
 empty_of (b ∷ bs) e = absurd (omega (arith, e))
 
--- no text is a front of another
+-- no encoding is a prefix of another
 pub no_front : {A : Type 0} (t : Grammar A) (text more : List Bool) (x y : A) → IsText t text x → IsText t (text ++ more) y → (more ≡ []) × (y ≡ x)
 no_front t text more x y s r =
     let first = text_is_read t (start (text ++ more)) text more x (omega arith) refl s in

@@ -1,4 +1,4 @@
--- What holds of all texts of a grammar, and that a value has one text.
+-- Properties of all encodings in a grammar; a value has one encoding.
 use Rattle.std.proofs.Common.{◌≡◌, ℕ, zero, suc, ◌≤◌, Bool, true, false, cond, nat_eq, List, [], ◌∷◌, ◌++◌, length, drop, Some, None, refl, ap, ap₂, sym, subst, ◌∙◌, arith}
 use Rattle.std.specs.Prelude.{⊤, is_some, IfSome, All}
 use Rattle.std.specs.List.{AllByRecursion}
@@ -10,7 +10,7 @@ use Rattle.uper.specs.Texts.{IsText}
 use Rattle.cs_bits.proofs.Numbers.{number_same}
 use Rattle.uper.proofs.Texts.{done_is, both}
 
--- ---- what holds of what a text stands for
+-- ---- properties of the encoded values
 
 abbrev pub Holds : {A : Type 0} → Grammar A → (A → Type 0) → Type 0
 Holds {A} t P = (bits : List Bool) (x : A) → IsText t bits x → P x
@@ -21,7 +21,7 @@ holds_done x P p bits y s = subst P (done_is x y bits s).1 p
 pub holds_bind : {A B : Type 0} (t : Grammar A) (f : A → Grammar B) (P : B → Type 0) → ((v : A) (s : List Bool) → IsText t s v → Holds (f v) P) → Holds (t >>= f) P
 holds_bind t f P h bits y s = let p = both t f bits y s in h p.value p.first p.is_text p.second y p.then
 
--- the bits are those of a number of this width, within the range
+-- the bits are a number of this width, within the range
 pub record IsNumber (width least greatest : ℕ) (bits : List Bool) (n : ℕ) : Type 0 where
   pub size : length bits ≡ width
   pub is : number bits ≡ n
@@ -67,23 +67,23 @@ each_holds (suc n) t P h =
 pub all_hold : {A : Type 0} (n : ℕ) (t : Grammar A) (P : A → Type 0) → Holds t P → Holds (times n t) (λ xs. All P xs)
 all_hold n t P h bits xs s = All-from_recursion P xs (each_holds n t P h bits xs s)
 
--- ---- a value has one text
+-- ---- a value has one encoding
 
--- two texts of one value are the same, one of each grammar; and then this holds of what was before them
+-- encodings of one value in two grammars are the same, and a condition on the earlier parts holds
 abbrev pub Agree : {A : Type 0} → Grammar A → Grammar A → Type 0 → Type 0
 Agree {A} t u Before = (a b : List Bool) (y : A) → IsText t a y → IsText u b y → Before × (a ≡ b)
 
 abbrev pub Once : {A : Type 0} → Grammar A → Type 0
 Once t = Agree t t ⊤
 
--- the whole value tells what was before
+-- the complete value determines the earlier parts
 pub agree_done : {A : Type 0} (Before : Type 0) (x y : A) → (x ≡ y → Before) → Agree (done x) (done y) Before
 agree_done Before x y told a b z s r =
     let p = done_is x z a s in
     let q = done_is y z b r in
     (told (p.1 ∙ sym q.1), p.0 ∙ sym q.0)
 
--- what follows tells the values of the first parts, and then the first parts agree too
+-- if the rest determines the values of the first parts, the first parts agree too
 pub agree_bind : {A B : Type 0} (Before : Type 0) (t u : Grammar A) (f g : A → Grammar B) → (Before → Agree t u ⊤)
     → ((v w : A) (s r : List Bool) → IsText t s v → IsText u r w → Agree (f v) (g w) (Before × (v ≡ w))) → Agree (t >>= f) (u >>= g) Before
 agree_bind Before t u f g first later a b y s r =
@@ -94,16 +94,16 @@ agree_bind Before t u f g first later a b y s r =
     let same : p.first ≡ q.first = (first before p.first q.first q.value (subst (λ v. IsText t p.first v) after.0.1 p.is_text) q.is_text).1 in
     (before, p.parts ∙ ap₂ (λ (u w : List Bool). u ++ w) same after.1 ∙ sym q.parts)
 
--- a part of one grammar
+-- first parts that follow one grammar agree
 pub once_bind : {A B : Type 0} (Before : Type 0) (t : Grammar A) (f g : A → Grammar B) → Once t
     → ((v w : A) (s r : List Bool) → IsText t s v → IsText t r w → Agree (f v) (g w) (Before × (v ≡ w))) → Agree (t >>= f) (t >>= g) Before
 once_bind Before t f g once later = agree_bind Before t t f g (λ before. once) later
 
--- a grammar of which something before tells that it is the same
+-- a grammar that depends on an earlier value, which is the same in both
 pub agree_same : {A B : Type 0} (t : B → Grammar A) (v w : B) → v ≡ w → ((v : B) → Once (t v)) → Agree (t v) (t w) ⊤
 agree_same t v w e once = subst (λ x. Agree (t v) (t x) ⊤) e (once v)
 
--- a grammar that the value itself tells
+-- a grammar that the value itself determines
 pub agree_told : {A B : Type 0} (t : B → Grammar A) (told : A → B) (v w : B) → ((v : B) → Once (t v)) → ((v : B) → Holds (t v) (λ y. told y ≡ v)) → Agree (t v) (t w) (⊤ × (v ≡ w))
 agree_told t told v w once holds a b y s r =
     let e : v ≡ w = sym (holds v a y s) ∙ holds w b y r in
@@ -127,7 +127,7 @@ bit_is zero l = refl
 bit_is (suc zero) l = refl
 bit_is (suc (suc n)) l = absurd (omega (arith, l))
 
--- numbers of one bit with the same flag are the same
+-- one-bit numbers with the same flag are equal
 pub same_bit : (m n : ℕ) → m ≤ 1 → n ≤ 1 → nat_eq m 1 ≡ nat_eq n 1 → m ≡ n
 same_bit m n l k e = sym (bit_is m l) ∙ ap (λ b. cond b 1 0) e ∙ bit_is n k
 

@@ -1,4 +1,4 @@
--- Texts that are put one after the other are texts of what they make up.
+-- Encodings appended one after the other form one encoding.
 use Rattle.std.proofs.Common.{◌≡◌, ℕ, zero, suc, ◌+◌, ◌-◌, ◌^◌, ◌<◌, ◌≤◌, ◌⊎◌, inl, inr, Bool, true, false, cond, not, nat_eq, List, [], ◌∷◌, ◌++◌, length, take, get_or, Option, Some, None, refl, ap, ap₂, sym, subst, ◌∙◌, append_assoc, arith, add-one}
 use Rattle.std.proofs.lemmas.Bool.{cases_lt, le-leb, lt-leb}
 use Rattle.std.proofs.lemmas.List.{append-nil, length-append}
@@ -111,7 +111,7 @@ room_put old bits more new false n e iff is some size = by_room (cases_lt (1000 
     by_room (inl over) = sym (ap (λ o. append o more) e ∙ ap (λ b. cond b (Some (bits ++ more)) None) (lt-leb (length more) (1000 - length bits) over))
     by_room (inr fits) = let wrong : false ≡ true = iff.1 (omega (arith, fits, size, some)) in absurd cc
 
--- ---- flags, what may be there, and the items of a list
+-- ---- flags, optional components, and list items
 
 pub flag_puts : (b : Bool) (old new : Option (List Bool)) → ((least greatest : ℕ) → least ≤ bool_byte b → bool_byte b ≤ greatest → Puts (from_to 1 least greatest) (bool_byte b) old new) → Puts flag b old new
 unfolding flag

@@ -1,4 +1,4 @@
--- Each list of bits begins with a text of the grammar, which stands for one value, or is refused at one place.
+-- Each list of bits begins with an encoding of one value, or is refused at one position.
 use Rattle.std.proofs.Common.{◌≡◌, ℕ, ◌+◌, ◌-◌, ◌<◌, ◌≤◌, ◌⊎◌, inl, inr, Bool, cond, ltb, leb, ◌&&◌, List, [], ◌++◌, length, take, drop, Result, Ok, Err, refl, ap, ap₂, sym, subst, ◌∙◌, append_assoc, arith, length-drop}
 use Rattle.std.proofs.lemmas.Bool.{cases_lt, lt-ltb, le-ltb, le-leb, lt-leb, and_from, and_left, and_right}
 use Rattle.std.proofs.lemmas.List.{drop_at, drop-drop, take-append-drop, length-take-le, length-append}
@@ -9,7 +9,7 @@ use Rattle.uper.specs.Texts.{Begins, IsText, IsBad, Refuses}
 use Rattle.uper.specs.Reading.{field_at, and_then, reading}
 use Rattle.uper.proofs.Texts.{text_done, begins-append, same_front, not_both}
 
--- ---- one text and then another
+-- ---- one grammar followed by another
 
 after_field : {A B : Type 0} (r : Result (ℕ × Cursor) ℕ) (next : ℕ → Grammar A) (f : A → Grammar B) →
     ((n : ℕ) (at : Cursor) → reading (next n >>= f) at ≡ and_then (reading (next n) at) (λ x. reading (f x.0) x.1)) →
@@ -24,7 +24,7 @@ reading_bind (done x) f at = refl
 reading_bind (field width least greatest next) f at =
     after_field (field_at width least greatest at) next f (λ n to. reading_bind (next n) f to)
 
--- what is read by the first text and then by the second
+-- the result of one reading followed by another
 pub reads_bind : {A B : Type 0} (t : Grammar A) (f : A → Grammar B) (at mid : Cursor) (x : A) (r : Result (B × Cursor) ℕ) →
     reading t at ≡ Ok (x, mid) → reading (f x) mid ≡ r → reading (t >>= f) at ≡ r
 reads_bind t f at mid x r first second =
@@ -103,7 +103,7 @@ field_cases width least greatest at inside = by_length (cases_lt (length at.bits
     })
     by_length (inr enough) = by_least enough (cases_lt (number front) least)
 
--- ---- a text, or a refusal
+-- ---- an encoding, or a refusal
 
 pub record TextIsAt {A : Type 0} (t : Grammar A) (at : Cursor) : Type 0 where
   pub value : A
@@ -124,7 +124,7 @@ past_none at = ap (λ n. let c : Cursor = record { bits = at.bits; place = n } i
 past_more : (at : Cursor) (m n : ℕ) → past (past at m) n ≡ past at (m + n)
 past_more at m n = ap (λ n. let c : Cursor = record { bits = at.bits; place = n } in c) (omega arith)
 
--- after a field the rest is left
+-- the bits that are left after a field
 left_after : (width least greatest : ℕ) (at : Cursor) (front rest : List Bool) → Begins width least greatest (left at) front rest → left (past at width) ≡ rest
 left_after width least greatest at front rest b =
     sym (drop-drop width at.place at.bits) ∙ ap (drop width) b.parts ∙ drop_at front rest width b.whole
@@ -190,7 +190,7 @@ read_cases (field width least greatest next) at inside = elim (field_cases width
   | inr f ↦ inr (first_refused width least greatest next at f)
 ]
 
--- ---- what begins with a text is read
+-- ---- the reader accepts each encoding
 
 pub text_is_read : {A : Type 0} (t : Grammar A) (at : Cursor) (text rest : List Bool) (x : A) → at.place ≤ length at.bits → left at ≡ text ++ rest → IsText t text x → reading t at ≡ Ok (x, past at (length text))
 unfolding IsText
@@ -208,7 +208,7 @@ text_is_read (field width least greatest next) at text rest x inside e s =
       | inr f ↦ absurd (not_both width least greatest (left at) s.0 (s.1.0 ++ rest) b f.bad)
     ]
 
--- what is refused is refused when it is read
+-- the reader refuses what the grammar refuses
 pub refusal_is_read : {A : Type 0} (t : Grammar A) (at : Cursor) (after : ℕ) → at.place ≤ length at.bits → Refuses t (left at) after → reading t at ≡ Err (at.place + after)
 unfolding Refuses
 refusal_is_read (done v) at after inside r = absurd r
@@ -226,7 +226,7 @@ refusal_is_read (field width least greatest next) at after inside (inr r) = elim
   | inr f ↦ absurd (not_both width least greatest (left at) r.0 r.1.0 r.1.1.1 f.bad)
 ]
 
--- a place that is refused is among the bits or at their end
+-- a position that is refused is at most the number of bits
 pub refused_inside : {A : Type 0} (t : Grammar A) (bits : List Bool) (place : ℕ) → Refuses t bits place → place ≤ length bits
 unfolding Refuses
 refused_inside (done v) bits place r = absurd r

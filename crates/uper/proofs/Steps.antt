@@ -1,4 +1,4 @@
--- A reader goes through a grammar: a field, one part and then another, and lists in a loop.
+-- A reader follows a grammar: a field, one part after another, and lists in a loop.
 use Rattle.std.proofs.Common.{◌≡◌, ℕ, suc, ◌+◌, ◌-◌, ◌<◌, ◌≤◌, Bool, true, false, cond, ltb, leb, ◌&&◌, List, [], ◌∷◌, ◌++◌, append_assoc, length, Result, Ok, Err, refl, ap, ap₂, sym, subst, ◌∙◌, arith}
 use Rattle.std.specs.Prelude.{slice_range, IsErrAnd, ◌↔◌}
 use Rattle.std.proofs.lemmas.Bool.{lt-ltb, le-ltb}
@@ -48,7 +48,7 @@ read_cut width least greatest at place cut e =
     ∙ ap (λ cut. as_tested cut (leb least n && leb n greatest) n at (record { bits = at.bits; place = at.place + width })) (lt-ltb _ _ cut)
     ∙ ap (λ (p : ℕ). Err p) (sym e)
 
--- what is returned where a field was refused
+-- the error that is returned when a field is refused
 pub exit : {A : Type 0} (t : Grammar A) (old new : Cursor) (r : Result A ℕ) (place : ℕ) → IsErrAnd r (λ e. e ≡ place) → reading t old ≡ Err place → Reads t old r new
 exit t old new r place is h =
     let p = err_from_is_err_and r is in
@@ -58,9 +58,9 @@ pub reads_done : {A : Type 0} (x : A) (at : Cursor) → reading (done x) at ≡ 
 unfolding reading
 reads_done x at = refl
 
--- ---- so many of a kind, in a loop
+-- ---- repeated items, in a loop
 
--- what was read before, and what is still read
+-- the items already read, followed by those still to be read
 abbrev pub with_front : {A : Type 0} → List A → Result (List A × Cursor) ℕ → Result (List A × Cursor) ℕ
 with_front {A} front read = and_then {A = List A × Cursor} {B = List A × Cursor} read (λ x. Ok (front ++ x.0, x.1))
 
@@ -110,12 +110,12 @@ loop_done each front n i at total past so_far =
     ∙ ap (λ r. with_front front r) (times_zero each at)
     ∙ ap (λ xs. Ok (xs, at)) (append-nil front)
 
--- a list with one before it
+-- a list after its first item
 pub after_first : {A : Type 0} (n : ℕ) (each : Grammar A) (first : A) (at : Cursor) → reading (times n each >>= (λ others. done (first ∷ others))) at ≡ with_front (first ∷ []) (reading (times n each) at)
 unfolding reading
 after_first n each first at = reading_bind (times n each) (λ others. done (first ∷ others)) at
 
--- an item that was pushed where there was room
+-- an item was pushed because there was room
 pub pushed : {A : Type 0} (old new : List A) (x : A) (did : Bool) (room : ℕ) → ((did ≡ true) ↔ (length old < room)) → length old < room → new ≡ cond did (old ++ x ∷ []) old → new ≡ old ++ x ∷ []
 pushed old new x did room iff short is = is ∙ ap (λ did. cond did (old ++ x ∷ []) old) (iff.1 short)
 
@@ -129,7 +129,7 @@ pub times_later : {A : Type 0} (n : ℕ) (each : Grammar A) (at mid : Cursor) (x
 unfolding times
 times_later n each at mid x place first others = reads_bind _ _ _ _ _ _ first (fails_bind _ _ _ _ others)
 
--- what follows is returned as it is
+-- the result of the rest is returned unchanged
 pub reads_then : {A B : Type 0} (t : Grammar A) (f : A → Grammar B) (at mid new : Cursor) (x : A) (r : Result B ℕ) → reading t at ≡ Ok (x, mid) → Reads (f x) mid r new → Reads (t >>= f) at r new
 reads_then t f at mid new x (Ok y) first after = reads_bind t f at mid x _ first after
 reads_then t f at mid new x (Err place) first after = reads_bind t f at mid x _ first after

@@ -1,4 +1,4 @@
--- Texts of one part and then of another, and the first field of bits.
+-- Encodings in two parts, and the first field of bits.
 use Rattle.std.proofs.Common.{◌≡◌, ℕ, inl, inr, Bool, List, [], ◌++◌, length, take, drop, refl, ap, sym, subst, ◌∙◌, append_assoc, arith}
 use Rattle.std.proofs.lemmas.List.{take_at, drop_at, length-append}
 use Rattle.cs_bits.specs.Numbers.{number}
@@ -29,7 +29,7 @@ text_bind (done v) f a b x y s r =
 text_bind (field width least greatest next) f a b x y s r =
     (s.0, (s.1.0 ++ b, begins-append width least greatest a s.0 s.1.0 b s.1.1, text_bind (next (number s.0)) f s.1.0 b x y s.1.2 r))
 
--- the parts of a text of both
+-- an encoding in two parts
 pub record Both {A B : Type 0} (t : Grammar A) (f : A → Grammar B) (bits : List Bool) (y : B) : Type 0 where
   pub value : A
   pub first : List Bool
@@ -55,14 +55,14 @@ both (field width least greatest next) f bits y s =
 
 -- ---- the first field
 
--- bits begin with a field in one way
+-- bits begin with a field in only one way
 pub same_front : (width least greatest : ℕ) (bits front rest front' rest' : List Bool) → Begins width least greatest bits front rest → Begins width least greatest bits front' rest' → (front ≡ front') × (rest ≡ rest')
 same_front width least greatest bits front rest front' rest' b b' = (
   sym (take_at front rest width b.whole) ∙ ap (take width) (sym b.parts ∙ b'.parts) ∙ take_at front' rest' width b'.whole,
   sym (drop_at front rest width b.whole) ∙ ap (drop width) (sym b.parts ∙ b'.parts) ∙ drop_at front' rest' width b'.whole,
 )
 
--- and not with one that is bad
+-- bits do not begin both with a valid field and with a bad one
 pub not_both : (width least greatest : ℕ) (bits front rest : List Bool) → Begins width least greatest bits front rest → IsBad width least greatest bits → ⊥
 not_both width least greatest bits front rest b bad = elim bad [
   | inl cut ↦ let e = ap length b.parts in let l = length-append front rest in let w = b.whole in omega (arith, e, l, w, cut)

@@ -1,14 +1,14 @@
--- Texts that are put one after the other, as long as they have at most 1,000 bits.
+-- Encodings appended one after the other, up to 1,000 bits in all.
 use Rattle.std.specs.Prelude.{◌≡◌, ◌-◌, nat_le, if◌then◌else◌, Bool, List, ◌++◌, length, Option, Some, None}
 use Rattle.uper.specs.Grammar.{Grammar}
 use Rattle.uper.specs.Texts.{IsText}
 
--- a text with more bits at its end; none once there was no room for all of them
+-- bits with more appended; None once they did not all fit
 abbrev pub append : Option (List Bool) → List Bool → Option (List Bool)
 append None more = None
 append (Some bits) more = if nat_le (length more) (1000 - length bits) then Some (bits ++ more) else None
 
--- a text of the value was put at the end
+-- an encoding of the value was appended
 pub record Puts {A : Type 0} (grammar : Grammar A) (value : A) (old new : Option (List Bool)) : Type 0 where
   pub text : List Bool
   pub is_text : IsText grammar text value

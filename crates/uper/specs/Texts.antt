@@ -1,37 +1,37 @@
--- The texts of a grammar, and what it refuses.
+-- The encodings that a grammar accepts, and the bits that it refuses.
 use Rattle.std.specs.Prelude.{◌≡◌, ℕ, zero, suc, ◌+◌, ◌^◌, ◌<◌, ◌≤◌, ◌⊎◌, Bool, ◌&&◌, nat_le, if◌then◌else◌, List, [], ◌++◌, length, take, Option, Some, None}
 use Rattle.std.specs.Option.{option_map, option_or}
 use Rattle.cs_bits.specs.Numbers.{number, bits_of}
 use Rattle.uper.specs.Grammar.{Grammar, done, field}
 
--- bits begin with a field of so many bits, whose number is within the range
+-- the bits begin with a field of this width, whose number is within the range
 pub record Begins (width least greatest : ℕ) (bits front rest : List Bool) : Type 0 where
   pub parts : bits ≡ front ++ rest
   pub whole : length front ≡ width
   pub above : least ≤ number front
   pub below : number front ≤ greatest
 
--- the bits are a text of the grammar, which stands for the value
+-- the bits are an encoding of the value
 unfoldable pub IsText : {A : Type 0} → Grammar A → List Bool → A → Type 0
 IsText (done x) bits value = (bits ≡ []) × (x ≡ value)
 IsText (field width least greatest next) bits value =
     (front : List Bool) × ((rest : List Bool) ×
     Begins width least greatest bits front rest × IsText (next (number front)) rest value)
 
--- the bits begin with a text of the grammar, which stands for the value; what follows is not looked at
+-- the bits begin with an encoding of the value; later bits are ignored
 pub record BeginsWith {A : Type 0} (grammar : Grammar A) (bits : List Bool) (value : A) : Type 0 where
   pub text : List Bool
   pub rest : List Bool
   pub parts : bits ≡ text ++ rest
   pub is_text : IsText grammar text value
 
--- the first field is cut off, or its number is out of the range
+-- the first field is cut off, or its number is out of range
 abbrev pub IsBad : ℕ → ℕ → ℕ → List Bool → Type 0
 IsBad width least greatest bits =
     (length bits < width)
     ⊎ ((width ≤ length bits) × ((number (take width bits) < least) ⊎ (greatest < number (take width bits))))
 
--- the first bit of the first field that is cut off or out of its range is at this place
+-- the first field that is cut off or out of range begins at this position
 unfoldable pub Refuses : {A : Type 0} → Grammar A → List Bool → ℕ → Type 0
 Refuses (done x) bits place = ⊥
 Refuses (field width least greatest next) bits place =
@@ -39,19 +39,19 @@ Refuses (field width least greatest next) bits place =
     ⊎ ((front : List Bool) × ((rest : List Bool) × ((after : ℕ) ×
     Begins width least greatest bits front rest × (place ≡ width + after) × Refuses (next (number front)) rest after)))
 
--- ---- the text of a value, found among all texts (own)
+-- ---- the encoding of a value, found among all encodings (own)
 
--- the first that is there of f 0, .., f (n - 1)
+-- the first of f 0, .., f (n - 1) that is not None
 unfoldable pub first_some : {A : Type 0} → ℕ → (ℕ → Option A) → Option A
 first_some zero f = None
 first_some (suc n) f = option_or (first_some n f) (f n)
 
--- the bits of a field's number before a text of what follows, where the number is within the range
+-- the bits of a field's number in front of the rest's encoding, if the number is within the range
 abbrev pub after_field : ℕ → ℕ → ℕ → ℕ → Option (List Bool) → Option (List Bool)
 after_field width least greatest n rest =
     if nat_le least n && nat_le n greatest then option_map (λ bits. bits_of width n ++ bits) rest else None
 
--- the first text of the grammar that stands for a value which passes the test
+-- the grammar's first encoding whose value passes the test
 unfoldable pub first_text : {A : Type 0} → (A → Bool) → Grammar A → Option (List Bool)
 first_text test (done x) = if test x then Some [] else None
 first_text test (field width least greatest next) =

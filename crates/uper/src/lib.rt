@@ -1,5 +1,6 @@
-//! Numbers of a few bits, one after the other, the highest bit of each first (ITU-T X.691, the unaligned
-//! variant of the packed encoding rules): bits read, bits written, and the grammars that both follow.
+//! Unaligned PER (ITU-T X.691) for fields a few bits wide, highest bit first: a reader, a writer, and the grammars
+//! that both follow.
+//! Tests: the crates `low_tests` and `code_tests`.
 #![tactic(auto)]
 
 mod reader;

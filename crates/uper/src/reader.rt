@@ -1,4 +1,4 @@
-//! Numbers out of bits.
+//! Reading numbers from bits.
 
 ghost use Rattle.std.specs.Prelude.{◌≡◌, ◌+◌, ◌<◌, ◌≤◌, ◌^◌, ◌↔◌, ◌&&◌, nat_le, length, slice_range, IfSome, IfNone, IsNone, IfOk, OnErr};
 ghost use Rattle.cs_bits.specs.Numbers.{number};
@@ -9,7 +9,7 @@ ghost use Rattle.uper.specs.Reading.{Reads};
 use cs_bits::number_of;
 use std::marker::Model;
 
-/// Reads bits from the first one on. Contracts see it as the bits and its place among them.
+/// Reads bits from the first. Contracts see the bits and the reader's position.
 #[derive(Drop)]
 pub struct Reader<'a> {
     bits: &'a [bool],
@@ -28,7 +28,7 @@ impl<'a> Model for Reader<'a> {
 }
 
 impl<'a> Reader<'a> {
-    /// A reader before the first bit.
+    /// Returns a reader at the first bit.
     pub fn new(bits: &'a [bool]) -> Reader<'a>
         ensures bits { result.bits ≡ bits.now }
         ensures place { result.place ≡ 0 }
@@ -36,8 +36,8 @@ impl<'a> Reader<'a> {
         Reader { bits, place: 0 }
     }
 
-    /// The number of the next `n` bits (at most 32), the highest first, which are then behind the place;
-    /// `None` exactly where fewer are left, and the reader is then unchanged.
+    /// Takes the next `n` bits (at most 32) as a number, highest bit first. Returns `None`, and leaves the reader
+    /// unchanged, exactly if fewer bits are left.
     pub fn take(&mut self, n: u32) -> Option<u32>
         requires { n ≤ 32 }
         ensures left { IsNone result ↔ (length self.old.bits < self.old.place + n) }
@@ -57,7 +57,7 @@ impl<'a> Reader<'a> {
         Some(number_of(&self.bits[first..self.place]) as u32)
     }
 
-    /// The count of the bits that were taken.
+    /// Returns how many bits were taken.
     pub fn place(&self) -> usize
         ensures place { result ≡ self.now.place }
         ensures inside { result ≤ length self.now.bits }
@@ -65,8 +65,8 @@ impl<'a> Reader<'a> {
         self.place
     }
 
-    /// A number of `width` bits (at most 32) from `least` to `greatest`; else the place of its first bit,
-    /// and the reader is then unchanged.
+    /// Reads a number of `width` bits (at most 32) from `least` to `greatest`. Otherwise returns the position of its
+    /// first bit and leaves the reader unchanged.
     pub fn number(&mut self, width: u32, least: u32, greatest: u32) -> Result<u32, usize>
         requires { width ≤ 32 }
         ensures reads { Reads (from_to width least greatest) self.old result self.new }
@@ -87,7 +87,8 @@ impl<'a> Reader<'a> {
         }
     }
 
-    /// One bit; its place where there is none, and where the reader then stands is not said.
+    /// Reads one bit, or returns the position at which it is missing. After that error the reader's position is
+    /// unspecified.
     pub fn flag(&mut self) -> Result<bool, usize>
         ensures { Reads flag self.old result self.new }
     {

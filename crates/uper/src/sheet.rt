@@ -1,4 +1,4 @@
-//! Texts that are put one after the other.
+//! Encodings appended one after the other.
 
 ghost use Rattle.std.specs.Prelude.{◌≡◌, ◌≤◌, ◌<◌, ◌^◌, ℕ, [], Some};
 ghost use Rattle.uper.specs.Grammar.{from_to, flag};
@@ -8,9 +8,8 @@ ghost use Rattle.uper.specs.Sheet.{append, Puts};
 use crate::Writer;
 use std::marker::Model;
 
-/// Bits that are put one after the other, as long as there is room for all of them in 1,000: after the
-/// first that has none, nothing is kept, so that only the end has to ask. Contracts see it as an option of
-/// the bits.
+/// Collects encodings, up to 1,000 bits in all. After the first that does not fit nothing is kept, so that only
+/// `finish` has to report it. Contracts see an option with the bits.
 #[derive(Drop)]
 pub struct Sheet {
     bits: Writer,
@@ -26,7 +25,7 @@ impl Model for Sheet {
 }
 
 impl Sheet {
-    /// A sheet without bits.
+    /// Returns an empty sheet.
     pub fn new() -> Sheet
         ensures { result ≡ Some [] }
     {
@@ -36,8 +35,8 @@ impl Sheet {
         }
     }
 
-    /// Puts the `width` bits (1 to 32) of a number below 2^width, the highest first. They are a text of each
-    /// range that the number is in.
+    /// Appends the `width` bits (1 to 32) of `number`, which is below 2^width, highest first. They encode the number
+    /// for each range that contains it.
     pub fn put(&mut self, number: u32, width: u32)
         requires some { 1 ≤ width }
         requires few { width ≤ 32 }
@@ -52,14 +51,14 @@ impl Sheet {
         self.is_full = !self.bits.put(number, width);
     }
 
-    /// Puts one bit.
+    /// Appends one bit.
     pub fn flag(&mut self, bit: bool)
         ensures { Puts flag bit self.old self.new }
     {
         self.put(bit as u32, 1);
     }
 
-    /// The bits; `None` exactly where there was no room for all of them.
+    /// Returns the bits, or `None` exactly if they did not all fit.
     pub fn finish(self) -> Option<Writer>
         ensures { result ≡ self }
     {

@@ -1,4 +1,4 @@
-//! Bits of numbers.
+//! Writing numbers as bits.
 
 ghost use Rattle.std.specs.Prelude.{◌≡◌, ◌+◌, ◌<◌, ◌≤◌, ◌^◌, ◌++◌, ◌↔◌, [], length, IsTrue, if◌then◌else◌};
 ghost use Rattle.cs_bits.specs.Numbers.{bits_of};
@@ -7,10 +7,10 @@ use arrayvec::ArrayVec;
 use cs_bits::put_number;
 use std::marker::Model;
 
-// The greatest count of bits.
+// The maximum number of bits.
 const ROOM: usize = 1000;
 
-/// At most 1,000 bits. Contracts see it as the list of them.
+/// At most 1,000 bits. Contracts see a list.
 #[derive(Drop)]
 pub struct Writer {
     bits: ArrayVec<bool, ROOM>,
@@ -25,7 +25,7 @@ impl Model for Writer {
 }
 
 impl Writer {
-    /// No bits.
+    /// Returns an empty writer.
     pub fn new() -> Writer
         ensures { result ≡ [] }
     {
@@ -34,8 +34,8 @@ impl Writer {
         }
     }
 
-    /// Appends the `n` bits (at most 32) of a number below 2^n, the highest first; false exactly where
-    /// there would then be more than 1,000, and the writer is then unchanged.
+    /// Appends the `n` bits (at most 32) of `value`, which is below 2^n, highest first. Returns false, and leaves the
+    /// writer unchanged, exactly if there would be more than 1,000 bits.
     pub fn put(&mut self, value: u32, n: u32) -> bool
         requires few { n ≤ 32 }
         requires fits { value < 2 ^ n }
@@ -48,7 +48,7 @@ impl Writer {
         self.bits.try_extend_from_slice(bits).is_ok()
     }
 
-    /// The bits, at most 1,000.
+    /// Returns the bits, at most 1,000.
     pub fn bits(&self) -> &[bool]
         ensures bits { result.now ≡ self.now }
         ensures count { length self.now ≤ 1000 }

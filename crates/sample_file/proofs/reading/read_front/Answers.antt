@@ -13,16 +13,16 @@ use Rattle.sample_file.specs.Steps.{AreKept}
 use Rattle.sample_file.proofs.Progress.{taken_on, recorded_on, short_on, ragged_on, fault_on, past_on, part_on, not_many}
 use Rattle.sample_file.proofs.reading.read_front.Goals as goal
 
--- the begun bytes at the front of the buffer
+-- the bytes of an incomplete sample at the front of the buffer
 begun_size : (form : SampleForm) (n : ℕ) (buffer : List ℕ) → n < width form → length buffer ≡ 16384 → length (take n buffer) ≡ n
 begun_size Ci16 n buffer few size = length-take-le n buffer (omega (arith, few, size))
 begun_size Cu8 n buffer few size = length-take-le n buffer (omega (arith, few, size))
 
--- of samples of which the first are kept there are at least as many as these
+-- the number of samples that are kept
 kept_count : (most : ℕ) (samples kept : List Sample) (count : ℕ) → AreKept most samples kept count → length kept ≡ min most (length samples)
 kept_count most samples kept count k = ap length k.kept_are ∙ length-take most samples
 
--- the count of all in place of their length
+-- the count of all samples in place of their length
 counted : (form : SampleForm) (most : ℕ) (samples kept : List Sample) (count : ℕ) → AreKept most samples kept count → width form * length samples ≡ width form * count
 counted form most samples kept count k = ap (λ n. width form * n) (sym k.count_is)
 

@@ -1,7 +1,7 @@
 use Rattle.std.proofs.Common.{◌≡◌, arith, refl, rules, List, [], ◌∷◌, length, get_or}
 use Rattle.soft_bits.proofs.slot.symbols_of.Goals as goal
 
--- a list of seven is its seven values
+-- a list of seven consists of its seven values
 seven : {A : Type 0} (xs : List A) (d : A) → length xs ≡ 7 →
     get_or xs 0 d ∷ get_or xs 1 d ∷ get_or xs 2 d ∷ get_or xs 3 d ∷ get_or xs 4 d ∷ get_or xs 5 d ∷ get_or xs 6 d ∷ [] ≡ xs
 seven (a ∷ b ∷ c ∷ d ∷ e ∷ f ∷ g ∷ []) x h = refl

@@ -11,7 +11,7 @@ use Rattle.cs_num.proofs.Complex.{times-within, size-le, conjugate-within}
 use Rattle.soft_bits.specs.Soft.{soft_value}
 use Rattle.soft_bits.proofs.value.soft_pair.Goals as goal
 
--- a product of what was seen and the channel turned round
+-- a received value times a conjugated channel
 within : (a b h : Cpx) → h ≡ conjugate b → IsWithin (2 ^ 25) a → IsWithin (540 * 2 ^ 25) b → IsWithin (540 * 2 ^ 25) h × IsWithin (1080 * 2 ^ 50) (times a h)
 within a b h e p q =
     let s : IsWithin (540 * 2 ^ 25) h = rw e (conjugate-within b (540 * 2 ^ 25) q) in
@@ -22,7 +22,7 @@ mul-value-requires c =
     let both = within c.args.seen c.args.channel c.conj.result c.conj.ensures c.requires.seen c.requires.channel in
     omega (arith, mul-le (size c.args.seen) (size c.conj.result) (2 ^ 25) (540 * 2 ^ 25) (size-le _ _ c.requires.seen) (size-le _ _ both.0))
 
--- what the machine reads back
+-- a number within the bound is read back from 64 bits
 back : (z : ℤ) → IsWithin (1080 * 2 ^ 50) (record { re = z; im = z }) → to_z w64 (of_z w64 z) ≡ z
 back z s = to_z-of_z w64 z (fits_signed_from_abs w64 z (omega (arith, s.re)))
 

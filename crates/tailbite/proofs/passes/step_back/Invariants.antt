@@ -4,7 +4,7 @@ use Rattle.tailbite.specs.Machine.{shift}
 use Rattle.tailbite.specs.Costs.{shared_cost}
 use Rattle.tailbite.proofs.passes.step_back.Given as goal
 
--- those of the first h pairs of states are made
+-- the costs for the first h pairs of states are computed
 pub record ArePairs (costs row even odd : List ℕ) (h : ℕ) : Type 0 where
   pub even_size : length even ≡ 32
   pub odd_size : length odd ≡ 32
@@ -13,7 +13,7 @@ pub record ArePairs (costs row even odd : List ℕ) (h : ℕ) : Type 0 where
   pub odd_least : (k : ℕ) → k < h → get_or odd k 0 ≡ least_out shift (shared_cost costs) row (2 * k + 1)
   pub odd_growth : (k : ℕ) → k < h → get_or odd k 0 ≤ get_or row k 0 + 3 * 2 ^ 20
 
--- and written
+-- the costs for the first h pairs of states are written
 pub record IsSteppedBack (costs row earlier : List ℕ) (h : ℕ) : Type 0 where
   pub size : length earlier ≡ 64
   pub least : (k : ℕ) → k < 2 * h → get_or earlier k 0 ≡ least_out shift (shared_cost costs) row k

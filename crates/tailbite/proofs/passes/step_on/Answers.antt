@@ -20,7 +20,7 @@ loop-h-preserved c =
     (c.min-in-loop-h.ensures ∙ sym (high_in costs row h inside), rw from' (omega (arith, c.min-in-loop-h.ensures, high_small))) in
     record { size = simp length-set c.loop-h.invariant.size; low = both.0; high = both.1 }
 
--- what holds of both halves holds of all states
+-- a property of both halves holds for all states
 all_of : (costs row later : List ℕ) (h : ℕ) → IsSteppedOn costs row later h → 32 ≤ h → (x : ℕ) → x < 64 → IsLeastIn costs row x (get_or later x 0)
 all_of costs row later h done all x below = elim (cases_lt x 32) [
   | inl low ↦ done.low x (omega (arith, low, all))

@@ -3,7 +3,7 @@ use Rattle.tailbite.specs.Machine.{first_from}
 use Rattle.tailbite.specs.Costs.{shared_least}
 use Rattle.tailbite.proofs.passes.step_on.Given as goal
 
--- v is the least cost to state k
+-- v is the minimum cost to state k
 abbrev pub IsLeastIn : List ℕ → List ℕ → ℕ → ℕ → Type 0
 IsLeastIn costs row k v = (v ≡ shared_least costs row k) × (v ≤ get_or row (first_from k) 0 + 3 * 2 ^ 20)
 

@@ -8,7 +8,7 @@ use Rattle.soft_bits.specs.Kept.{SeenLine, along}
 use Rattle.soft_bits.proofs.Lines.{port_along}
 use Rattle.soft_bits.proofs.slot.PortSlot.channel.Goals as goal
 
--- so many times a whole part of a scale
+-- a quotient times its divisor is at most the dividend, also when both are multiplied by m
 scaled-few : (a s m : ℕ) → a / s * (s * m) ≤ a * m
 scaled-few a s m = subst (λ (n : ℕ). n ≤ a * m) (mul_assoc (a / s) s m) (mul-le (a / s * s) m a m (div-mul-le_self a s) (omega arith))
 
