@@ -1,4 +1,4 @@
--- The channel of faint paths: how small and how great it is, and how far off it the line through 24 of its values is.
+-- The channel of faint paths: how small and how large it is, and its deviation from the line through 24 of its values.
 use Rattle.std.proofs.Common.{◌≡◌, ℕ, zero, suc, ◌+◌, ◌-◌, ◌*◌, ◌/◌, ◌%◌, ◌^◌, ◌<◌, ◌≤◌, arith, refl, ap, ap₂, sym, subst, ◌∙◌, inl, inr, Bool, true, false, List, nat_le, nat_lt, ℤ, pos, ◌+ℤ◌, ◌-ℤ◌, mul-le-mul, mul-le-mul_left}
 use Rattle.std.specs.Prelude.{if◌then◌else◌}
 use Rattle.std.proofs.Math.Path.{fun_ext}
@@ -46,7 +46,7 @@ sized-minus : (x y : Cpx) (a b n : ℕ) → IsSized a n x → IsSized b n y → 
 sized-minus x y a b n p q =
     subst (IsSized (a + b) n) (minus_is x y) (sized-plus x (minus nothing y) a b n p (record { sized = subst (λ (s : ℕ). s ≤ b * b * n) (sym (square-negated y)) q.sized }))
 
--- what is larger than p and q together, less what is at most q, is at least p
+-- a number larger than p + q, plus one with magnitude at most q, is at least p in magnitude
 outweighs : (p q : ℕ) (x y : Cpx) → square y ≤ q * q → (p + q) * (p + q) < square x → p * p ≤ square (plus x y)
 outweighs p q x y small large = elim (cases_lt (square (plus x y)) (p * p)) [
   | inl less ↦ absurd (none (square x) (below less) large)
@@ -67,12 +67,12 @@ outweighs p q x y small large = elim (cases_lt (square (plus x y)) (p * p)) [
     none : (s : ℕ) → s ≤ (p + q) * (p + q) * 1 → (p + q) * (p + q) < s → ⊥
     none s h l = omega (arith, h, l)
 
--- ---- how far off numbers at a subcarrier the line through those at the reference places is, three times
+-- ---- three times the deviation at a subcarrier from the line through the values at the reference signals
 
 bent : (ℕ → Cpx) → ℕ → ℕ → Cpx
 bent f shift k = minus (estimate (λ i. f (pilot_place shift i)) shift k) (multiple 3 (f k))
 
--- three lines of which one is the sum of the others
+-- the line through sums is the sum of the lines
 line-plus : (f g : ℕ → Cpx) (shift k : ℕ) → estimate (λ i. plus (f i) (g i)) shift k ≡ plus (estimate f shift k) (estimate g shift k)
 line-plus f g shift k = by (nat_lt k (pilot_place shift 0)) (nat_lt k (pilot_place shift 23)) ((k - shift) / 3) ((k - shift) % 3)
   where
@@ -161,14 +161,14 @@ bent-sized t f each shift k =
 
 -- ---- one delay
 
--- so much at most, three times in parts
+-- the maximum deviation for one delay, times three and in parts
 bend_most : ℕ → ℕ
 bend_most delay = 2103 * weight delay - 2114
 
 unfoldable bends_little : ℕ → ℕ → ℕ → Bool
 bends_little delay shift k = nat_le (square (bent (delayed delay) shift k)) (bend_most delay * bend_most delay)
 
--- delays up to 9, the three shifts, and all subcarriers
+-- the bound holds for delays up to 9, the three shifts, and all subcarriers (a finite check)
 all_bend_little : every_below 10 (λ delay. every_below 3 (λ shift. every_below 72 (bends_little delay shift))) ≡ true
 unfolding quarter cosine w_at bent bend_most bends_little every_below
 all_bend_little = refl
@@ -178,7 +178,7 @@ delay-bends delay shift k p q r =
     leb-true _ _ (unfold bends_little in every_below_at 72 (bends_little delay shift)
     (every_below_at 3 (λ shift. every_below 72 (bends_little delay shift)) (every_below_at 10 (λ delay. every_below 3 (λ shift. every_below 72 (bends_little delay shift))) all_bend_little delay p) shift q) k r)
 
--- what the later paths count together, by their bends and by their sizes
+-- the sums over the later paths, by their bends and by their magnitudes
 together : (n : ℕ) (sizes bends weights : ℕ → ℕ) → ((i : ℕ) → i < n → 1000 * bends i + 2113665 ≤ 2103000 * weights i) →
     1000 * total_below n (λ i. sizes i * bends i) + 129 * total_below n (λ i. sizes i * 16385) ≤ 2103000 * total_below n (λ i. weights i * sizes i)
 unfolding total_below
@@ -195,7 +195,7 @@ bend_counts delay = count (weight delay) (weight-least delay)
     count : (w : ℕ) → 17 ≤ w → 1000 * (2103 * w - 2114) + 2113665 ≤ 2103000 * w
     count w l = omega (arith, l)
 
--- s is what they count, n the square of the first gain
+-- s is the weighted sum over the later paths, n the first gain's square
 fits-square : (s n t : ℕ) → s * s ≤ n → 2 ^ 28 ≤ n → t ≤ 2103000 * s + 71010594 → t * t < 129 * 129 * (16384 * 16384 * n)
 fits-square s n t h some few =
     let all : 2 ^ 28 * (s * s) ≤ n * n = mul-le-mul some h in
@@ -206,7 +206,7 @@ fits-square s n t h some few =
 -- ---- the channel
 
 module _ (sizes : ℕ → ℕ) (paths : Paths) (faint : AreFaint sizes paths) (sounds : 2 ^ 28 ≤ square paths.first) where
-  -- the later paths and what rounding is off by, 16384 times
+  -- 16384 times the later paths' part of the channel, without and with the rounding error
   others : ℕ → Cpx
   others k = received_of paths.later paths.gain (λ path. delayed (paths.delay path) k)
 
@@ -223,7 +223,7 @@ module _ (sizes : ℕ → ℕ) (paths : Paths) (faint : AreFaint sizes paths) (s
       fits : (s : ℕ) → s ≤ 134217728 → s ≤ 11586 * 11586
       fits s h = omega (arith, h)
 
-  -- beside the first gain
+  -- the rest relative to the first gain
   besides-sized : (k : ℕ) → IsSized 965 (square paths.first) (besides k)
   unfolding besides others
   besides-sized k =
@@ -266,7 +266,7 @@ module _ (sizes : ℕ → ℕ) (paths : Paths) (faint : AreFaint sizes paths) (s
       fits : (n s t v : ℕ) → t ≡ s → t ≡ 16384 * 16384 * v → s ≤ (16384 + 965) * (16384 + 965) * n → 1000000 * v ≤ 1060 * 1060 * n
       fits n s t v f g h = omega (arith, f, g, h)
 
-  -- ---- beside the channel: sums of whole sizes
+  -- ---- relative to the channel: sums of magnitudes
 
   bends : ℕ
   bends = total_below paths.later (λ path. sizes path * bend_most (paths.delay path))
@@ -369,7 +369,7 @@ paths_are_read sizes paths pattern slot symbol k faint sounds inside = record {
     shift : (n : ℕ) → n % 3 < 3
     shift n = omega arith
 
--- ---- a slot that is received
+-- ---- a received slot
 
 module _ (sizes : ℕ → ℕ) (paths : Paths) (pattern : Pattern) (count : ℕ) (recording : List Sample) (starts : ℕ → ℕ) (grids : ℕ → ℕ → Cpx) (slot : SeenSlot) (faint : AreFaint sizes paths)
     (later : pattern.later < count) (is : IsSlotReceivedOver paths pattern count recording starts grids slot) where

@@ -1,4 +1,4 @@
--- The causes by which what is seen is off.
+-- The causes of a demodulated value's deviation.
 use Rattle.std.proofs.Common.{◌≡◌, ℕ, ◌+◌, ◌*◌, ◌^◌, ◌<◌, ◌≤◌, arith, refl, ap, ap₂, sym, subst, ◌∙◌, ℤ, pos, ◌+ℤ◌, ◌-ℤ◌, ◌*ℤ◌, mul-le-mul, mul-le-mul_left}
 use Rattle.finite.proofs.Sums.{total_below-within}
 use Rattle.finite.proofs.Ring.{var, lit, same}
@@ -31,16 +31,16 @@ energy-le n bound f h = total_below-within n bound (λ k. square (f k)) h
 tone-energy : (k : ℕ) → energy_below 128 (tone_at k) ≤ 128 * 268468225
 tone-energy k = energy-le 128 268468225 (tone_at k) (λ n l. w-square (frequency k * n))
 
--- by Cauchy: samples of this energy, seen at a subcarrier
+-- by Cauchy's inequality: the demodulated value of samples with this energy
 seen-small : (f : ℕ → Cpx) (k e : ℕ) → energy_below 128 f ≤ e → square (correlation_below 128 f (tone_at k)) ≤ e * (128 * 268468225)
 seen-small f k e h = chain (square (correlation_below 128 f (tone_at k))) (energy_below 128 f) (energy_below 128 (tone_at k)) (cauchy 128 f (tone_at k)) h (tone-energy k)
   where
     chain : (s a b : ℕ) → s ≤ a * b → a ≤ e → b ≤ 128 * 268468225 → s ≤ e * (128 * 268468225)
     chain s a b p q r = let t : a * b ≤ e * (128 * 268468225) = mul-le-mul q r in omega (arith, p, t)
 
--- ---- what sending is off by
+-- ---- the transmit error
 
--- 2^17 times a sample of a useful part, less the sum that was rounded
+-- 2^17 times a sample of a useful part, less the sum before rounding
 rounding_off : (ℕ → Cpx) → ℕ → Cpx
 rounding_off grid n = minus (multiple 131072 (useful_at grid n)) (sum_sent grid n)
 
@@ -53,7 +53,7 @@ rounding-seen_small grid k =
     seen-small (rounding_off grid) k (128 * (2 * (65536 * 65536)))
     (energy-le 128 (2 * (65536 * 65536)) (rounding_off grid) (λ n l. square-within (rounding_off grid n) 65536 (rounding-off_small grid n)))
 
--- 2^17 times what is seen of a useful part, less 2^35 times the amplitude
+-- 2^17 times the unrounded demodulated value of a useful part, less 2^35 times the amplitude
 sending : (ℕ → Cpx) → ℕ → Cpx
 sending grid k = minus (multiple 131072 (correlation_below 128 (useful_at grid) (tone_at k))) (multiple 34359738368 (grid k))
 
@@ -93,7 +93,7 @@ rounding_sent_is_small grid k = fits (square (rounding_sent grid k)) (rounding-s
     fits : (s : ℕ) → s ≤ (128 * (2 * (65536 * 65536))) * (128 * 268468225) → 100 * s ≤ (907 * 2 ^ 31) * (907 * 2 ^ 31)
     fits s h = omega (arith, h)
 
--- together 97 units of 2^31
+-- the transmit error is at most 97 units of 2^31
 pub sending_is_small : SendingIsSmall
 unfolding sending spectrum_at
 sending_is_small grid k small l =
@@ -109,9 +109,9 @@ sending_is_small grid k small l =
     plain : (s : ℕ) → s ≤ (13094092800 + 194584248320) * (13094092800 + 194584248320) * 1 → s ≤ (97 * 2 ^ 31) * (97 * 2 ^ 31)
     plain s h = omega (arith, h)
 
--- ---- the whole
+-- ---- the whole deviation
 
--- the sum of what the samples are off by is that of the samples in parts, less that of what was sent
+-- the summed deviations are the summed samples in parts, less the summed transmitted samples
 off_is : (sent samples : ℕ → Cpx) (k : ℕ) →
     correlation_below 128 (off_by samples sent) (tone_at k) ≡ minus (in_parts (correlation_below 128 samples (tone_at k))) (correlation_below 128 sent (tone_at k))
 off_is sent samples k =
@@ -126,7 +126,7 @@ off_is sent samples k =
         (λ n p. sym (plus-minus (in_parts (samples n)) (sent n))) (λ n p. refl)
         ∙ correlation_plus 128 sent (off_by samples sent) (tone_at k)
 
--- of what is seen, the amplitude, the sum of what was sent, and that of the samples
+-- one component: s is demodulated, p the amplitude, x the transmitted sum, and y the received sum
 whole_part : (s p x y : ℤ) →
     pos 536870912 *ℤ (pos 16384 *ℤ s -ℤ pos 64 *ℤ p)
     ≡ pos 131072 *ℤ x -ℤ pos 34359738368 *ℤ p +ℤ (pos 131072 *ℤ (pos 16384 *ℤ y -ℤ x) +ℤ pos 2147483648 *ℤ (pos 4096 *ℤ s -ℤ y))
@@ -173,7 +173,7 @@ three_causes sent samples amplitude k =
     scaled : (e s : ℕ) → s ≤ 131072 * 131072 * (e * (128 * 268468225)) → s ≤ 2 ^ 41 * e * (16385 * 16385)
     scaled e s h = omega (arith, h)
 
--- ---- what several ports send together
+-- ---- several ports together
 
 gain_in : (g x a : Cpx) → times g (minus (multiple 131072 x) (multiple 34359738368 a)) ≡ minus (multiple 131072 (times g x)) (multiple 34359738368 (times g a))
 gain_in g x a = times-minus g (multiple 131072 x) (multiple 34359738368 a) ∙ ap₂ minus (times-multiple 131072 g x) (times-multiple 34359738368 g a)
@@ -207,7 +207,7 @@ pub sending_is_linear : SendingIsLinear
 sending_is_linear gain sent others amplitude other k =
     parts_out (λ n. times gain (sent n)) others (times gain amplitude) other k ∙ ap (λ (z : Cpx). plus z (sending_off others other k)) (gain_out gain sent amplitude k)
 
--- ---- of two symbols with a gain each
+-- ---- two symbols with a gain each
 
 both_off : (g h : Cpx) (grid second : ℕ → Cpx) (k : ℕ) → k < 72 →
     sending_off (λ n. with_gains g h (useful_at grid n) (useful_at second n)) (with_gains g h (grid k) (second k)) k
@@ -229,11 +229,12 @@ four_causes gain other grid second samples k l =
       rounding_small = t.rounding_small;
     }
 
--- what is sent gives an amplitude, and the square of what sending is off by is at most `bound` times the squares of the gains
+-- the transmitted samples carry an amplitude, and their squared transmit error is at most `bound` times the gains'
+-- summed squares
 pub record IsSent (bound power : ℕ) (sent : ℕ → Cpx) (amplitude : Cpx) (k : ℕ) : Type 0 where
   pub off : square (sending_off sent amplitude k) ≤ bound * power
 
--- by one port with a gain
+-- one port with a gain
 pub sent_by_one : (g : Cpx) (grid : ℕ → Cpx) (k : ℕ) → AreAmplitudes grid → k < 72 →
     IsSent ((97 * 2 ^ 31) * (97 * 2 ^ 31)) (square g) (λ n. times g (useful_at grid n)) (times g (grid k)) k
 sent_by_one g grid k small l = record {
@@ -246,7 +247,7 @@ sent_by_one g grid k small l = record {
         let k : n * t ≤ n * ((97 * 2 ^ 31) * (97 * 2 ^ 31)) = mul-le-mul_left n h in
         omega (arith, e, k)
 
--- and by two together: Cauchy's inequality
+-- two together, by Cauchy's inequality
 pub sent-plus : (a b v w : ℕ) (s t : ℕ → Cpx) (x y : Cpx) (k : ℕ) → IsSent a v s x k → IsSent b w t y k → IsSent (a + b) (v + w) (λ n. plus (s n) (t n)) (plus x y) k
 sent-plus a b v w s t x y k p q = record {
   off = subst (λ (z : Cpx). square z ≤ (a + b) * (v + w)) (sym (parts_out s t x y k)) (two_term_cauchy (sending_off s x k) (sending_off t y k) a v b w p.off q.off);

@@ -1,4 +1,4 @@
--- What is seen, in parts, as its main part and a deviation in units of the gain.
+-- A demodulated value in parts, as its main part and a deviation in units of the gain.
 use Rattle.std.proofs.Common.{◌≡◌, ℕ, ◌*◌, ap, sym, ◌∙◌, pos}
 use Rattle.cs_num.specs.declared.Cpx.{Cpx}
 use Rattle.cs_num.specs.Complex.{plus, times, conjugate, square, minus, multiple}
@@ -21,7 +21,8 @@ pub deviation-sized : (most n : ℕ) (gain amplitude seen : Cpx) → IsSeenNear 
 unfolding deviation
 deviation-sized most n gain amplitude seen is = record { sized = is.off }
 
--- what is seen of a known amplitude d, turned back by it, is in parts 64 |d|^2 times the gain up to a deviation
+-- the demodulated value of a known amplitude d, times the conjugate of d, is 64 |d|^2 times the gain in parts, up to a
+-- deviation
 pub channel_is : (g d p : Cpx) → in_parts (times p (conjugate d)) ≡ plus (multiple (64 * square d) g) (times (deviation g d p) (conjugate d))
 channel_is g d p =
     sym (multiple-times 16384 p (conjugate d))

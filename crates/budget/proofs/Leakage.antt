@@ -1,5 +1,5 @@
--- What is seen of a useful part before rounding: 2^35 times each amplitude, and what leaks since the tables are rounded, from each
--- fourth frequency alone: a quarter turn of W is exact.
+-- The unrounded demodulated value of a useful part: 2^35 times each amplitude, and the leakage that comes from rounded
+-- tables. Only every fourth frequency leaks, since a quarter turn of W is exact.
 use Rattle.std.proofs.Common.{◌≡◌, ◌≢◌, ℕ, zero, suc, ◌+◌, ◌-◌, ◌*◌, ◌%◌, ◌<◌, ◌≤◌, ◌⊎◌, inl, inr, arith, refl, ap, ap₂, sym, subst, ◌∙◌, Bool, true, false, nat_eq, ℤ, pos, neg_ℤ, ◌+ℤ◌, ◌-ℤ◌, ◌*ℤ◌}
 use Rattle.std.specs.Prelude.{if◌then◌else◌}
 use Rattle.std.proofs.lemmas.Int.{ints}
@@ -30,7 +30,7 @@ frequency_low k h = grind (arith, nat_tests)
 frequency_high : (k : ℕ) → 36 ≤ k → frequency k ≡ k - 35
 frequency_high k h = grind (arith, nat_tests)
 
--- the frequency of subcarrier l less that of k, modulo 128
+-- the difference between the frequencies of subcarriers l and k, modulo 128
 unfoldable apart : ℕ → ℕ → ℕ
 apart l k = frequency l + 127 * frequency k
 
@@ -75,7 +75,7 @@ tone_other k l p q ne = sum-multiple 128 16384 (λ n. w_at (apart l k * n)) ∙ 
 
 -- ---- products of two entries
 
--- what the product of two entries is off by
+-- the error of the product of two entries
 product_off : ℕ → ℕ → Cpx
 product_off a b = minus (times (w_at a) (w_at b)) (multiple 16384 (w_at (a + b)))
 
@@ -133,7 +133,7 @@ product-off_swaps : (a b : ℕ) → product_off a b ≡ product_off b a
 unfolding product_off
 product-off_swaps a b = ap₂ minus (times-commutes (w_at a) (w_at b)) (ap (λ m. multiple 16384 (w_at m)) (let e : a + b ≡ b + a = omega arith in e))
 
--- a quarter turn of the one is one of the other
+-- a quarter turn can move from one factor to the other
 product-off_moves : (q a b : ℕ) → product_off a (b + 32 * q) ≡ product_off (a + 32 * q) b
 product-off_moves zero a b = let e : b + 32 * 0 ≡ b = omega arith in let f : a + 32 * 0 ≡ a = omega arith in ap (product_off a) e ∙ sym (ap (λ m. product_off m b) f)
 product-off_moves (suc q) a b =
@@ -145,7 +145,7 @@ product-off_same : (a c b : ℕ) → a % 128 ≡ c % 128 → product_off a b ≡
 unfolding product_off
 product-off_same a c b e = ap₂ (λ (u t : Cpx). minus (times u (w_at b)) (multiple 16384 t)) (w_same a c e) (w_same (a + b) (c + b) (omega (arith, e)))
 
--- so many times over
+-- several quarter turns
 turned_by : ℕ → Cpx → Cpx
 turned_by zero z = z
 turned_by (suc q) z = times_j (turned_by q z)
@@ -156,7 +156,7 @@ product-off_turned zero a b = ap (λ m. product_off m b) (let e : a + 32 * 0 ≡
 product-off_turned (suc q) a b =
     ap (λ m. product_off m b) (let e : a + 32 * suc q ≡ a + 32 * q + 32 = omega arith in e) ∙ product-off_turns (a + 32 * q) b ∙ ap times_j (product-off_turned q a b)
 
--- a quarter of the samples on
+-- the error 32 samples later
 off_later : (k l n : ℕ) → off k l (n + 32) ≡ turned_by (apart l k % 4) (off k l n)
 unfolding off apart
 off_later k l n = later (frequency l) (frequency k)
@@ -171,7 +171,7 @@ off_later k l n = later (frequency l) (frequency k)
         places : (a x y d : ℕ) → x + y ≡ 32 * d → (a + x + y) % 128 ≡ (a + 32 * (d % 4)) % 128
         places a x y d h = omega (arith, h)
 
--- the whole sum is the same begun a quarter later
+-- the sum over a period does not change if it begins a quarter later
 sum_later : (h : ℕ → Cpx) → ((n : ℕ) → h (n + 128) ≡ h n) → complex_sum_below 128 (λ n. h (n + 32)) ≡ complex_sum_below 128 h
 sum_later h period =
     complex_sum_below_split 96 32 (λ n. h (n + 32))
@@ -190,7 +190,7 @@ unfolding turned_by
 sum_turned zero n f = refl
 sum_turned (suc q) n f = pair (sum_negated n (λ k. (turned_by q (f k)).im)) refl ∙ ap times_j (sum_turned q n f)
 
--- what turns is nothing
+-- a number that a turn leaves unchanged is 0
 turning_cancels : (r : ℕ) (z : Cpx) → 1 ≤ r → r < 4 → turned_by r z ≡ z → z ≡ nothing
 unfolding turned_by
 turning_cancels zero z some few e = absurd (omega (arith, some))
@@ -224,7 +224,7 @@ off_period k l n = again (frequency l) (frequency k)
         ap₂ minus (ap₂ times (w_same (f * (n + 128)) (f * n) (omega arith)) (w_same (127 * (g * (n + 128))) (127 * (g * n)) (omega arith)))
         (ap (multiple 16384) (w_same (f * (n + 128) + 127 * (g * (n + 128))) (f * n + 127 * (g * n)) (omega arith)))
 
--- so nothing leaks from a frequency that is not a multiple of four away
+-- a frequency whose distance is not a multiple of four does not leak
 off_cancels : (k l : ℕ) → 1 ≤ apart l k % 4 → complex_sum_below 128 (off k l) ≡ nothing
 off_cancels k l turns =
     turning_cancels (apart l k % 4) (complex_sum_below 128 (off k l)) turns (omega arith)
@@ -233,15 +233,15 @@ off_cancels k l turns =
 
 -- ---- all subcarriers
 
--- the 72 tones that are sent, before rounding
+-- the sum of the 72 transmitted tones, before rounding
 unfoldable pub sum_sent : (ℕ → Cpx) → ℕ → Cpx
 sum_sent grid n = complex_sum_below 72 (useful_term grid n)
 
--- W turning at the frequency of a subcarrier
+-- a subcarrier's tone: W at its frequency
 abbrev pub tone_at : ℕ → ℕ → Cpx
 tone_at k n = w_at (frequency k * n)
 
--- what leaks into a subcarrier
+-- the leakage into a subcarrier
 pub leak : (ℕ → Cpx) → ℕ → Cpx
 leak grid k = complex_sum_below 72 (λ l. times (grid l) (complex_sum_below 128 (off k l)))
 
@@ -281,13 +281,13 @@ seen_sent grid k q =
     ∙ complex_sum_below_plus 72 (λ l. times (grid l) (complex_sum_below 128 (tone k l))) (λ l. times (grid l) (complex_sum_below 128 (off k l)))
     ∙ ap (λ (z : Cpx). plus z (complex_sum_below 72 (λ l. times (grid l) (complex_sum_below 128 (off k l))))) (only_own grid k q)
 
--- ---- its size
+-- ---- the magnitude of the leakage
 
--- what a subcarrier may leak into those whose frequency leaves r modulo 4: 256 * 128 * 22200 at most
+-- the maximum leakage of a subcarrier into those whose frequency is r modulo 4: 256 * 128 * 22200
 leaks_at : ℕ → ℕ → ℕ
 leaks_at r l = if nat_eq (frequency l % 4) r then 727449600 else 0
 
--- of 72 subcarriers 18 leak
+-- 18 of the 72 subcarriers leak
 leaks_together : (r : ℕ) → r < 4 → total_below 72 (leaks_at r) ≡ 13094092800
 unfolding total_below leaks_at
 leaks_together zero few = refl

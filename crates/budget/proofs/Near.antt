@@ -1,5 +1,5 @@
--- Lines through pilots: numbers that are, in parts, some centre up to a deviation in any unit; and where the centre is a multiple of
--- a gain.
+-- Lines through pilots: numbers that are, in parts, some centre up to a deviation in any unit, and in particular a
+-- multiple of a gain.
 use Rattle.std.proofs.Common.{◌≡◌, ℕ, ◌+◌, ◌-◌, ◌*◌, ◌/◌, ◌%◌, ◌<◌, ◌≤◌, arith, refl, ap, ap₂, sym, ◌∙◌, subst, Bool, true, false, nat_lt}
 use Rattle.std.specs.Prelude.{if◌then◌else◌}
 use Rattle.std.proofs.lemmas.Bool.{ltb-true, ltb-false}
@@ -15,7 +15,7 @@ use Rattle.budget.specs.Received.{in_parts}
 use Rattle.budget.proofs.Parts.{multiple-swaps}
 use Rattle.soft_bits.specs.Estimate.{place_by, between_by, line_by, estimate}
 
--- z in parts is a centre, up to t times the root of n
+-- z in parts is a centre, within t times the root of n
 pub record IsOff (n t : ℕ) (centre z : Cpx) : Type 0 where
   pub off : Cpx
   pub is : in_parts z ≡ plus centre off
@@ -46,7 +46,7 @@ distributes a b c = omega arith
 shares : (step r t : ℕ) → r < step → (step - r) * t + r * t ≡ step * t
 shares step r t few = sym (distributes (step - r) r t) ∙ ap (λ m. m * t) (let e : step - r + r ≡ step = omega (arith, few) in e)
 
--- two lines through pilots are related where their pilots are, outside and between
+-- two lines are related, outside the pilots and between them, if their pilots are
 module _ (R : Cpx → Cpx → Type 0) (step last : ℕ) (f g : ℕ → Cpx) (some : 1 ≤ step) (outer : (i : ℕ) → i ≤ last → R (multiple step (f i)) (multiple step (g i)))
     (inner : (i r : ℕ) → i + 1 ≤ last → r < step → R (between_by step f i r) (between_by step g i r)) where
   line_related : (shift k : ℕ) → R (line_by step last f shift k) (line_by step last g shift k)
@@ -71,8 +71,7 @@ module _ (R : Cpx → Cpx → Type 0) (step last : ℕ) (f g : ℕ → Cpx) (som
       first true e = outer 0 (omega arith)
       first false e = second (nat_lt k (place_by step shift last)) refl (ltb-false k (place_by step shift 0) e)
 
--- the line through pilots that are off their centres is as much off the line through the centres, as many times as there are
--- subcarriers from pilot to pilot
+-- the line through pilots deviates from the line through their centres by the pilots' deviation times the pilot spacing
 pub line-off : (n t : ℕ) (centres pilots : ℕ → Cpx) (step last : ℕ) → 1 ≤ step → ((i : ℕ) → i ≤ last → IsOff n t (centres i) (pilots i)) → (shift k : ℕ) →
     IsOff n (step * t) (line_by step last centres shift k) (line_by step last pilots shift k)
 line-off n t centres pilots step last some near =
@@ -83,14 +82,14 @@ line-off n t centres pilots step last some near =
     (off-multiple n t (step - r) (centres i) (pilots i) (near i (omega (arith, l))))
     (off-multiple n t r (centres (i + 1)) (pilots (i + 1)) (near (i + 1) l))))
 
--- the line through multiples
+-- the line through multiples is the multiple of the line
 pub line-multiple : (m step last : ℕ) (f : ℕ → Cpx) → 1 ≤ step → (shift k : ℕ) → line_by step last (λ i. multiple m (f i)) shift k ≡ multiple m (line_by step last f shift k)
 line-multiple m step last f some =
     line_related (λ x y. x ≡ multiple m y) step last (λ i. multiple m (f i)) f some
     (λ i l. multiple-swaps step m (f i))
     (λ i r l few. ap₂ plus (multiple-swaps (step - r) m (f i)) (multiple-swaps r m (f (i + 1))) ∙ sym (multiple-plus m (multiple (step - r) (f i)) (multiple r (f (i + 1)))))
 
--- the line through one number
+-- the line through one number is constant
 pub line-level : (step last : ℕ) (z : Cpx) → 1 ≤ step → (shift k : ℕ) → line_by step last (λ i. z) shift k ≡ multiple step z
 line-level step last z some =
     line_related (λ x y. x ≡ multiple step z) step last (λ i. z) (λ i. z) some
@@ -99,7 +98,7 @@ line-level step last z some =
 
 -- ---- near a multiple of a gain
 
--- z in parts is c times the gain, up to t times the root of n
+-- z in parts is c times the gain, within t times the root of n
 abbrev pub IsNear : ℕ → Cpx → ℕ → ℕ → Cpx → Type 0
 IsNear n gain c t z = IsOff n t (multiple c gain) z
 
@@ -112,14 +111,14 @@ near-plus n gain x y a b s t p q = subst (λ (z : Cpx). IsOff n (s + t) z (plus 
 pub near-off : (n : ℕ) (gain z : Cpx) (c t : ℕ) → IsNear n gain c t z → square (minus (in_parts z) (multiple c gain)) ≤ t * t * n
 near-off n gain z c t near = off-size n t (multiple c gain) z near
 
--- the line through pilots that are all near one multiple
+-- the line through pilots that are all near one multiple is near it
 pub line-near : (n : ℕ) (gain : Cpx) (c t : ℕ) (pilots : ℕ → Cpx) (step last : ℕ) → 1 ≤ step → ((i : ℕ) → i ≤ last → IsNear n gain c t (pilots i)) → (shift k : ℕ) →
     IsNear n gain (step * c) (step * t) (line_by step last pilots shift k)
 line-near n gain c t pilots step last some near shift k =
     subst (λ (x : Cpx). IsOff n (step * t) x (line_by step last pilots shift k)) (line-level step last (multiple c gain) some shift k ∙ multiple_twice step c gain)
     (line-off n t (λ i. multiple c gain) pilots step last some near shift k)
 
--- of 24 pilots, three times that multiple
+-- the estimate from 24 pilots is near three times that multiple
 pub estimate-near : (n : ℕ) (gain : Cpx) (c t : ℕ) (pilots : ℕ → Cpx) → ((i : ℕ) → i < 24 → IsNear n gain c t (pilots i)) → (shift k : ℕ) →
     IsNear n gain (3 * c) (3 * t) (estimate pilots shift k)
 estimate-near n gain c t pilots near shift k = line-near n gain c t pilots 3 23 (omega arith) (λ i l. near i (omega (arith, l))) shift k

@@ -1,5 +1,5 @@
--- The finite sums by which the primary signals stand out: their powers, and of each signal against itself or another one, up to 9
--- samples apart, the correlation of what overlaps, its energy, and the energy of what does not.
+-- The finite sums by which the primary signals stand out: their powers, and for each signal against itself or another
+-- one, up to 9 samples apart, the correlation of the overlap, its energy, and the energy outside it.
 use Rattle.std.proofs.Common.{◌≡◌, ◌≢◌, ℕ, ◌+◌, ◌-◌, ◌*◌, ◌<◌, ◌≤◌, Bool, true, false, arith, refl, ap, ap₂, subst, ◌∙◌, nat_le, nat_eq}
 use Rattle.std.specs.Prelude.{◌&&◌, ◌||◌}
 use Rattle.std.proofs.lemmas.Bool.{leb-true, and_parts}
@@ -14,8 +14,8 @@ use Rattle.norms.proofs.Cauchy.{energy_same, correlation_same}
 use Rattle.pss_search.specs.Correlation.{wave}
 use Rattle.pss_search.proofs.SignalTables.{re_25, im_25, re_29, im_29, re_34, im_34, re_of, im_of, samples, wave_is}
 
--- A window of 128 samples begins d samples after one that begins 9 samples before a signal. So many of its samples stand before the
--- signal, so many of the signal's before the window, and so many in both.
+-- A window of 128 samples begins d samples after one that begins 9 samples before a signal. This many of its samples
+-- are in front of the signal, this many of the signal's are in front of the window, and this many are in both.
 abbrev pub before : ℕ → ℕ
 before d = 9 - d
 
@@ -25,20 +25,20 @@ skipped d = d - 9
 abbrev pub common : ℕ → ℕ
 common d = 128 - (9 - d) - (d - 9)
 
--- what the window has of the signal p, correlated with the signal q
+-- the window's part of the signal p, correlated with the signal q
 abbrev pub overlap : (ℕ → Cpx) → (ℕ → Cpx) → ℕ → Cpx
 overlap p q d = correlation_below (common d) (λ n. p (skipped d + n)) (λ n. q (before d + n))
 
--- the energy of what it has of p
+-- the energy of the window's part of p
 abbrev pub kept : (ℕ → Cpx) → ℕ → ℕ
 kept p d = energy_below (common d) (λ n. p (skipped d + n))
 
--- the energy of q where it has nothing of p
+-- the energy of q outside the window's part of p
 abbrev pub edges : (ℕ → Cpx) → ℕ → ℕ
 edges q d = energy_below (before d) q + energy_below (skipped d) (λ n. q (before d + common d + n))
 
--- by these four numbers: whatever stands beside p, four times the peak of q is at most so much of the window's energy, where the
--- energy of errors is at most `quota` times the gain's square
+-- from these four numbers, whatever is next to p: four times the peak of q is at most `share` times the window's
+-- energy, if the error energy is at most `quota` times the gain's square
 pub record IsFaint (quota share power overlap kept edges : ℕ) : Type 0 where
   pub rest : 4 * edges ≤ share
   pub much : 110 * quota ≤ 10 * kept
@@ -55,14 +55,14 @@ faint_tells quota share power overlap kept edges test =
     let two = and_parts _ _ one.1 in
     record { rest = leb-true _ _ one.0; much = leb-true _ _ two.0; small = leb-true _ _ two.1 }
 
--- in a window beside p itself, or one that holds another signal p, the signal q is faint
+-- in a window next to p, or in one that holds another signal p, the signal q is faint
 abbrev pub IsFaintAt : ℕ → ℕ → (ℕ → Cpx) → (ℕ → Cpx) → ℕ → Type 0
 IsFaintAt quota share p q d = IsFaint quota share (energy_below 128 q) (square (overlap p q d)) (kept p d) (edges q d)
 
 abbrev faint_at : ℕ → ℕ → (ℕ → Cpx) → (ℕ → Cpx) → ℕ → Bool
 faint_at quota share p q d = is_faint quota share (energy_below 128 q) (square (overlap p q d)) (kept p d) (edges q d)
 
--- the numbers of signals that agree are the same
+-- signals that agree have the same four numbers
 abbrev Agree : (ℕ → Cpx) → (ℕ → Cpx) → Type 0
 Agree p q = (n : ℕ) → n < 128 → p n ≡ q n
 
@@ -78,7 +78,7 @@ faint_same quota share p q v w d l first second =
     (ap₂ (λ (i j : ℕ). i + j) (energy_same (before d) q w (λ n b. second n (omega (arith, l, b))))
     (energy_same (skipped d) (λ n. q (before d + common d + n)) (λ n. w (before d + common d + n)) (λ n b. second (before d + common d + n) (omega (arith, l, b)))))
 
--- ---- a signal against itself, with errors of at most 14000 times the gain's square
+-- ---- a signal against itself, with error energy at most 14000 times the gain's square
 
 pub record IsSharp (p : ℕ → Cpx) : Type 0 where
   pub power : 1990000 ≤ energy_below 128 p
@@ -97,7 +97,7 @@ all_sharp = refl
 apart : (d : ℕ) → d ≢ 9 → nat_eq d 9 ≡ false
 apart d ne = grind (arith, nat_tests)
 
--- the test tells of a signal that agrees with the list
+-- the test is right for a signal that agrees with the table
 sharp_tells : (p q : ℕ → Cpx) → Agree p q → is_sharp q ≡ true → IsSharp p
 unfolding is_sharp sharp_at
 sharp_tells p q same test = record {
@@ -115,16 +115,16 @@ wave_is_sharp n2 h =
     let known : n2 < 3 = omega (arith, h) in
     sharp_tells (wave n2) (samples n2) (λ n l. wave_is n2 n known l) (every_below_at 3 (λ n2. is_sharp (samples n2)) all_sharp n2 known)
 
--- ---- a signal against another one, with errors of at most 1800 times the gain's square
+-- ---- a signal against another one, with error energy at most 1800 times the gain's square
 
--- where p stands, within 9 samples q is no hit: four times its peak is less than its power times the energy
+-- within 9 samples of p, q has no hit: four times its peak is less than its power times the energy
 abbrev pub AreApart : (ℕ → Cpx) → (ℕ → Cpx) → Type 0
 AreApart p q = (d : ℕ) → d < 19 → IsFaintAt 1800 (energy_below 128 q - 1) p q d
 
 unfoldable apart_at : (ℕ → Cpx) → (ℕ → Cpx) → ℕ → Bool
 apart_at p q d = faint_at 1800 (energy_below 128 q - 1) p q d
 
--- of two numbers that differ
+-- the signals of two different roots
 unfoldable are_apart : ℕ → ℕ → Bool
 are_apart n2 m2 = nat_eq n2 m2 || every_below 19 (apart_at (samples n2) (samples m2))
 

@@ -1,4 +1,4 @@
--- A primary signal stands out, so that its place is a hit and no place near it is.
+-- A primary signal stands out, so that its position is a hit and none near it is.
 use Rattle.std.proofs.Common.{◌≡◌, ◌≢◌, ℕ, ◌+◌, ◌-◌, ◌*◌, ◌^◌, ◌<◌, ◌≤◌, ◌⊎◌, inl, inr, arith, refl, ap, sym, ◌∙◌, subst, List}
 use Rattle.cs_num.specs.declared.Cpx.{Cpx}
 use Rattle.cs_num.specs.declared.Sample.{Sample}
@@ -28,7 +28,7 @@ received_is g p r n = sym (plus-minus (r n) (times g (p n)))
 middle_first : (a b c : Cpx) → plus (plus a b) c ≡ plus b (plus a c)
 middle_first a b c = ap (λ (z : Cpx). plus z c) (plus-commutes a b) ∙ plus-associates b a c
 
--- 128 numbers are a gain in parts times the signal p, and errors whose energy is at most `quota` times the gain's square
+-- 128 numbers are a gain in parts times the signal p, with error energy at most `quota` times the gain's square
 record HasSmallErrors (quota : ℕ) (g : Cpx) (p r : ℕ → Cpx) : Type 0 where
   pub some : 1 ≤ square g
   pub small : energy_below 128 (error g p r) ≤ quota * square g
@@ -42,7 +42,8 @@ errors_small quota g p r clean a m l =
     part : (e i j w n : ℕ) → e ≡ i + j → e ≤ w → w ≤ quota * n → j ≤ quota * n
     part e i j w n same h k = omega (arith, same, h, k)
 
--- a window x that begins at most 9 places before or after 128 numbers r of a signal p with errors, correlated with a signal q
+-- a window x that begins at most 9 samples before or after 128 numbers r, a signal p with errors, correlated with a
+-- signal q
 near : (quota : ℕ) (g : Cpx) (p q r x : ℕ → Cpx) (d share : ℕ) → d < 19 → HasSmallErrors quota g p r → ((n : ℕ) → x (before d + n) ≡ r (skipped d + n)) → IsFaintAt quota share p q d →
     4 * square (correlation_below 128 x q) ≤ share * energy_below 128 x
 near quota g p q r x d share l clean known faint =
@@ -103,7 +104,7 @@ near quota g p q r x d share l clean known faint =
 
 -- ---- in a recording
 
--- the samples from a place on, in parts
+-- the samples from an index on, in parts
 parts_from : List Sample → ℕ → ℕ → Cpx
 parts_from recording t n = in_parts (sample_at recording (t + n))
 
@@ -114,7 +115,7 @@ clean_from quota n2 t g recording received = record { some = some (square g) rec
     some : (n : ℕ) → 2 ^ 28 ≤ n → 1 ≤ n
     some n h = omega (arith, h)
 
--- the peak and the energy of what is in parts are 2^28 times those of the samples
+-- the peak and the energy of samples in parts are 2^28 times those of the samples
 record AreInParts (c e c' e' : ℕ) : Type 0 where
   peaks : c' ≡ 268435456 * c
   energies : e' ≡ 268435456 * e
@@ -142,7 +143,7 @@ unfolding parts_from
 same_sample recording t u a b n =
     ap (λ (i : ℕ). in_parts (sample_at recording i)) (let e : u + (before (u + 9 - t) + n) ≡ t + (skipped (u + 9 - t) + n) = omega (arith, a, b) in e)
 
--- at a place within 9, the metric of another signal, or of the same one beside its place, is small
+-- within 9 samples, the metric of another signal, or of the signal itself next to its position, is small
 near_low : (quota : ℕ) (recording : List Sample) (t u n2 m2 share : ℕ) (g : Cpx) → HasSmallErrors quota g (wave n2) (parts_from recording t) → u ≤ t + 9 → t ≤ u + 9 →
     IsFaintAt quota share (wave n2) (wave m2) (u + 9 - t) → 4 * peak recording m2 u ≤ share * energy recording u
 near_low quota recording t u n2 m2 share g clean a b faint =
@@ -207,7 +208,7 @@ primary_stands_out_by recording t n2 primary =
       };
     }
 
--- small errors are among larger ones
+-- small errors are within the larger bound
 among : (recording : List Sample) (t n2 : ℕ) → IsPrimaryAt recording t n2 → IsPrimaryWithin 14000 recording t n2
 among recording t n2 primary = record {
   gain = primary.gain;
@@ -225,7 +226,7 @@ primary_stands_out recording t n2 primary = record {
     here : Peaks 999 (peak recording n2 t) (energy recording t) (wave_power n2)
     here = peaks_at 1800 999 1 recording t n2 primary.gain few_errors (wave_is_sharp n2 primary.root) (clean_from 1800 n2 t primary.gain recording primary.received)
 
--- a place that is below another is neither above it nor level with it
+-- of two positions, at most one is above the other
 not_above : (recording : List Sample) (n2 t u : ℕ) → IsAbove recording n2 t u → ¬ IsAbove recording n2 u t
 not_above recording n2 t u h k = absurd (clash (peak recording n2 u * energy recording t) (peak recording n2 t * energy recording u) h.greater k.greater)
   where
@@ -285,9 +286,9 @@ only_hit_of_root_within recording t u n2 primary a b hit = elim (same_or_not u t
   | inr ne ↦ absurd (hit.none_above t b a ((primary_stands_out_by recording t n2 primary).above u ne a b hit.sounds))
 ]
 
--- ---- other roots, where errors are small
+-- ---- other roots, with small errors
 
--- four times the peak is less than the power times the energy, so it is no hit
+-- if four times the peak is less than the power times the energy, there is no hit
 faint_is_no_hit : (c e w : ℕ) → 1990000 ≤ w → 0 < e → 4 * c ≤ (w - 1) * e → e * w ≤ 4 * c → ⊥
 faint_is_no_hit c e w power some low clear =
     let less : (w - 1) * e + e ≡ w * e = step e (w - 1) w (omega (arith, power)) in

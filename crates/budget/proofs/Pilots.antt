@@ -1,4 +1,4 @@
--- Pilots: what is seen of an amplitude of known size, as the square of what is seen and as a channel.
+-- Pilots: the demodulated value of an amplitude of known magnitude, its square, and the channel estimate from it.
 use Rattle.std.proofs.Common.{◌≡◌, ℕ, ◌+◌, ◌*◌, ◌/◌, ◌^◌, ◌≤◌, arith, refl, ap, ap₂, sym, ◌∙◌, subst, inl, inr, ℤ, mul-le-mul_left}
 use Rattle.std.specs.Prelude.{nat_abs}
 use Rattle.cs_num.specs.declared.Cpx.{Cpx}
@@ -25,12 +25,13 @@ pub sent-size : (pattern : Pattern) (identity number i : ℕ) → square (patter
 unfolding pattern_sent
 sent-size pattern identity number i = full-size _ (pattern_reference-IsPoint pattern identity number (pattern_symbol pattern identity i) (pilot_subcarrier identity i / 6))
 
--- what is seen of an amplitude d with the gain g is off by at most t times the root of n, and the square of d is 16200
+-- p is the demodulated value of an amplitude d with the gain g, within t times the root of n, and the square of d is
+-- 16200
 pub record IsPilot (t n : ℕ) (g d p : Cpx) : Type 0 where
   pub full : square d ≡ 16200
   pub seen : IsSized t n (deviation g d p)
 
--- turned back it is near 64 * 16200 times the gain
+-- times the conjugate amplitude, it is near 64 * 16200 times the gain
 pub turned_pilot-near : (t n : ℕ) (g d p : Cpx) → IsPilot t n g d p → IsNear (16200 * n) g 1036800 t (times p (conjugate d))
 turned_pilot-near t n g d p is = record {
   off = times (deviation g d p) (conjugate d);
@@ -45,7 +46,7 @@ turned_pilot-near t n g d p is = record {
         let g : s ≡ a * 16200 = e ∙ ap (λ m. a * m) f in
         omega (arith, g, h)
 
--- its square, in parts, is near 4096 * 16200 times that of the gain, by any weight
+-- its square, in parts, is near 4096 * 16200 times the gain's square, by any weight
 pub record IsPilotSquare (m t n w e : ℕ) : Type 0 where
   pub least : m * (66355200 * w) ≤ (m + 1) * (2 ^ 28 * e) + m * (m + 1) * (t * t * n)
   pub most : m * (2 ^ 28 * e) ≤ (m + 1) * (66355200 * w) + m * (m + 1) * (t * t * n)

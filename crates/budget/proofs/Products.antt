@@ -1,4 +1,4 @@
--- Products and sizes of the entries of W, computed for one period.
+-- Products and magnitudes of the entries of W, computed for one period.
 use Rattle.std.proofs.Common.{◌≡◌, ℕ, ◌+◌, ◌%◌, ◌<◌, ◌≤◌, arith, refl, Bool, true, nat_le}
 use Rattle.std.proofs.lemmas.Bool.{leb-true}
 use Rattle.finite.specs.Tests.{every_below}

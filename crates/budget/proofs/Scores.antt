@@ -1,4 +1,4 @@
--- The score of what was sent: each term is above 0, so no other sequence agrees as well.
+-- The transmitted pair's score: each term is above 0, so no other sequence agrees as well.
 use Rattle.std.proofs.Common.{◌≡◌, ℕ, zero, suc, ◌+◌, ◌-◌, ◌*◌, ◌%◌, ◌^◌, ◌<◌, ◌≤◌, ◌⊎◌, inl, inr, neg_ℤ, arith, refl, ap, ap₂, sym, ◌∙◌, subst, Bool, true, false, nat_le, nat_lt, ℤ, pos, negsuc, ◌-ℤ◌, ◌*ℤ◌, ◌<ℤ◌, ◌≤ℤ◌, int_lt, mul-le-mul_left, mul-le-mul_right, List}
 use Rattle.std.specs.Prelude.{◌&&◌, if◌then◌else◌, nat_abs}
 use Rattle.std.proofs.lemmas.Int.{ints, unsigned_abs-mul}
@@ -44,7 +44,7 @@ use Rattle.budget.proofs.Deviations.{deviation, deviation-sized, channel_is}
 use Rattle.budget.proofs.Through.{channel-some, seen-fits, seen_part}
 use Rattle.budget.proofs.Seen.{amplitude_is_seen_in_recording}
 
--- ---- sizes of the sequences
+-- ---- magnitudes of the sequences
 
 unfoldable z_sized : ℕ → Bool
 z_sized m = nat_le 16000 (square (z_at m)) && nat_le (square (z_at m)) 16384
@@ -84,8 +84,8 @@ unit_square u s unit =
         let k : u * u * q ≤ u * u * (8128 * 8128) = mul-le-mul_left (u * u) h in
         omega (arith, same, k)
 
--- The main part of a term is 8128 times the first of these, and is off by at most the second; w is the square of the primary signal's
--- amplitude, v that of the channel.
+-- The main part of a term is 8128 times `main`, and its deviation is at most `off`; w is the primary signal's squared
+-- amplitude, v the channel's square.
 main : ℕ → ℕ → ℕ → ℕ
 main least w v = least * (64 * w) * v * least
 
@@ -119,7 +119,7 @@ above_nothing k o x less h = omega (arith, ints)
 regrouped : (x s : ℤ) → x *ℤ (pos 64 *ℤ (pos 127 *ℤ s)) ≡ x *ℤ pos 8128 *ℤ s
 regrouped x s = same (ring.times (var x) (ring.times (lit 64) (ring.times (lit 127) (var s)))) (ring.times (ring.times (var x) (lit 8128)) (var s)) (omega arith)
 
--- what is above 0 so many times is above 0
+-- a number is above 0 if a multiple of it is
 positive_by : (m : ℕ) (s x : ℤ) → pos 0 <ℤ (s *ℤ (pos m *ℤ x)) → pos 0 <ℤ (s *ℤ x)
 positive_by m s x h = less (s *ℤ x) (subst (λ y. pos 0 <ℤ y) out h)
   where
@@ -140,7 +140,7 @@ one_term most least n g d p q s room some reads size unit primary secondary =
     (sign-turns s (pos scale *ℤ z.re) (pos (main least (square d) v) *ℤ pos 8128) _ unit
     (subst (λ x. nat_abs (pos scale *ℤ z.re -ℤ x) ≤ off most least (square d) v) (regrouped (pos (main least (square d) v)) s) near.re)))
   where
-    -- of these bounds only two count here
+    -- only two of the bounds count here
     bounds : Bounds
     bounds = record { most = most; least = least; mean = 0; bend = 0 }
 
@@ -207,7 +207,7 @@ one_term most least n g d p q s room some reads size unit primary secondary =
 
 -- ---- all pairs
 
--- another sign gives less
+-- no other sign gives more
 no_more : (s o x : ℤ) → nat_abs s ≡ 1 → nat_abs o ≡ 1 → pos 0 <ℤ (s *ℤ x) → (o *ℤ x) ≤ℤ (s *ℤ x)
 no_more s o x p q some = compare (o *ℤ x) (s *ℤ x) (unsigned_abs-mul o x) (unsigned_abs-mul s x) some
   where
@@ -240,7 +240,7 @@ same_sign s o x p q = elim (sign_cases s p) [
   | inr a ↦ elim (sign_cases o q) [ inl b ↦ rw (a, b) (λ h e. absurd (opposite_too x h e)) | inr b ↦ (λ h e. b ∙ sym a) ]
 ]
 
--- a pair whose score is no less is the one whose terms are above 0
+-- a pair that scores no less is the one whose terms are above 0
 tells : (n1 n2 : ℕ) (half : Half) (pss_seen sss_seen : ℕ → Cpx) → n1 ≤ 167 → n2 ≤ 2 → ((n : ℕ) → n < 62 → pos 0 <ℤ (sss_at n1 n2 half n *ℤ agreement pss_seen sss_seen n2 n)) →
     (m : ℕ) (other : Half) → m ≤ 167 → score pss_seen sss_seen n2 n1 half ≤ℤ score pss_seen sss_seen n2 m other → (m ≡ n1) × (other ≡ half)
 unfolding score
@@ -387,7 +387,7 @@ pss_amplitudes n2 k l = amplitude _ (in_middle (pss_at n2) k (λ n. (pss-size n2
 pub sss_amplitudes : (n1 n2 : ℕ) (half : Half) → AreAmplitudes (sss_grid n1 n2 half)
 sss_amplitudes n1 n2 half k l = amplitude _ (in_middle (sss_amplitude n1 n2 half) k (amplitude_small n1 n2 half))
 
--- signals that are received with one gain are seen so
+-- signals received with one gain are demodulated with it
 pub signals_are_seen : (prefix : Prefix) (recording : List Sample) (t n1 n2 : ℕ) (half : Half) (both : AreSignals prefix recording t n1 n2 half) →
     AreSeen both.gain n1 n2 half (seen recording t) (seen recording (t - symbol_step prefix))
 signals_are_seen prefix recording t n1 n2 half both =

@@ -1,4 +1,4 @@
--- What is seen of amplitudes, from the three causes: sizes in units of 2^31 times the gain.
+-- Demodulated amplitudes, from the three causes: magnitudes in units of 2^31 times the gain.
 use Rattle.std.proofs.Common.{◌≡◌, ℕ, zero, suc, ◌+◌, ◌*◌, ◌^◌, ◌<◌, ◌≤◌, arith, ap, sym, subst, mul-le-mul, mul-le-mul_left, mul-le-mul_right}
 use Rattle.std.proofs.Math.Path.{fun_ext}
 use Rattle.finite.specs.Sums.{sum_below, total_below}
@@ -14,7 +14,7 @@ use Rattle.budget.specs.Received.{AreAmplitudes, in_parts, off_by, received_of, 
 use Rattle.budget.specs.Budget.{AmplitudeIsSeen, AmplitudesAreSeen, AmplitudeIsSeenInRecording, AmplitudesAreSeenInRecording, AreUnitsOf, UnitsAreSeen, seen_in, sending_off}
 use Rattle.budget.proofs.Causes.{three_causes, IsSent, sent_by_one, sent-plus}
 
--- three sizes in units of 2^31 times the gain, of what is 2^29 times the deviation
+-- three magnitudes in units of 2^31 times the gain, whose sum bounds 2^29 times the deviation
 pub join : (a b c n : ℕ) (d x y z : Cpx) → multiple (2 ^ 29) d ≡ plus x (plus y z) → IsSized (a * 2 ^ 31) n x → IsSized (b * 2 ^ 31) n y → IsSized (c * 2 ^ 31) n z →
     square d ≤ 16 * ((a + (b + c)) * (a + (b + c))) * n
 join a b c n d x y z e p q r =
@@ -24,12 +24,12 @@ join a b c n d x y z e p q r =
     down : (a b c n s t u : ℕ) → t ≡ 2 ^ 29 * 2 ^ 29 * s → t ≡ u → u ≤ (a * 2 ^ 31 + (b * 2 ^ 31 + c * 2 ^ 31)) * (a * 2 ^ 31 + (b * 2 ^ 31 + c * 2 ^ 31)) * n → s ≤ 16 * ((a + (b + c)) * (a + (b + c))) * n
     down a b c n s t u e f h = omega (arith, e, f, h)
 
--- the square of what sending one port's symbol may be off by
+-- the squared maximum transmit error for one port's symbol
 unit : ℕ
 unit = (97 * 2 ^ 31) * (97 * 2 ^ 31)
 
--- for so many ports, with errors of at most `quota` times n, which are the squares of the gains: a units for sending, b for the errors
--- and 1 for rounding make at most `most` in all
+-- for several ports, with error energy at most `quota` times n, the gains' summed squares: a units for transmission, b
+-- for the errors and 1 for rounding make at most `most` in all
 record AreUnits (ports quota most a b : ℕ) : Type 0 where
   some : 1 ≤ ports
   sending : (n s : ℕ) → s ≤ ports * ((97 * 2 ^ 31) * (97 * 2 ^ 31)) * n → s ≤ (a * 2 ^ 31) * (a * 2 ^ 31) * n
@@ -99,7 +99,7 @@ units_are_seen quota most units = (seen_with, in_recording quota most seen_with)
     seen_with : AmplitudeIsSeen quota most
     seen_with = by_one quota most units.errors (units_of_share quota most units)
 
--- errors of 1800 times the gain's square: 481 units
+-- error energy of 1800 times the gain's square: 481 units
 units_of_one : AreUnits 1 1800 2316 97 481
 units_of_one = record { some = omega arith; sending = λ n s h. omega (arith, h); errors = λ n s h. omega (arith, h); whole = λ n s h. omega (arith, h) }
 
@@ -109,7 +109,7 @@ amplitude_is_seen = by_one 1800 2316 481 units_of_one
 pub amplitude_is_seen_in_recording : AmplitudeIsSeenInRecording 1800 2316
 amplitude_is_seen_in_recording = in_recording 1800 2316 amplitude_is_seen
 
--- of 1024 times it: 363 units
+-- error energy of 1024 times the gain's square: 363 units
 units_of_quiet : AreUnits 1 1024 1920 97 363
 units_of_quiet = record { some = omega arith; sending = λ n s h. omega (arith, h); errors = λ n s h. omega (arith, h); whole = λ n s h. omega (arith, h) }
 
@@ -155,7 +155,7 @@ all_in_recording : (ports quota most : ℕ) → AmplitudesAreSeen ports quota mo
 unfolding seen
 all_in_recording ports quota most are gains grids recording start k small received l = are gains grids (samples_from recording start) k small received l
 
--- of two: 2 * 97^2 is below 138^2
+-- two ports: 2 * 97^2 is below 138^2
 units_of_two : AreUnits 2 400 1464 138 227
 units_of_two = record { some = omega arith; sending = λ n s h. omega (arith, h); errors = λ n s h. omega (arith, h); whole = λ n s h. omega (arith, h) }
 
@@ -165,7 +165,7 @@ two_amplitudes_are_seen = by_all 2 400 1464 138 227 units_of_two
 pub two_amplitudes_are_seen_in_recording : AmplitudesAreSeenInRecording 2 400 1464
 two_amplitudes_are_seen_in_recording = all_in_recording 2 400 1464 two_amplitudes_are_seen
 
--- of four: 4 * 97^2 is 194^2
+-- four ports: 4 * 97^2 is 194^2
 units_of_four : AreUnits 4 7 900 194 30
 units_of_four = record { some = omega arith; sending = λ n s h. omega (arith, h); errors = λ n s h. omega (arith, h); whole = λ n s h. omega (arith, h) }
 
@@ -175,7 +175,7 @@ four_amplitudes_are_seen = by_all 4 7 900 194 30 units_of_four
 pub four_amplitudes_are_seen_in_recording : AmplitudesAreSeenInRecording 4 7 900
 four_amplitudes_are_seen_in_recording = all_in_recording 4 7 900 four_amplitudes_are_seen
 
--- of two with errors of 64 times the sum: 91 units
+-- two ports, with error energy of 64 times the sum: 91 units
 units_of_quiet_two : AreUnits 2 64 1024 138 91
 units_of_quiet_two = record { some = omega arith; sending = λ n s h. omega (arith, h); errors = λ n s h. omega (arith, h); whole = λ n s h. omega (arith, h) }
 
@@ -185,7 +185,7 @@ quiet_two_are_seen = by_all 2 64 1024 138 91 units_of_quiet_two
 pub quiet_two_are_seen_in_recording : AmplitudesAreSeenInRecording 2 64 1024
 quiet_two_are_seen_in_recording = all_in_recording 2 64 1024 quiet_two_are_seen
 
--- of four with errors of 4 times it: 23 units
+-- four ports, with error energy of 4 times the sum: 23 units
 units_of_quiet_four : AreUnits 4 4 872 194 23
 units_of_quiet_four = record { some = omega arith; sending = λ n s h. omega (arith, h); errors = λ n s h. omega (arith, h); whole = λ n s h. omega (arith, h) }
 

@@ -1,4 +1,5 @@
--- What is seen of a symbol that is received over several paths: each path turns the useful part round, and that turns what is seen.
+-- The demodulation of a symbol received over several paths: each path shifts the useful part cyclically, which rotates
+-- the demodulated value.
 use Rattle.std.proofs.Common.{◌≡◌, ℕ, zero, suc, ◌+◌, ◌-◌, ◌*◌, ◌%◌, ◌^◌, ◌<◌, ◌≤◌, arith, refl, ap, ap₂, sym, subst, ◌∙◌, inl, inr, ℤ, pos, ◌+ℤ◌, ◌-ℤ◌, ◌*ℤ◌, mul-le-mul, mul-le-mul_left, mul-le-mul_right}
 use Rattle.std.specs.Prelude.{nat_abs}
 use Rattle.std.proofs.lemmas.Int.{ints}
@@ -43,7 +44,7 @@ flips x y = omega (arith, ints)
 pub square-flips : (a b : Cpx) → square (minus a b) ≡ square (minus b a)
 square-flips a b = ap₂ (λ (m n : ℕ). m * m + n * n) (flips a.re b.re) (flips a.im b.im)
 
--- ---- a sum turned round
+-- ---- a cyclically shifted sum
 
 sum_next : (h : ℕ → Cpx) → ((n : ℕ) → h (n + 128) ≡ h n) → complex_sum_below 128 (λ n. h (n + 1)) ≡ complex_sum_below 128 h
 sum_next h period =
@@ -60,7 +61,7 @@ sum_from (suc t) h period =
     ∙ sum_next (λ n. h (n + t)) (λ n. ap h (let e : n + 128 + t ≡ n + t + 128 = omega arith in e) ∙ period (n + t))
     ∙ sum_from t h period
 
--- what is seen of samples turned round: each later by the delay
+-- the demodulated value of shifted samples, with the delay in the phase
 seen_later : (part : ℕ → Cpx) (delay k : ℕ) → delay ≤ 128 →
     correlation_below 128 (turned_round delay part) (tone_at k) ≡ complex_sum_below 128 (λ n. times (part n) (conjugate (w_at (frequency k * n + frequency k * delay))))
 seen_later part delay k few = later (frequency k)
@@ -85,7 +86,7 @@ seen_later part delay k few = later (frequency k)
         period n =
             ap₂ (λ (m : ℕ) (w : Cpx). times (part m) (conjugate w)) (let e : (n + 128) % 128 ≡ n % 128 = omega arith in e) (w_same (f * (n + 128) + f * delay) (f * n + f * delay) (omega arith))
 
--- ---- the prefix
+-- ---- the cyclic prefix
 
 pub prefix_turns_round : PrefixTurnsRound
 prefix_turns_round paths part sent place n few is inside =
@@ -127,7 +128,7 @@ one_path_is_received_over quota gain grid samples received = (
 
 -- ---- one path
 
--- samples of a useful part are small
+-- the samples of a useful part are small
 useful-small : (grid : ℕ → Cpx) (n : ℕ) → AreAmplitudes grid → square (useful_at grid n) ≤ 2305 * 2305
 unfolding useful_at
 useful-small grid n small = down (square part) (square (multiple 131072 part)) (square-multiple 131072 part) (subst (λ (z : Cpx). square z ≤ 302101002 * 302101002 * 1) (plus-minus (multiple 131072 part) tones) whole.sized)
@@ -153,7 +154,7 @@ useful-small grid n small = down (square part) (square (multiple 131072 part)) (
     down : (s t : ℕ) → t ≡ 131072 * 131072 * s → t ≤ 302101002 * 302101002 * 1 → s ≤ 2305 * 2305
     down s t e h = omega (arith, e, h)
 
--- what a delay makes of a tone, times an entry, less the tone: the table's own error
+-- the table's own error: a tone times the entry of a delay, less the delayed tone
 entry_off : ℕ → ℕ → Cpx
 entry_off a b = minus (times (w_at a) (w_at b)) (multiple 16384 (w_at (a + b)))
 
@@ -218,7 +219,7 @@ turned_part_is_seen grid delay k small few = fits (square (minus x y)) (square (
 
 -- ---- the gains of all paths
 
--- 2^31 times what is seen of samples, less 2^35 times a number
+-- 2^31 times the samples' unrounded demodulated value, less 2^35 times a number
 apart : (ℕ → Cpx) → Cpx → ℕ → Cpx
 apart sent z k = minus (multiple 2147483648 (correlation_below 128 sent (tone_at k))) (multiple 34359738368 z)
 
@@ -253,7 +254,7 @@ apart-sum (suc count) gains sent z k =
     apart-plus (λ n. received_of count gains (λ path. sent path n)) (λ n. times (gains count) (sent count n)) (received_of count gains z) (times (gains count) (z count)) k
     ∙ ap₂ plus (apart-sum count gains sent z k) (apart-times (gains count) (sent count) (z count) k)
 
--- by one path: what sending is off by, turned, and what the table is off by
+-- one path: the transmit error, rotated, and the table's error
 moves : (p q e : ℤ) → p +ℤ e -ℤ q ≡ p -ℤ q +ℤ e
 moves p q e = omega (arith, ints)
 
@@ -282,7 +283,7 @@ apart_by sent part turn a k =
 pub delayed-small : (delay k : ℕ) → IsSized 16385 1 (delayed delay k)
 delayed-small delay k = sized_plain (delayed delay k) 16385 (subst (λ (s : ℕ). s ≤ 16385 * 16385) (sym (square-conjugate (w_at (frequency k * delay)))) (w-square (frequency k * delay)))
 
--- 97 units of sending, and 25 of the table: 16384 times 123 of 2^31 in all
+-- 97 units for transmission and 25 for the table: 16384 times 123 of 2^31 in all
 one_path : (grid : ℕ → Cpx) (delay k : ℕ) → AreAmplitudes grid → delay ≤ 128 → k < 72 → IsSized 4327677766926336 1 (apart (turned_round delay (useful_at grid)) (times (delayed delay k) (grid k)) k)
 unfolding spectrum_at
 one_path grid delay k small few inside =
@@ -305,7 +306,7 @@ turned_sending_is_small grid delay k small few inside = plain (square (turned_of
     plain : (s : ℕ) → s ≤ 4327677766926336 * 4327677766926336 * 1 → s ≤ (123 * 2 ^ 45) * (123 * 2 ^ 45)
     plain s h = omega (arith, h)
 
--- ---- sums of sizes
+-- ---- sums of magnitudes
 
 pub shares : (n a b : ℕ) (f g : ℕ → ℕ) → ((i : ℕ) → i < n → a * f i ≤ b * g i) → a * total_below n f ≤ b * total_below n g
 unfolding total_below
@@ -318,7 +319,7 @@ shares (suc n) a b f g each =
 pub weight-least : (delay : ℕ) → 17 ≤ weight delay
 weight-least delay = grind (arith, nat_tests)
 
--- a sum in which each later path counts b times its size is at most c times the size of the first gain
+-- a sum in which each later path counts b times its magnitude is at most c times the first gain's magnitude
 pub among : (sizes : ℕ → ℕ) (paths : Paths) (b c : ℕ) (z : Cpx) → AreFaint sizes paths → b ≤ 17 * c → IsSized (total_below paths.later (λ path. sizes path * b)) 1 z → IsSized c (square paths.first) z
 among sizes paths b c z faint few is = record {
   sized = down (total_below paths.later (λ path. sizes path * b)) (total_below paths.later (λ path. weight (paths.delay path) * sizes path)) (square paths.first) (square z)
@@ -348,7 +349,7 @@ over_paths sizes paths b c f faint few each =
 
 -- ---- the channel
 
--- what 16384 times the channel is off by
+-- the rounding error of 16384 times the channel
 pub channel_rest : Paths → ℕ → Cpx
 channel_rest paths k = minus (multiple 16384 (channel_over paths k)) (whole_channel paths k)
 
@@ -362,7 +363,7 @@ channel_whole paths k = sym (plus-minus (multiple 16384 (channel_over paths k)) 
 
 -- ---- all paths together
 
--- the first path alone: 16384 times what sending is off by
+-- the first path alone: 16384 times the transmit error
 first_apart : (sent : ℕ → Cpx) (a : Cpx) (k : ℕ) →
     apart sent (multiple 16384 a) k ≡ multiple 16384 (minus (multiple 131072 (correlation_below 128 sent (tone_at k))) (multiple 34359738368 a))
 unfolding apart
@@ -484,7 +485,7 @@ pub sending_over_is_small : SendingOverIsSmall
 unfolding spectrum_at
 sending_over_is_small sizes paths grid k small faint sounds inside = over-small sizes paths grid k small faint sounds inside
 
--- ---- what is seen: 106 units of sending, 363 of errors and 1 of rounding
+-- ---- the demodulated value: 106 units for transmission, 363 for the errors and 1 for rounding
 
 pub amplitude_is_seen_over : AmplitudeIsSeenOver
 amplitude_is_seen_over sizes paths grid samples k small faint received inside =

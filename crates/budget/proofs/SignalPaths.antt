@@ -1,4 +1,5 @@
--- The synchronisation signals of a cell over several paths: both are seen through the channel, and the later paths are errors of the primary one.
+-- A cell's synchronisation signals over several paths: both are demodulated through the channel, and the later paths
+-- are errors of the primary signal.
 use Rattle.std.proofs.Common.{◌≡◌, ℕ, zero, suc, ◌+◌, ◌-◌, ◌*◌, ◌%◌, ◌^◌, ◌<◌, ◌≤◌, arith, refl, ap, ap₂, sym, subst, ◌∙◌, ℤ, pos, ◌+ℤ◌, ◌-ℤ◌, ◌*ℤ◌, List, mul-le-mul, mul-le-mul_left}
 use Rattle.std.specs.Prelude.{nat_abs}
 use Rattle.std.proofs.lemmas.Int.{ints}
@@ -66,7 +67,7 @@ signals_over_are_through sizes paths prefix recording t n1 n2 half faint both =
 
 -- ---- later paths as errors
 
--- the energy of a signal times a gain of size at most s, beside one of energy at most t * t * m
+-- the energy of a signal times a gain with magnitude at most s, plus one with energy at most t * t * m
 energy-plus : (n : ℕ) (g : Cpx) (p e : ℕ → Cpx) (s t m : ℕ) → square g ≤ s * s → energy_below n p ≤ m → energy_below n e ≤ t * t * m →
     energy_below n (λ k. plus (times g (p k)) (e k)) ≤ (t + s) * (t + s) * m
 energy-plus n g p e s t m gain power rest =
@@ -101,7 +102,7 @@ energy-received (suc count) gains sent sizes m sized powers =
     (energy-plus 128 (gains count) (sent count) (λ n. received_of count gains (λ path. sent path n)) (sizes count) (total_below count sizes) m (sized count (omega arith)) (powers count (omega arith))
     (energy-received count gains sent sizes m (λ path l. sized path (omega (arith, l))) (λ path l. powers path (omega (arith, l)))))
 
--- 128 samples turned round have the same energy
+-- a cyclic shift keeps 128 samples' energy
 energy-turned : (delay : ℕ) (part : ℕ → Cpx) → delay ≤ 128 → energy_below 128 (turned_round delay part) ≡ energy_below 128 part
 energy-turned delay part few =
     ap (λ (n : ℕ). energy_below n (turned_round delay part)) whole
@@ -143,7 +144,7 @@ module _ (sizes : ℕ → ℕ) (paths : Paths) (recording : List Sample) (t n2 :
   unfolding part wave wave_power
   power = (power_range n2 (omega (arith, root))).1
 
-  -- what is received by the later paths
+  -- the sum received over the later paths
   later : ℕ → Cpx
   later n = received_of paths.later paths.gain (λ path. turned_round (paths.delay path) part n)
 

@@ -1,4 +1,4 @@
--- When a soft value speaks for a bit: six times the component outweighs the energy.
+-- When a soft value supports a bit: six times the component outweighs the energy.
 use Rattle.std.proofs.Common.{◌≡◌, ℕ, zero, suc, ◌+◌, ◌*◌, ◌/◌, ◌<◌, ◌≤◌, min, arith, refl, ap, sym, ◌∙◌, subst, Bool, true, false, nat_eq, inl, inr, ℤ, pos, negsuc, neg_ℤ, ◌-ℤ◌, ◌*ℤ◌, ◌≤ℤ◌, int_div}
 use Rattle.std.specs.Prelude.{nat_abs}
 use Rattle.std.proofs.lemmas.Int.{ints}
@@ -15,7 +15,7 @@ use Rattle.crs.specs.Qpsk.{component}
 use Rattle.soft_bits.specs.Soft.{soft_value}
 use Rattle.budget.specs.Sign.{sign, LargeComponentSpeaks, NearComponentSpeaks}
 
--- ---- a value of size at least m
+-- ---- a value of magnitude at least m
 
 value_is : (c : ℤ) (q : ℕ) → 1 ≤ q → soft_value c q ≡ clamped (int_div (pos 6 *ℤ c) (pos q)) 127
 value_is c q some = let e : nat_eq q 0 ≡ false = grind (arith, nat_tests) in rw e refl
@@ -58,7 +58,7 @@ module _ (m : ℕ) (some_size : 1 ≤ m) (below : m ≤ 127) where
 pub large_component_speaks : LargeComponentSpeaks
 large_component_speaks size energy bit c some below heard h = speaks size some below energy bit c heard h
 
--- ---- a component near a multiple of that of a bit
+-- ---- a component near a multiple of a bit's component
 
 sign-unit : (bit : Bool) → nat_abs (sign bit) ≡ 1
 sign-unit false = refl
@@ -71,7 +71,7 @@ component_is true = refl
 regrouped : (x s : ℤ) → x *ℤ (pos 90 *ℤ s) ≡ x *ℤ pos 90 *ℤ s
 regrouped x s = same (ring.times (var x) (ring.times (lit 90) (var s))) (ring.times (ring.times (var x) (lit 90)) (var s)) (omega arith)
 
--- turned by the bit's sign it is near 90 times the multiple
+-- multiplied by the bit's sign, it is near 90 times the multiple
 turned_component : (bit : Bool) (z : ℤ) (n k : ℕ) → nat_abs (z -ℤ pos n *ℤ component bit) ≤ k → nat_abs (sign bit *ℤ z -ℤ pos n *ℤ pos 90) ≤ k
 turned_component bit z n k h =
     sign-turns (sign bit) z (pos n *ℤ pos 90) k (sign-unit bit)
@@ -83,7 +83,7 @@ scaled s e f m n h = let k = mul-le (s * e + 6 * f) n (540 * m) n h (omega arith
 outweighs : (v : ℤ) (a b c d : ℕ) → a ≤ b → b + 6 * d ≤ 540 * c → nat_abs (v -ℤ pos c *ℤ pos 90) ≤ d → pos a ≤ℤ (pos 6 *ℤ v)
 outweighs v a b c d l h near = omega (arith, ints)
 
--- so many times
+-- an inequality without its scale
 unscaled : (s a : ℕ) (v : ℤ) → 1 ≤ s → pos (s * a) ≤ℤ (pos s *ℤ v) → pos a ≤ℤ v
 unscaled s a (pos b) some h = let k : s * a ≤ s * b = omega (arith, ints) in let l : a ≤ b = le_of_mul-le-mul_left k some in omega (arith, ints, l)
 unscaled s a (negsuc b) some h = absurd (below s a b some h)

@@ -1,4 +1,5 @@
--- The values of a place that is seen through a channel speak for their bits, where the bounds leave room; one gain is a case.
+-- The soft values for a resource element that is demodulated through a channel support its bits if the bounds leave
+-- room; one gain is a case.
 use Rattle.std.proofs.Common.{◌≡◌, ℕ, zero, suc, ◌+◌, ◌*◌, ◌%◌, ◌<◌, ◌≤◌, arith, refl, ap, ap₂, sym, ◌∙◌, subst, Bool, true, false, ℤ, pos, ◌+ℤ◌, ◌-ℤ◌, ◌*ℤ◌, mul-le-mul, mul-le-mul_left, mul-le-mul_right}
 use Rattle.std.specs.Prelude.{nat_abs}
 use Rattle.std.proofs.lemmas.Int.{ints}
@@ -38,7 +39,7 @@ one-times z =
     let b = var z.im in
     pair (same a (ring.minus (ring.times (lit 1) a) (ring.times (lit 0) b)) (omega arith)) (same b (ring.plus (ring.times (lit 1) b) (ring.times (lit 0) a)) (omega arith))
 
--- of a sum: the roots add up
+-- the root of a sum's energy is at most the summed roots
 energy-triangle : (n r a b w : ℕ) (f e : ℕ → Cpx) → r * energy_below n f ≤ a * a * w → r * energy_below n e ≤ b * b * w → r * energy_below n (λ k. plus (f k) (e k)) ≤ (a + b) * (a + b) * w
 energy-triangle n r a b w f e p q =
     let c : Cpx = correlation_below n e f in
@@ -69,7 +70,7 @@ terms_scaled (suc n) m f g each =
     let here = each n (omega arith) in
     omega (arith, before, here)
 
--- ---- the estimate is at most so large by the energy of the pilots
+-- ---- the pilot energy bounds the estimate
 
 channel-small : (pattern : Pattern) (slot : SeenSlot) (k : ℕ) → square (pattern_channel pattern slot k) ≤ 145800 * pattern_energy pattern slot
 unfolding pattern_channel pattern_pilot pattern_energy
@@ -107,7 +108,7 @@ channel-small pattern slot k =
     fits : (s t o q : ℕ) → t ≡ 268435456 * s → t ≡ o → o ≤ 3 * 1 * (3 * 1) * (268435456 * (16200 * q)) → s ≤ 145800 * q
     fits s t o q e f h = omega (arith, e, f, h)
 
--- ---- a place
+-- ---- a resource element
 
 point-small : (first second : Bool) → square (multiple 64 (point first second)) ≤ 8192 * 8192
 point-small false false = omega arith
@@ -115,7 +116,7 @@ point-small false true = omega arith
 point-small true false = omega arith
 point-small true true = omega arith
 
--- a multiple of a number that is 1036800 times three times one and what that is off by, and an error
+-- the multiple of an estimate, c times (3 times x plus r) plus an error, multiplied out
 opened : (m c : ℕ) (x r e : Cpx) → multiple m (plus (multiple c (plus (multiple 3 x) r)) e) ≡ plus (multiple (m * c * 3) x) (plus (multiple (m * c) r) (multiple m e))
 opened m c x r e =
     multiple-plus m (multiple c (plus (multiple 3 x) r)) e
@@ -123,7 +124,7 @@ opened m c x r e =
     (multiple_twice m c (plus (multiple 3 x) r) ∙ multiple-plus (m * c) (multiple 3 x) r ∙ ap (λ (z : Cpx). plus z (multiple (m * c) r)) (multiple_twice (m * c) 3 x))
     ∙ plus-associates (multiple (m * c * 3) x) (multiple (m * c) r) (multiple m e)
 
--- a component that is 0 is near no component of a point
+-- a component that is 0 is not near any component of a point
 none_near : (bit : Bool) (c : ℤ) (scale main off v : ℕ) → nat_abs c ≤ 0 → 1 ≤ v → 6 * off < 540 * main → nat_abs (pos scale *ℤ c -ℤ pos (main * v) *ℤ component bit) ≤ off * v → ⊥
 none_near bit c scale main off v none some room near =
     outweighed (main * v) (off * v) (by bit (main * v) (off * v) (subst (λ x. nat_abs (pos scale *ℤ x -ℤ pos (main * v) *ℤ component bit) ≤ off * v) (zero_is c none) near))
@@ -140,13 +141,13 @@ none_near bit c scale main off v none some room near =
         let k : (6 * off + 1) * v ≤ 540 * main * v = mul-le-mul_right v (let l : 6 * off + 1 ≤ 540 * main = omega (arith, room) in l) in
         omega (arith, h, k, some)
 
--- what is seen there, so many times
+-- a multiple of the demodulated value
 pub seen_part : (m : ℕ) (h a z : Cpx) → multiple m (in_parts z) ≡ plus (times h (multiple m (multiple 64 a))) (multiple m (deviation h a z))
 seen_part m h a z =
     ap (multiple m) (seen_is h a z) ∙ multiple-plus m (times h (multiple 64 a)) (deviation h a z)
     ∙ ap (λ (x : Cpx). plus x (multiple m (deviation h a z))) (sym (times-multiple m h (multiple 64 a)))
 
--- ---- numbers: n is the square of the size, and v that of the channel at the place
+-- ---- numbers: n is the square of the magnitude, and v the channel's square at the resource element
 
 module _ (bounds : Bounds) (n v : ℕ) (least : bounds.least * bounds.least * n ≤ 1000000 * v) where
   pub channel-some : 1 ≤ n → 1 ≤ bounds.least → 1 ≤ v
@@ -155,14 +156,14 @@ module _ (bounds : Bounds) (n v : ℕ) (least : bounds.least * bounds.least * n 
       let all : 1 * 1 * n ≤ bounds.least * bounds.least * n = mul-le-mul_right n one in
       omega (arith, all, some, least)
 
-  -- the deviation of what is seen
+  -- the demodulated value's deviation
   pub seen-fits : (s t : ℕ) → t ≡ bounds.least * bounds.least * s → s ≤ bounds.most * bounds.most * n → t ≤ 1000 * bounds.most * (1000 * bounds.most) * v
   seen-fits s t same h =
       let one : bounds.least * bounds.least * s ≤ bounds.least * bounds.least * (bounds.most * bounds.most * n) = mul-le-mul_left (bounds.least * bounds.least) h in
       let all : bounds.most * bounds.most * (bounds.least * bounds.least * n) ≤ bounds.most * bounds.most * (1000000 * v) = mul-le-mul_left (bounds.most * bounds.most) least in
       omega (arith, same, one, all)
 
-  -- that of the estimate: the line's, and the pilots'
+  -- the estimate's deviation, from the line and from the pilots
   line-fits : (s t : ℕ) → t ≡ 1000 * bounds.least * 1036800 * (1000 * bounds.least * 1036800) * s → 1000000 * s ≤ 9 * (bounds.bend * bounds.bend) * v →
       t ≤ 3110400 * (bounds.bend * bounds.least) * (3110400 * (bounds.bend * bounds.least)) * v
   line-fits s t same h =
@@ -181,7 +182,7 @@ module _ (bounds : Bounds) (n v : ℕ) (least : bounds.least * bounds.least * n 
       let all : bounds.least * bounds.least * s ≤ bounds.least * bounds.least * (8192 * 8192) = mul-le-mul_left (bounds.least * bounds.least) h in
       omega (arith, same, all)
 
-  -- the energy of the pilots, where s is the square that bounds it
+  -- the pilot energy, where s is the square that bounds it
   energy-fits : (q s : ℕ) → 1000000 * (268435456 * q) ≤ s * (24 * n) → bounds.least * (1000 * bounds.least) * 268435456 * q ≤ 24000 * s * v
   energy-fits q s h =
       let one : 1000 * (bounds.least * bounds.least) * (1000000 * (268435456 * q)) ≤ 1000 * (bounds.least * bounds.least) * (s * (24 * n)) = mul-le-mul_left (1000 * (bounds.least * bounds.least)) h in
@@ -191,7 +192,7 @@ module _ (bounds : Bounds) (n v : ℕ) (least : bounds.least * bounds.least * n 
 -- ---- the pilots
 
 module _ (bounds : Bounds) (n : ℕ) (pattern : Pattern) (channel : Channel) (slot : SeenSlot) (pilots : ArePilotsThrough bounds n pattern channel slot) where
-  -- three times 64 * 16200 times the line through the channel
+  -- the estimate is near 64 * 16200 times three times the line through the channel
   estimate-off : (k : ℕ) → IsOff (16200 * n) (3 * bounds.most) (multiple 1036800 (estimate (at_pilot pattern slot channel) (slot.identity % 3) k)) (pattern_channel pattern slot k)
   unfolding pattern_channel pattern_pilot
   estimate-off k =

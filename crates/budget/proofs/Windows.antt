@@ -1,4 +1,4 @@
--- A window of 128 samples that is a gain times a known signal with errors, and a window beside it.
+-- A window of 128 samples that is a gain times a known signal with errors, and a window next to it.
 use Rattle.std.proofs.Common.{◌≡◌, ℕ, ◌+◌, ◌-◌, ◌*◌, ◌<◌, ◌≤◌, arith, ap, mul-le-mul, mul-le-mul_left, mul-le-mul_right, mul-pos}
 use Rattle.cs_num.specs.declared.Cpx.{Cpx}
 use Rattle.cs_num.specs.Complex.{plus, times, square, multiple}
@@ -10,7 +10,7 @@ use Rattle.norms.proofs.Cauchy.{cauchy, energy_gain, energy_weighted_term, corre
 use Rattle.norms.proofs.Gram.{gram_le}
 use Rattle.budget.proofs.PeakSums.{IsFaint}
 
--- a gain times a signal, and errors
+-- a gain times a signal, with errors
 abbrev pub with_errors : Cpx → (ℕ → Cpx) → (ℕ → Cpx) → ℕ → Cpx
 with_errors gain p e n = plus (times gain (p n)) (e n)
 
@@ -20,7 +20,8 @@ pub record Peaks (least c e w : ℕ) : Type 0 where
   pub some : 0 < e
   pub high : least * (e * w) ≤ 1000 * c
 
--- the energy of errors is at most `quota` times the gain's square, so that at most `lost` thousandths of a window's energy are theirs
+-- the error energy is at most `quota` times the gain's square, so that errors are at most `lost` thousandths in a
+-- window's energy
 pub record AreFew (quota least lost : ℕ) : Type 0 where
   pub all : least + lost ≡ 1000
   pub some : 930 * quota < 30 * 1990000
@@ -38,7 +39,7 @@ peaks quota least lost n w q e c numbers some power small low lacks =
     let whole : (least + lost) * (e * w) ≡ 1000 * (e * w) = ap (λ (k : ℕ). k * (e * w)) numbers.all in
     record { some = omega (arith, heard, nw, low, small, some); high = omega (arith, all, lacks, whole) }
 
--- its correlation is nearly the product of the energies
+-- the window's correlation is nearly the product of the energies
 pub true_place : (quota least lost : ℕ) (g : Cpx) (p e : ℕ → Cpx) → AreFew quota least lost → 1 ≤ square g → 1990000 ≤ energy_below 128 p → energy_below 128 e ≤ quota * square g →
     Peaks least (square (correlation_below 128 (with_errors g p e) p)) (energy_below 128 (with_errors g p e)) (energy_below 128 p)
 true_place quota least lost g p e numbers some power small =
@@ -49,10 +50,10 @@ true_place quota least lost g p e numbers some power small =
     low : (t nw e q : ℕ) → t ≡ nw → 30 * t ≤ (30 + 1) * e + 30 * (30 + 1) * q → 30 * nw ≤ 31 * e + 930 * q
     low t nw e q same h = omega (arith, same, h)
 
--- ---- a window beside it
+-- ---- a window next to it
 
--- the known part X of the correlation, whose square is x: |A|^2 = a, where A is the correlation of the signals that overlap, k the
--- energy of the known part, and `share` quarters are wanted
+-- the known part X of the correlation, whose square is x: |A|^2 = a, where A is the correlation of the overlapping
+-- signals, k is the energy of the known part, and `share` quarters are needed
 known_part : (quota n a w kept k x share : ℕ) → 110 * quota ≤ 10 * kept → 44 * (11 * a + 110 * quota * w) ≤ 10 * (share * (10 * kept - 110 * quota)) →
     10 * x ≤ 11 * (n * a) + 110 * (quota * n * w) → 10 * (n * kept) ≤ 11 * k + 110 * (quota * n) → 4 * x ≤ share * k
 known_part quota n a w kept k x share much small high low =
@@ -68,7 +69,7 @@ known_part quota n a w kept k x share much small high low =
         let all : n * (left + 110 * quota) ≡ n * (10 * kept) = ap (λ (j : ℕ). n * j) whole in
         omega (arith, all, low)
 
--- the known part X, and a part Y of which nothing but its energy u is known
+-- the known part X, and a part Y of which only the energy u is known
 both_parts : (x y : Cpx) (k u share edges : ℕ) → 4 * edges ≤ share → 4 * square x ≤ (share - 4 * edges) * k → square y ≤ u * edges →
     4 * square (plus x y) ≤ share * (k + u)
 both_parts x y k u share edges rest p q =
@@ -88,8 +89,8 @@ both_parts x y k u share edges rest p q =
         let same : (a + 4 * edges) * (k + u) ≡ share * (k + u) = ap (λ (n : ℕ). n * (k + u)) whole in
         omega (arith, e, f, same, h)
 
--- Of the 128 samples of a window, a unknown ones, m known ones of the signal p with errors e, and s unknown ones, correlated with q:
--- f, g and h are q there.
+-- A window of 128 samples has a unknown ones, m known ones of the signal p with errors e, and s unknown ones; f, g and
+-- h are the parts of q with which they are correlated.
 pub beside : (quota a m s : ℕ) (gain : Cpx) (x p e z f g h : ℕ → Cpx) (w share : ℕ) → energy_below m g ≤ w → energy_below m e ≤ quota * square gain →
     IsFaint quota share w (square (correlation_below m p g)) (energy_below m p) (energy_below a f + energy_below s h) →
     4 * square (plus (correlation_below m (with_errors gain p e) g) (plus (correlation_below a x f) (correlation_below s z h)))
@@ -123,9 +124,9 @@ beside quota a m s gain x p e z f g h w share part small faint =
     low : (n kept t k ee : ℕ) → t ≡ n * kept → ee ≤ quota * n → 10 * t ≤ (10 + 1) * k + 10 * (10 + 1) * ee → 10 * (n * kept) ≤ 11 * k + 110 * (quota * n)
     low n kept t k ee same small all = omega (arith, same, small, all)
 
--- ---- the two compared
+-- ---- the comparison
 
--- at least 990/1000 is above at most 3/4
+-- a metric of at least 990/1000 is above one of at most 3/4
 pub above : (c e w c' e' : ℕ) → 990 * (e * w) ≤ 1000 * c → 4 * c' ≤ 3 * w * e' → 0 < e → 0 < e' → 0 < w → c' * e < c * e'
 above c e w c' e' high low some some' power =
     let a : 990 * (e * w) * e' ≤ 1000 * c * e' = mul-le-mul_right e' high in

@@ -1,4 +1,4 @@
--- How far what is seen of a symbol is from 64 times what was sent times the gain. (own)
+-- How far a demodulated value is from 64 times the transmitted amplitude times the gain. (own)
 use Rattle.std.specs.Prelude.{◌≡◌, ℕ, ◌+◌, ◌*◌, ◌^◌, ◌<◌, ◌≤◌, List}
 use Rattle.cs_num.specs.declared.Cpx.{Cpx}
 use Rattle.cs_num.specs.declared.Sample.{Sample}
@@ -12,39 +12,41 @@ use Rattle.observe.specs.Seen.{seen}
 use Rattle.budget.specs.Received.{AreAmplitudes, in_parts, off_by, IsReceived, IsReceivedBy, samples_from}
 use Rattle.budget.specs.Received.{IsSeenAs, IsSeenBy}
 
--- what is seen of samples at subcarrier k
+-- the samples' demodulated value at subcarrier k
 abbrev pub seen_in : (ℕ → Cpx) → ℕ → Cpx
 seen_in samples k = rounded (spectrum_at samples k) 12
 
--- 2^17 times what is seen of samples before it is rounded, less 2^35 times an amplitude: what sending is off by
+-- the transmit error: 2^17 times the transmitted samples' demodulated value before rounding, less 2^35 times the
+-- amplitude
 abbrev pub sending_off : (ℕ → Cpx) → Cpx → ℕ → Cpx
 sending_off sent amplitude k = minus (multiple (2 ^ 17) (spectrum_at sent k)) (multiple (2 ^ 35) amplitude)
 
--- what sending one symbol is off by is at most 97 units of 2^31
+-- the transmit error of one symbol is at most 97 units of 2^31
 abbrev pub SendingIsSmall : Type 0
 SendingIsSmall =
     (grid : ℕ → Cpx) (k : ℕ) → AreAmplitudes grid → k < 72 →
     square (sending_off (useful_at grid) (grid k) k) ≤ (97 * 2 ^ 31) * (97 * 2 ^ 31)
 
--- 2^17 times sample n of a useful part, before it is rounded
+-- 2^17 times sample n of a useful part, before rounding
 abbrev pub unrounded : (ℕ → Cpx) → ℕ → Cpx
 unrounded grid n = complex_sum_below 72 (useful_term grid n)
 
--- the leakage: what would be seen of these, less 2^35 times the amplitude, which is not 0 since the tables are rounded
+-- the leakage: the unrounded useful part's demodulated value, less 2^35 times the amplitude; it is not 0 because the
+-- tables are rounded
 abbrev pub leakage : (ℕ → Cpx) → ℕ → Cpx
 leakage grid k = minus (spectrum_at (unrounded grid) k) (multiple (2 ^ 35) (grid k))
 
--- what is seen of the rounding of the samples
+-- the demodulated rounding errors of the samples
 abbrev pub rounding_sent : (ℕ → Cpx) → ℕ → Cpx
 rounding_sent grid k = spectrum_at (λ n. minus (multiple (2 ^ 17) (useful_at grid n)) (unrounded grid n)) k
 
--- what sending one symbol is off by is its leakage and the rounding of its samples
+-- a symbol's transmit error is its leakage plus the demodulated rounding errors of its samples
 abbrev pub SendingHasTwoCauses : Type 0
 SendingHasTwoCauses =
     (grid : ℕ → Cpx) (k : ℕ) → k < 72 →
     sending_off (useful_at grid) (grid k) k ≡ plus (leakage grid k) (rounding_sent grid k)
 
--- in units of 2^31 the leakage is at most 6.1, and the rounding of the samples at most 90.7
+-- in units of 2^31, the leakage is at most 6.1, and the demodulated rounding errors are at most 90.7
 abbrev pub LeakageIsSmall : Type 0
 LeakageIsSmall =
     (grid : ℕ → Cpx) (k : ℕ) → AreAmplitudes grid → k < 72 →
@@ -53,15 +55,15 @@ LeakageIsSmall =
 abbrev pub RoundingSentIsSmall : Type 0
 RoundingSentIsSmall = (grid : ℕ → Cpx) (k : ℕ) → 100 * square (rounding_sent grid k) ≤ (907 * 2 ^ 31) * (907 * 2 ^ 31)
 
--- what sending by several ports is off by adds up, each port's times its gain
+-- the transmit errors of several ports add up, each times its gain
 abbrev pub SendingIsLinear : Type 0
 SendingIsLinear =
     (gain : Cpx) (sent others : ℕ → Cpx) (amplitude other : Cpx) (k : ℕ) →
     sending_off (λ n. plus (times gain (sent n)) (others n)) (plus (times gain amplitude) other) k
     ≡ plus (times gain (sending_off sent amplitude k)) (sending_off others other k)
 
--- 2^29 times the deviation of what is seen, in parts, from 64 times an amplitude, has three causes: what sending is off
--- by, the errors of the samples, and the rounding of what is seen
+-- 2^29 times the deviation of a demodulated value (in parts) from 64 times an amplitude has three causes: the transmit
+-- error, the sample errors, and the demodulated value's rounding
 pub record HasThreeCauses (sent samples : ℕ → Cpx) (amplitude : Cpx) (k : ℕ) : Type 0 where
   pub errors : Cpx
   pub rounding : Cpx
@@ -72,16 +74,16 @@ pub record HasThreeCauses (sent samples : ℕ → Cpx) (amplitude : Cpx) (k : �
   pub errors_small : square errors ≤ 2 ^ 41 * energy_below 128 (off_by samples sent) * (16385 * 16385)
   pub rounding_small : square rounding ≤ 2 ^ 85
 
--- the deviation of what is seen has three causes, whatever was sent, gains included
+-- a demodulated value's deviation has three causes, whatever was transmitted, gains included
 abbrev pub DeviationHasThreeCauses : Type 0
 DeviationHasThreeCauses = (sent samples : ℕ → Cpx) (amplitude : Cpx) (k : ℕ) → HasThreeCauses sent samples amplitude k
 
--- two numbers, each times a gain
+-- the sum of two numbers, each times its gain
 abbrev pub with_gains : Cpx → Cpx → Cpx → Cpx → Cpx
 with_gains gain other a b = plus (times gain a) (times other b)
 
--- 2^29 times the deviation of what is seen, in parts, of two symbols, each with a gain, has four causes: the leakage of
--- each, the rounding of each one's samples, the errors of the samples, and the rounding of what is seen
+-- 2^29 times the demodulated value's deviation (in parts) for two symbols, each with a gain, has four causes: both
+-- leakages, both symbols' rounding errors, the sample errors, and the demodulated value's rounding
 pub record HasFourCauses (gain other : Cpx) (grid second_grid samples : ℕ → Cpx) (k : ℕ) : Type 0 where
   pub errors : Cpx
   pub rounding : Cpx
@@ -95,21 +97,21 @@ pub record HasFourCauses (gain other : Cpx) (grid second_grid samples : ℕ → 
       * (16385 * 16385)
   pub rounding_small : square rounding ≤ 2 ^ 85
 
--- the deviation of what is seen has four causes; one gain is the case where the other is 0
+-- a demodulated value's deviation has four causes; one gain is the case where the other is 0
 abbrev pub DeviationHasFourCauses : Type 0
 DeviationHasFourCauses =
     (gain other : Cpx) (grid second_grid samples : ℕ → Cpx) (k : ℕ) → k < 72 →
     HasFourCauses gain other grid second_grid samples k
 
--- each amplitude is seen, with one gain, off by at most `most` times its size, where the energy of errors is at most
--- `quota` times its square
+-- each amplitude is demodulated through one gain with a deviation of at most `most` times the gain's magnitude, if the
+-- error energy is at most `quota` times the gain's square
 abbrev pub AmplitudeIsSeen : ℕ → ℕ → Type 0
 AmplitudeIsSeen quota most =
     (gain : Cpx) (grid samples : ℕ → Cpx) (k : ℕ) → AreAmplitudes grid →
     IsReceived quota gain grid samples → k < 72 → IsSeenAs most gain (grid k) (seen_in samples k)
 
--- the amplitudes of so many ports are seen together, off by at most `most` times the root of the sum of the gains'
--- squares, where the energy of errors is at most `quota` times that sum
+-- the amplitudes that several ports send are demodulated as their sum, with a deviation of at most `most` times the
+-- gains' root sum square, if the error energy is at most `quota` times the gains' summed squares
 abbrev pub AmplitudesAreSeen : ℕ → ℕ → ℕ → Type 0
 AmplitudesAreSeen ports quota most =
     (gains : ℕ → Cpx) (grids : ℕ → ℕ → Cpx) (samples : ℕ → Cpx) (k : ℕ) →
@@ -117,26 +119,26 @@ AmplitudesAreSeen ports quota most =
     IsReceivedBy ports quota gains grids samples → k < 72 →
     IsSeenBy ports most gains (λ port. grids port k) (seen_in samples k)
 
--- each amplitude is seen in a recording, by what `observe` tells of a symbol at a place
+-- the deviation bound for one gain in a recording, with the demodulated values that `observe` gives at a sample
 abbrev pub AmplitudeIsSeenInRecording : ℕ → ℕ → Type 0
 AmplitudeIsSeenInRecording quota most =
     (gain : Cpx) (grid : ℕ → Cpx) (recording : List Sample) (start k : ℕ) → AreAmplitudes grid →
     IsReceived quota gain grid (samples_from recording start) → k < 72 →
     IsSeenAs most gain (grid k) (seen recording start k)
 
--- errors of at most `quota` times the gain's square make an amplitude be seen off by at most `most` times its size: 97
--- units of 2^31 for sending, so many for the errors, and 1 for rounding; a unit is 4 of `most`
+-- error energy of `quota` times the gain's square makes a deviation of at most `most` times the gain's magnitude: 97
+-- units of 2^31 for transmission, a number of units for the errors, and 1 for rounding; a unit is 4 of `most`
 pub record AreUnitsOf (quota most : ℕ) : Type 0 where
   pub errors : ℕ
   pub enough : 2 ^ 41 * quota * (16385 * 16385) ≤ (errors * 2 ^ 31) * (errors * 2 ^ 31)
   pub fits : 4 * (97 + errors + 1) ≤ most
 
--- each amplitude is seen by every share that has such units, in a recording too
+-- the deviation bound holds for every quota with such units, in a recording too
 abbrev pub UnitsAreSeen : Type 0
 UnitsAreSeen =
     (quota most : ℕ) → AreUnitsOf quota most → AmplitudeIsSeen quota most × AmplitudeIsSeenInRecording quota most
 
--- the amplitudes of so many ports are seen together in a recording
+-- the deviation bound for several ports in a recording
 abbrev pub AmplitudesAreSeenInRecording : ℕ → ℕ → ℕ → Type 0
 AmplitudesAreSeenInRecording ports quota most =
     (gains : ℕ → Cpx) (grids : ℕ → ℕ → Cpx) (recording : List Sample) (start k : ℕ) →
@@ -144,24 +146,24 @@ AmplitudesAreSeenInRecording ports quota most =
     IsReceivedBy ports quota gains grids (samples_from recording start) → k < 72 →
     IsSeenBy ports most gains (λ port. grids port k) (seen recording start k)
 
--- ---- gains that are whole, and errors by component
+-- ---- integer gains, and errors by component
 
--- where each component of 128 samples is off by at most eps from values, the energy of what they are off by in parts is
--- at most 2^36 times the square of eps
+-- if each component of 128 samples deviates by at most eps, the deviations' energy, in parts, is at most 2^36 times the
+-- square of eps
 abbrev pub ErrorsHaveEnergy : Type 0
 ErrorsHaveEnergy =
     (eps : ℕ) (values samples : ℕ → Cpx) → ((n : ℕ) → n < 128 → IsWithin eps (minus (samples n) (values n))) →
     energy_below 128 (off_by samples (λ n. in_parts (values n))) ≤ 2 ^ 36 * (eps * eps)
 
--- where each component is off by at most eps from a useful part times a whole gain that is not 0, and eps is at most
--- twice the gain's size, the useful part is received with a quota of 1024
+-- if each component deviates by at most eps from a useful part times an integer gain that is not 0, and eps is at most
+-- twice the gain's magnitude, the useful part is received with a quota of 1024
 abbrev pub WholeGainIsReceived : Type 0
 WholeGainIsReceived =
     (eps : ℕ) (gain : Cpx) (grid samples : ℕ → Cpx) → 1 ≤ square gain → eps * eps ≤ 4 * square gain →
     ((n : ℕ) → n < 128 → IsWithin eps (minus (samples n) (times gain (useful_at grid n)))) →
     IsReceived 1024 (in_parts gain) grid samples
 
--- what is received with a quota is received with each greater one
+-- reception with a quota implies reception with any greater one
 abbrev pub IsReceivedByMore : Type 0
 IsReceivedByMore =
     (quota more : ℕ) (gain : Cpx) (grid samples : ℕ → Cpx) → quota ≤ more → IsReceived quota gain grid samples →

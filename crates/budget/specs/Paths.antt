@@ -1,8 +1,8 @@
--- A symbol that is received over several paths. A path is one way by which what is sent arrives, straight or off a
--- wall: all of it, times a gain of its own, and so many samples later than by the first path. Before its useful part a
--- symbol holds the end of that part once more, the cyclic prefix, of 9 samples at least (TS 36.211 section 6.12: 144
--- for 2048, so 9 for 128). So over a path that is up to 9 samples late, 128 samples hold the whole useful part turned
--- round: its last samples come first. Several paths are then a channel, a gain for each subcarrier. (own)
+-- A symbol received over several paths. (own) On each path the transmitted signal arrives, direct or reflected, with a
+-- gain of its own and a delay in samples after the first path. A symbol begins with the cyclic prefix, a copy of the
+-- end of its useful part, of at least 9 samples (TS 36.211 section 6.12: 144 samples for a DFT size of 2048, so 9 for
+-- 128). Over a path that is up to 9 samples late, 128 samples therefore hold the whole useful part, cyclically shifted.
+-- Several paths are then a channel, with a gain for each subcarrier.
 use Rattle.std.specs.Prelude.{◌≡◌, ℕ, ◌+◌, ◌-◌, ◌*◌, ◌%◌, ◌^◌, ◌<◌, ◌≤◌, Bool, List, [], nat_le}
 use Rattle.std.specs.Prelude.{if◌then◌else◌, slice_index_or}
 use Rattle.finite.specs.Sums.{total_below}
@@ -24,49 +24,49 @@ use Rattle.budget.specs.Through.{Channel, Bounds, LeaveRoom, ArePilotsThrough, I
 
 -- ---- paths
 
--- the gain of the first path, and of so many later ones the delays in samples and the gains; gains are in parts
+-- the gain of the first path, and for the later ones the delays in samples and the gains; gains are in parts
 pub record Paths : Type 0 where
   pub first : Cpx
   pub later : ℕ
   pub delay : ℕ → ℕ
   pub gain : ℕ → Cpx
 
--- 128 samples turned round by a delay
+-- 128 samples, cyclically shifted by a delay
 abbrev pub turned_round : ℕ → (ℕ → Cpx) → ℕ → Cpx
 turned_round delay part n = part ((n + (128 - delay)) % 128)
 
--- what is received of a useful part over several paths
+-- a useful part as received over several paths
 abbrev pub received_over : Paths → (ℕ → Cpx) → ℕ → Cpx
 received_over paths part n =
     plus (times paths.first (part n))
     (received_of paths.later paths.gain (λ path. turned_round (paths.delay path) part n))
 
--- 128 samples are received over several paths of a symbol with this grid; the energy of what they are off by is at
--- most `quota` times the square of the first gain, which is at least that of 1
+-- 128 samples are received over several paths from a symbol with this grid; the deviations' energy is at most `quota`
+-- times the first gain's square, which is at least 1 in magnitude
 pub record IsReceivedOver (quota : ℕ) (paths : Paths) (grid samples : ℕ → Cpx) : Type 0 where
   pub sounds : 2 ^ 28 ≤ square paths.first
   pub quiet : energy_below 128 (off_by samples (received_over paths (useful_at grid))) ≤ quota * square paths.first
 
--- ---- the prefix
+-- ---- the cyclic prefix
 
--- from a place on a sequence holds the last 9 samples of a useful part, and then the part
+-- from an index on, a sequence holds the last 9 samples of a useful part, and then the part
 pub record HasPrefix (part : ℕ → Cpx) (place : ℕ) (sent : ℕ → Cpx) : Type 0 where
   pub before : (n : ℕ) → n < 9 → sent (place + n) ≡ part (119 + n)
   pub useful : (n : ℕ) → n < 128 → sent (place + 9 + n) ≡ part n
 
--- what arrives of a sequence over several paths
+-- a transmitted sequence as it arrives over several paths
 abbrev pub arriving : Paths → (ℕ → Cpx) → ℕ → Cpx
 arriving paths sent i =
     plus (times paths.first (sent i)) (received_of paths.later paths.gain (λ path. sent (i - paths.delay path)))
 
--- a useful part behind its prefix is turned round by delays of at most 9 samples
+-- delays of at most 9 samples shift a useful part cyclically, if its prefix comes before it
 abbrev pub PrefixTurnsRound : Type 0
 PrefixTurnsRound =
     (paths : Paths) (part sent : ℕ → Cpx) (place n : ℕ) →
     ((path : ℕ) → path < paths.later → paths.delay path ≤ 9) → HasPrefix part place sent → n < 128 →
     arriving paths sent (place + 9 + n) ≡ received_over paths part n
 
--- samples that are near what arrives are received over the paths
+-- samples near the arriving sequence are received over the paths
 abbrev pub ArrivingIsReceived : Type 0
 ArrivingIsReceived =
     (quota : ℕ) (paths : Paths) (grid sent samples : ℕ → Cpx) (place : ℕ) →
@@ -75,14 +75,14 @@ ArrivingIsReceived =
     energy_below 128 (off_by samples (λ n. arriving paths sent (place + 9 + n))) ≤ quota * square paths.first →
     IsReceivedOver quota paths grid samples
 
--- ---- later paths are faint
+-- ---- faint later paths
 
--- how much a path of this delay counts: the later, the more it bends the channel
+-- the weight of a path with this delay: the later the path, the more it bends the channel
 abbrev pub weight : ℕ → ℕ
 weight delay = if nat_le delay 7 then 17 else 2 * delay + 3
 
--- later paths come 1 to 9 samples after the first, and their gains, each at most so large and as many times as its path
--- counts, are together at most as large as the first gain
+-- later paths are faint: each is 1 to 9 samples late, and the bounds on their magnitudes, each times its path's weight,
+-- sum to at most the first gain's magnitude
 pub record AreFaint (sizes : ℕ → ℕ) (paths : Paths) : Type 0 where
   pub late : (path : ℕ) → path < paths.later → 1 ≤ paths.delay path
   pub near : (path : ℕ) → path < paths.later → paths.delay path ≤ 9
@@ -92,11 +92,11 @@ pub record AreFaint (sizes : ℕ → ℕ) (paths : Paths) : Type 0 where
       * total_below paths.later (λ path. weight (paths.delay path) * sizes path) ≤
       square paths.first
 
--- one path alone: none is later
+-- one path, without later ones
 abbrev pub only_path : Cpx → Paths
 only_path gain = record { first = gain; later = 0; delay = λ path. 0; gain = λ path. nothing }
 
--- what is received with one gain is received over one path; of later ones there are none, so they are faint
+-- reception with one gain is reception over one path; since there are no later ones, they are faint
 abbrev pub OnePathIsReceivedOver : Type 0
 OnePathIsReceivedOver =
     (quota : ℕ) (gain : Cpx) (grid samples : ℕ → Cpx) → IsReceived quota gain grid samples →
@@ -104,27 +104,27 @@ OnePathIsReceivedOver =
 
 -- ---- the channel
 
--- what a delay makes of subcarrier k: 16384 times a turn at its frequency
+-- the factor that a delay makes at subcarrier k: 16384 times a phase rotation
 abbrev pub delayed : ℕ → ℕ → Cpx
 delayed delay k = conjugate (w_at (frequency k * delay))
 
--- 16384 times the channel at subcarrier k, before it is rounded
+-- 16384 times the channel at subcarrier k, before rounding
 abbrev pub whole_channel : Paths → ℕ → Cpx
 whole_channel paths k =
     plus (multiple 16384 paths.first) (received_of paths.later paths.gain (λ path. delayed (paths.delay path) k))
 
--- the channel at subcarrier k: the sum of the gains, each turned by its delay
+-- the channel at subcarrier k: the gains' sum, each rotated by its delay
 unfoldable pub channel_over : Paths → ℕ → Cpx
 channel_over paths k = rounded (whole_channel paths k) 14
 
--- paths as a channel, which is one for all symbols
+-- paths as a channel, the same for all symbols
 abbrev pub over : Paths → Channel
 over paths symbol k = channel_over paths k
 
--- ---- what is seen
+-- ---- demodulation
 
--- 16384 times what is seen of a useful part turned round, before it is rounded, is what is seen of the part itself
--- times the turn of the delay, off by at most 25 * 2^28: the table is not quite multiplicative
+-- 16384 times the unrounded demodulated value of a shifted useful part is the part's own, times the delay's phase
+-- rotation, within 25 * 2^28: the table is not quite multiplicative
 abbrev pub TurnedPartIsSeen : Type 0
 TurnedPartIsSeen =
     (grid : ℕ → Cpx) (delay k : ℕ) → AreAmplitudes grid → delay ≤ 128 →
@@ -132,18 +132,18 @@ TurnedPartIsSeen =
     (times (delayed delay k) (spectrum_at (useful_at grid) k))) ≤
     (25 * 2 ^ 28) * (25 * 2 ^ 28)
 
--- 2^31 times what is seen of samples before it is rounded, less 2^35 times a number: 16384 times what sending is off by
+-- 2^31 times the samples' unrounded demodulated value, less 2^35 times a number: 16384 times the transmit error
 abbrev pub turned_off : (ℕ → Cpx) → Cpx → ℕ → Cpx
 turned_off sent number k = minus (multiple (2 ^ 31) (spectrum_at sent k)) (multiple (2 ^ 35) number)
 
--- a useful part turned round is seen as 64 times its amplitude times the turn of the delay, off by at most 123 units
+-- a shifted useful part is demodulated as 64 times its amplitude times the delay's phase rotation, within 123 units
 abbrev pub TurnedSendingIsSmall : Type 0
 TurnedSendingIsSmall =
     (grid : ℕ → Cpx) (delay k : ℕ) → AreAmplitudes grid → delay ≤ 128 → k < 72 →
     square (turned_off (turned_round delay (useful_at grid)) (times (delayed delay k) (grid k)) k) ≤
     (123 * 2 ^ 45) * (123 * 2 ^ 45)
 
--- over faint paths sending is off by at most 106 units of 2^31 times the first gain
+-- over faint paths, the transmit error is at most 106 units of 2^31 times the first gain
 abbrev pub SendingOverIsSmall : Type 0
 SendingOverIsSmall =
     (sizes : ℕ → ℕ) (paths : Paths) (grid : ℕ → Cpx) (k : ℕ) → AreAmplitudes grid → AreFaint sizes paths →
@@ -151,15 +151,15 @@ SendingOverIsSmall =
     square (sending_off (received_over paths (useful_at grid)) (times (channel_over paths k) (grid k)) k) ≤
     (106 * 2 ^ 31) * (106 * 2 ^ 31) * square paths.first
 
--- each amplitude is seen through the channel of faint paths, off by at most 1880 times the size of the first gain,
--- where the energy of errors is at most 1024 times its square
+-- over faint paths, each amplitude is demodulated through their channel within 1880 times the first gain's magnitude,
+-- if the error energy is at most 1024 times its square
 abbrev pub AmplitudeIsSeenOver : Type 0
 AmplitudeIsSeenOver =
     (sizes : ℕ → ℕ) (paths : Paths) (grid samples : ℕ → Cpx) (k : ℕ) → AreAmplitudes grid →
     AreFaint sizes paths → IsReceivedOver 1024 paths grid samples → k < 72 →
     IsSeenNear 1880 (square paths.first) (times (channel_over paths k) (grid k)) (seen_in samples k)
 
--- each amplitude is seen so in a recording, by what `observe` tells of a symbol at a place
+-- the bound over faint paths in a recording, with the demodulated values that `observe` gives at a sample
 abbrev pub AmplitudeIsSeenOverInRecording : Type 0
 AmplitudeIsSeenOverInRecording =
     (sizes : ℕ → ℕ) (paths : Paths) (grid : ℕ → Cpx) (recording : List Sample) (start k : ℕ) →
@@ -168,16 +168,16 @@ AmplitudeIsSeenOverInRecording =
 
 -- ---- a slot over faint paths
 
--- in thousandths of the first gain the channel is at least 940, and at the pilots at most 1060; in those of the channel
--- itself the line through the pilots is at most 43 off it
+-- in thousandths of the first gain, the channel is at least 940, and at the pilots at most 1060; in thousandths of the
+-- channel itself, the line through the pilots deviates from it by at most 43
 abbrev pub path_bounds : Bounds
 path_bounds = record { most = 1880; least = 940; mean = 1060; bend = 43 }
 
--- the bounds of faint paths leave room for values of size 1 and more
+-- the bounds of faint paths leave room for soft values with magnitude 1 and more
 abbrev pub PathsLeaveRoom : Type 0
 PathsLeaveRoom = LeaveRoom 1 path_bounds
 
--- pilots that are seen through the channel of faint paths are seen within these bounds, and each place can be read
+-- pilots demodulated through the channel of faint paths are within these bounds, and each resource element can be read
 abbrev pub PathsAreThrough : Type 0
 PathsAreThrough =
     (sizes : ℕ → ℕ) (paths : Paths) (pattern : Pattern) (slot : SeenSlot) → AreFaint sizes paths →
@@ -194,8 +194,8 @@ PathsAreRead =
     AreFaint sizes paths → 2 ^ 28 ≤ square paths.first → k < 72 →
     IsReadThrough path_bounds (square paths.first) pattern (over paths) slot symbol k
 
--- the first symbols of a slot, as many as the count says, are received in a recording over several paths, each from its
--- place on, and hold the reference signals of the slot's identity and number by a pattern
+-- the first `count` symbols of a slot are received in a recording over several paths, each from its start sample on,
+-- and hold the reference signals for the slot's identity and number in a pattern
 pub record IsSlotReceivedOver (paths : Paths) (pattern : Pattern) (count : ℕ) (recording : List Sample)
     (starts : ℕ → ℕ) (grids : ℕ → ℕ → Cpx) (slot : SeenSlot) : Type 0 where
   pub seen : (l : ℕ) → l < count → slice_index_or slot.symbols l [] ≡ seen_symbol recording (starts l)
@@ -205,7 +205,7 @@ pub record IsSlotReceivedOver (paths : Paths) (pattern : Pattern) (count : ℕ) 
       grids (pattern_symbol pattern slot.identity i) (pilot_subcarrier slot.identity i)
       ≡ pattern_sent pattern slot.identity slot.number i
 
--- where later paths are faint, the soft values of each place that carries two bits speak for them
+-- if later paths are faint, each resource element that carries two bits has soft values that support them
 abbrev pub SlotOverIsHeard : Type 0
 SlotOverIsHeard =
     (sizes : ℕ → ℕ) (paths : Paths) (pattern : Pattern) (count : ℕ) (recording : List Sample) (starts : ℕ → ℕ)

@@ -1,5 +1,5 @@
--- How a primary synchronisation signal stands out of a recording, by how large its errors are. (own; the signal is that
--- of TS 36.211 section 6.11.1)
+-- How a primary synchronisation signal (PSS) stands out in a recording, depending on its errors. (own; the signal is in
+-- TS 36.211 section 6.11.1)
 use Rattle.std.specs.Prelude.{◌≡◌, ◌≢◌, ℕ, ◌+◌, ◌*◌, ◌<◌, ◌≤◌, List}
 use Rattle.std.specs.List.{Contains}
 use Rattle.cs_num.specs.declared.Cpx.{Cpx}
@@ -8,46 +8,46 @@ use Rattle.pss_search.specs.Correlation.{pss_grid, peak, energy, wave_power}
 use Rattle.pss_search.specs.Hits.{IsAbove, IsHit, first_place, last_place, found, hits_of}
 use Rattle.budget.specs.Received.{IsReceived, samples_from}
 
--- the 128 samples from t on are the primary signal of n2 times a gain, with errors whose energy is at most `quota`
--- times its square; what stands around them may be anything
+-- the 128 samples from t on are the PSS of root n2 times a gain, with error energy at most `quota` times the gain's
+-- square; the samples around them may be anything
 pub record IsPrimaryWithin (quota : ℕ) (recording : List Sample) (t n2 : ℕ) : Type 0 where
   pub gain : Cpx
   pub root : n2 ≤ 2
   pub received : IsReceived quota gain (pss_grid n2) (samples_from recording t)
 
--- the place t has energy, and its peak is at least `least` thousandths of its energy times the signal's power; its
--- metric is greater than that of each place with energy at distance 1 to 9
+-- the window at t has energy, and its peak is at least `least` thousandths of its energy times the signal's power; its
+-- metric exceeds that of each window with energy at distance 1 to 9
 pub record StandsOutBy (least : ℕ) (recording : List Sample) (t n2 : ℕ) : Type 0 where
   pub sounds : 0 < energy recording t
   pub clear : least * (energy recording t * wave_power n2) ≤ 1000 * peak recording n2 t
   pub above : (u : ℕ) → u ≢ t → u ≤ t + 9 → t ≤ u + 9 → 0 < energy recording u → IsAbove recording n2 t u
 
--- a primary signal stands out by so many thousandths
+-- a PSS stands out by `least` thousandths
 abbrev pub PrimaryStandsOutBy : ℕ → ℕ → Type 0
 PrimaryStandsOutBy quota least =
     (recording : List Sample) (t n2 : ℕ) → IsPrimaryWithin quota recording t n2 → StandsOutBy least recording t n2
 
--- a primary signal in the span of one frame is a hit
+-- a PSS within the span of one frame is a hit
 abbrev pub PrimaryIsHitWithin : ℕ → Type 0
 PrimaryIsHitWithin quota =
     (recording : List Sample) (t n2 : ℕ) → IsPrimaryWithin quota recording t n2 → first_place ≤ t → t ≤ last_place →
     IsHit recording t n2
 
--- a primary signal in the span of one frame is listed
+-- a PSS within the span of one frame is listed
 abbrev pub PrimaryIsListedWithin : ℕ → Type 0
 PrimaryIsListedWithin quota =
     (recording : List Sample) (t n2 : ℕ) → IsPrimaryWithin quota recording t n2 → first_place ≤ t → t ≤ last_place →
     Contains (hits_of recording) (found recording t n2)
 
--- a primary signal is the only hit of its own root of all places within 9, wherever it stands
+-- a PSS is the only hit of its own root within 9 samples, wherever it is
 abbrev pub OnlyHitOfRootWithin : ℕ → Type 0
 OnlyHitOfRootWithin quota =
     (recording : List Sample) (t u n2 : ℕ) → IsPrimaryWithin quota recording t n2 → u ≤ t + 9 → t ≤ u + 9 →
     IsHit recording u n2 → u ≡ t
 
--- ---- a clean one
+-- ---- a clean signal
 
--- the errors are so small that no other root has a hit near
+-- the errors are so small that no other root has a hit nearby
 abbrev pub IsPrimaryAt : List Sample → ℕ → ℕ → Type 0
 IsPrimaryAt recording t n2 = IsPrimaryWithin 1800 recording t n2
 
@@ -63,7 +63,7 @@ PrimaryIsHit = PrimaryIsHitWithin 1800
 abbrev pub PrimaryIsListed : Type 0
 PrimaryIsListed = PrimaryIsListedWithin 1800
 
--- a clean primary signal is the only hit of all places within 9 and all roots, wherever it stands
+-- a clean PSS is the only hit of any root within 9 samples, wherever it is
 abbrev pub OnlyHitNear : Type 0
 OnlyHitNear =
     (recording : List Sample) (t u n2 m2 : ℕ) → IsPrimaryAt recording t n2 → m2 ≤ 2 → u ≤ t + 9 → t ≤ u + 9 →

@@ -1,23 +1,23 @@
--- The sign of a soft value, and its size: what a component says of the bit that it stands for. (own)
+-- The sign and magnitude of a soft value: how a component supports the bit that it carries. (own)
 use Rattle.std.specs.Prelude.{ℕ, ◌+◌, ◌*◌, ◌≤◌, Bool, true, false, ℤ, pos, negsuc, ◌-ℤ◌, ◌*ℤ◌, ◌≤ℤ◌, nat_abs}
 use Rattle.cs_bits.specs.Signs.{Supports}
 use Rattle.crs.specs.Qpsk.{component}
 use Rattle.soft_bits.specs.Soft.{soft_value}
 
--- the sign of a bit: 1 for 0 and -1 for 1
+-- the sign of a bit: 1 for 0, and -1 for 1
 abbrev pub sign : Bool → ℤ
 sign false = pos 1
 sign true = negsuc 0
 
--- a value speaks for a bit with a size of 1 to 127 where six times the component, by the bit's sign, is at least the
--- size times the energy
+-- a soft value supports a bit with a magnitude of 1 to 127 if six times the component, signed by the bit, is at least
+-- the magnitude times the energy
 abbrev pub LargeComponentSpeaks : Type 0
 LargeComponentSpeaks = (size energy : ℕ) (bit : Bool) (c : ℤ) → 1 ≤ size → size ≤ 127 → 1 ≤ energy →
     pos (size * energy) ≤ℤ (pos 6 *ℤ (sign bit *ℤ c)) → Supports size bit (soft_value c energy)
 
--- a value speaks for a bit where the component, so many times, is a multiple of that of the bit, in any unit, up to a
--- deviation that leaves enough: of six times 90 times `main` units, six times `off` taken away, at least the size times
--- `most`, where the energy, as many times, has at most `most` units
+-- a soft value supports a bit if the scaled component is a multiple of the bit's own, in any unit, up to a deviation
+-- that leaves enough: six times 90 times `main` units, less six times `off`, are at least the magnitude times `most`,
+-- and the scaled energy is at most `most` units
 abbrev pub NearComponentSpeaks : Type 0
 NearComponentSpeaks = (size main off most : ℕ) → 1 ≤ size → size ≤ 127 → size * most + 6 * off ≤ 540 * main →
     (scale unit energy : ℕ) (bit : Bool) (c : ℤ) → 1 ≤ scale → 1 ≤ energy → scale * energy ≤ most * unit →

@@ -1,5 +1,5 @@
--- The synchronisation signals of a cell in a recording, seen through a channel, as over several paths. (own; the
--- signals are those of TS 36.211 section 6.11)
+-- A cell's synchronisation signals in a recording, demodulated through a channel, as over several paths. (own; the
+-- signals are in TS 36.211 section 6.11)
 use Rattle.std.specs.Prelude.{ℕ, ◌-◌, ◌≤◌, List}
 use Rattle.cs_num.specs.declared.Cpx.{Cpx}
 use Rattle.cs_num.specs.declared.Sample.{Sample}
@@ -13,8 +13,8 @@ use Rattle.budget.specs.Peak.{IsPrimaryWithin}
 use Rattle.budget.specs.Score.{sss_grid, AreSignals, AreSeenThrough, LeaveTermsRoom}
 use Rattle.budget.specs.Paths.{Paths, AreFaint, IsReceivedOver}
 
--- both signals are seen through some channel that leaves room, the primary one at a place of a recording and the
--- secondary one a symbol of this prefix before it
+-- both signals are demodulated through a channel that leaves room, the PSS at a sample of a recording and the SSS one
+-- symbol with this prefix earlier
 pub record AreSignalsThrough (prefix : Prefix) (recording : List Sample) (t n1 n2 : ℕ) (half : Half) : Type 0 where
   pub most : ℕ
   pub least : ℕ
@@ -24,7 +24,7 @@ pub record AreSignalsThrough (prefix : Prefix) (recording : List Sample) (t n1 n
   pub through :
       AreSeenThrough most least size channel n1 n2 half (seen recording t) (seen recording (t - symbol_step prefix))
 
--- signals that are received with one gain are seen through a channel
+-- signals received with one gain are demodulated through a channel
 abbrev pub SignalsAreThrough : Type 0
 SignalsAreThrough =
     (prefix : Prefix) (recording : List Sample) (t n1 n2 : ℕ) (half : Half) →
@@ -38,15 +38,15 @@ pub record AreSignalsOver (paths : Paths) (prefix : Prefix) (recording : List Sa
   pub primary : IsReceivedOver 1024 paths (pss_grid n2) (samples_from recording t)
   pub secondary : IsReceivedOver 1024 paths (sss_grid n1 n2 half) (samples_from recording (t - symbol_step prefix))
 
--- signals that are received over the same paths are seen through a channel, where later paths are faint
+-- signals received over the same paths are demodulated through a channel, if later paths are faint
 abbrev pub SignalsOverAreThrough : Type 0
 SignalsOverAreThrough =
     (sizes : ℕ → ℕ) (paths : Paths) (prefix : Prefix) (recording : List Sample) (t n1 n2 : ℕ) (half : Half) →
     AreFaint sizes paths → AreSignalsOver paths prefix recording t n1 n2 half →
     AreSignalsThrough prefix recording t n1 n2 half
 
--- later paths may count as errors of the primary signal: together with those of its samples their energy is at most
--- 14000 times the square of the first gain
+-- later paths may count as errors of the PSS: together with the sample errors, their energy is at most 14000 times the
+-- first gain's square
 abbrev pub PrimaryOverIsWithin : Type 0
 PrimaryOverIsWithin =
     (sizes : ℕ → ℕ) (paths : Paths) (recording : List Sample) (t n2 : ℕ) → AreFaint sizes paths → n2 ≤ 2 →

@@ -1,5 +1,5 @@
--- What is seen of a slot through a channel that need not be one gain, and what its soft values then say. (own; the
--- reference places are those of TS 36.211 section 6.10.1)
+-- The demodulation of a slot through a channel that need not be one gain, and the resulting soft values. (own; the
+-- reference signals are in TS 36.211 section 6.10.1)
 use Rattle.std.specs.Prelude.{ℕ, ◌+◌, ◌*◌, ◌%◌, ◌<◌, ◌≤◌, Bool}
 use Rattle.cs_num.specs.declared.Cpx.{Cpx}
 use Rattle.cs_num.specs.Complex.{times, conjugate, square, minus, multiple}
@@ -18,20 +18,20 @@ use Rattle.budget.specs.Received.{IsSeenAs, IsSeenNear}
 abbrev pub Channel : Type 0
 Channel = ℕ → ℕ → Cpx
 
--- the channel at pilot i of a slot by a pattern
+-- the channel at pilot i in a slot's pattern
 abbrev pub at_pilot : Pattern → SeenSlot → Channel → ℕ → Cpx
 at_pilot pattern slot channel i = channel (pattern_symbol pattern slot.identity i) (pilot_subcarrier slot.identity i)
 
--- Bounds beside one size. What is seen is off by at most `most` times the size. In thousandths of it, the channel is at
--- least `least` where values are read, and the root of its mean square over the pilots at most `mean`; and in
--- thousandths of the channel there, the line through the channel at the pilots is off it by at most `bend`.
+-- Bounds relative to some magnitude. Demodulated values deviate by at most `most` times the magnitude. In thousandths
+-- of it, the channel is at least `least` where values are read, and its root mean square over the pilots is at most
+-- `mean`. In thousandths of the channel there, the line through the channel at the pilots deviates by at most `bend`.
 pub record Bounds : Type 0 where
   pub most : ℕ
   pub least : ℕ
   pub mean : ℕ
   pub bend : ℕ
 
--- the 24 pilots of a slot by a pattern are seen through a channel, beside a size whose square is n
+-- the 24 pilots in a slot's pattern are demodulated through a channel, relative to a magnitude whose square is n
 pub record ArePilotsThrough (bounds : Bounds) (n : ℕ) (pattern : Pattern) (channel : Channel) (slot : SeenSlot) :
     Type 0 where
   pub sounds : 1 ≤ n
@@ -41,7 +41,8 @@ pub record ArePilotsThrough (bounds : Bounds) (n : ℕ) (pattern : Pattern) (cha
       (pattern_seen pattern slot i)
   pub mean : 1000000 * energy_below 24 (at_pilot pattern slot channel) ≤ bounds.mean * bounds.mean * (24 * n)
 
--- a place can be read: the channel is not small there, and the line, here three times, is near
+-- a resource element can be read: the channel is not small there, and near the line through the pilots (both times
+-- three)
 pub record IsReadThrough (bounds : Bounds) (n : ℕ) (pattern : Pattern) (channel : Channel) (slot : SeenSlot)
     (symbol k : ℕ) : Type 0 where
   pub least : bounds.least * bounds.least * n ≤ 1000000 * square (channel symbol k)
@@ -50,33 +51,34 @@ pub record IsReadThrough (bounds : Bounds) (n : ℕ) (pattern : Pattern) (channe
       (multiple 3 (channel symbol k))) ≤
       9 * (bounds.bend * bounds.bend) * square (channel symbol k)
 
--- ---- what the bounds leave
+-- ---- the room that the bounds leave
 
--- Numbers here are in units of the channel where a value is read. So that they are whole, what is seen there is taken
--- `least` times, and the estimate, which is three times 64 * 16200 times the channel, 1000 * `least` times.
+-- Numbers here are in units of the channel where a value is read. To make them integers, the demodulated value is
+-- multiplied by `least`, and the estimate, which is three times 64 * 16200 times the channel, by 1000 * `least`.
 
--- the estimate is off by the bend of the line, and by what the pilots are off
+-- the estimate's deviation: from the line's bend, and from the pilots' deviation
 abbrev pub estimate_off : Bounds → ℕ
 estimate_off bounds = 3110400 * (bounds.bend * bounds.least) + 384000000 * bounds.most
 
--- what is seen, times the estimate, is off by so much
+-- the demodulated value's deviation times the estimate
 abbrev pub product_off : Bounds → ℕ
 product_off bounds =
     8192 * bounds.least * estimate_off bounds
     + 1000 * bounds.most * (3110400000 * bounds.least + estimate_off bounds)
 
--- the energy of the pilots, as many times, is at most so much
+-- the maximum energy of the pilots, multiplied in the same way as the product
 abbrev pub energy_most : Bounds → ℕ
 energy_most bounds = 24000 * ((8192 * bounds.mean + 1000 * bounds.most) * (8192 * bounds.mean + 1000 * bounds.most))
 
--- the main part of a component outweighs both, for values of this size
+-- the main part of a component outweighs both, for soft values with this magnitude
 pub record LeaveRoom (size : ℕ) (bounds : Bounds) : Type 0 where
   pub some : 1 ≤ size
   pub high : size ≤ 127
   pub reads : 1 ≤ bounds.least
   pub room : size * energy_most bounds + 6 * product_off bounds < 540 * (199065600000 * (bounds.least * bounds.least))
 
--- both soft values of a place at a subcarrier speak for two bits with this size, by what is seen there
+-- both soft values for a resource element at subcarrier k support two bits with this magnitude, given its demodulated
+-- value
 pub record BothSpeak (size : ℕ) (pattern : Pattern) (slot : SeenSlot) (k : ℕ) (first second : Bool) (seen : Cpx) :
     Type 0 where
   pub re : Supports size first
@@ -84,8 +86,8 @@ pub record BothSpeak (size : ℕ) (pattern : Pattern) (slot : SeenSlot) (k : ℕ
   pub im : Supports size second
       (soft_value (times seen (conjugate (pattern_channel pattern slot k))).im (pattern_energy pattern slot))
 
--- where a place that carries two bits is seen through a channel and can be read, its soft values speak for them with
--- each size for which the bounds leave room
+-- if a resource element that carries two bits is demodulated through a channel and can be read, its soft values support
+-- them with each magnitude for which the bounds leave room
 abbrev pub ValuesSpeakThrough : Type 0
 ValuesSpeakThrough =
     (size n : ℕ) (bounds : Bounds) (pattern : Pattern) (channel : Channel) (slot : SeenSlot) (symbol k : ℕ)
@@ -96,26 +98,26 @@ ValuesSpeakThrough =
 
 -- ---- one gain
 
--- one gain for all places
+-- one gain for all resource elements
 abbrev pub level : Cpx → Channel
 level gain symbol k = gain
 
--- what is seen is off by at most `most` times its size
+-- demodulated values deviate by at most `most` times the gain's magnitude
 abbrev pub level_within : ℕ → Bounds
 level_within most = record { most = most; least = 1000; mean = 1000; bend = 0 }
 
 abbrev pub level_bounds : Bounds
 level_bounds = level_within 2316
 
--- one gain leaves room for values of size 1 and more
+-- one gain leaves room for soft values with magnitude 1 and more
 abbrev pub OneGainLeavesRoom : Type 0
 OneGainLeavesRoom = LeaveRoom 1 level_bounds
 
--- one gain leaves room for values of size 8 and more where errors are smaller
+-- one gain leaves room for soft values with magnitude 8 and more, if errors are smaller
 abbrev pub QuietGainLeavesRoom : Type 0
 QuietGainLeavesRoom = LeaveRoom 8 (level_within 1920)
 
--- pilots that are seen with one gain are seen through it, and each place can be read
+-- pilots demodulated with one gain are demodulated through it as a channel, and each resource element can be read
 abbrev pub OneGainIsThrough : Type 0
 OneGainIsThrough =
     (most : ℕ) (pattern : Pattern) (gain : Cpx) (slot : SeenSlot) → 1 ≤ square gain →

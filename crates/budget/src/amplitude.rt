@@ -1,20 +1,27 @@
-//! What is seen of a symbol.
+//! The deviation of a demodulated amplitude.
+//!
+//! With one gain, of magnitude at least 1 in parts of 2^-14, the demodulated value is 64 times the amplitude times the
+//! gain. It deviates by less than 37 units of amplitude if the error energy of the symbol's 128 samples is at most 1800
+//! times the gain's square, and by at most 30 if it is at most 1024 times that, as when each component deviates by at
+//! most twice the gain's magnitude.
+//!
+//! With several gains the demodulated value is the sum over the ports. Its deviation is relative to the gains' root sum
+//! square, and the error energy to their summed squares:
+//!
+//! - two gains: less than 23 units at 400 times the sum, and 16 at 64 times;
+//! - four gains: little more than 14 units at 7 times the sum, and less than 14 at 4 times.
+//!
+//! The deviation has four causes, each with a bound: the leakage of the tables, the rounding of the transmitted
+//! samples, the errors of the received samples, and the rounding of the demodulated value. The first two make up the
+//! transmit error, to which each port adds its own times its gain.
 
 ghost use Rattle.budget.specs.Budget.{SendingHasTwoCauses, LeakageIsSmall, RoundingSentIsSmall, SendingIsSmall};
 ghost use Rattle.budget.specs.Budget.{SendingIsLinear, DeviationHasThreeCauses, DeviationHasFourCauses};
 ghost use Rattle.budget.specs.Budget.{AmplitudeIsSeen, AmplitudeIsSeenInRecording};
 ghost use Rattle.budget.specs.Budget.{AmplitudesAreSeen, AmplitudesAreSeenInRecording, UnitsAreSeen};
 
-/// What is seen of an amplitude is 64 times the amplitude times the gain, of size 1 and more in parts of 2^-14, off by
-/// less than 37 units of amplitude, where the energy of the errors of a symbol's 128 samples is at most 1800 times the
-/// gain's square; by 30 where it is at most 1024 times that, as where each component is off by at most twice the
-/// gain's size. With two gains it is the sum of both, off by less than 23 units times the root of the sum of the
-/// gains' squares, where the energy of the errors is at most 400 times that sum, and by 16 where it is at most 64 times
-/// that; with four gains it is the sum of all, off by little more than 14 such units, where it is at most 7 times that,
-/// and by less than 14 where it is at most 4 times that. What it is off by has four causes, each with a bound: the
-/// leakage of the tables and the rounding of the sent samples, of which each port adds its own times its gain, the
-/// errors of the samples, and the rounding of what is seen. The first two together are what sending is off by, whatever
-/// is sent. With one gain it is so for each share of errors, by the units that it has.
+/// A law: a demodulated amplitude is 64 times the amplitude times the gain, within bounds that follow from the ratio
+/// between the error energy and the gain's square; with two or four ports, the sum is within such bounds.
 pub fn seen_amplitude_is_near()
     ensures two_causes { SendingHasTwoCauses }
     ensures leakage { LeakageIsSmall }

@@ -1,6 +1,7 @@
-//! The reception of one symbol: how far what is seen of an amplitude may be from what was sent, and
-//! why the synchronisation signals of a clean cell stand out. The list of cells is not known here.
-//! Each law is the contract of a function without a body, whole, with its premises.
+//! Error bounds for the reception of one symbol: how far a demodulated amplitude can be from the transmitted one, and
+//! why the synchronisation signals of a clean cell stand out (clean: noise within a stated bound). The cell list
+//! plays no part here. Each law is the contract of a function without a body, complete with its premises.
+//! Tests: the crate `list_tests`.
 #![tactic(auto)]
 
 mod amplitude;

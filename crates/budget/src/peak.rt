@@ -1,14 +1,13 @@
-//! The primary synchronisation signal.
+//! The detection of a primary synchronisation signal (PSS): 128 samples that are the signal times a gain of magnitude
+//! at least 1, with errors. The samples before and after may be anything. If later paths are among the errors, another
+//! root may have a hit nearby.
 
 ghost use Rattle.budget.specs.Peak.{PrimaryStandsOut, PrimaryIsHit, PrimaryIsListed, OnlyHitNear};
 ghost use Rattle.budget.specs.Peak.{PrimaryStandsOutBy, PrimaryIsHitWithin, PrimaryIsListedWithin};
 ghost use Rattle.budget.specs.Peak.{OnlyHitOfRootWithin};
 
-/// Where 128 samples are the primary signal of a root times a gain of size 1 and more, with errors whose energy is at
-/// most 14000 times the gain's square, at least 990 thousandths of their energy are the signal's, and the metric of
-/// their place is above that of each place with energy at distance 1 to 9, whatever stands before and after them. So
-/// the place is a hit where it lies in the span of one frame, and is listed. Of the places within 9 it is the only hit
-/// of its own root. The errors may be later paths: another root may have a hit near.
+/// A law: with error energy at most 14000 times the gain's square, a PSS has a normalised metric of at least 0.99.
+/// Within one frame's span it is a hit, the only one of its root within 9 samples.
 pub fn primary_within_errors_is_a_hit()
     ensures stands_out { PrimaryStandsOutBy 14000 990 }
     ensures hit { PrimaryIsHitWithin 14000 }
@@ -16,8 +15,8 @@ pub fn primary_within_errors_is_a_hit()
     ensures alone { OnlyHitOfRootWithin 14000 }
 {}
 
-/// Where the energy of the errors is at most 1800 times the gain's square, at least 999 thousandths are the signal's,
-/// and of the places within 9, and of all three roots, its place is the only hit.
+/// A law: with error energy at most 1800 times the gain's square, a PSS has a normalised metric of at least 0.999, and
+/// is the only hit of all three roots within 9 samples.
 pub fn clean_primary_is_a_hit()
     ensures stands_out { PrimaryStandsOut }
     ensures hit { PrimaryIsHit }

@@ -1,4 +1,4 @@
--- Certificates that are written one after the other.
+-- Certificates written one after another.
 use Rattle.std.proofs.Common.{◌≡◌, ℕ, suc, ◌+◌, ◌*◌, ◌<◌, ◌≤◌, Bool, true, false, cond, List, [], ◌∷◌, ◌++◌, length, take, drop, get_or, Option, None, ℤ, refl, ap, sym, subst, ◌∙◌, arith, add-one, append-nil, length-append}
 use Rattle.finite.specs.Sizes.{AllWithin}
 use Rattle.finite.specs.Lists.{values_below}
@@ -36,7 +36,7 @@ use Rattle.certificates.specs.Stream.{all_bytes}
 use Rattle.certificates.specs.Certifying.{HasSmallValues, Certifies, IsCertificateOf, HasCertified, HasCertifiedFront, HasCertifiedAll, HasCertifiedSome}
 use Rattle.certificates.proofs.Judged.{zip_append}
 
--- certificates of the same entries have as many bytes
+-- certificates for the same entries have equal lengths
 pub certified_length : (receiver : Receiver) (samples : List Sample) (entries : List Entry) (cs ds : List Held) → AllZip (Certifies receiver samples) entries cs → AllZip (Certifies receiver samples) entries ds →
     length (all_bytes cs) ≡ length (all_bytes ds)
 certified_length receiver samples [] [] [] a b = refl
@@ -51,7 +51,7 @@ certified_length receiver samples (e ∷ es) (c ∷ cs) (d ∷ ds) (first, rest)
     let more = certified_length receiver samples es cs ds rest others in
     omega (arith, many, one, two, more, length-append (bytes_of c) (all_bytes cs), length-append (bytes_of d) (all_bytes ds))
 
--- a certificate has no more bytes than the longest
+-- a certificate is no longer than the longest
 pub tables_most : (tables : List (Option (List (List ℕ)))) → head_count + table_count * tables_there tables ≤ most_count
 tables_most tables =
     let many = total_below-within 64 1 (λ s. cond (is_some (get_or tables s None)) 1 0) (λ s below. at_most_one (is_some (get_or tables s None))) in
@@ -63,11 +63,12 @@ tables_most tables =
 
 -- ---- an entry's certificate
 
--- the values by which a receiver reads an entry's frames
+-- the combined soft values from which a receiver reads an entry's frames
 abbrev values_of : Receiver → List Sample → Entry → List (List ℤ)
 values_of receiver samples entry = sums_by receiver samples (place_of entry) (frames_of entry)
 
--- what makes a certificate of an entry: it is accepted, with the values of the entry's frames and a least word of them
+-- a certificate is one for an entry if it is accepted, and has the values for the entry's frames and their minimum-cost
+-- word
 pub certifies : (receiver : Receiver) (samples : List Sample) (entry : Entry) (c : Held) → IsWhole c → IsAccepted c → IsFilled c →
     c.values ≡ values_of receiver samples entry →
     TellsMaster (values_of receiver samples entry) (master_of entry) → IsLeastWord c.values c.word → Certifies receiver samples entry c
@@ -84,13 +85,13 @@ certifies receiver samples entry c whole accepted filled values tells least =
       cost = accepted.stated ∙ ap (word_cost c.values) (sym same) ∙ sym there.cost;
     }
 
--- the same by the values that it was filled with
+-- the same, with the values from which it was filled
 pub certifies_filled : (receiver : Receiver) (samples : List Sample) (entry : Entry) (c : Held) (v : List (List ℤ)) → IsWhole c → IsAccepted c → IsFilled c → c.values ≡ v →
     v ≡ values_of receiver samples entry → TellsMaster v (master_of entry) → IsLeastWord v c.word → Certifies receiver samples entry c
 certifies_filled receiver samples entry c v whole accepted filled same values tells least =
     certifies receiver samples entry c whole accepted filled (same ∙ values) (subst (λ v. TellsMaster v (master_of entry)) values tells) (subst (λ v. IsLeastWord v c.word) (sym same) least)
 
--- the values of an entry have the shape and the sizes of a certificate
+-- an entry's values have the shape and the magnitudes that a certificate requires
 values_fit : (receiver : Receiver) (samples : List Sample) (entry : Entry) → HasSmallValues receiver → entry.frames ≤ 4 → Counted 40 IsTriple (values_of receiver samples entry)
 values_fit receiver samples entry within few =
     let values : ℕ → List ℤ = receiver.broadcast samples (place_of entry) in
@@ -126,7 +127,7 @@ entry_has_certificate receiver samples entries entry within explained inside =
           (subst (λ w. IsLeastWord (certificate_of values tells.word).values w) (sym made.word_is) (subst (λ v. IsLeastWord v tells.word) (sym made.values_are) tells.tells.least)),
     )
 
--- and so have all
+-- all entries of a list have certificates
 pub entries_have : (receiver : Receiver) (samples : List Sample) (entries rest : List Entry) → HasSmallValues receiver → IsListFor receiver samples entries → ((entry : Entry) → Contains rest entry → Contains entries entry) →
     (cs : List Held) × AllZip (Certifies receiver samples) rest cs
 entries_have receiver samples entries [] within explained inside = ([], tt)
@@ -157,13 +158,13 @@ certified_err receiver samples entry made piece before now (Err e) h same front 
   full = subst (λ l. IsShortOf (length l) before) (same ∙ h.bytes_are) full;
 }
 
--- ---- one after the other
+-- ---- one after another
 
--- at first none is written
+-- at first no certificate is written
 pub written_none : (receiver : Receiver) (samples : List Sample) (before : SinkTold) → HasCertifiedAll receiver samples [] before before
 written_none receiver samples before = record { certificates = []; each = tt; written = write_nothing before }
 
--- the bytes of certificates and of one more
+-- the bytes of certificates and one more
 bytes_and_one : (cs : List Held) (c : Held) → all_bytes (cs ++ c ∷ []) ≡ all_bytes cs ++ bytes_of c
 bytes_and_one cs c = flat_map-append bytes_of cs (c ∷ []) ∙ ap (λ l. all_bytes cs ++ l) (append-nil (bytes_of c))
 
@@ -176,7 +177,7 @@ written_more receiver samples entries entry before between now a h = record {
       (write_then (all_bytes a.certificates) (bytes_of h.certificate) before between now a.written h.written);
 }
 
--- where a front of one is written, a front of all is
+-- if a front of one certificate is written, a front of all is
 pub written_some : (receiver : Receiver) (samples : List Sample) (list entries : List Entry) (entry : Entry) (rest : List Entry) (before between now : SinkTold) →
     HasSmallValues receiver → IsListFor receiver samples list → list ≡ (entries ++ entry ∷ []) ++ rest → HasCertifiedAll receiver samples entries before between →
     HasCertifiedFront receiver samples entry between now → HasCertifiedSome receiver samples list before now
@@ -199,7 +200,7 @@ written_some receiver samples list entries entry rest before between now within 
           (short_after first (length (bytes_of h.certificate)) before between a.written h.full);
     }
 
--- the same by the index of the entry
+-- the same, by the entry's index
 pub written_next : (receiver : Receiver) (samples : List Sample) (list : List Entry) (i : ℕ) (entry : Entry) (before between now : SinkTold) →
     i < length list → entry ≡ get_or list i entry → HasCertifiedAll receiver samples (take i list) before between →
     HasCertified receiver samples entry between now → HasCertifiedAll receiver samples (take (i + 1) list) before now

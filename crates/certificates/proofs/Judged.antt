@@ -1,4 +1,4 @@
--- The answers to certificates are those of their bytes.
+-- The answers to certificates are determined by their bytes.
 use Rattle.std.proofs.Common.{◌≡◌, ℕ, ◌<◌, ◌↔◌, Bool, true, false, List, [], ◌∷◌, ◌++◌, length, refl, ap, sym, subst, ◌∙◌, arith, length-append}
 use Rattle.std.specs.Prelude.{IsTrue, All}
 use Rattle.std.specs.List.{AllZip}
@@ -9,32 +9,32 @@ use Rattle.tail_cert.proofs.Codes.{length-bytes_of, same_certificate, same_parts
 use Rattle.certificates.specs.Stream.{all_bytes, IsAnswer, AreAnswers}
 use Rattle.certificates.proofs.Rest.{same_length}
 
--- what holds place by place of two lists and of two more holds of both
+-- a relation between the items of two pairs of lists holds for the concatenated lists
 pub zip_append : {A B : Type 0} (R : A → B → Type 0) (xs us : List A) (ys vs : List B) → AllZip R xs ys → AllZip R us vs → AllZip R (xs ++ us) (ys ++ vs)
 zip_append R [] us [] vs a b = b
 zip_append R [] us (y ∷ ys) vs a b = absurd a
 zip_append R (x ∷ xs) us [] vs a b = absurd a
 zip_append R (x ∷ xs) us (y ∷ ys) vs (first, rest) b = (first, zip_append R xs us ys vs rest b)
 
--- certificates that are answered are whole
+-- answered certificates are whole
 pub all_whole : (cs : List Held) (answers : List Bool) → AllZip IsAnswer cs answers → All IsWhole cs
 all_whole [] [] z = All-nil IsWhole
 all_whole [] (a ∷ answers) z = absurd z
 all_whole (c ∷ cs) [] z = absurd z
 all_whole (c ∷ cs) (a ∷ answers) (first, rest) = All-cons IsWhole c cs first.whole (all_whole cs answers rest)
 
--- answers that are yes exactly where the same holds are the same
+-- answers that are true under the same condition are equal
 same_answer : (a b : Bool) (P : Type 0) → (IsTrue a ↔ P) → (IsTrue b ↔ P) → a ≡ b
 same_answer true true P x y = refl
 same_answer true false P x y = absurd (cc (y.1 (x.0 refl)))
 same_answer false true P x y = absurd (cc (x.1 (y.0 refl)))
 same_answer false false P x y = refl
 
--- certificates have some bytes
+-- certificates are not empty
 some_bytes : (c : Held) (cs : List Held) → IsWhole c → 0 < length (all_bytes (c ∷ cs))
 some_bytes c cs whole = omega (arith, length-bytes_of c whole, length-append (bytes_of c) (all_bytes cs))
 
--- certificates with the same bytes have the same answers
+-- equal bytes have equal answers
 same_answers : (cs ds : List Held) (first second : List Bool) → AllZip IsAnswer cs first → AllZip IsAnswer ds second → all_bytes cs ≡ all_bytes ds → first ≡ second
 same_answers [] [] [] [] a b e = refl
 same_answers [] [] [] (y ∷ ys) a b e = absurd b

@@ -1,4 +1,4 @@
--- Whole certificates, and then a part of one.
+-- Whole certificates followed by a part of one.
 use Rattle.std.proofs.Common.{◌≡◌, ◌≢◌, ℕ, ◌+◌, ◌<◌, ◌≤◌, inl, inr, List, [], ◌∷◌, ◌++◌, length, refl, ap, sym, subst, ◌∙◌, arith, append_assoc, length-append}
 use Rattle.std.specs.Prelude.{All}
 use Rattle.std.proofs.lemmas.List.Elements.{All-nil}
@@ -12,7 +12,7 @@ use Rattle.certificates.specs.Reading.{IsSound}
 use Rattle.certificates.proofs.Fronts.{break_shorter, count_of_whole, first_longer}
 use Rattle.certificates.proofs.Rest.{broken_after, broken_later}
 
--- a place within as many bytes as the first certificate has breaks all of the bytes
+-- a first error within the length of the first certificate is an error in the bytes themselves
 in_front : (bytes : List ℕ) (place : ℕ) → IsFirstBroken bytes place → place < count_of bytes → Breaks bytes place
 in_front bytes place b below = by_certificates b.certificates b.whole b.split b.here
   where
@@ -24,7 +24,7 @@ in_front bytes place b below = by_certificates b.certificates b.whole b.split b.
         let size = ap count_of (split ∙ append_assoc (bytes_of c) (all_bytes cs) b.rest) ∙ count_of_whole c (h 0 c (omega arith)) (all_bytes cs ++ b.rest) in
         absurd (omega (arith, below, here, size, length-append (bytes_of c) (all_bytes cs)))
 
--- a part that has no more bytes than it tells has none more however it goes on
+-- a part no longer than it states lies within the stated length in any continuation
 within_count : (part rest : List ℕ) (q : ℕ) → length part ≤ count_of part → q < length part → q < count_of (part ++ rest)
 within_count part rest q fits inside = elim (cases_lt (length part) head_count) [
   | inl few ↦ let least = count_least (part ++ rest) in omega (arith, few, inside, least)
@@ -34,7 +34,7 @@ within_count part rest q fits inside = elim (cases_lt (length part) head_count) 
 some_bytes : (part : List ℕ) → 0 < length part → part ≢ []
 some_bytes part some e = omega (arith, some, ap length e)
 
--- where the bytes end within a certificate, their end is the first place
+-- if the bytes end within a certificate, their end is the first error
 pub cut_off : (cs : List Held) → All IsWhole cs → (part : List ℕ) → 0 < length part → length part < count_of part → IsSound part →
     IsFirstBroken (all_bytes cs ++ part) (length (all_bytes cs) + length part)
 cut_off cs h part some few sound = broken_later cs h part (length part) (record {
@@ -48,7 +48,7 @@ cut_off cs h part some few sound = broken_later cs h part (length part) (record 
   here = omega arith;
 })
 
--- the first byte that breaks the part is the first of all, however it goes on
+-- the first error in the part is the first of all, whatever follows
 pub first_broken : (cs : List Held) → All IsWhole cs → (part : List ℕ) (q : ℕ) → q < length part → IsFirstBreak part q → (rest : List ℕ) →
     IsFirstBroken (all_bytes cs ++ (part ++ rest)) (length (all_bytes cs) + q)
 first_broken cs h part q inside first rest = broken_later cs h (part ++ rest) q (record {
@@ -62,7 +62,7 @@ first_broken cs h part q inside first rest = broken_later cs h (part ++ rest) q 
   here = omega arith;
 })
 
--- where no byte of a part but the last breaks the form, none but it does however it goes on
+-- if no byte of a part except the last breaks the format, none of them does in any continuation
 pub none_however : (cs : List Held) → All IsWhole cs → (part : List ℕ) → length part ≤ count_of part → ((q : ℕ) → q + 1 < length part → Breaks part q → ⊥) →
     (rest : List ℕ) (place : ℕ) → IsFirstBroken (all_bytes cs ++ (part ++ rest)) place → length (all_bytes cs) + length part ≤ place + 1
 none_however cs h part fits sound rest place b =
@@ -74,7 +74,7 @@ none_however cs h part fits sound rest place b =
       | inr past ↦ omega (arith, e, past)
     ]
 
--- where no byte of a part breaks the form, none does of all
+-- if no byte of a part breaks the format, none of the bytes up to its end does
 pub none_so_far : (cs : List Held) → All IsWhole cs → (part : List ℕ) → length part ≤ count_of part → IsSound part →
     (place : ℕ) → IsFirstBroken (all_bytes cs ++ part) place → length (all_bytes cs) + length part ≤ place
 none_so_far cs h part fits sound place b =

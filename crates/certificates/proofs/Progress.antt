@@ -1,4 +1,4 @@
--- Certificates that are read one after the other: what is known after each read.
+-- Certificates read one after another: what holds after each read.
 use Rattle.std.proofs.Common.{◌≡◌, ℕ, ◌+◌, ◌<◌, ◌≤◌, inl, inr, Bool, List, [], ◌∷◌, ◌++◌, length, take, refl, ap, sym, subst, ◌∙◌, arith, append_assoc, append-nil, length-append}
 use Rattle.std.specs.List.{AllZip}
 use Rattle.std.proofs.lemmas.Grind.{flat_map-append}
@@ -18,7 +18,8 @@ use Rattle.certificates.specs.Reading.{IsSound, IsCause, HasReadAnswers, HasRead
 use Rattle.certificates.proofs.Judged.{zip_append, all_whole}
 use Rattle.certificates.proofs.Parts.{cut_off, first_broken, none_however, none_so_far}
 
--- whole certificates of so many bytes with the answers to them were read, and then a part of one in which no byte breaks the form
+-- whole certificates with `done` bytes and these answers were read, then a part of one in which no byte breaks the
+-- format
 pub record IsReadTo (answers : List Bool) (done : ℕ) (part : List ℕ) (before now : SourceTold) : Type 0 where
   pub certificates : List Held
   pub each : AllZip IsAnswer certificates answers
@@ -32,13 +33,13 @@ nothing_sound place inside b = omega (arith, inside)
 pub read_none : (before : SourceTold) → IsReadTo [] 0 [] before before
 read_none before = record { certificates = []; each = tt; size = refl; read = read_nothing before; sound = nothing_sound }
 
--- a further piece makes the part longer
+-- a further piece extends the part
 longer : (answers : List Bool) (done : ℕ) (part piece : List ℕ) (before between now : SourceTold) (s : IsReadTo answers done part before between) → HasRead piece between now →
     HasRead (all_bytes s.certificates ++ (part ++ piece)) before now
 longer answers done part piece before between now s more =
     subst (λ l. HasRead l before now) (append_assoc (all_bytes s.certificates) part piece) (read_then _ piece before between now s.read more)
 
--- the same of a piece that was read to a place of the buffer
+-- the same, for a piece read to an offset in the buffer
 longer_on : (answers : List Bool) (done n : ℕ) (part next : List ℕ) (before between now : SourceTold) (s : IsReadTo answers done part before between) → HasReadOn n part next between now →
     HasRead (all_bytes s.certificates ++ next) before now
 longer_on answers done n part next before between now s h =
@@ -48,7 +49,7 @@ no_piece : (n : ℕ) (piece : List ℕ) → length piece ≡ n → n ≡ 0 → p
 no_piece n [] size zero = refl
 no_piece n (x ∷ piece) size zero = absurd (omega (arith, size, zero))
 
--- and of no piece
+-- the same, for an empty piece
 ended_on : (answers : List Bool) (done n : ℕ) (part next : List ℕ) (before between now : SourceTold) (s : IsReadTo answers done part before between) → HasReadOn n part next between now →
     n ≡ 0 → HasRead (all_bytes s.certificates ++ part) before now
 ended_on answers done n part next before between now s h zero =
@@ -57,7 +58,7 @@ ended_on answers done n part next before between now s h zero =
 
 -- ---- the reading goes on
 
--- the longer part goes on
+-- the longer part is still incomplete
 pub part_on : (answers : List Bool) (done n : ℕ) (part next : List ℕ) (before between now : SourceTold) → IsReadTo answers done part before between →
     HasReadOn n part next between now → IsSound next → IsReadTo answers done next before now
 part_on answers done n part next before between now s h sound =
@@ -124,7 +125,7 @@ early_on answers done n part next before between now place s h zero some few her
       settled = inl (h.end zero);
     }
 
--- at a byte that breaks the form
+-- at a byte that breaks the format
 pub broken_on : (answers : List Bool) (done n : ℕ) (part next : List ℕ) (before between now : SourceTold) (within place : ℕ) → IsReadTo answers done part before between →
     HasReadOn n part next between now → (within < length next) × IsFirstBreak next within → place ≡ done + within → place < most_bytes →
     length next ≤ most_count → done + length next ≤ most_bytes + 1 → HasReadBroken place before now
@@ -147,7 +148,7 @@ broken_on answers done n part next before between now within place s h (inside, 
       settled = inr always;
     }
 
--- one byte past the limit, where no byte but that one breaks the form
+-- one byte past the limit, if no byte except that one breaks the format
 pub past_on : (answers : List Bool) (done n : ℕ) (part next : List ℕ) (before between now : SourceTold) → IsReadTo answers done part before between →
     HasReadOn n part next between now → length next ≤ count_of next → ((q : ℕ) → q + 1 < length next → Breaks next q → ⊥) → done + length next ≡ most_bytes + 1 →
     HasReadTooMany before now
@@ -165,7 +166,7 @@ past_on answers done n part next before between now s h fits sound full =
           omega (arith, least, size, full);
     }
 
--- what is told of a part says so
+-- no byte of a part except the last breaks the format
 pub not_before_last : (part : List ℕ) (q : ℕ) → IsFirstBreak part q → length part ≤ q + 1 → (p : ℕ) → p + 1 < length part → Breaks part p → ⊥
 not_before_last part q first last p inside b = first.before p (omega (arith, inside, last)) b
 
@@ -175,7 +176,7 @@ sound_but_last part sound p inside b = sound p (omega (arith, inside)) b
 pub whole_but_last : (part : List ℕ) (c : Held) → IsWhole c → part ≡ bytes_of c → (p : ℕ) → p + 1 < length part → Breaks part p → ⊥
 whole_but_last part c whole bytes p inside b = whole_unbroken c whole p (subst (λ l. Breaks l p) bytes b)
 
--- a byte breaks the form, within the limit or behind it
+-- a byte breaks the format, within the limit or past it
 pub broken_or_past : (answers : List Bool) (done n : ℕ) (part next : List ℕ) (before between now : SourceTold) (within : ℕ) (error : StreamError) →
     IsReadTo answers done part before between → HasReadOn n part next between now → (within < length next) × IsFirstBreak next within →
     length next ≤ most_count → length next ≤ count_of next → done + length next ≤ most_bytes + 1 →
@@ -186,7 +187,7 @@ broken_or_past answers done n part next before between now within error s h brok
       (past_on answers done n part next before between now s h fits (not_before_last next within broken.1 (omega (arith, behind, few))) (omega (arith, behind, few, broken.0)))
 ]
 
--- at a read that failed
+-- at a failed read
 pub fault_on : (answers : List Bool) (done : ℕ) (part : List ℕ) (before between now : SourceTold) → IsReadTo answers done part before between → now.left ≡ between.left →
     Rose before.faults now.faults → length part ≤ count_of part → done + length part ≤ most_bytes → HasFailedUnbroken before now
 fault_on answers done part before between now s same rose few within =

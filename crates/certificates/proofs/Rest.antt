@@ -1,4 +1,4 @@
--- Whole certificates, and what comes after them.
+-- Whole certificates and the bytes after them.
 use Rattle.std.proofs.Common.{◌≡◌, ℕ, suc, ◌+◌, List, [], ◌∷◌, ◌++◌, length, refl, ap, sym, subst, ◌∙◌, arith, append_assoc, append-nil, length-append}
 use Rattle.std.specs.Prelude.{All}
 use Rattle.std.proofs.lemmas.List.Elements.{All-append}
@@ -16,11 +16,11 @@ head_whole c cs h = h 0 c (omega arith)
 tail_whole : (c : Held) (cs : List Held) → All IsWhole (c ∷ cs) → All IsWhole cs
 tail_whole c cs h = λ k d l. h (suc k) d (omega arith)
 
--- certificates that begin the same bytes have as many bytes
+-- certificates that begin the same bytes have equal lengths
 pub same_length : (c d : Held) → IsWhole c → IsWhole d → (r s : List ℕ) → bytes_of c ++ r ≡ bytes_of d ++ s → length (bytes_of c) ≡ length (bytes_of d)
 same_length c d p q r s e = sym (count_of_whole c p r) ∙ ap count_of e ∙ count_of_whole d q s
 
--- whole certificates are the first of those that come before a break
+-- whole certificates at the front are the first among those in front of an error
 peel : (cs ds : List Held) (r s : List ℕ) (q : ℕ) → All IsWhole cs → All IsWhole ds → all_bytes cs ++ r ≡ all_bytes ds ++ s → Breaks s q →
     (es : List Held) × All IsWhole es × (r ≡ all_bytes es ++ s) × (length (all_bytes ds) ≡ length (all_bytes cs) + length (all_bytes es))
 peel [] ds r s q h k e b = (ds, k, e, omega arith)
@@ -35,7 +35,7 @@ peel (c ∷ cs) (d ∷ ds) r s q h k e b =
     let (es, whole, split, size) = peel cs ds r s q (tail_whole c cs h) (tail_whole d ds k) parts.1 b in
     (es, whole, split, omega (arith, size, ap length parts.0, length-append (bytes_of c) (all_bytes cs), length-append (bytes_of d) (all_bytes ds)))
 
--- what breaks the form does so after the whole certificates
+-- an error lies after the whole certificates
 pub broken_after : (cs : List Held) → All IsWhole cs → (tail : List ℕ) (place : ℕ) → IsFirstBroken (all_bytes cs ++ tail) place →
     (q : ℕ) × (place ≡ length (all_bytes cs) + q) × IsFirstBroken tail q
 broken_after cs h tail place b =
@@ -45,7 +45,7 @@ broken_after cs h tail place b =
       record { certificates = es; whole = whole; rest = b.rest; split = split; some = b.some; within = b.within; first = b.first; here = refl },
     )
 
--- and what breaks it after them breaks it with them
+-- an error in the bytes after whole certificates is one in the whole sequence
 pub broken_later : (cs : List Held) → All IsWhole cs → (tail : List ℕ) (q : ℕ) → IsFirstBroken tail q → IsFirstBroken (all_bytes cs ++ tail) (length (all_bytes cs) + q)
 broken_later cs h tail q b =
     let joined : all_bytes (cs ++ b.certificates) ≡ all_bytes cs ++ all_bytes b.certificates = flat_map-append bytes_of cs b.certificates in
@@ -60,13 +60,13 @@ broken_later cs h tail q b =
       here = omega (arith, b.here, ap length joined, length-append (all_bytes cs) (all_bytes b.certificates));
     }
 
--- no certificate stands before a place that breaks the form of the whole
+-- no certificate lies in front of an error in the bytes themselves
 none_before : (cs : List Held) (bytes rest : List ℕ) (p : ℕ) → All IsWhole cs → Breaks bytes p → bytes ≡ all_bytes cs ++ rest → (bytes ≡ rest) × (length (all_bytes cs) ≡ 0)
 none_before [] bytes rest p h b e = (e, refl)
 none_before (c ∷ cs) bytes rest p h b e =
     absurd (whole_front c (head_whole c cs h) (all_bytes cs ++ rest) p (subst (λ l. Breaks l p) (e ∙ append_assoc (bytes_of c) (all_bytes cs) rest) b))
 
--- bytes have one first place that breaks the form
+-- the first error in a sequence of certificates is unique
 pub one_first_broken : (bytes : List ℕ) (p q : ℕ) → IsFirstBroken bytes p → IsFirstBroken bytes q → p ≡ q
 one_first_broken bytes p q a b =
     let (q', e, b') = broken_after a.certificates a.whole a.rest q (subst (λ l. IsFirstBroken l q) a.split b) in
@@ -74,12 +74,12 @@ one_first_broken bytes p q a b =
     let one = one_first (count_of b'.rest) b'.rest a.within b'.within (subst (λ l. IsFirstBreak l a.within) same a.first) b'.first in
     omega (arith, a.here, e, b'.here, none, one)
 
--- nothing is left of no bytes
+-- the empty list has no rest
 no_rest : (front rest : List ℕ) → [] ≡ front ++ rest → rest ≡ []
 no_rest front [] e = refl
 no_rest front (x ∷ rest) e = absurd (omega (arith, ap length e, length-append front (x ∷ rest)))
 
--- whole certificates are not broken anywhere
+-- whole certificates have no format error
 pub none_broken : (cs : List Held) → All IsWhole cs → (place : ℕ) → IsFirstBroken (all_bytes cs) place → ⊥
 none_broken cs h place b =
     let (q, e, b') = broken_after cs h [] place (subst (λ l. IsFirstBroken l place) (sym (append-nil (all_bytes cs))) b) in

@@ -1,4 +1,4 @@
--- Certificates of the entries of a list, and what is known while they are written. (own)
+-- Certificates for the entries of a cell list, and what holds while they are written (own).
 use Rattle.std.specs.Prelude.{◌≡◌, ◌≤◌, ℕ, List, length}
 use Rattle.std.specs.List.{AllZip}
 use Rattle.cs_num.specs.declared.Sample.{Sample}
@@ -15,15 +15,14 @@ use Rattle.tail_cert.specs.Form.{bytes_of}
 use Rattle.tail_cert.specs.Forward.{IsFilled}
 use Rattle.certificates.specs.Stream.{all_bytes}
 
--- a receiver has at most 480 values of the broadcast channel in a frame, each of size at most 127, so that the sums of
--- four frames have room in a certificate
+-- a receiver gives at most 480 PBCH soft values per frame, each from -127 to 127, so that the sums over four frames fit
+-- in a certificate
 pub record HasSmallValues (receiver : Receiver) : Type 0 where
   pub few : (recording : List Sample) (place : Place) (j : ℕ) → length (receiver.broadcast recording place j) ≤ 480
   pub small : (recording : List Sample) (place : Place) (j : ℕ) → AllWithin 127 (receiver.broadcast recording place j)
 
--- the certificate shows an entry's master block: it is whole and accepted, has the tables that are needed, and holds
--- the sums by which the receiver reads the entry's frames, a word of least cost that tells the entry's ports and block,
--- and that cost
+-- the certificate shows an entry's MIB: it is whole and accepted, has the required tables, and holds the receiver's
+-- combined soft values for the entry's frames, a minimum-cost word with the entry's port count and MIB, and that cost
 pub record Certifies (receiver : Receiver) (samples : List Sample) (entry : Entry) (c : Held) : Type 0 where
   pub whole : IsWhole c
   pub accepted : IsAccepted c
@@ -33,20 +32,20 @@ pub record Certifies (receiver : Receiver) (samples : List Sample) (entry : Entr
   pub block : Carries c.word entry.mib
   pub cost : c.cost ≡ entry.cost
 
--- the bytes are those of a certificate of the entry
+-- the bytes are a certificate for the entry
 pub record IsCertificateOf (receiver : Receiver) (samples : List Sample) (entry : Entry) (bytes : List ℕ) : Type 0 where
   pub certificate : Held
   pub certifies : Certifies receiver samples entry certificate
   pub bytes_are : bytes ≡ bytes_of certificate
 
--- a certificate of the entry was written
+-- a certificate for the entry was written
 pub record HasCertified (receiver : Receiver) (samples : List Sample) (entry : Entry)
     (before now : SinkTold) : Type 0 where
   pub certificate : Held
   pub certifies : Certifies receiver samples entry certificate
   pub written : HasWritten (bytes_of certificate) before now
 
--- only a front of a certificate of the entry was written
+-- only the front of a certificate for the entry was written
 pub record HasCertifiedFront (receiver : Receiver) (samples : List Sample) (entry : Entry)
     (before now : SinkTold) : Type 0 where
   pub certificate : Held
@@ -54,14 +53,14 @@ pub record HasCertifiedFront (receiver : Receiver) (samples : List Sample) (entr
   pub front : HasWrittenFront (bytes_of certificate) before now
   pub full : IsShortOf (length (bytes_of certificate)) before
 
--- certificates of all these entries were written
+-- certificates for all these entries were written
 pub record HasCertifiedAll (receiver : Receiver) (samples : List Sample) (entries : List Entry)
     (before now : SinkTold) : Type 0 where
   pub certificates : List Held
   pub each : AllZip (Certifies receiver samples) entries certificates
   pub written : HasWritten (all_bytes certificates) before now
 
--- only a front of the certificates of these entries was written
+-- only the front of the certificates for these entries was written
 pub record HasCertifiedSome (receiver : Receiver) (samples : List Sample) (entries : List Entry)
     (before now : SinkTold) : Type 0 where
   pub certificates : List Held

@@ -1,4 +1,4 @@
--- What certificates that were not answered are answered with. (own)
+-- The error texts for certificates that were not answered (own).
 use Rattle.std.specs.Prelude.{ℕ, List, codes}
 use Rattle.tail_cert.specs.Form.{broken_text}
 use Rattle.certificates.specs.declared.error.StreamError.{StreamError}

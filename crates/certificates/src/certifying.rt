@@ -1,4 +1,8 @@
-//! A certificate for each master block of the list of a recording.
+//! Certificates for the MIBs in a recording's cell list.
+//!
+//! A certificate holds the combined soft values for the entry's frames, their minimum-cost word, which carries the MIB,
+//! and its cost. Writing does not allocate. If a sink that states its room fails, the room was too small for all
+//! certificates.
 
 ghost use Rattle.std.specs.Prelude.{◌≡◌, ◌≤◌, OnOk, OnErr};
 ghost use Rattle.std.specs.Vec.{vec_capacity};
@@ -20,8 +24,8 @@ use std::alloc::{AllocError, Global};
 use tail_cert::{Certificate, MOST_BYTES, fill, length, to_bytes};
 use tailbite::Trellis;
 
-/// The memory in which certificates are made: that of one certificate, of the search for its word,
-/// and of the bytes of the longest. What it holds between two calls means nothing.
+/// The memory in which certificates are made: for one certificate, the search for its word, and the bytes of the
+/// longest certificate. Its contents between two calls have no meaning.
 #[derive(Drop)]
 pub struct CertificateWork {
     certificate: Certificate,
@@ -31,7 +35,7 @@ pub struct CertificateWork {
 }
 
 impl CertificateWork {
-    /// Takes all the memory. Only memory can be wanting.
+    /// Allocates everything up front. Fails only if an allocation fails.
     pub fn new(alloc: Global) -> Result<CertificateWork, AllocError> {
         let certificate = Certificate::new(alloc)?;
         let trellis = Trellis::new(alloc)?;
@@ -44,11 +48,8 @@ impl CertificateWork {
     }
 }
 
-/// Writes a certificate for each entry of a recording's list by a receiver, in order: the sums of the values of the
-/// entry's frames, their least word, which tells the entry's master block, and its cost. `readings` are how the
-/// entries were read, in the order of the list. Of a frame the receiver has at most 480 values, of size at most 127.
-/// The certificates are accepted. `Failed` means that the sink counted a fault, after a front of them was written;
-/// where the sink tells its room, that was too little for all. It takes no memory. (own)
+/// Writes an accepted certificate for each entry of a recording's list, in order; `readings` says how the entries were
+/// read. Fails if the sink counts a fault, after it has taken only a front of them. (own)
 pub fn certify<K: Sink>(
     recording: &Recording,
     entries: &[Entry],
@@ -72,7 +73,7 @@ pub fn certify<K: Sink>(
     Ok(())
 }
 
-// Writes the certificate of an entry.
+// Writes an entry's certificate.
 fn certify_one<K: Sink>(
     recording: &Recording,
     entry: &Entry,
@@ -94,7 +95,7 @@ fn certify_one<K: Sink>(
     write_whole(sink, work.buffer.as_slice())
 }
 
-// Makes the certificate of an entry, and its bytes.
+// Makes an entry's certificate and its bytes.
 fn make(recording: &Recording, entry: &Entry, reading: &Reading, work: &mut CertificateWork)
     ghost receiver: { Receiver }
     requires entry { IsEntryOfSome (IsEntryFor receiver recording.now)
@@ -107,7 +108,7 @@ fn make(recording: &Recording, entry: &Entry, reading: &Reading, work: &mut Cert
     put(&work.certificate, &mut work.buffer)
 }
 
-// Writes the bytes of a certificate over what a buffer has, which has memory for them.
+// Replaces the content of `buffer`, whose capacity suffices, with the bytes of a certificate.
 fn put(certificate: &Certificate, buffer: &mut Vec<u8>)
     requires { most_count ≤ vec_capacity buffer.old }
     ensures bytes { buffer.new.items ≡ bytes_of certificate.now }

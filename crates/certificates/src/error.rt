@@ -1,4 +1,4 @@
-//! Why the certificates of a source were not answered.
+//! The reasons why the certificates in a source were not answered.
 
 ghost use Rattle.std.specs.Prelude.{◌≡◌, Some};
 ghost use Rattle.certificates.specs.Words.{error_text};
@@ -8,17 +8,17 @@ use std::alloc::AllocError;
 use std::fmt;
 use thiserror::Error;
 
-/// Why the certificates of a source were not answered. (own)
+/// The reason why the certificates in a source were not answered. (own)
 #[derive(Clone, Copy, Debug, PartialEq, Eq, Error)]
 pub enum StreamError {
-    /// The place, from 0, of the first byte that breaks the form of certificates; where the input
-    /// ends within one, its length.
+    /// The offset, from 0, of the first byte that breaks the format; if the input ends within a certificate, the
+    /// input's length.
     Broken(u64),
-    /// The input is longer than 67,108,864 bytes, of which none breaks the form.
+    /// The input is longer than 67,108,864 bytes, and none of these breaks the format.
     TooLong,
-    /// A call of the source failed before a byte that breaks the form was read.
+    /// A call of the source failed before any byte that breaks the format was read.
     ReadFault,
-    /// Memory was refused.
+    /// An allocation failed.
     OutOfMemory,
 }
 

@@ -1,5 +1,6 @@
-//! Certificates one after the other: those of a recording's list, written to a sink, and the answers
-//! to those of a source.
+//! Sequences of certificates: those for a recording's cell list, written to a sink, and the answers to those read from
+//! a source.
+//! Tests: the crate `top_tests`.
 #![tactic(auto)]
 
 mod certifying;

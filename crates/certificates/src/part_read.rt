@@ -1,4 +1,4 @@
-//! The bytes of a certificate while they are read.
+//! The bytes of a certificate while it is read.
 
 ghost use Rattle.std.specs.Prelude.{◌≡◌, ℕ, ◌+◌, ◌<◌, ◌≤◌, List, IfOk, OnErr, length, take};
 ghost use Rattle.cs_outside.specs.Counts.{Rose};
@@ -10,8 +10,8 @@ use std::alloc::{AllocError, Global};
 use std::marker::Model;
 use tail_cert::HEAD_BYTES;
 
-// Room for bytes of a certificate while they are read: for as many as it was known to have. Contracts see it as the
-// list of all these bytes.
+// A buffer for a certificate's bytes while it is read, as long as the certificate is known to be so far. Contracts see
+// it as the list of all its bytes.
 #[derive(Drop)]
 pub(crate) struct PartRead {
     bytes: Vec<u8>,
@@ -24,7 +24,7 @@ impl Model for PartRead {
 }
 
 impl PartRead {
-    // Room for the bytes that tell how many a certificate has.
+    // Returns a buffer for the bytes up to the set of start states, from which the certificate's length follows.
     pub(crate) fn new(alloc: Global) -> Result<PartRead, AllocError>
         ensures { IfOk result (λ part. length part ≡ head_count) }
     {
@@ -32,7 +32,7 @@ impl PartRead {
         Ok(PartRead { bytes })
     }
 
-    // Makes room for `count` bytes, where there is less. What stands in the room stays.
+    // Grows the buffer to at least `count` bytes. Its content stays.
     pub(crate) fn make_room(&mut self, count: usize) -> Result<(), AllocError>
         ensures room { IfOk result (λ _. count ≤ length self.new) }
         ensures stays { (k : ℕ) → k ≤ length self.old → take k self.new ≡ take k self.old }
@@ -45,7 +45,7 @@ impl PartRead {
         }
     }
 
-    // The first bytes, as many as `count` says.
+    // Returns the first `count` bytes.
     pub(crate) fn front(&self, count: usize) -> &[u8]
         requires { count ≤ length self.now }
         ensures { result.now ≡ take count self.now }
@@ -53,7 +53,7 @@ impl PartRead {
         &self.bytes.as_slice()[..count]
     }
 
-    // Reads on from a place, to another at most.
+    // Reads from `source` into the bytes from `at` up to `end`, and returns how many bytes were read.
     pub(crate) fn read<S: Source>(
         &mut self,
         source: &mut S,

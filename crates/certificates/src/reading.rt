@@ -1,4 +1,7 @@
-//! Certificates, read one after the other and checked.
+//! The reading of certificates, one after another, and their checks.
+//!
+//! Certificates are checked as they are read. `Broken` is returned before more bytes are read from its offset on than
+//! the longest certificate has, and `TooLong` after one byte past the limit of 67,108,864.
 
 ghost use Rattle.std.specs.Prelude.{◌≡◌, ◌<◌, ◌≤◌, ◌+◌, ◌-◌, min, length, take, IfOk, IfErr, OnErr};
 ghost use Rattle.cs_outside.specs.Counts.{Rose};
@@ -12,24 +15,22 @@ use cs_outside::{Failed, Source};
 use std::alloc::Global;
 use tail_cert::{Certificate, HEAD_BYTES, check, head, parse};
 
-// The most bytes that are read.
+// The maximum number of bytes that are read.
 const MOST_BYTES: usize = 67_108_864;
 
-// What the bytes of a certificate that were read so far tell.
+// The result of examining the bytes of a certificate read so far.
 #[derive(Drop)]
 pub(crate) enum Step {
-    // The certificate goes on, and this many of its bytes can be read.
+    // The certificate is incomplete, and this many of its bytes can be read.
     Partial(usize),
-    // The certificate is whole, and this is the answer to it.
+    // The certificate is whole, with this answer.
     Whole(bool),
-    // The byte at this place is the first that breaks the form.
+    // The byte at this offset is the first that breaks the format.
     Broken(u64),
 }
 
-/// The answers to the certificates of a source, which are read to the end of the input: for each
-/// whether it is accepted. They are checked as they are read: `Broken` comes before more bytes are
-/// read, from its place on, than the longest certificate has, and `TooLong` after one byte more than the limit
-/// of 67,108,864. After an error what was read is dropped. (own)
+/// Reads the certificates in a source to the end of the input, and returns for each whether it is accepted. If an error
+/// occurs, the answers so far are dropped. (own)
 pub fn read_answers<S: Source>(alloc: Global, source: &mut S) -> Result<Vec<bool>, StreamError>
     ensures ok { IfOk result (λ answers. HasReadAnswers answers.items (S.told source.old) (S.told source.new)) }
     ensures err { IfErr result (IsCause (S.told source.old) (S.told source.new)) }
@@ -40,7 +41,8 @@ pub fn read_answers<S: Source>(alloc: Global, source: &mut S) -> Result<Vec<bool
     read_each(alloc, source, &mut certificate, &mut part)
 }
 
-// The answers to the certificates of a source, with memory for the longest certificate and room for the part read.
+// Returns the answers to the certificates in a source, with memory for the longest certificate and a buffer for the
+// part read.
 fn read_each<S: Source>(
     alloc: Global,
     source: &mut S,
@@ -53,7 +55,7 @@ fn read_each<S: Source>(
     ensures never_falls { (S.told source.old).faults ≤ (S.told source.new).faults }
 {
     let mut answers = Vec::new(alloc);
-    // the bytes of whole certificates, those of the next one, and how many can be read of it
+    // bytes in whole certificates, bytes read of the next one, and how many of its bytes can be read
     let mut done = 0;
     let mut filled = 0;
     let mut aim = HEAD_BYTES;
@@ -88,7 +90,8 @@ fn read_each<S: Source>(
     }
 }
 
-// What is answered where a byte at this place of the input breaks the form: the byte after the limit is not judged.
+// Returns the error for a byte that breaks the format at offset `place` of the input; the byte after the limit is not
+// examined.
 fn broken_at(place: u64) -> StreamError
     ensures within { place < most_bytes → result ≡ StreamError.Broken place }
     ensures past { most_bytes ≤ place → result ≡ StreamError.TooLong }
@@ -100,8 +103,8 @@ fn broken_at(place: u64) -> StreamError
     }
 }
 
-// How many bytes of a certificate may have been read after so many bytes of whole ones: of the input one more
-// than the limit at most.
+// Returns how far the current certificate may be read, after `done` bytes in whole ones: at most one byte past the
+// limit.
 fn part_end(aim: usize, done: usize) -> usize
     requires { done ≤ most_bytes }
     ensures { result ≡ min aim (most_bytes + 1 - done) }
@@ -109,7 +112,7 @@ fn part_end(aim: usize, done: usize) -> usize
     aim.min(MOST_BYTES + 1 - done)
 }
 
-// What the bytes of a certificate that were read so far tell.
+// Examines the bytes of a certificate read so far.
 fn judge(part: &[u8], certificate: &mut Certificate) -> Step
     requires most { length part.now ≤ most_count }
     requires fits { length part.now ≤ count_of part.now }
@@ -124,7 +127,7 @@ fn judge(part: &[u8], certificate: &mut Certificate) -> Step
     }
 }
 
-// What all bytes of a certificate tell.
+// Examines all bytes of a certificate.
 fn judge_whole(part: &[u8], certificate: &mut Certificate) -> Step
     requires most { length part.now ≤ most_count }
     requires fits { length part.now ≡ count_of part.now }

@@ -1,4 +1,4 @@
--- Hits whose place was met before.
+-- Hits whose place was found before.
 use Rattle.std.proofs.Common.{◌≡◌, inl, inr, ℕ, Bool, true, false, ◌&&◌, nat_eq, List, [], ◌∷◌, ◌++◌, arith, refl, ap, sym, subst, ◌∙◌}
 use Rattle.std.specs.List.{Contains}
 use Rattle.std.proofs.lemmas.Bool.Decides.{nat_tests}
@@ -29,13 +29,13 @@ met_inside places place e =
     let (k, met, l, is, same) = Any-from_list_any (λ met. is_same_place met place) places e in
     subst (Contains places) (same_place met place same) (k, l, is)
 
--- each of the places is that of one of the hits
+-- each place is the place of one of the hits
 abbrev pub AreMet : (Hit → Place) → List Hit → List Place → Type 0
 AreMet place_of hits places = (place : Place) → Contains places place → (hit : Hit) × Contains hits hit × (place_of hit ≡ place)
 
 -- ---- hit after hit
 
--- by a receiver
+-- for a receiver
 module _ (receiver : Receiver) (recording : List Sample) where
   abbrev pub AreOf : Hit → List Entry → Type 0
   AreOf = AreEntriesFor receiver recording
@@ -43,7 +43,7 @@ module _ (receiver : Receiver) (recording : List Sample) where
   abbrev place_of : Hit → Place
   place_of = place_by receiver.carrier recording
 
-  -- a hit with the place of one of them adds nothing to their list
+  -- a hit with the place of an earlier one adds nothing to their list
   adds_met : (hits : List Hit) (list : List Entry) (met hit : Hit) → IsListOfHits AreOf hits list →
       Contains hits met → place_of met ≡ place_of hit → AddsHit AreOf hit list list
   adds_met hits list met hit listed inside same =

@@ -1,4 +1,4 @@
--- How the entries of a list were read, in a list beside it.
+-- How the entries of a list were read, in a parallel list.
 use Rattle.std.proofs.Common.{◌≡◌, inl, inr, ℕ, ◌+◌, ◌<◌, Bool, true, false, ◌||◌, List, [], ◌∷◌, ◌++◌, Some, arith, refl, ap, ap₂, sym, subst, ◌∙◌}
 use Rattle.std.specs.Prelude.{ℤ, slice_get}
 use Rattle.std.specs.List.{AllZip, insert}
@@ -20,7 +20,7 @@ use Rattle.explain.specs.Masters.{entry_of}
 use Rattle.explain.specs.Places.{is_same_place, is_met}
 use Rattle.explain.specs.Readings.{IsFirstTelling, IsReadingBy, AddsBeside, KeepsReadings}
 
--- an entry that is added with how it was read
+-- an entry that is added with its reading
 pub keeps : (Is : Entry → Reading → Type 0) (entry : Entry) (reading : Reading) (old new : List Entry) (before after : List Reading) →
     AddsBeside entry reading old new before after → Is entry reading → KeepsReadings Is old new before after
 keeps Is entry reading old new before after (inl kept) is all =
@@ -28,7 +28,7 @@ keeps Is entry reading old new before after (inl kept) is all =
 keeps Is entry reading old new before after (inr put) is all =
     subst (λ xs. AllZip Is xs after) (sym put.entries) (subst (λ ys. AllZip Is (insert old put.at entry) ys) (sym put.readings) (all_zip_insert Is put.at old before entry reading put.within is all))
 
--- that of a master block, with the sums and the grant that were told with it
+-- the reading of the entry for a MIB, with the sums and the grant found with it
 module _ (summed : Place → Frames → List (List ℤ)) (IsGrant : Granting) (place_by : Hit → Place) (hits : List Hit) where
   pub reads_so : (place : Place) (frames : Frames) (master : Master) (entry : Entry) (reading : Reading) → entry ≡ entry_of place frames master entry.sib1 →
       IsFirstTelling place_by hits place reading.hit → reading.sums ≡ summed place frames → IsGrant place entry.sfn master.mib entry.sib1 reading.granted →
@@ -53,12 +53,12 @@ second_true : (a b c : Bool) → b ≡ true → (a || (b || c)) ≡ true
 second_true true b c e = refl
 second_true false b c e = rw e refl
 
--- the places of the first hits, so many, were met
+-- the places of the first k hits were found
 abbrev pub AllMet : (Hit → Place) → List Hit → ℕ → List Place → Type 0
 AllMet place_by hits k places = (h : ℕ) (other : Hit) → h < k → slice_get hits h ≡ Some other → is_met places (place_by other) ≡ true
 
 module _ (place_by : Hit → Place) (hits : List Hit) (k : ℕ) (hit : Hit) (is : slice_get hits k ≡ Some hit) (places : List Place) (met : AllMet place_by hits k places) where
-  -- where the next one's place was not met, it is the first that tells it
+  -- if the next hit's place is new, it is the first that gives it
   pub first_telling : is_met places (place_by hit) ≡ false → IsFirstTelling place_by hits (place_by hit) hit
   first_telling new = record {
     at = k;
@@ -67,7 +67,7 @@ module _ (place_by : Hit → Place) (hits : List Hit) (k : ℕ) (hit : Hit) (is 
     first = λ h other less at same. false≢true (sym new ∙ subst (λ (p : Place). is_met places p ≡ true) same (met h other less at));
   }
 
-  -- and then all up to it were met
+  -- after the next hit, the places of all hits up to it were found
   pub all_more : (after : List Place) → (is_met places (place_by hit) ≡ true → after ≡ places) →
       (is_met places (place_by hit) ≡ false → after ≡ places ++ place_by hit ∷ []) → AllMet place_by hits (k + 1) after
   all_more after same adds h other less at = settle (is_met places (place_by hit)) refl

@@ -1,4 +1,4 @@
--- Two recordings that agree in their first 17 frames tell the same hits, identities and slots, and so the same list.
+-- Two recordings that agree in their first 17 frames have the same hits, identities and slots, and so the same list.
 use Rattle.std.proofs.Common.{◌≡◌, ℕ, suc, Bool, true, ◌+◌, ◌*◌, ◌<◌, ◌≤◌, Option, None, Result, Ok, Err, List, [], ◌∷◌, ℤ, length, arith, ap, ap₂, sym, subst, ◌∙◌}
 use Rattle.std.specs.Prelude.{All, if◌then◌else◌}
 use Rattle.std.specs.List.{AllZip, filter, flat_map}
@@ -39,7 +39,7 @@ use Rattle.explain.proofs.Late.{all_have_room}
 
 -- ---- slots
 
--- a slot of a frame that begins at f and lies where the recordings agree
+-- a slot in a frame that begins at f and lies where the recordings agree
 pub slot_agrees : (count f number identity : ℕ) (a b : List Sample) → AgreeBefore count a b → f + frame_length ≤ count → number < 20 →
     seen_slot a f number identity ≡ seen_slot b f number identity
 unfolding seen_slot
@@ -47,7 +47,7 @@ slot_agrees count f number identity a b agree within known = ap (λ (s : List (L
     (values_below_same 7 (λ l. seen_symbol a (useful_start normal f number l)) (λ l. seen_symbol b (useful_start normal f number l))
     (λ l below. symbol_agrees count (useful_start normal f number l) a b agree (omega (arith, within, known, below))))
 
--- where the recordings agree in 17 frames, the slots of frames 0 to 15 of a start within the first are the same
+-- if the recordings agree in 17 frames, the slots in frames 0 to 15 from a start within the first are equal
 deciding_slot : (start j number identity : ℕ) (a b : List Sample) → AgreeBefore deciding_length a b → start < frame_length → j ≤ 15 → number < 20 →
     seen_slot a (frame_at start j) number identity ≡ seen_slot b (frame_at start j) number identity
 deciding_slot start j number identity a b agree early few known =
@@ -55,7 +55,7 @@ deciding_slot start j number identity a b agree early few known =
 
 -- ---- hits
 
--- the hits that a receiver takes are the same
+-- the hits that a receiver uses are equal
 taken_agree : (carrier : Carrier) (a b : List Sample) → AgreeBefore deciding_length a b → hits_by carrier a ≡ hits_by carrier b
 taken_agree carrier a b agree =
     ap (λ (hits : List Hit). if is_extended (prefix_of carrier) then filter (has_step_before carrier) hits else hits)
@@ -63,13 +63,13 @@ taken_agree carrier a b agree =
 
 -- ---- receivers of slots
 
--- the values of the broadcast channel in slots with the normal prefix are the same
+-- the PBCH soft values in slots with the normal prefix are equal
 pub broadcast_agrees : (values : Valuing) (a b : List Sample) (place : Place) (j : ℕ) → AgreeBefore deciding_length a b → place.start < frame_length → j ≤ 15 →
     broadcast_by values a place j ≡ broadcast_by values b place j
 broadcast_agrees values a b place j agree early few =
     ap (λ (slot : SeenSlot). received_values_by values slot) (deciding_slot place.start j 1 place.id a b agree early few (omega arith))
 
--- a receiver of such slots looks at these alone
+-- a receiver that reads such slots reads only the first frames
 pub slots_look : (carrier : Carrier) (wanted : Option ℕ) (values : Valuing) → LooksAtFirstFrames (by_slots carrier wanted values)
 slots_look carrier wanted values = record {
   broadcast = broadcast_agrees values;
@@ -84,11 +84,11 @@ frame_agrees : (values : Subframes) (a b : List Sample) (place : Place) (mib : M
     FrameAnswers values a place mib j answer → FrameAnswers values b place mib j answer
 frame_agrees values a b place mib j answer same reads = subst (λ (s : Subframe). Reads s answer) (same mib.duration mib.resource) reads
 
--- the first eight frames of even number are all tried
+-- the first eight even-numbered frames are all tried
 tried_frame : (recording : List Sample) (start sfn i : ℕ) → deciding_length ≤ length recording → start < frame_length → i < 8 → IsTried recording start sfn i
 tried_frame recording start sfn i long early among = record { among = among; whole = omega (arith, long, early, among) }
 
--- the values of the frames that are tried are the same in both recordings, and the other way
+-- the soft values of the tried frames are equal in both recordings
 abbrev AreSameBefore16 : Subframes → List Sample → List Sample → Place → Type 0
 AreSameBefore16 values a b place = (j : ℕ) → j ≤ 15 → AreSameSubframes (Ok values) a b place j
 
@@ -125,10 +125,10 @@ system_agrees : (carrier : Carrier) (subframe : Result Subframes Sib1Reason) (a 
 system_agrees carrier (Ok values) a b place sfn ports mib sib1 on back long_a long_b early s = searched_agrees carrier values a b place sfn ports mib sib1 on back long_a long_b early s
 system_agrees carrier (Err reason) a b place sfn ports mib sib1 on back long_a long_b early s = s
 
--- ---- master blocks
+-- ---- MIBs
 
 module _ (receiver : Receiver) (look : LooksAtFirstFrames receiver) where
-  -- the sums of some of frames 0 to 7 are the same
+  -- the sums over some of frames 0 to 7 are equal
   sums_agree : (a b : List Sample) (place : Place) (frames : Frames) → AgreeBefore deciding_length a b → place.start < frame_length → frames.first + frames.count ≤ 8 →
       sums_by receiver a place frames ≡ sums_by receiver b place frames
   sums_agree a b place frames agree early few =
@@ -146,7 +146,7 @@ module _ (receiver : Receiver) (look : LooksAtFirstFrames receiver) where
   start_early : (recording : List Sample) (hit : Hit) → (place_by receiver.carrier recording hit).start < frame_length
   start_early recording hit = omega arith
 
-  -- an entry of a hit in the one recording is one in the other
+  -- an entry of a hit in one recording is an entry in the other
   entry_agrees : (a b : List Sample) (hit : Hit) (entry : Entry) → AgreeBefore deciding_length a b → deciding_length ≤ length a → deciding_length ≤ length b → IsInSpan hit →
       IsEntryFor receiver a hit entry → IsEntryFor receiver b hit entry
   entry_agrees a b hit entry agree long_a long_b span is = record {
@@ -175,7 +175,7 @@ module _ (receiver : Receiver) (look : LooksAtFirstFrames receiver) where
       early : entry.start < frame_length
       early = subst (λ s. s < frame_length) (sym is.start) (start_early a hit)
 
-  -- the entries of a hit are the same
+  -- the entries of a hit are equal
   entries_agree : (a b : List Sample) (hit : Hit) (entries : List Entry) → AgreeBefore deciding_length a b → deciding_length ≤ length a → deciding_length ≤ length b →
       IsInSpan hit → AreEntriesFor receiver a hit entries → AreEntriesFor receiver b hit entries
   entries_agree a b hit entries agree long_a long_b span are = record {

@@ -1,4 +1,4 @@
--- Entries with the same fields are the same.
+-- Entries with equal fields are equal.
 use Rattle.std.proofs.Common.{◌≡◌, ℕ, ◌≤◌, ap, subst, ◌∙◌}
 use Rattle.std.proofs.Math.Bridge.{le_prop}
 use Rattle.lte_types.specs.declared.mib.Mib.{Mib}
@@ -19,14 +19,14 @@ same_mib a b width length share frame bits =
     ∙ ap (λ x. record a { bandwidth = b.bandwidth; duration = b.duration; resource = b.resource; upper = x }) frame
     ∙ same_spare (record a { bandwidth = b.bandwidth; duration = b.duration; resource = b.resource; upper = b.upper }) b.spare bits b.spare_range
 
--- two masters with the same fields are the same
+-- two MIBs with equal fields are equal
 pub same_master : (a b : Master) → IsSame a b → a ≡ b
 same_master a b s =
     ap (λ x. record a { ports = x }) s.ports
     ∙ ap (λ x. record a { ports = b.ports; cost = x }) s.cost
     ∙ ap (λ x. record a { ports = b.ports; cost = b.cost; mib = x }) (same_mib a.mib b.mib s.bandwidth s.duration s.resource s.upper s.spare)
 
--- two entries with the same place, master block and system information are the same
+-- two entries with equal places, MIBs and system information are equal
 pub same_entry : (a b : Entry) → a.id ≡ b.id → a.start ≡ b.start → a.sfn ≡ b.sfn → a.frames ≡ b.frames → a.frame ≡ b.frame → a.phase ≡ b.phase → master_of a ≡ master_of b → a.sib1 ≡ b.sib1 → a ≡ b
 same_entry a b id start sfn frames frame phase master sib1 =
     ap (λ x. record a { id = x }) id

@@ -1,4 +1,4 @@
--- The entries that are made of the master blocks of the first frames that have any.
+-- The entries made from the MIBs of the first frames that carry any.
 use Rattle.std.proofs.Common.{◌≡◌, ◌⊎◌, inl, inr, ℕ, ◌+◌, ◌-◌, ◌<◌, ◌≤◌, List, [], ◌∷◌, Option, None, Some, arith, refl, ap, sym, subst, ◌∙◌}
 use Rattle.std.specs.Prelude.{Result}
 use Rattle.std.specs.List.{AllPairs, Contains}
@@ -25,13 +25,13 @@ use Rattle.explain.proofs.Sorted.{in_none, in_one, Contains-here}
 use Rattle.explain.proofs.Entries.{same_master, same_entry}
 use Rattle.explain.proofs.Information.{one_system}
 
--- a receiver tells at most one master block of frames at a phase
+-- for a receiver, frames carry at most one MIB at a phase
 pub one_told_by : (receiver : Receiver) (recording : List Sample) → TellsOne (IsMasterFor receiver recording)
 one_told_by receiver recording place frames a b p q = same_master a b (one_master (sums_by receiver recording place frames) a b p.told q.told)
 
--- ---- the entries of the first frames that have one
+-- ---- the entries from the first frames that carry a MIB
 
--- what stands for one phase
+-- the entry for one phase
 record Stands (place : Place) (frames : Frames) (o : Option Master) (sib1 : Result Sib1 Sib1Reason) (entry : Entry) : Type 0 where
   master : Master
   is : o ≡ Some master
@@ -46,17 +46,17 @@ one_by_phase : (place : Place) (frames : Frames) (o : Option Master) (sib1 : Res
 one_by_phase place frames None sib1 i j d below inside = absurd (omega (arith, below, inside))
 one_by_phase place frames (Some master) sib1 i j d below inside = absurd (omega (arith, below, inside))
 
--- the place of an entry
+-- an entry's place
 pub entry_place : (Tells : Telling) (IsSystem : Informing) (recording : List Sample) (place : Place) (entry : Entry) → IsEntryAt Tells IsSystem recording place entry → place_of entry ≡ place
 entry_place Tells IsSystem recording place entry h = ap (λ x. record (place_of entry) { id = x }) h.id ∙ ap (λ x. record place { start = x }) h.start
 
--- where frames tell at most one master block at a phase, and there is at most one answer on system information
+-- if frames carry at most one MIB at a phase, and there is at most one answer on system information
 module _ (Tells : Telling) (IsSystem : Informing)
     (one : TellsOne Tells) (one_answer : HasOneSystem IsSystem) (recording : List Sample) (place : Place) where
   at_place : (entry : Entry) → IsEntryAt Tells IsSystem recording place entry → place_of entry ≡ place
   at_place entry h = entry_place Tells IsSystem recording place entry h
 
-  -- of an entry by its cell's place
+  -- the MIB of an entry, at its cell's place
   of_entry : (entry : Entry) → IsEntryAt Tells IsSystem recording place entry → Tells place (frames_of entry) (master_of entry)
   of_entry entry h = subst (λ p. Tells p (frames_of entry) (master_of entry)) (at_place entry h) h.master
 
@@ -79,7 +79,7 @@ module _ (Tells : Telling) (IsSystem : Informing)
 
   module _ (count frame : ℕ) (masters : List (Option Master)) (f : AreFirstWith Tells recording place count frame masters) (systems : ℕ → Result Sib1 Sib1Reason)
       (told : (phase : ℕ) → phase < 5 - count → IsSystemAt IsSystem place (frames_from count frame phase) (master_at masters phase) (systems phase)) where
-    -- the phases at which the frames are in one period
+    -- the phases at which the frames lie in one period
     few_frames : count ≤ 4
     few_frames = f.frames.inside.few
 
@@ -107,12 +107,12 @@ module _ (Tells : Telling) (IsSystem : Informing)
         let s = stands place (frames_from count frame phase) (master_at masters phase) (systems phase) entry here in
         subst (IsEntryAt Tells IsSystem recording place) s.found (made_is_entry phase s.master known s.is)
 
-    -- what the first frames tell at some phase
+    -- the first frames carry a MIB at some phase
     of_frames : Tells place (frames_from count frame f.have.some.phase) f.have.some.master
     of_frames = told_master count frame f.have.some.phase (master_at masters f.have.some.phase) f.have.some.master
         (f.have.are f.have.some.phase f.have.some.known) f.have.some.is
 
-    -- an entry is of the frames that have the first master blocks
+    -- an entry has the frames with the first MIBs
     not_before : (entry : Entry) → IsEntryAt Tells IsSystem recording place entry → ComeBefore (entry.frames, entry.frame) (count, frame) → ⊥
     not_before entry h before =
         f.frames.first entry.frames entry.frame (window_of entry h) before entry.phase (master_of entry) h.period (of_entry entry h)
@@ -174,7 +174,7 @@ module _ (Tells : Telling) (IsSystem : Informing)
             let whole : entry ≡ made = same_entry entry made h.id h.start sfn counts frames refl same sib1 in
             subst (λ e. Contains (made ∷ []) e) (sym whole) (Contains-here made [])
 
-    -- the entries that are made are those of the cell
+    -- the entries made are those of the cell
     pub entries_are : AreEntries (IsEntryAt Tells IsSystem recording place) (entries_of place count frame masters systems (5 - count))
     entries_are = record {
       given = λ entry. (is_entry entry, entry_is_made entry);
@@ -189,7 +189,7 @@ module _ (Tells : Telling) (IsSystem : Informing)
             let q = stands place (frames_from count frame j) (master_at masters j) (systems j) y b in
             omega (arith, below, ap (λ (e : Entry). e.phase) p.found, ap (λ (e : Entry). e.phase) q.found)
 
-  -- a cell with no master block has no entries
+  -- a cell without a MIB has no entries
   pub no_entries : HasNoMasters Tells recording place → AreEntries (IsEntryAt Tells IsSystem recording place) []
   no_entries none = record {
     given = λ entry. (λ h. absurd (in_none entry h), λ h. absurd (contradicts entry h));
@@ -199,9 +199,9 @@ module _ (Tells : Telling) (IsSystem : Informing)
       contradicts : (entry : Entry) → IsEntryAt Tells IsSystem recording place entry → ⊥
       contradicts entry h = none entry.frames entry.frame (window_of entry h) entry.phase (master_of entry) h.period (of_entry entry h)
 
--- ---- a list with the entries of a hit besides
+-- ---- a list that gains the entries of a hit
 
--- by a receiver, of which the frames tell one master block at a phase, and which tells one answer on the system information
+-- for a receiver, whose frames carry one MIB at a phase, and which gives one answer on system information
 module _ (receiver : Receiver) (recording : List Sample) (hit : Hit) (place : Place) (at : place ≡ place_by receiver.carrier recording hit) where
   abbrev tells : Telling
   tells = IsMasterFor receiver recording

@@ -1,4 +1,4 @@
--- The master blocks of frames, by what was received of them.
+-- The MIBs in frames, from their soft values.
 use Rattle.std.proofs.Common.{◌≡◌, inl, inr, ℕ, zero, suc, ◌+◌, ◌-◌, ◌<◌, ◌≤◌, Bool, true, false, ◌||◌, List, [], ◌∷◌, ◌++◌, ℤ, Option, None, Some, arith, refl, ap, ap₂, sym, subst, ◌∙◌, length, get_or, take, drop}
 use Rattle.std.specs.Prelude.{is_some, MatchOption, IsTrue, if◌then◌else◌}
 use Rattle.std.specs.List.{flat_map}
@@ -31,16 +31,16 @@ pub slot_identity : (recording : List Sample) (f number identity : ℕ) → (see
 unfolding seen_slot
 slot_identity recording f number identity = refl
 
--- a whole frame comes before one that is not
+-- a frame within the recording comes before one that is not
 pub whole_before : (recording : List Sample) (start j k : ℕ) → (IsWhole recording start k → IsTrue false) → IsWhole recording start j → j < k
 whole_before recording start j k not_whole whole = elim (cases_lt j k) [
   | inl below ↦ below
   | inr above ↦ let e : IsTrue false = not_whole (omega (arith, above, whole)) in absurd (cc e)
 ]
 
--- ---- what was received in frames
+-- ---- the soft values of frames
 
--- so many frames from frame j on
+-- a count of frames from frame j on
 pub length-part : (j count : ℕ) (frames : List (List ℤ)) → j + count ≤ length frames → length (take (j + count - j) (drop j frames)) ≡ count
 length-part j count frames long =
     let rest = length-drop j frames in let size = length-take-le (j + count - j) (drop j frames) (omega (arith, rest, long)) in omega (arith, size)
@@ -49,7 +49,7 @@ module _ (values : ℕ → List ℤ) where
   received_at : (j k : ℕ) (frames : List (List ℤ)) → k < length frames → AreReceived values j frames → get_or frames k [] ≡ values (j + k)
   received_at j k frames inside are = ap (λ fs. get_or fs k []) are ∙ values_below_at (λ m. values (j + m)) (length frames) k [] inside
 
-  -- from frame j of the first frames on
+  -- all frames from frame j on
   received_after : (j : ℕ) (frames : List (List ℤ)) → AreReceived values 0 frames → AreReceived values j (drop j frames)
   received_after j frames are =
       values_below_is [] (length (drop j frames)) (λ m. values (j + m)) (drop j frames) refl
@@ -57,7 +57,7 @@ module _ (values : ℕ → List ℤ) where
       let from : 0 + (j + m) ≡ j + m = omega arith in
       get_or-drop j frames m [] ∙ received_at 0 (j + m) frames (omega (arith, below, size)) are ∙ ap values from)
 
-  -- so many of them, as the code takes them
+  -- a count of frames from frame j on, as the code takes them
   pub received_part : (j count : ℕ) (frames : List (List ℤ)) → j + count ≤ length frames → AreReceived values 0 frames →
       AreReceived values j (take (j + count - j) (drop j frames))
   received_part j count frames long are =
@@ -69,7 +69,7 @@ module _ (values : ℕ → List ℤ) where
       part : List (List ℤ)
       part = take (j + count - j) (drop j frames)
 
-  -- with one frame more
+  -- one more frame
   pub received_more : (j : ℕ) (frames : List (List ℤ)) (frame : List ℤ) (more : List (List ℤ)) → length frames ≡ j → frame ≡ values j → more ≡ frames ++ frame ∷ [] →
       AreReceived values 0 frames → AreReceived values 0 more
   received_more j frames frame more at is new are =
@@ -78,7 +78,7 @@ module _ (values : ℕ → List ℤ) where
       new ∙ ap₂ (λ fs f. fs ++ f ∷ []) are (is ∙ ap values from) ∙ sym (values_below_more (length frames) (λ m. values (0 + m)))
       ∙ sym (ap (λ n. values_below n (λ m. values (0 + m))) size)
 
--- ---- master blocks by phase
+-- ---- MIBs by phase
 
 told_at : (identity size count : ℕ) (received : List ℤ) (masters : List (Option Master)) (phase : ℕ) → AreMasters identity size count received masters → phase < 4 →
     IsTold identity size count received masters phase
@@ -93,7 +93,7 @@ none_of : (Tells : Telling) (place : Place) (frames : Frames) (o : Option Master
 none_of Tells place frames None h e = h
 none_of Tells place frames (Some master) h e = absurd (cc e)
 
--- where no phase has one, the frames have none
+-- if no phase has a MIB, the frames have none
 pub no_master : (Tells : Telling) (place : Place) (count frame : ℕ) (masters : List (Option Master)) → 1 ≤ count →
     AreTold Tells place count frame masters → any_below 4 (λ phase. is_some (master_at masters phase)) ≡ false → TellNone Tells place count frame
 no_master Tells place count frame masters some told e phase master period =
@@ -121,17 +121,17 @@ has_one count masters beyond e =
     let (master, is) = is_some_of (master_at masters phase) some in
     record { phase = phase; known = within phase master below is; master = master; is = is }
   where
-    -- beyond a period there is none
+    -- past a period there is no MIB
     within : (phase : ℕ) (master : Master) → phase < 4 → master_at masters phase ≡ Some master → phase + count ≤ 4
     within phase master below is = elim (cases_lt 4 (phase + count)) [
       | inl more ↦ absurd (let none = beyond phase below more in cc (none, is))
       | inr fits ↦ fits
     ]
 
--- ---- the master blocks that a receiver takes
+-- ---- the MIBs that a receiver accepts
 
 module _ (receiver : Receiver) (recording : List Sample) where
-  -- the master blocks of frames from frame j on, by what was received of them
+  -- the MIBs in frames from frame j on, from their soft values
   pub masters_of_frames : (place : Place) (identity size j : ℕ) (frames : List (List ℤ)) (all : List (Option Master)) → identity ≡ place.id → size ≡ receiver.count →
       AreReceived (receiver.broadcast recording place) j frames → AreMasters identity size (length frames) (flat_map (λ frame. frame) frames) all →
       AreMasters place.id receiver.count (length frames) (values_in (receiver.broadcast recording place) (length frames) j) all
@@ -143,7 +143,7 @@ module _ (receiver : Receiver) (recording : List Sample) where
   module _ (place : Place) (count j : ℕ) (all masters : List (Option Master))
       (each : (phase : ℕ) → phase < 4 → master_at masters phase ≡ taken_of (is_wanted receiver.ports) (master_at all phase))
       (m : AreMasters place.id receiver.count count (values_in (receiver.broadcast recording place) count j) all) where
-    -- of those that so many frames from frame j on tell, these are taken
+    -- the accepted MIBs are those that frames carry for the receiver
     pub told_in_frames : 1 ≤ count → count ≤ receiver.most_frames → AreTold (IsMasterFor receiver recording) place count j masters
     told_in_frames some adds phase period =
         subst (IsToldAt (IsMasterFor receiver recording) place (frames_from count j phase)) (sym (each phase (omega (arith, some, period))))
@@ -165,7 +165,7 @@ module _ (receiver : Receiver) (recording : List Sample) where
                 let taken : is_wanted receiver.ports master.ports ≡ true = subst (λ (m : Master). is_wanted receiver.ports m.ports ≡ true) same t.taken in
                 cc (e, taken)
 
-    -- and none beyond a period
+    -- past a period no MIB is accepted
     pub none_beyond : (phase : ℕ) → phase < 4 → 4 < phase + count → master_at masters phase ≡ None
     none_beyond phase below beyond =
         each phase below ∙ ap (taken_of (is_wanted receiver.ports)) ((told_at place.id receiver.count count _ all phase m below).beyond beyond)

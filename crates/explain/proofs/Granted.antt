@@ -1,4 +1,4 @@
--- The indicator and the grant by which system information was read.
+-- The indicator and the grant with which system information was read.
 use Rattle.std.proofs.Common.{◌≡◌, true, false, ℕ, ◌<◌, ◌+◌, ◌≤◌, ◌⊎◌, inl, inr, List, Option, Some, None, Result, Ok, Err, refl, ap, sym, subst, ◌∙◌, arith}
 use Rattle.std.specs.Prelude.{IsNone, IsErr, ◌↔◌}
 use Rattle.std.specs.Result.{is_ok}
@@ -42,7 +42,7 @@ err_reason (Ok fields) is = absurd (cc is)
 err_reason (Err reason) is = (reason, refl)
 
 module _ (Attempts : Attempting) (Answers : Answering) (are : AreAttempts Attempts Answers) (recording : List Sample) (start sfn : ℕ) where
-  -- where no tried frame before number i has fields, and the attempt there has, they were read by what it was granted
+  -- if no tried frame before number i has fields, and the attempt there has, they were read with its grant
   pub read_by : (i : ℕ) (attempt : Attempt) (fields : Sib1) → IsTried recording start sfn i → Attempts (even_frame sfn i) attempt →
       attempt.answer ≡ Ok fields → ((h : ℕ) (other : Sib1) → h < i → Answers (even_frame sfn h) (Ok other) → ⊥) →
       IsGrantBy Attempts recording start sfn (Ok fields) (granted_by attempt)
@@ -62,7 +62,7 @@ module _ (Attempts : Attempting) (Answers : Answering) (are : AreAttempts Attemp
             answers = sym reads ∙ ap (λ (a : Attempt). a.answer) read.is;
           }
 
-  -- where an attempt has fields, and no tried frame before it has any, they are told, by what it was granted
+  -- if an attempt has fields, and no tried frame before it has any, they are the answer, read with its grant
   pub told_fields : (i : ℕ) (attempt : Attempt) (sib1 : Result Sib1 Sib1Reason) (granted : Option (ℕ × Grant)) → IsTried recording start sfn i →
       Attempts (even_frame sfn i) attempt → sib1 ≡ attempt.answer → granted ≡ granted_by attempt → is_ok sib1 ≡ true →
       ((h : ℕ) (other : Sib1) → h < i → Answers (even_frame sfn h) (Ok other) → ⊥) →
@@ -80,7 +80,7 @@ module _ (Attempts : Attempting) (Answers : Answering) (are : AreAttempts Attemp
         subst (λ (o : Option (ℕ × Grant)). IsGrantBy Attempts recording start sfn (Ok fields) o) (sym by) (read_by i attempt fields tried at reads none),
       )
 
-  -- where the attempt on the next frame has none, no frame up to it has
+  -- if the attempt on the next frame has no fields, no frame up to it has any
   pub none_more : (one : AnswersOnce Answers) (i : ℕ) (attempt : Attempt) (sib1 : Result Sib1 Sib1Reason) →
       ((h : ℕ) (other : Sib1) → h < i → Answers (even_frame sfn h) (Ok other) → ⊥) → Attempts (even_frame sfn i) attempt →
       sib1 ≡ attempt.answer → is_ok sib1 ≡ false → (h : ℕ) (other : Sib1) → h < i + 1 → Answers (even_frame sfn h) (Ok other) → ⊥
@@ -89,7 +89,7 @@ module _ (Attempts : Attempting) (Answers : Answering) (are : AreAttempts Attemp
       no_more_fields Answers one recording start sfn OnePort i reason none
       (subst (λ (answer : Result Sib1 Sib1Reason). Answers (even_frame sfn i) answer) (sym is ∙ same) (are.answers (even_frame sfn i) attempt at))
 
-  -- where none of the tried frames has any, the first one's reason is told
+  -- if no tried frame has fields, the answer is the first frame's reason
   pub told_reason : (sib1 : Result Sib1 Sib1Reason) → is_ok sib1 ≡ false → Answers (even_frame sfn 0) sib1 →
       ((i : ℕ) (fields : Sib1) → IsTried recording start sfn i → Answers (even_frame sfn i) (Ok fields) → ⊥) → IsReadFrom Answers recording start sfn sib1
   told_reason sib1 not refused none =
@@ -97,7 +97,7 @@ module _ (Attempts : Attempting) (Answers : Answering) (are : AreAttempts Attemp
       subst (λ (answer : Result Sib1 Sib1Reason). IsReadFrom Answers recording start sfn answer) (sym same)
       (record { none = none; refused = subst (λ (answer : Result Sib1 Sib1Reason). Answers (even_frame sfn 0) answer) same refused })
 
-  -- and it was granted by none
+  -- an answer without fields has no grant
   pub none_granted_by : (attempt : Attempt) (sib1 : Result Sib1 Sib1Reason) (granted : Option (ℕ × Grant)) → is_ok sib1 ≡ false → sib1 ≡ attempt.answer →
       granted ≡ granted_by attempt → IsGrantBy Attempts recording start sfn sib1 granted
   none_granted_by attempt sib1 granted not is by =
@@ -105,7 +105,7 @@ module _ (Attempts : Attempting) (Answers : Answering) (are : AreAttempts Attemp
       subst (λ (o : Option (ℕ × Grant)). IsGrantBy Attempts recording start sfn sib1 o) (sym (by ∙ ungranted attempt.cfi attempt.grant attempt.answer reason (sym is ∙ same)))
       (λ fields other. absurd (let e : ◌≡◌ {A = Result Sib1 Sib1Reason} (Err reason) (Ok fields) = sym same ∙ other in cc))
 
--- attempts on subframes with these values are such
+-- attempts on subframes with these values give the frames' answers
 pub are_attempts : (values : Subframes) (recording : List Sample) (place : Place) (mib : Mib) → AreAttempts (IsFrameAttempt values recording place mib) (FrameAnswers values recording place mib)
 are_attempts values recording place mib = record {
   answers = λ j attempt is. record { attempt = attempt; is = is; answers = refl };
@@ -117,7 +117,7 @@ are_attempts values recording place mib = record {
 abbrev attempt_with : ℕ × Grant → Sib1 → Attempt
 attempt_with told f = record { cfi = told.0; grant = Some told.1; answer = Ok f }
 
--- where these are the values of the frames' subframes
+-- for the soft values of the frames' subframes
 module _ (values : ℕ → Subframe) (recording : List Sample) (start sfn : ℕ) (sib1 : Result Sib1 Sib1Reason) where
   abbrev IsFramed : Attempting
   IsFramed j attempt = IsAttempt (values j) attempt
@@ -153,7 +153,7 @@ one_grant_of receiver recording place sfn mib sib1 a b p q = one_grant_with rece
 
 -- ---- the grant of an entry
 
--- what is told again of an entry of the list is what was told of it
+-- reading a listed entry again gives the same grant
 pub grant_told : (recording : List Sample) (entry : Entry) (place : Place) (master : Master) (sib1 : Result Sib1 Sib1Reason) (granted : Option (ℕ × Grant)) →
     IsInList recording entry → place ≡ place_of entry → master ≡ master_of entry → IsSystemFor one_port_receiver recording place entry.sfn master.ports master.mib sib1 →
     IsGrantFor one_port_receiver recording place entry.sfn master.mib sib1 granted → IsGrantOf recording entry granted

@@ -1,4 +1,4 @@
--- There is one answer on the system information of a cell, and it is in its ranges.
+-- The answer on a cell's system information is unique, and its fields are in their ranges.
 use Rattle.std.proofs.Common.{◌≡◌, ℕ, ◌+◌, ◌%◌, ◌<◌, ◌≤◌, ◌⊎◌, inl, inr, List, length, Result, Ok, Err, refl, ap, sym, subst, ◌∙◌, arith}
 use Rattle.std.specs.Prelude.{IfOk}
 use Rattle.std.proofs.lemmas.Bool.{cases_lt}
@@ -23,7 +23,7 @@ use Rattle.explain.specs.System.{even_frame, IsTried, IsFirstRead, IsReadFrom, H
 abbrev answer_with : Sib1 → Result Sib1 Sib1Reason
 answer_with fields = Ok fields
 
--- the first frame of even number is tried: it is one of the first two
+-- the first even-numbered frame is tried: it is one of the first two frames
 pub first_tried : (recording : List Sample) (start sfn : ℕ) → 57600 ≤ length recording → start < 19200 → IsTried recording start sfn 0
 first_tried recording start sfn long early = record { among = omega arith; whole = omega (arith, long, early) }
 
@@ -31,14 +31,14 @@ first_tried recording start sfn long early = record { among = omega arith; whole
 pub even_number : (sfn i : ℕ) → (sfn + even_frame sfn i) % 1024 % 2 ≡ 0
 even_number sfn i = omega arith
 
--- where a frame answers in one way
+-- if each frame has at most one answer
 module _ (Answers : Answering) (one : (j : ℕ) (a b : Result Sib1 Sib1Reason) → Answers j a → Answers j b → a ≡ b)
     (recording : List Sample) (start sfn : ℕ) (carrier : Carrier) where
-  -- a frame that has a reason has no fields
+  -- a frame with a reason has no fields
   not_both : (j : ℕ) (fields : Sib1) (reason : Sib1Reason) → Answers j (Ok fields) → Answers j (Err reason) → ⊥
   not_both j fields reason a b = let e = one j (Ok fields) (Err reason) a b in absurd cc
 
-  -- the frames tell one answer
+  -- the frames give at most one answer
   first_read_first : (x y : Sib1) (a : IsFirstRead Answers recording start sfn x) (b : IsFirstRead Answers recording start sfn y) → a.i < b.i → ⊥
   first_read_first x y a b before = b.first a.i x before a.answers
 
@@ -55,7 +55,7 @@ module _ (Answers : Answering) (one : (j : ℕ) (a b : Result Sib1 Sib1Reason) �
   one_read (Err q) (Ok y) a b = absurd (a.none b.i y b.tried b.answers)
   one_read (Err q) (Err r) a b = one (even_frame sfn 0) (Err q) (Err r) a.refused b.refused
 
-  -- which rule told an answer
+  -- the rule that gives an answer
   rule : (ports : ℕ) (mib : Mib) (sib1 : Result Sib1 Sib1Reason) → IsSystemBy carrier Answers recording start sfn ports mib sib1 →
       ((told : ℕ) × (sib1 ≡ Err (NotOnePort told)) × HasOtherPorts (ports_of carrier) ports told)
       ⊎ (((told : Bandwidth) × (sib1 ≡ Err (OtherWidth told)) × HasOtherWidth (ports_of carrier) ports mib.bandwidth told)
@@ -81,18 +81,18 @@ module _ (Answers : Answering) (one : (j : ℕ) (a b : Result Sib1 Sib1Reason) �
       cases (inr (inr n)) (inr (inl m)) = absurd (m.2.other n.six_blocks)
       cases (inr (inr n)) (inr (inr m)) = one_read a b n.read m.read
 
-  -- no frame of even number before number i has fields
+  -- no even-numbered frame before number i has fields
   abbrev pub HasNoFields : ℕ → Type 0
   HasNoFields i = (h : ℕ) (fields : Sib1) → h < i → Answers (even_frame sfn h) (Ok fields) → ⊥
 
-  -- where the next one has a reason, it has none either
+  -- if the next frame has a reason, no frame up to it has fields
   pub no_more_fields : (i : ℕ) (reason : Sib1Reason) → HasNoFields i → Answers (even_frame sfn i) (Err reason) → HasNoFields (i + 1)
   no_more_fields i reason none refused h fields before a = elim (cases_lt h i) [
     | inl below ↦ none h fields below a
     | inr above ↦ let same : h ≡ i = omega (arith, before, above) in not_both (even_frame sfn i) fields reason (subst (λ k. Answers (even_frame sfn k) (Ok fields)) same a) refused
   ]
 
-  -- where the first frame of even number has fields, they are what is told
+  -- if the first even-numbered frame has fields, they are the answer
   pub told_first : (mib : Mib) (fields : Sib1) → 57600 ≤ length recording → start < 19200 → mib.bandwidth ≡ N6 → Answers (even_frame sfn 0) (Ok fields) →
       IsSystemBy carrier Answers recording start sfn (ports_of carrier) mib (Ok fields)
   told_first mib fields long early six answers = record {
@@ -101,17 +101,17 @@ module _ (Answers : Answering) (one : (j : ℕ) (a b : Result Sib1 Sib1Reason) �
     read = record { i = 0; tried = first_tried recording start sfn long early; answers = answers; first = λ h other before a. absurd (omega (arith, before)) };
   }
 
-  -- where frames tell valid fields alone, so does what is told
+  -- if all fields in frames are valid, those in the answer are
   pub valid_by : ((j : ℕ) (fields : Sib1) → Answers j (Ok fields) → IsValid fields) → (ports : ℕ) (mib : Mib) (sib1 : Result Sib1 Sib1Reason) →
       IsSystemBy carrier Answers recording start sfn ports mib sib1 → IfOk sib1 IsValid
   valid_by valid ports mib (Err reason) s = tt
   valid_by valid ports mib (Ok fields) s = valid (even_frame sfn s.read.i) fields s.read.answers
 
-  -- where no frame has the reason that the prefix is long, nor has what is told
+  -- if no frame has `LongPrefix` as its reason, the answer does not have it
   pub never_long_by : ((j : ℕ) → Answers j (Err LongPrefix) → ⊥) → (ports : ℕ) (mib : Mib) → IsSystemBy carrier Answers recording start sfn ports mib (Err LongPrefix) → ⊥
   never_long_by never ports mib s = never (even_frame sfn 0) s.read.refused
 
-  -- what frames answer is told where the ports and the bandwidth are as wanted, since they never answer for the sake of these
+  -- if the port count and the bandwidth are right, the answer is that of the frames, which never give these two reasons
   pub searched : ((j told : ℕ) → Answers j (Err (NotOnePort told)) → ⊥) → ((j : ℕ) (told : Bandwidth) → Answers j (Err (OtherWidth told)) → ⊥) →
       (ports : ℕ) (mib : Mib) → ports ≡ ports_of carrier → mib.bandwidth ≡ N6 → (sib1 : Result Sib1 Sib1Reason) → IsReadFrom Answers recording start sfn sib1 →
       IsSystemBy carrier Answers recording start sfn ports mib sib1
@@ -119,13 +119,13 @@ module _ (Answers : Answering) (one : (j : ℕ) (a b : Result Sib1 Sib1Reason) �
   searched never_ports never_width ports mib as_wanted six (Err (OtherWidth told)) read = absurd (never_width (even_frame sfn 0) told read.refused)
   searched never_ports never_width ports mib as_wanted six sib1 read = record { as_wanted = as_wanted; six_blocks = six; read = read }
 
--- ---- by the values of subframe 5
+-- ---- from the soft values of subframe 5
 
 -- a frame has at most one answer
 pub one_of_frame : (values : Subframes) (recording : List Sample) (place : Place) (mib : Mib) → AnswersOnce (FrameAnswers values recording place mib)
 one_of_frame values recording place mib j a b p q = one_reading _ a b p q
 
--- where the first frame of even number has fields, they are what is told
+-- if the first even-numbered frame has fields, they are the answer
 pub told_at_first : (carrier : Carrier) (values : Subframes) (recording : List Sample) (place : Place) (sfn : ℕ) (mib : Mib) (fields : Sib1) → 57600 ≤ length recording →
     place.start < 19200 → mib.bandwidth ≡ N6 → FrameAnswers values recording place mib (even_frame sfn 0) (Ok fields) →
     IsSystemWith carrier (Ok values) recording place sfn (ports_of carrier) mib (Ok fields)
@@ -138,20 +138,20 @@ one_with carrier (Ok values) recording place sfn ports mib a b p q =
     one_by (FrameAnswers values recording place mib) (one_of_frame values recording place mib) recording place.start sfn carrier ports mib a b p q
 one_with carrier (Err reason) recording place sfn ports mib a b p q = p ∙ sym q
 
--- what is read is in its ranges
+-- the fields read are in their ranges
 valid_with : (carrier : Carrier) (values : Result Subframes Sib1Reason) (recording : List Sample) (place : Place) (sfn ports : ℕ) (mib : Mib) (sib1 : Result Sib1 Sib1Reason) →
     IsSystemWith carrier values recording place sfn ports mib sib1 → IfOk sib1 IsValid
 valid_with carrier (Ok values) recording place sfn ports mib sib1 s =
     valid_by (FrameAnswers values recording place mib) (one_of_frame values recording place mib) recording place.start sfn carrier (λ j fields reads. read_is_valid _ fields reads) ports mib sib1 s
 valid_with carrier (Err reason) recording place sfn ports mib sib1 s = subst (λ (answer : Result Sib1 Sib1Reason). IfOk answer IsValid) (sym s) tt
 
--- where there are values, the reason is not that the prefix is long
+-- if there are soft values, the reason is not `LongPrefix`
 never_long_with : (carrier : Carrier) (values : Subframes) (recording : List Sample) (place : Place) (sfn ports : ℕ) (mib : Mib) →
     IsSystemWith carrier (Ok values) recording place sfn ports mib (Err LongPrefix) → ⊥
 never_long_with carrier values recording place sfn ports mib s =
     never_long_by (FrameAnswers values recording place mib) (one_of_frame values recording place mib) recording place.start sfn carrier (λ j reads. never_long _ reads) ports mib s
 
--- ---- by a receiver
+-- ---- for a receiver
 
 pub one_system : (receiver : Receiver) (recording : List Sample) → HasOneSystem (IsSystemFor receiver recording)
 one_system receiver recording = one_with receiver.carrier receiver.subframe recording

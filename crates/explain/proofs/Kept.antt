@@ -1,4 +1,4 @@
--- The entries that are kept, and their list.
+-- The kept entries, and their list.
 use Rattle.std.proofs.Common.{◌≡◌, ◌⊎◌, inl, inr, ℕ, ◌+◌, ◌-◌, ◌*◌, ◌%◌, ◌<◌, ◌≤◌, Bool, true, false, ◌&&◌, nat_eq, nat_le, List, [], ◌∷◌, ◌++◌, length, get_or, arith, refl, ap, sym, subst, ◌∙◌, append-nil, append_assoc}
 use Rattle.std.specs.Prelude.{if◌then◌else◌}
 use Rattle.std.specs.List.{fold, list_any, AllWithin, HoldsAt, AllPairs, Contains, insert}
@@ -32,7 +32,7 @@ same_cell_turned a b =
 no_distance : (m n x y : ℕ) → m ≡ n → x ≡ y → (nat_eq m n && nat_le (distance x y) 9) ≡ true
 no_distance m n x y e f = grind (arith, nat_tests, e, f)
 
--- entries of one identity, start and frame number are of one cell
+-- entries with equal identities, starts and frame numbers belong to one cell
 pub same_place_same_cell : (a b : Entry) → a.id ≡ b.id → a.start ≡ b.start → a.sfn ≡ b.sfn → is_same_cell a b ≡ true
 same_place_same_cell a b id start sfn =
     no_distance a.id b.id (epoch a) (epoch b) id
@@ -43,7 +43,7 @@ same_place_same_cell a b id start sfn =
 pub kept_more : (entries : List Entry) (entry : Entry) → kept (entries ++ entry ∷ []) ≡ with_entry (kept entries) entry
 kept_more entries entry = fold-append with_entry [] entries (entry ∷ [])
 
--- what was kept stays
+-- a kept entry stays
 pub with_entry_keeps : (acc : List Entry) (entry x : Entry) → Contains acc x → Contains (with_entry acc entry) x
 with_entry_keeps acc entry x h = settle (list_any (λ other. is_same_cell other entry) acc)
   where
@@ -70,11 +70,11 @@ fold_only acc (e ∷ es) x h = elim (fold_only (with_entry acc e) es x h) [
   | inr later ↦ inr (Contains-append_right (e ∷ []) es x later)
 ]
 
--- a kept entry is one of them
+-- a kept entry is one of the entries
 pub kept_only : (entries : List Entry) (x : Entry) → Contains (kept entries) x → Contains entries x
 kept_only entries x h = elim (fold_only [] entries x h) [ inl none ↦ absurd (in_none x none) | inr c ↦ c ]
 
--- an entry, or one of its cell, stands in the list
+-- an entry, or one of its cell, is in the list
 with_entry_stands : (acc : List Entry) (entry : Entry) → (other : Entry) × StandsFor (with_entry acc entry) entry other
 with_entry_stands acc entry = settle (list_any (λ other. is_same_cell other entry) acc) refl
   where
@@ -95,7 +95,7 @@ fold_stands acc (e ∷ es) x h = elim (in_cons e es x h) [
 pub kept_stands : (entries : List Entry) (x : Entry) → Contains entries x → (other : Entry) × StandsFor (kept entries) x other
 kept_stands entries x h = fold_stands [] entries x h
 
--- no two that are kept are of one cell
+-- no two kept entries belong to one cell
 abbrev pub IsOtherCell : Entry → Entry → Type 0
 IsOtherCell a b = is_same_cell a b ≡ false
 
@@ -129,7 +129,7 @@ before_after a b h k = grind (arith, h, k)
 before_trans : (a b c : Entry) → IsBefore a b → IsBefore b c → IsBefore a c
 before_trans a b c h k = grind (arith, h, k)
 
--- of two entries of two cells one stands before the other
+-- of two entries from different cells, one comes before the other
 other_before : (a b : Entry) → is_same_cell a b ≡ false → (IsBefore a b → ⊥) → IsBefore b a
 other_before a b apart not_before = by_start (cases_lt a.start b.start) (cases_lt b.start a.start)
   where
@@ -148,7 +148,7 @@ other_before a b apart not_before = by_start (cases_lt a.start b.start) (cases_l
     by_start (inr low) (inl less) = inl less
     by_start (inr low) (inr high) = let same : a.start ≡ b.start = omega (arith, low, high) in inr (sym same, by_id same (cases_lt a.id b.id) (cases_lt b.id a.id))
 
--- ---- the list with one more entry
+-- ---- a list with one more entry
 
 pub told_already : (before list : List Entry) (entry : Entry) → IsListOf before list → list_any (λ other. is_same_cell other entry) list ≡ true → IsListOf (before ++ entry ∷ []) list
 told_already before list entry h e =
@@ -164,14 +164,14 @@ inserted_in_order list entry at order within before after i j d below inside =
     long : length (insert list at entry) ≡ length list + 1
     long = length-insert list at entry within
 
-    -- the entry stands before those that moved up
+    -- the entry comes before those that moved up
     moved : (k : ℕ) → at ≤ k → k < length list → IsBefore entry (get_or list k d)
     moved k above last = elim (cases_lt at k) [
       | inl past ↦ before_trans entry (get_or list at d) (get_or list k d) (after (omega (arith, above, last)) d) (order at k d past last)
       | inr here ↦ let e : k ≡ at = omega (arith, above, here) in subst (λ m. IsBefore entry (get_or list m d)) (sym e) (after (omega (arith, above, last)) d)
     ]
 
-    -- what stands at a place from `at` on
+    -- the items from index `at` on
     above_at : (m : ℕ) → at ≤ m → m < length list + 1 → (m ≡ at) ⊎ ((k : ℕ) × (m ≡ k + 1) × (at ≤ k) × (k < length list))
     above_at m low high = elim (cases_lt at m) [
       | inl past ↦ inr (m - 1, omega (arith, past), omega (arith, past), omega (arith, past, high))
@@ -217,21 +217,21 @@ told_now before list entry at h e within front back =
           (λ inside d. other_before (get_or list at d) entry (none_same list entry (get_or list at d) e (Contains-get_or list at d inside)) (back inside d));
     }
 
--- nothing more is nothing more
+-- adding nothing changes nothing
 pub adds_none : (list : List Entry) → Adds [] list list
 adds_none list before h = subst (λ l. IsListOf l list) (sym (append-nil before)) h
 
--- and then these
+-- two additions, one after the other
 pub adds_more : (first second a b d : List Entry) → Adds first a b → Adds second b d → Adds (first ++ second) a d
 adds_more first second a b d p q before h = subst (λ l. IsListOf l d) (append_assoc before first second) (q (before ++ first) (p before h))
 
--- entries of which each is of the cell of one that stands in the list add nothing
+-- entries whose cells are all in the list add nothing
 pub adds_again : (entries list : List Entry) → ((entry : Entry) → Contains entries entry → list_any (λ other. is_same_cell other entry) list ≡ true) → Adds entries list list
 adds_again [] list each = adds_none list
 adds_again (e ∷ es) list each =
     adds_more (e ∷ []) es list list list (λ before h. told_already before list e h (each e (Contains-here e es))) (adds_again es list (λ x h. each x (Contains-later e es x h)))
 
--- of each of the entries that a list is made of, one of its cell stands in the list
+-- for each entry from which a list is made, one of its cell is in the list
 pub stands_in : (entries list : List Entry) (entry : Entry) → IsListOf entries list → Contains entries entry → list_any (λ other. is_same_cell other entry) list ≡ true
 stands_in entries list entry h inside =
     let (other, s) = kept_stands entries entry inside in

@@ -1,4 +1,4 @@
--- The hits that are taken: those that come late enough.
+-- The hits that a receiver uses: those with room before them.
 use Rattle.std.proofs.Common.{◌≡◌, ℕ, zero, suc, ◌-◌, ◌<◌, ◌≤◌, inl, inr, Bool, true, false, cond, nat_le, List, [], ◌∷◌, length, get_or, take, drop, length-drop, refl, ap, sym, subst, ◌∙◌, arith}
 use Rattle.std.specs.Prelude.{◌↔◌, All}
 use Rattle.std.specs.List.{Contains, AllPairs, filter}
@@ -16,7 +16,7 @@ use Rattle.pss_search.specs.Laws.{IsEarlier}
 use Rattle.pss_search.proofs.Listed.{listed_in_span}
 use Rattle.explain.specs.Receiver.{has_step_before, hits_by, HasRoom}
 
--- ---- what a filter keeps
+-- ---- filters
 
 module _ {X : Type 0} (p : X → Bool) where
   kept_before : (xs : List X) (x : X) → Contains (filter p xs) x → Contains xs x
@@ -45,7 +45,7 @@ module _ {X : Type 0} (p : X → Bool) where
       settle true more = Contains-append_right (y ∷ []) (filter p ys) x more
       settle false more = more
 
-  -- where all pass, all are kept
+  -- if all items pass, all are kept
   pub all_kept : (xs : List X) → ((k : ℕ) (d : X) → k < length xs → p (get_or xs k d) ≡ true) → filter p xs ≡ xs
   all_kept [] each = refl
   all_kept (x ∷ xs) each =
@@ -53,7 +53,7 @@ module _ {X : Type 0} (p : X → Bool) where
       let rest = all_kept xs (λ k d inside. each (suc k) d (omega (arith, inside))) in
       rw first (ap (λ (ys : List X). x ∷ ys) rest)
 
-  -- where the first n fail and all others pass, the others are kept
+  -- if the first n items fail and all others pass, the others are kept
   pub kept_from : (xs : List X) (n : ℕ) → n ≤ length xs → ((k : ℕ) (d : X) → k < n → p (get_or xs k d) ≡ false) →
       ((k : ℕ) (d : X) → n ≤ k → k < length xs → p (get_or xs k d) ≡ true) → filter p xs ≡ drop n xs
   kept_from xs zero fits none all = all_kept xs (λ k d inside. all k d (omega arith) inside)
@@ -71,20 +71,20 @@ is_late step t e = grind (arith, nat_tests)
 passes : (step t : ℕ) → step ≤ t → nat_le step t ≡ true
 passes step t h = grind (arith, nat_tests)
 
--- with the normal prefix all hits have room before them
+-- with the normal prefix, all hits have room before them
 normal_are_late : (recording : List Sample) → filter (has_step_before OnePort) (hits_of recording) ≡ hits_of recording
 normal_are_late recording =
     all_kept (has_step_before OnePort) (hits_of recording)
     (λ k d inside. let span = listed_in_span recording k d inside in passes 137 (get_or (hits_of recording) k d).t span.from_first)
 
--- those that are taken are those that have it
+-- the hits used are those with room before them
 pub taken_are_late : (carrier : Carrier) (recording : List Sample) → filter (has_step_before carrier) (hits_of recording) ≡ hits_by carrier recording
 taken_are_late OnePort recording = normal_are_late recording
 taken_are_late TwoPorts recording = normal_are_late recording
 taken_are_late FourPorts recording = normal_are_late recording
 taken_are_late LongPrefix recording = refl
 
--- a hit is taken exactly where it is listed and has room before it
+-- a hit is used exactly if it is listed and has room before it
 pub are_taken : (carrier : Carrier) (recording : List Sample) (hit : Hit) →
     Contains (hits_by carrier recording) hit ↔ Contains (hits_of recording) hit × (symbol_step (prefix_of carrier) ≤ hit.t)
 are_taken carrier recording hit = subst (λ (hits : List Hit). Contains hits hit ↔ Contains (hits_of recording) hit × (symbol_step (prefix_of carrier) ≤ hit.t)) (taken_are_late carrier recording) (
@@ -95,7 +95,7 @@ are_taken carrier recording hit = subst (λ (hits : List Hit). Contains hits hit
   λ both. kept_after (has_step_before carrier) (hits_of recording) hit both.0 (passes _ hit.t both.1),
 )
 
--- the first late one is followed by late ones
+-- all hits after the first one with room before it have room too
 pub later_pass : (carrier : Carrier) (hits : List Hit) (n k : ℕ) (d : Hit) → All IsInSpan hits → AllPairs IsEarlier hits → symbol_step (prefix_of carrier) ≤ (get_or hits n d).t → n ≤ k → k < length hits →
     has_step_before carrier (get_or hits k d) ≡ true
 later_pass carrier hits n k d span order first above inside = settle (nat_le k n) refl
@@ -110,14 +110,14 @@ later_pass carrier hits n k d span order first above inside = settle (nat_le k n
         let root = (span k d inside).root in
         passes _ (get_or hits k d).t (omega (arith, first, after, root))
 
--- they are what stands from the first late one on
+-- the hits used are the slice from the first one with room on
 pub late_slice : (carrier : Carrier) (recording : List Sample) (hits : List Hit) (first : ℕ) → hits ≡ hits_of recording → first ≤ length hits →
     filter (has_step_before carrier) hits ≡ drop first hits → take (length hits - first) (drop first hits) ≡ hits_by carrier recording
 late_slice carrier recording hits first are fits later =
     take_all (length hits - first) (drop first hits) (let size = length-drop first hits in omega (arith, size)) ∙ sym later ∙ ap (filter (has_step_before carrier)) are
     ∙ taken_are_late carrier recording
 
--- they lie in the span, with room before each
+-- the hits used lie in the span, with room before each
 pub all_have_room : (carrier : Carrier) (recording : List Sample) → All (HasRoom carrier) (hits_by carrier recording)
 all_have_room carrier recording = subst (All (HasRoom carrier)) (taken_are_late carrier recording) (λ k d inside. record {
   span = All-filter (has_step_before carrier) IsInSpan (hits_of recording) (listed_in_span recording) k d inside;

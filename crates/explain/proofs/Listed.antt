@@ -1,4 +1,4 @@
--- What the list of a recording contains.
+-- The content of a recording's list.
 use Rattle.std.proofs.Common.{◌≡◌, ◌⊎◌, inl, inr, ℕ, ◌<◌, ◌≤◌, false, List, [], ◌∷◌, ◌++◌, length, get_or, arith, refl, ap, sym, subst, ◌∙◌, append-nil}
 use Rattle.std.specs.List.{flat_map, AllZip, AllPairs, Contains}
 use Rattle.std.proofs.lemmas.Bool.{cases_lt}
@@ -51,7 +51,7 @@ sound_of IsOf hits list entry explained h =
 pub is_sound : IsSound
 is_sound receiver recording = sound_of (IsEntryFor receiver recording) (hits_by receiver.carrier recording)
 
--- no entry of the list of a recording has the reason that the prefix is long
+-- no entry in a recording's list has `LongPrefix` as its reason
 pub is_never_long : IsNeverLong
 is_never_long receiver values recording list entry is explained inside long =
     let sound = is_sound receiver recording list entry explained inside in
@@ -67,13 +67,13 @@ complete_of IsOf hits list entry explained is =
 pub is_complete : IsComplete
 is_complete receiver recording = complete_of (IsEntryFor receiver recording) (hits_by receiver.carrier recording)
 
--- the entries of a hit are one list
+-- the list of a hit's entries is unique
 one_group : (IsOf : Hit → Entry → Type 0) (hit : Hit) (first second : List Entry) → AreEntries (IsOf hit) first → AreEntries (IsOf hit) second → first ≡ second
 one_group IsOf hit first second a b =
     one_in_order (λ (x y : Entry). x.phase < y.phase) (λ x y p q. omega (arith, p, q)) first second a.by_phase b.by_phase
     (λ z h. (b.given z).1 ((a.given z).0 h)) (λ z h. (a.given z).1 ((b.given z).0 h))
 
--- where each hit has one list of entries, hits have one list of such lists
+-- if each hit has one list of entries, hits have one list of such lists
 abbrev pub HasOneGroup : (Hit → List Entry → Type 0) → Type 0
 HasOneGroup AreOf = (hit : Hit) (first second : List Entry) → AreOf hit first → AreOf hit second → first ≡ second
 
@@ -93,7 +93,7 @@ one_order entries first second a b =
     (λ z h. Contains-permutation (kept entries) second z b.same (Contains-permutation first (kept entries) z (IsPermutation-sym _ _ a.same) h))
     (λ z h. Contains-permutation (kept entries) first z a.same (Contains-permutation second (kept entries) z (IsPermutation-sym _ _ b.same) h))
 
--- then hits have one list
+-- if each hit has one list of entries, hits have one list
 pub one_list : (AreOf : Hit → List Entry → Type 0) → HasOneGroup AreOf → (hits : List Hit) (first second : List Entry) →
     IsListOfHits AreOf hits first → IsListOfHits AreOf hits second → first ≡ second
 one_list AreOf one hits first second a b =
@@ -106,7 +106,7 @@ one_list_of IsOf = one_list (λ hit. AreEntries (IsOf hit)) (one_group IsOf)
 pub is_one_list : IsOneList
 is_one_list receiver recording = one_list_of (IsEntryFor receiver recording) (hits_by receiver.carrier recording)
 
--- two of a list of which none is of the cell of a later one, at two places
+-- two entries at different indices of a list in which no two belong to one cell
 places_apart : (entries : List Entry) (x y : Entry) (i j : ℕ) → AllPairs (λ a b. is_same_cell a b ≡ false) entries → i < length entries → j < length entries →
     get_or entries i x ≡ x → get_or entries j y ≡ y → (i ≡ j → ⊥) → is_same_cell x y ≡ false
 places_apart entries x y i j apart a b ex ey differ = place (cases_lt i j) (cases_lt j i)
@@ -122,13 +122,13 @@ places_apart entries x y i j apart a b ex ey differ = place (cases_lt i j) (case
     place (inr low) (inl below) = same_cell_turned x y ∙ subst (λ z. is_same_cell y z ≡ false) at_x (subst (λ z. is_same_cell z (get_or entries i y) ≡ false) ey (apart j i y below a))
     place (inr low) (inr high) = absurd (differ (omega (arith, low, high)))
 
--- two that stand at one place are the same, so that none stands before the other
+-- two entries at one index are equal, so that neither comes before the other
 one_place : (entries : List Entry) (x y : Entry) (m n : ℕ) → m ≡ n → get_or entries m x ≡ x → get_or entries n y ≡ y → m < length entries → IsBefore x y → ⊥
 one_place entries x y m n e ex ey inside before =
     let same : x ≡ y = sym ex ∙ get_or_default entries m x y inside ∙ ap (λ k. get_or entries k y) e ∙ ey in
     before_after x x (subst (IsBefore x) (sym same) before) (subst (IsBefore x) (sym same) before)
 
--- no two of a list of hits are of one cell, whatever entries each hit has
+-- no two entries in the list of hits belong to one cell, whatever entries each hit has
 pub list_is_apart : (AreOf : Hit → List Entry → Type 0) (hits : List Hit) (list : List Entry) → IsListOfHits AreOf hits list → AllPairs AreApart list
 list_is_apart AreOf hits list explained i j d below inside =
     let entries = kept (joined explained.groups) in
@@ -170,7 +170,7 @@ of_one_more AreOf hits hit old new before adds =
       listed = subst (λ entries. IsListOf entries new) (sym all) (adds.adds (joined before.groups) before.listed);
     }
 
--- one of the hits has one of the groups, which is joined with the others
+-- each hit has one of the groups, whose entries are among the joined ones
 group_of : (AreOf : Hit → List Entry → Type 0) (hits : List Hit) (groups : List (List Entry)) (hit : Hit) → AllZip AreOf hits groups → Contains hits hit →
     (group : List Entry) × AreOf hit group × ((entry : Entry) → Contains group entry → Contains (joined groups) entry)
 group_of AreOf [] [] hit each listed = absurd (in_none hit listed)
@@ -183,7 +183,7 @@ group_of AreOf (h ∷ hits) (g ∷ gs) hit each listed = elim (in_cons h hits hi
       (group, are, λ entry own. Contains-append_right g (joined gs) entry (inside entry own))
 ]
 
--- one of the hits, once more, adds nothing to their list
+-- a hit that occurs again adds nothing to the list
 pub adds_again_of : (AreOf : Hit → List Entry → Type 0) (hits : List Hit) (list : List Entry) (hit : Hit) → IsListOfHits AreOf hits list → Contains hits hit → AddsHit AreOf hit list list
 adds_again_of AreOf hits list hit explained listed =
     let (group, are, inside) = group_of AreOf hits explained.groups hit explained.each listed in

@@ -1,4 +1,4 @@
--- The entries of the master blocks of frames, phase after phase.
+-- The entries for the MIBs in frames, phase after phase.
 use Rattle.std.proofs.Common.{◌≡◌, ℕ, ◌+◌, ◌<◌, inl, inr, true, false, nat_lt, List, ◌++◌, Option, arith, refl, ap, sym, subst, ◌∙◌}
 use Rattle.std.specs.Prelude.{Result, if◌then◌else◌}
 use Rattle.std.proofs.lemmas.Bool.{cases_lt}
@@ -16,7 +16,7 @@ use Rattle.explain.specs.Entries.{Adds}
 use Rattle.explain.specs.Masters.{entry_at, entries_of, IsSystemAt, AddsPhase, AddsPhases}
 use Rattle.explain.proofs.Kept.{adds_none, adds_more}
 
--- the system information of the first phases, and of one more
+-- the system information for the first phases, and for one more
 with_system : (ℕ → Result Sib1 Sib1Reason) → ℕ → Result Sib1 Sib1Reason → ℕ → Result Sib1 Sib1Reason
 with_system systems count sib1 phase = if nat_lt phase count then systems phase else sib1
 

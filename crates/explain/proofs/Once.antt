@@ -1,4 +1,4 @@
--- What holds of what frames tell: at most one master block at a phase, and at most one answer on system information. (own)
+-- Uniqueness: frames carry at most one MIB at a phase, and a cell has at most one answer on system information. (own)
 use Rattle.std.specs.Prelude.{◌≡◌, ℕ, Result}
 use Rattle.lte_types.specs.CellPlace.{Place}
 use Rattle.lte_types.specs.Frames.{Frames}
@@ -8,11 +8,11 @@ use Rattle.lte_types.specs.declared.sib1_reason.Sib1Reason.{Sib1Reason}
 use Rattle.pbch.specs.declared.master.Master.{Master}
 use Rattle.explain.specs.Told.{Telling, Informing, Answering}
 
--- frames tell at most one master block at a phase
+-- frames carry at most one MIB at a phase
 abbrev pub TellsOne : Telling → Type 0
 TellsOne Tells = (place : Place) (frames : Frames) (a b : Master) → Tells place frames a → Tells place frames b → a ≡ b
 
--- there is at most one answer on the system information of a cell
+-- a cell has at most one answer on its system information
 abbrev pub HasOneSystem : Informing → Type 0
 HasOneSystem IsSystem = (place : Place) (sfn ports : ℕ) (mib : Mib) (a b : Result Sib1 Sib1Reason) →
     IsSystem place sfn ports mib a → IsSystem place sfn ports mib b → a ≡ b

@@ -1,4 +1,4 @@
--- An entry was read in one way.
+-- The reading of an entry is unique.
 use Rattle.std.proofs.Common.{◌≡◌, ◌⊎◌, inl, inr, ◌<◌, ◌≤◌, List, Option, Some, arith, ap, sym, ◌∙◌}
 use Rattle.std.specs.Prelude.{slice_get}
 use Rattle.std.proofs.lemmas.Bool.{cases_lt}
@@ -9,7 +9,7 @@ use Rattle.explain.specs.Entries.{place_of}
 use Rattle.explain.specs.Readings.{IsFirstTelling, IsOneReading}
 use Rattle.explain.proofs.Granted.{one_grant_of}
 
--- one hit is the first that tells a place
+-- at most one hit is the first that gives a place
 one_first : (place : Hit → Place) (hits : List Hit) (told : Place) (a b : Hit) → IsFirstTelling place hits told a → IsFirstTelling place hits told b → a ≡ b
 one_first place hits told a b s t = by_order (cases_lt s.at t.at) (cases_lt t.at s.at)
   where

@@ -1,4 +1,4 @@
--- The frames of which master blocks were told, among those that were received.
+-- The frames that carry MIBs, among those received.
 use Rattle.std.proofs.Common.{◌≡◌, inl, inr, ℕ, ◌+◌, ◌-◌, ◌<◌, ◌≤◌, List, Option, arith, subst, sym}
 use Rattle.cs_num.specs.declared.Sample.{Sample}
 use Rattle.pbch.specs.declared.master.Master.{Master}
@@ -11,7 +11,7 @@ use Rattle.explain.specs.Entries.{IsMasterFor}
 use Rattle.explain.specs.Masters.{AreFirstWith}
 use Rattle.explain.specs.Received.{NoneTell, AreFirstOf}
 
--- which frames lie within the recording, of two places that are one
+-- the frames within the recording, for two equal places
 pub whole_at : (recording : List Sample) (here there : Place) → here ≡ there → (whole : ℕ) →
     ((j : ℕ) → j < whole → IsWhole recording there.start j) → ((j : ℕ) → j < 8 → IsWhole recording there.start j → j < whole) →
     ((j : ℕ) → j < whole → IsWhole recording here.start j) × ((j : ℕ) → j < 8 → IsWhole recording here.start j → j < whole)
@@ -20,15 +20,15 @@ whole_at recording here there same whole inside all = (
   subst (λ (place : Place). (j : ℕ) → j < 8 → IsWhole recording place.start j → j < whole) (sym same) all,
 )
 
--- more frames than a receiver adds tell no master block
+-- more frames than a receiver combines carry no MIB
 pub too_many : (receiver : Receiver) (recording : List Sample) (place : Place) (whole count : ℕ) → receiver.most_frames < count →
     NoneTell (IsMasterFor receiver recording) place whole count
 too_many receiver recording place whole count more j within phase master period told = let few = told.few in omega (arith, few, more)
 
--- where the first `whole` of frames 0 to 7 lie within the recording, and no others
+-- if the first `whole` of frames 0 to 7 lie within the recording, and no others
 module _ (Tells : Telling) (recording : List Sample) (place : Place) (whole : ℕ) (few : whole ≤ 8) (inside : (j : ℕ) → j < whole → IsWhole recording place.start j)
     (all : (j : ℕ) → j < 8 → IsWhole recording place.start j → j < whole) where
-  -- frames that are looked at are among them
+  -- frames that are tried are among these
   among : (count j : ℕ) → IsInWindow recording place.start count j → j + count ≤ whole
   among count j window =
       let some = window.some in
@@ -36,7 +36,7 @@ module _ (Tells : Telling) (recording : List Sample) (place : Place) (whole : �
       let last : j + (count - 1) < whole = all (j + (count - 1)) (omega (arith, some, known)) (window.whole (count - 1) (omega (arith, some))) in
       omega (arith, some, last)
 
-  -- the first so many that have a master block are the first of all, where no fewer have any
+  -- the first `count` frames that carry a MIB are the first of all, if no fewer frames carry one
   pub first_with : (count j : ℕ) (masters : List (Option Master)) → 1 ≤ count → count ≤ 4 →
       ((fewer : ℕ) → 1 ≤ fewer → fewer < count → NoneTell Tells place whole fewer) →
       AreFirstOf Tells place whole count j masters → AreFirstWith Tells recording place count j masters
@@ -57,6 +57,6 @@ module _ (Tells : Telling) (recording : List Sample) (place : Place) (whole : �
       by_order fewer i window (inl less) = none fewer window.some less i (among fewer i window)
       by_order fewer i window (inr (same, below)) = subst (λ n. TellNone Tells place n i) (sym same) (f.first i below)
 
-  -- where no frames have one, the hit has none
+  -- if no frames carry a MIB, the cell has none
   pub no_masters : ((count : ℕ) → 1 ≤ count → count ≤ 4 → NoneTell Tells place whole count) → HasNoMasters Tells recording place
   no_masters none count j window = none count window.some window.few j (among count j window)

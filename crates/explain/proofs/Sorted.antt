@@ -1,4 +1,4 @@
--- A list in strict order is told by what it contains.
+-- A list in strict order is determined by its items.
 use Rattle.std.proofs.Common.{◌≡◌, ◌⊎◌, inl, inr, zero, suc, List, [], ◌∷◌, arith, refl, ap, sym, subst, ◌∙◌}
 use Rattle.std.specs.List.{AllPairs, Contains}
 use Rattle.std.proofs.lemmas.List.Elements.{Contains-append_cases, Contains-append_right}
@@ -22,14 +22,14 @@ Contains-here x xs = (0, omega arith, refl)
 pub Contains-later : {A : Type 0} (y : A) (ys : List A) (x : A) → Contains ys x → Contains (y ∷ ys) x
 Contains-later y ys x h = Contains-append_right (y ∷ []) ys x h
 
--- the first stands before each later one
+-- the first item comes before each later one
 pub AllPairs-head : {A : Type 0} (R : A → A → Type 0) (x : A) (xs : List A) → AllPairs R (x ∷ xs) → (y : A) → Contains xs y → R x y
 AllPairs-head R x xs p y (k, l, e) = subst (R x) e (p 0 (suc k) y (omega arith) (omega (arith, l)))
 
 pub AllPairs-tail : {A : Type 0} (R : A → A → Type 0) (x : A) (xs : List A) → AllPairs R (x ∷ xs) → AllPairs R xs
 AllPairs-tail R x xs p i j d below inside = p (suc i) (suc j) d (omega (arith, below)) (omega (arith, inside))
 
--- two lists in one strict order that contain the same are the same
+-- two lists in one strict order with the same items are equal
 pub one_in_order : {A : Type 0} (R : A → A → Type 0) → ((x y : A) → R x y → R y x → ⊥) → (xs ys : List A) → AllPairs R xs → AllPairs R ys →
     ((z : A) → Contains xs z → Contains ys z) → ((z : A) → Contains ys z → Contains xs z) → xs ≡ ys
 one_in_order R strict [] [] p q to from = refl

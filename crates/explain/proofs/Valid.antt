@@ -17,13 +17,13 @@ early : (t : ℕ) (half : Half) → start_by_hit t half < 19200
 early t Zero = omega arith
 early t Five = omega arith
 
--- an entry's first frame begins within the samples of one
+-- an entry's first frame begins within the samples of one frame
 pub starts_early : (recording : List Sample) (entry : Entry) → IsInList recording entry → entry.start < 19200
 starts_early recording entry listed =
     let known = is_sound one_port_receiver recording listed.list entry listed.explained listed.inside in
     subst (λ n. n < 19200) (sym known.is_of.start) (early _ _)
 
--- the fields that they have are in their ranges
+-- the fields of all entries are in their ranges
 pub all_valid : (receiver : Receiver) (recording : List Sample) (list : List Entry) → IsListFor receiver recording list → All (λ entry. IfOk entry.sib1 IsValid) list
 all_valid receiver recording list listed k d inside =
     let entry = get_or list k d in

@@ -11,20 +11,20 @@ use Rattle.sample_file.specs.Recording.{AgreeBefore}
 use Rattle.explain.specs.Receiver.{Receiver, Subframes, one_port_receiver}
 use Rattle.explain.specs.Entries.{IsListFor}
 
--- the samples of 17 frames, 326,400: a hit stands in the first frame or shortly after it, the frames that it tells
--- start within the first, and at most 16 of them are looked at
+-- the samples of 17 frames, 326,400: a hit lies in the first frame or shortly after it, its frames start within the
+-- first frame, and at most 16 of them are read
 abbrev pub deciding_length : ℕ
 deciding_length = 17 * frame_length
 
--- the values of subframe 5 of frame j, where a receiver reads any, are the same in two recordings
+-- the soft values of subframe 5 of frame j, if a receiver reads any, are equal in two recordings
 abbrev pub AreSameSubframes : Result Subframes Sib1Reason → List Sample → List Sample → Place → ℕ → Type 0
 AreSameSubframes (Ok values) first second place j =
     (duration : Duration) (resource : Resource) →
     values first place j duration resource ≡ values second place j duration resource
 AreSameSubframes (Err reason) first second place j = Unit {0}
 
--- a receiver looks at the first frames alone: of recordings that agree in their first 326,400 samples it has the same
--- values of frames 0 to 15 of a cell that starts within the first frame
+-- a receiver reads only the first frames: in recordings that agree in their first 326,400 samples, frames 0 to 15 of a
+-- cell that starts within the first frame have equal soft values
 pub record LooksAtFirstFrames (receiver : Receiver) : Type 0 where
   pub broadcast : (first second : List Sample) (place : Place) (j : ℕ) →
       AgreeBefore deciding_length first second → place.start < frame_length → j ≤ 15 →
@@ -33,17 +33,17 @@ pub record LooksAtFirstFrames (receiver : Receiver) : Type 0 where
       AgreeBefore deciding_length first second → place.start < frame_length → j ≤ 15 →
       AreSameSubframes receiver.subframe first second place j
 
--- two recordings of at least 326,400 samples that agree in these have one list by a receiver
+-- two recordings of at least 326,400 samples that agree in these have the same list for a receiver
 abbrev pub AreDecidedFor : Receiver → Type 0
 AreDecidedFor receiver =
     (first second : List Sample) (list : List Entry) → deciding_length ≤ length first →
     deciding_length ≤ length second →
     AgreeBefore deciding_length first second → IsListFor receiver first list → IsListFor receiver second list
 
--- a law: so it is by each receiver that looks at the first frames alone
+-- a law: the first frames decide the list, for each receiver that reads only them
 abbrev pub FirstFramesDecideAll : Type 0
 FirstFramesDecideAll = (receiver : Receiver) → LooksAtFirstFrames receiver → AreDecidedFor receiver
 
--- a law: so it is by one antenna port, and a longer recording may be cut there
+-- a law: the first frames decide the list for one antenna port, so a longer recording may be cut there
 abbrev pub FirstFramesDecide : Type 0
 FirstFramesDecide = AreDecidedFor one_port_receiver

@@ -1,4 +1,4 @@
--- The list of the cells that a recording explains. (own)
+-- The list of the cells in a recording. (own)
 use Rattle.std.specs.Prelude.{◌≡◌, ◌⊎◌, ◌↔◌, ℕ, ◌+◌, ◌-◌, ◌*◌, ◌%◌, ◌<◌, ◌≤◌, min, Bool, ◌&&◌, nat_eq, nat_le}
 use Rattle.std.specs.Prelude.{if◌then◌else◌, true, List, [], ◌∷◌, ◌++◌, length, ℤ}
 use Rattle.std.specs.List.{fold, list_any, flat_map, insert, AllWithin, HoldsAt, AllZip, AllPairs, Contains}
@@ -19,31 +19,31 @@ use Rattle.explain.specs.Window.{AreFirstFrames}
 
 -- ---- the entries of a hit
 
--- the place of the cell that a hit tells, by the normal cyclic prefix: its identity, and the start of its frames
+-- the place of a hit's cell, with the normal cyclic prefix: its identity, and the start of its frames
 abbrev pub place_at : List Sample → Hit → Place
 place_at = place_by OnePort
 
--- the place of an entry's cell, and the frames that tell its master block
+-- the place of an entry's cell, and the frames from which its MIB was decoded
 abbrev pub place_of : Entry → Place
 place_of entry = record { id = entry.id; start = entry.start }
 
 abbrev pub frames_of : Entry → Frames
 frames_of entry = record { count = entry.frames; first = entry.frame; phase = entry.phase }
 
--- the master block of an entry
+-- an entry's MIB
 abbrev pub master_of : Entry → Master
 master_of entry = record { ports = entry.ports; mib = entry.mib; cost = entry.cost }
 
--- the sums by which frames of a cell tell a master block, by one antenna port
+-- the combined soft values for a MIB in a cell's frames, with one antenna port
 abbrev pub sums_of : List Sample → Place → Frames → List (List ℤ)
 sums_of = sums_by one_port_receiver
 
--- the sums that tell an entry's master block, by one antenna port
+-- the combined soft values for an entry's MIB, with one antenna port
 abbrev pub values_of_entry : List Sample → Entry → List (List ℤ)
 values_of_entry recording entry = sums_of recording (place_of entry) (frames_of entry)
 
--- the entry tells a master block of the cell at this place: one of the first of its frames that have any. `Tells` says
--- which master block frames tell, and `IsSystem` what is told of the system information
+-- the entry reports a MIB for the cell at this place, from the first of its frames that carry any; `Tells` says which
+-- MIB frames carry, and `IsSystem` which system information the cell has
 pub record IsEntryAt (Tells : Telling) (IsSystem : Informing) (recording : List Sample) (place : Place)
     (entry : Entry) : Type 0 where
   pub id : entry.id ≡ place.id
@@ -54,15 +54,14 @@ pub record IsEntryAt (Tells : Telling) (IsSystem : Informing) (recording : List 
   pub sfn : entry.sfn ≡ first_number entry.mib.upper (frames_of entry)
   pub sib1 : IsSystem (place_of entry) entry.sfn entry.ports entry.mib entry.sib1
 
--- frames tell this master block by a receiver: no more of them than it adds, and with a count of antenna ports that it
--- takes
+-- frames carry this MIB for a receiver: at most as many as it combines, with an antenna port count that it accepts
 pub record IsMasterFor (receiver : Receiver) (recording : List Sample) (place : Place) (frames : Frames)
     (master : Master) : Type 0 where
   pub few : frames.count ≤ receiver.most_frames
   pub taken : is_wanted receiver.ports master.ports ≡ true
   pub told : TellsMaster (sums_by receiver recording place frames) master
 
--- the entry tells a master block of the hit
+-- the entry reports a MIB of the hit
 abbrev pub IsEntryFor : Receiver → List Sample → Hit → Entry → Type 0
 IsEntryFor receiver recording hit =
     IsEntryAt (IsMasterFor receiver recording) (IsSystemFor receiver recording) recording
@@ -71,78 +70,78 @@ IsEntryFor receiver recording hit =
 abbrev pub IsEntryOf : List Sample → Hit → Entry → Type 0
 IsEntryOf = IsEntryFor one_port_receiver
 
--- entries by phase, where `Is` says which there are
+-- entries by phase, where `Is` says which entries there are
 pub record AreEntries (Is : Entry → Type 0) (entries : List Entry) : Type 0 where
   pub given : (entry : Entry) → Contains entries entry ↔ Is entry
   pub by_phase : AllPairs (λ first second. first.phase < second.phase) entries
 
--- the entries of a hit: one for each of its master blocks, by phase
+-- the entries of a hit: one for each of its MIBs, by phase
 abbrev pub AreEntriesFor : Receiver → List Sample → Hit → List Entry → Type 0
 AreEntriesFor receiver recording hit = AreEntries (IsEntryFor receiver recording hit)
 
 -- ---- the entries that are kept
 
--- when frame 0 of the numbering began, modulo the samples of 1,024 frames
+-- the sample at which frame 0 of the numbering begins, modulo the samples of 1,024 frames
 abbrev pub epoch : Entry → ℕ
 epoch entry = (entry.start + (cycle_length - frame_length * entry.sfn)) % cycle_length
 
--- how far two epochs are apart, by the shorter way
+-- the cyclic distance between two epochs
 abbrev pub distance : ℕ → ℕ → ℕ
 distance a b = let gap = (a - b) + (b - a) in min gap (cycle_length - gap)
 
--- two entries are of one cell: of one identity, and their epochs at most 9 samples apart
+-- two entries belong to one cell: they have one identity, and epochs at most 9 samples apart
 abbrev pub is_same_cell : Entry → Entry → Bool
 is_same_cell a b = nat_eq a.id b.id && nat_le (distance (epoch a) (epoch b)) 9
 
--- the entries with one more, which is dropped where one of them is of its cell
+-- the entries with one more, which is dropped if its cell has an entry among them
 abbrev pub with_entry : List Entry → Entry → List Entry
 with_entry kept entry = if list_any (λ other. is_same_cell other entry) kept then kept else kept ++ entry ∷ []
 
--- the entries that are kept, of entries in order: each that is of the cell of no kept one before it
+-- the entries that are kept, in order: each whose cell has no kept entry before it
 abbrev pub kept : List Entry → List Entry
 kept entries = fold with_entry [] entries
 
 -- ---- the list
 
--- the first entry stands before the second: by start, then by identity, then by frame number
+-- the first entry comes before the second: by start, then by identity, then by frame number
 abbrev pub IsBefore : Entry → Entry → Type 0
 IsBefore a b =
     (a.start < b.start) ⊎ ((a.start ≡ b.start) × ((a.id < b.id) ⊎ ((a.id ≡ b.id) × (a.sfn < b.sfn))))
 
--- an entry was put into a list: behind the entries from the first on that stand before it, in order or not
+-- an entry was inserted into a list, after the leading entries that come before it, whether or not the list is in order
 pub record IsPut (entry : Entry) (at : ℕ) (old new : List Entry) : Type 0 where
   pub within : at ≤ length old
   pub before : AllWithin (λ other. IsBefore other entry) old 0 at
   pub after : at < length old → HoldsAt (λ other. ¬ IsBefore other entry) old at
   pub new_is : new ≡ insert old at entry
 
--- the list has the kept ones of these entries, in order
+-- the list holds the kept ones among these entries, in order
 pub record IsListOf (entries list : List Entry) : Type 0 where
   pub same : IsPermutation (kept entries) list
   pub in_order : AllPairs IsBefore list
 
--- the list has these entries beside those that it had
+-- the list gains these entries
 abbrev pub Adds : List Entry → List Entry → List Entry → Type 0
 Adds entries old new = (before : List Entry) → IsListOf before old → IsListOf (before ++ entries) new
 
--- the list of the entries of hits, taken hit after hit, where `AreOf` says which entries each hit has
+-- the list of the entries of hits, hit after hit, where `AreOf` says which entries each hit has
 pub record IsListOfHits (AreOf : Hit → List Entry → Type 0) (hits : List Hit) (list : List Entry) : Type 0 where
   pub groups : List (List Entry)
   pub each : AllZip AreOf hits groups
   pub listed : IsListOf (flat_map (λ entries. entries) groups) list
 
--- the list has the entries of a hit beside those that it had
+-- the list gains the entries of a hit
 pub record AddsHit (AreOf : Hit → List Entry → Type 0) (hit : Hit) (old new : List Entry) : Type 0 where
   pub entries : List Entry
   pub are : AreOf hit entries
   pub adds : Adds entries old new
 
--- the list of a recording by a receiver
+-- a recording's list for a receiver
 abbrev pub IsListFor : Receiver → List Sample → List Entry → Type 0
 IsListFor receiver recording list =
     IsListOfHits (AreEntriesFor receiver recording) (hits_by receiver.carrier recording) list
 
--- the list of a recording by one antenna port
+-- a recording's list for one antenna port
 abbrev pub IsExplained : List Sample → List Entry → Type 0
 IsExplained = IsListFor one_port_receiver
 

@@ -1,4 +1,4 @@
--- The frames of a recording, and what is seen of their slots.
+-- The frames of a recording, and their demodulated slots.
 use Rattle.std.specs.Prelude.{ℕ, ◌+◌, ◌*◌, ◌≤◌, List, length, ℤ}
 use Rattle.std.specs.List.{flat_map}
 use Rattle.finite.specs.Lists.{values_below}
@@ -7,7 +7,7 @@ use Rattle.lte_types.specs.Numerology.{frame_length, normal, useful_start}
 use Rattle.observe.specs.Seen.{seen_symbol}
 use Rattle.soft_bits.specs.Soft.{SeenSlot}
 
--- where frame j of a start begins (TS 36.211 section 4.1)
+-- the first sample of frame j, from a start (TS 36.211 section 4.1)
 abbrev pub frame_at : ℕ → ℕ → ℕ
 frame_at start j = start + frame_length * j
 
@@ -15,7 +15,7 @@ frame_at start j = start + frame_length * j
 abbrev pub IsWhole : List Sample → ℕ → ℕ → Type 0
 IsWhole recording start j = start + frame_length * (j + 1) ≤ length recording
 
--- the slot of a frame that begins at f, as it is seen: its seven symbols, with the normal cyclic prefix
+-- the demodulated slot in a frame that begins at sample f: its seven symbols, with the normal cyclic prefix
 unfoldable pub seen_slot : List Sample → ℕ → ℕ → ℕ → SeenSlot
 seen_slot recording f number identity =
     record {
@@ -24,10 +24,10 @@ seen_slot recording f number identity =
       identity = identity;
     }
 
--- the slot of frame j of a cell's start that carries the broadcast channel (TS 36.211 section 6.6.4)
+-- the slot in frame j that carries the PBCH, for a cell with this start (TS 36.211 section 6.6.4)
 abbrev pub broadcast_slot : List Sample → ℕ → ℕ → ℕ → SeenSlot
 broadcast_slot recording identity start j = seen_slot recording (frame_at start j) 1 identity
 
--- the values of a count of frames from frame j on, one frame after the other
+-- the soft values of a count of frames from frame j on, frame after frame
 abbrev pub values_in : (ℕ → List ℤ) → ℕ → ℕ → List ℤ
 values_in values count j = flat_map (λ frame. frame) (values_below count (λ m. values (j + m)))

@@ -1,4 +1,4 @@
--- The indicator and the grant by which system information was read. (own)
+-- The indicator and the grant with which system information was read. (own)
 use Rattle.std.specs.Prelude.{◌≡◌, ℕ, ◌<◌, List, Option, Some, None, Result, Ok, Err}
 use Rattle.cs_num.specs.declared.Sample.{Sample}
 use Rattle.lte_types.specs.declared.sib1.Sib1.{Sib1}
@@ -14,9 +14,9 @@ use Rattle.explain.specs.Told.{Answering, Attempting, Granting}
 use Rattle.explain.specs.System.{even_frame, IsTried}
 use Rattle.explain.specs.Entries.{place_of}
 
--- ---- the frames that are tried. `Attempts` says which attempt a frame has, by its number from the first frame on
+-- ---- the frames that are tried; `Attempts` says which attempt a frame has, by its number from the first frame on
 
--- the first of the tried frames that answers with fields has this indicator and this grant; the answer is its fields
+-- the first tried frame that answers with fields has this indicator and this grant, and the answer is its fields
 pub record IsReadBy (Attempts : Attempting) (recording : List Sample) (start sfn : ℕ) (sib1 : Result Sib1 Sib1Reason)
     (told : ℕ × Grant) : Type 0 where
   pub i : ℕ
@@ -27,12 +27,12 @@ pub record IsReadBy (Attempts : Attempting) (recording : List Sample) (start sfn
       attempt.answer ≡ Ok other → ⊥
   pub answers : sib1 ≡ Ok fields
 
--- the indicator and the grant by which an answer was read, or none where it has no fields
+-- the indicator and the grant with which an answer was read, or none if it has no fields
 abbrev pub IsGrantBy : Attempting → List Sample → ℕ → ℕ → Result Sib1 Sib1Reason → Option (ℕ × Grant) → Type 0
 IsGrantBy Attempts recording start sfn sib1 (Some told) = IsReadBy Attempts recording start sfn sib1 told
 IsGrantBy Attempts recording start sfn sib1 None = (fields : Sib1) → sib1 ≡ Ok fields → ⊥
 
--- a frame answers what its attempt does, and where that has fields it has a grant
+-- a frame answers as its attempt does, and an attempt with fields has a grant
 pub record AreAttempts (Attempts : Attempting) (Answers : Answering) : Type 0 where
   pub answers : (j : ℕ) (attempt : Attempt) → Attempts j attempt → Answers j attempt.answer
   pub granted : (j : ℕ) (attempt : Attempt) (fields : Sib1) → Attempts j attempt → attempt.answer ≡ Ok fields →
@@ -40,27 +40,27 @@ pub record AreAttempts (Attempts : Attempting) (Answers : Answering) : Type 0 wh
 
 -- ---- the grant that a receiver reads
 
--- the attempt on frame j of the cell at a place, by the values of its subframe 5
+-- the attempt on frame j of the cell at a place, from the soft values of its subframe 5
 abbrev pub IsFrameAttempt : Subframes → List Sample → Place → Mib → Attempting
 IsFrameAttempt values recording place mib j attempt =
     IsAttempt (values recording place j mib.duration mib.resource) attempt
 
--- the indicator and the grant of the system information by these values; none where there are none
+-- the indicator and the grant for system information from these soft values; none if there are no values
 abbrev pub IsGrantWith : Result Subframes Sib1Reason → List Sample → Granting
 IsGrantWith (Ok values) recording place sfn mib sib1 told =
     IsGrantBy (IsFrameAttempt values recording place mib) recording place.start sfn sib1 told
 IsGrantWith (Err reason) recording place sfn mib sib1 told = told ≡ None
 
--- the indicator and the grant by which a receiver reads the system information of the cell at a place
+-- the indicator and the grant with which a receiver reads the system information for the cell at a place
 abbrev pub IsGrantFor : Receiver → List Sample → Granting
 IsGrantFor receiver = IsGrantWith receiver.subframe
 
--- the indicator and the grant by which the system information of an entry was read, by one antenna port
+-- the indicator and the grant with which an entry's system information was read, with one antenna port
 abbrev pub IsGrantOf : List Sample → Entry → Option (ℕ × Grant) → Type 0
 IsGrantOf recording entry told =
     IsGrantFor one_port_receiver recording (place_of entry) entry.sfn entry.mib entry.sib1 told
 
--- a law: system information was read by one indicator and grant, by any receiver
+-- a law: for any receiver, the indicator and the grant with which system information was read are unique
 abbrev pub IsOneGrant : Type 0
 IsOneGrant = (receiver : Receiver) (recording : List Sample) (place : Place) (sfn : ℕ) (mib : Mib)
     (sib1 : Result Sib1 Sib1Reason) (a b : Option (ℕ × Grant)) → IsGrantFor receiver recording place sfn mib sib1 a →

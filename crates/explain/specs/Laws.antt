@@ -1,5 +1,4 @@
--- What the list of a recording is, in plain words, and what the list of any hits is, where `IsOf` says which entries
--- a hit has. (own)
+-- The list of a recording in plain words, and the list of any hits, where `IsOf` says which entries a hit has. (own)
 use Rattle.std.specs.Prelude.{◌≡◌, ◌≢◌, ◌⊎◌, ℕ, ◌<◌, ◌≤◌, true, List, Ok, Err}
 use Rattle.std.specs.List.{AllPairs, Contains}
 use Rattle.cs_num.specs.declared.Sample.{Sample}
@@ -14,24 +13,24 @@ use Rattle.explain.specs.System.{IsSystemFor}
 use Rattle.explain.specs.Entries.{master_of, place_of, frames_of, IsMasterFor, IsEntryFor, AreEntries, IsListOfHits}
 use Rattle.explain.specs.Entries.{IsListFor, is_same_cell}
 
--- hits have one list
+-- hits have at most one list
 abbrev pub HaveOneList : (Hit → Entry → Type 0) → List Hit → Type 0
 HaveOneList IsOf hits =
     (first second : List Entry) → IsListOfHits (λ hit. AreEntries (IsOf hit)) hits first →
     IsListOfHits (λ hit. AreEntries (IsOf hit)) hits second → first ≡ second
 
--- a recording has one list by a receiver
+-- a recording has at most one list for a receiver
 abbrev pub IsOneList : Type 0
 IsOneList = (receiver : Receiver) (recording : List Sample) →
     HaveOneList (IsEntryFor receiver recording) (hits_by receiver.carrier recording)
 
--- an entry of hits: one of some hit
+-- an entry of some hit
 pub record IsEntryOfSome (IsOf : Hit → Entry → Type 0) (hits : List Hit) (entry : Entry) : Type 0 where
   pub hit : Hit
   pub listed : Contains hits hit
   pub is_of : IsOf hit entry
 
--- each entry of the list of hits is one of some hit
+-- each entry in the list of hits is an entry of some hit
 abbrev pub IsSoundOf : (Hit → Entry → Type 0) → List Hit → Type 0
 IsSoundOf IsOf hits =
     (list : List Entry) (entry : Entry) → IsListOfHits (λ hit. AreEntries (IsOf hit)) hits list → Contains list entry →
@@ -41,12 +40,12 @@ abbrev pub IsSound : Type 0
 IsSound = (receiver : Receiver) (recording : List Sample) →
     IsSoundOf (IsEntryFor receiver recording) (hits_by receiver.carrier recording)
 
--- an entry of the list stands for another: it is the same entry as that one, or one of its cell
+-- an entry in the list stands for another: it is equal to it, or belongs to the same cell
 pub record StandsFor (list : List Entry) (entry other : Entry) : Type 0 where
   pub inside : Contains list other
   pub same : (other ≡ entry) ⊎ (is_same_cell other entry ≡ true)
 
--- each entry of each hit stands in the list, itself or as one of its cell
+-- each entry of each hit is represented in the list, by itself or by an entry of its cell
 abbrev pub IsCompleteOf : (Hit → Entry → Type 0) → List Hit → Type 0
 IsCompleteOf IsOf hits =
     (list : List Entry) (entry : Entry) → IsListOfHits (λ hit. AreEntries (IsOf hit)) hits list →
@@ -57,12 +56,12 @@ abbrev pub IsComplete : Type 0
 IsComplete = (receiver : Receiver) (recording : List Sample) →
     IsCompleteOf (IsEntryFor receiver recording) (hits_by receiver.carrier recording)
 
--- two entries are not of one cell, so that they have not the same identity, start and frame number as one another
+-- two entries belong to different cells, so that they differ in identity, start or frame number
 pub record AreApart (first second : Entry) : Type 0 where
   pub other_cell : is_same_cell first second ≢ true
   pub differ : first.id ≡ second.id → first.start ≡ second.start → first.sfn ≢ second.sfn
 
--- no two entries of the list of hits are of one cell
+-- no two entries in the list of hits belong to one cell
 abbrev pub IsApartOf : (Hit → Entry → Type 0) → List Hit → Type 0
 IsApartOf IsOf hits =
     (list : List Entry) → IsListOfHits (λ hit. AreEntries (IsOf hit)) hits list → AllPairs AreApart list
@@ -71,7 +70,7 @@ abbrev pub IsApart : Type 0
 IsApart = (receiver : Receiver) (recording : List Sample) →
     IsApartOf (IsEntryFor receiver recording) (hits_by receiver.carrier recording)
 
--- no entry of a list has the reason that the cyclic prefix is the extended one, where there are values of subframe 5
+-- no entry in a list has the extended cyclic prefix as its reason, if the receiver has soft values for subframe 5
 abbrev pub IsNeverLong : Type 0
 IsNeverLong = (receiver : Receiver) (values : Subframes) (recording : List Sample)
     (list : List Entry) (entry : Entry) → receiver.subframe ≡ Ok values → IsListFor receiver recording list →
@@ -79,8 +78,7 @@ IsNeverLong = (receiver : Receiver) (values : Subframes) (recording : List Sampl
 
 -- ---- single frames
 
--- the entry tells a master block that one frame of a hit tells: the first of frames 0 to 7 that tells any, by its
--- values alone
+-- the entry reports a MIB from one frame of a hit: the first of frames 0 to 7 whose own soft values decode to any
 pub record IsEntryOfOneFrame (receiver : Receiver) (recording : List Sample) (hit : Hit) (entry : Entry) : Type 0 where
   pub id : entry.id ≡ (place_by receiver.carrier recording hit).id
   pub start : entry.start ≡ (place_by receiver.carrier recording hit).start
@@ -94,18 +92,18 @@ pub record IsEntryOfOneFrame (receiver : Receiver) (recording : List Sample) (hi
   pub sfn : entry.sfn ≡ first_number entry.mib.upper (frames_of entry)
   pub sib1 : IsSystemFor receiver recording (place_of entry) entry.sfn entry.ports entry.mib entry.sib1
 
--- an entry of one frame of a hit is one of the hit's
+-- an entry from one frame of a hit is an entry of the hit
 abbrev pub OneFrameTells : Type 0
 OneFrameTells = (receiver : Receiver) (recording : List Sample) (hit : Hit) (entry : Entry) →
     IsEntryOfOneFrame receiver recording hit entry → IsEntryFor receiver recording hit entry
 
--- where the receiver adds no frames, each entry of a hit is of one frame
+-- if the receiver does not combine frames, each entry of a hit is from one frame
 abbrev pub OneFrameAlone : Type 0
 OneFrameAlone = (receiver : Receiver) (recording : List Sample) (hit : Hit) (entry : Entry) →
     receiver.most_frames ≡ 1 → IsEntryFor receiver recording hit entry →
     IsEntryOfOneFrame receiver recording hit entry
 
--- an entry of one frame of a hit stands in the list, itself or as one of its cell
+-- an entry from one frame of a hit is represented in the list, by itself or by an entry of its cell
 abbrev pub OneFrameIsListed : Type 0
 OneFrameIsListed =
     (receiver : Receiver) (recording : List Sample) (list : List Entry) (hit : Hit) (entry : Entry) →

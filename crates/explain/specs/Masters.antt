@@ -1,5 +1,5 @@
--- The master blocks of frames, and the entries that are made of them. `Tells` says which master block frames tell,
--- and `IsSystem` what is told of the system information. (own)
+-- The MIBs in frames, and the entries made from them. `Tells` says which MIB frames carry, and `IsSystem` which system
+-- information the cell has. (own)
 use Rattle.std.specs.Prelude.{◌≡◌, ℕ, ◌+◌, ◌<◌, ◌≤◌, List, [], ◌∷◌, Option, None, Some, MatchOption, IfSome, Result}
 use Rattle.finite.specs.Lists.{joined_below}
 use Rattle.cs_num.specs.declared.Sample.{Sample}
@@ -14,28 +14,28 @@ use Rattle.explain.specs.Told.{Telling, Informing}
 use Rattle.explain.specs.Window.{AreFirstFrames}
 use Rattle.explain.specs.Entries.{Adds}
 
--- frames tell this master block at a phase, or none
+-- frames carry this MIB at a phase, or none
 abbrev pub IsToldAt : Telling → Place → Frames → Option Master → Type 0
 IsToldAt Tells place frames o = MatchOption o ((master : Master) → Tells place frames master → ⊥) (Tells place frames)
 
--- these are the master blocks that frames tell, by phase
+-- the MIBs that frames carry, by phase
 abbrev pub AreTold : Telling → Place → ℕ → ℕ → List (Option Master) → Type 0
 AreTold Tells place count j masters =
     (phase : ℕ) → phase + count ≤ 4 → IsToldAt Tells place (frames_from count j phase) (master_at masters phase)
 
--- some phase of a count of frames has a master block
+-- some phase of a count of frames has a MIB
 pub record HasMaster (count : ℕ) (masters : List (Option Master)) : Type 0 where
   pub phase : ℕ
   pub known : phase + count ≤ 4
   pub master : Master
   pub is : master_at masters phase ≡ Some master
 
--- a count of frames from frame j on tell a master block, and these are their master blocks
+-- a count of frames from frame j on carry a MIB, and these are their MIBs
 pub record HaveMasters (Tells : Telling) (place : Place) (count j : ℕ) (masters : List (Option Master)) : Type 0 where
   pub are : AreTold Tells place count j masters
   pub some : HasMaster count masters
 
--- a count of frames from frame j on are the first that tell a master block, and these are their master blocks
+-- a count of frames from frame j on are the first that carry a MIB, and these are their MIBs
 pub record AreFirstWith (Tells : Telling) (recording : List Sample) (place : Place) (count j : ℕ)
     (masters : List (Option Master)) : Type 0 where
   pub frames : AreFirstFrames Tells recording place count j
@@ -43,7 +43,7 @@ pub record AreFirstWith (Tells : Telling) (recording : List Sample) (place : Pla
 
 -- ---- entries
 
--- the entry of a master block with this system information
+-- the entry for a MIB, with this system information
 abbrev pub entry_of : Place → Frames → Master → Result Sib1 Sib1Reason → Entry
 entry_of place frames master sib1 = record {
   id = place.id;
@@ -58,31 +58,31 @@ entry_of place frames master sib1 = record {
   sib1 = sib1;
 }
 
--- the entry of a phase, where it has a master block
+-- the entry for a phase, if the phase has a MIB
 abbrev pub entry_at : Place → Frames → Option Master → Result Sib1 Sib1Reason → List Entry
 entry_at place frames None sib1 = []
 entry_at place frames (Some master) sib1 = entry_of place frames master sib1 ∷ []
 
--- the entries of the first phases, as many as the last number says, with their system information by phase
+-- the entries for the first `phases` phases, with their system information by phase
 abbrev pub entries_of : Place → ℕ → ℕ → List (Option Master) → (ℕ → Result Sib1 Sib1Reason) → ℕ → List Entry
 entries_of place count j masters systems phases =
     joined_below phases (λ phase. entry_at place (frames_from count j phase) (master_at masters phase) (systems phase))
 
 -- ---- system information
 
--- where a phase has a master block, this is told of its system information
+-- the system information for a phase, if the phase has a MIB
 abbrev pub IsSystemAt : Informing → Place → Frames → Option Master → Result Sib1 Sib1Reason → Type 0
 IsSystemAt IsSystem place frames o sib1 =
     IfSome o (λ master. IsSystem place (first_number master.mib.upper frames) master.ports master.mib sib1)
 
--- the list has the entry of a phase beside those that it had
+-- the list gains the entry for a phase
 pub record AddsPhase (IsSystem : Informing) (place : Place) (frames : Frames) (o : Option Master)
     (old new : List Entry) : Type 0 where
   pub sib1 : Result Sib1 Sib1Reason
   pub told : IsSystemAt IsSystem place frames o sib1
   pub adds : Adds (entry_at place frames o sib1) old new
 
--- the list has the entries of the first phases, as many as `phases` says, beside those that it had
+-- the list gains the entries for the first `phases` phases
 pub record AddsPhases (IsSystem : Informing) (place : Place) (count j : ℕ) (masters : List (Option Master)) (phases : ℕ)
     (old new : List Entry) : Type 0 where
   pub systems : ℕ → Result Sib1 Sib1Reason

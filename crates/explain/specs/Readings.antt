@@ -13,48 +13,48 @@ use Rattle.explain.specs.Receiver.{Receiver, one_port_receiver, hits_by, place_b
 use Rattle.explain.specs.Entries.{place_of, frames_of}
 use Rattle.explain.specs.Grant.{IsGrantFor}
 
--- a hit is the first of a list of hits that tells a place. `place` says which place a hit tells
+-- a hit is the first in a list of hits that gives a place, where `place` says which place a hit gives
 pub record IsFirstTelling (place : Hit → Place) (hits : List Hit) (told : Place) (hit : Hit) : Type 0 where
   pub at : ℕ
   pub is : slice_get hits at ≡ Some hit
   pub tells : place hit ≡ told
   pub first : (h : ℕ) (other : Hit) → h < at → slice_get hits h ≡ Some other → place other ≢ told
 
--- the reading of an entry of these hits. `summed` says by which sums frames tell a master block, and `IsGrant` by
--- which indicator and grant system information was read
+-- the reading of an entry of these hits, where `summed` gives the combined soft values for frames, and `IsGrant` the
+-- indicator and the grant for system information
 pub record IsReadingBy (summed : Place → Frames → List (List ℤ)) (IsGrant : Granting) (place : Hit → Place)
     (hits : List Hit) (entry : Entry) (reading : Reading) : Type 0 where
   pub hit : IsFirstTelling place hits (place_of entry) reading.hit
   pub sums : reading.sums ≡ summed (place_of entry) (frames_of entry)
   pub granted : IsGrant (place_of entry) entry.sfn entry.mib entry.sib1 reading.granted
 
--- these are the sums that a count of frames of a cell from frame j on tell by, at each phase of the first
+-- the combined soft values for a count of a cell's frames from frame j on, at each phase of the first
 abbrev pub AreSums : (Frames → List (List ℤ)) → ℕ → ℕ → List (List (List ℤ)) → Type 0
 AreSums sums count j all = (phase : ℕ) → phase + count ≤ 4 → sums_at all phase ≡ sums (frames_from count j phase)
 
 -- ---- how a receiver reads
 
--- the reading of an entry of these hits, by a receiver
+-- the reading of an entry of these hits, for a receiver
 abbrev pub IsReadingOf : Receiver → List Sample → List Hit → Entry → Reading → Type 0
 IsReadingOf receiver recording =
     IsReadingBy (sums_by receiver recording) (IsGrantFor receiver recording) (place_by receiver.carrier recording)
 
--- the reading of an entry of a recording, of the hits that the receiver takes
+-- the reading of an entry in a recording, from the hits that the receiver uses
 abbrev pub IsReadingFor : Receiver → List Sample → Entry → Reading → Type 0
 IsReadingFor receiver recording = IsReadingOf receiver recording (hits_by receiver.carrier recording)
 
--- a law: an entry of a recording was read in one way
+-- a law: the reading of an entry is unique
 abbrev pub IsOneReading : Type 0
 IsOneReading = (receiver : Receiver) (recording : List Sample) (entry : Entry) (a b : Reading) →
     IsReadingFor receiver recording entry a → IsReadingFor receiver recording entry b → a ≡ b
 
--- the reading of an entry of a recording, by one antenna port
+-- the reading of an entry in a recording, for one antenna port
 abbrev pub IsReading : List Sample → Entry → Reading → Type 0
 IsReading = IsReadingFor one_port_receiver
 
--- ---- the code's way
+-- ---- as in the code
 
--- where the list gets an entry, a list beside it gets at the same index how the entry was read
+-- when the list gains an entry, a parallel list gains its reading at the same index
 pub record AreInserted (entry : Entry) (reading : Reading) (old new : List Entry) (before after : List Reading) :
     Type 0 where
   pub at : ℕ
@@ -62,16 +62,16 @@ pub record AreInserted (entry : Entry) (reading : Reading) (old new : List Entry
   pub entries : new ≡ insert old at entry
   pub readings : after ≡ insert before at reading
 
--- the list and the list of readings beside it stay
+-- the list and the parallel list of readings do not change
 pub record AreKept (old new : List Entry) (before after : List Reading) : Type 0 where
   pub entries : new ≡ old
   pub readings : after ≡ before
 
--- the two lists stay, or each gets one item at the same index as the other
+-- both lists do not change, or each gains one item at the same index
 abbrev pub AddsBeside : Entry → Reading → List Entry → List Entry → List Reading → List Reading → Type 0
 AddsBeside entry reading old new before after =
     AreKept old new before after ⊎ AreInserted entry reading old new before after
 
--- where all entries of the list were read as the list beside it says, they still are
+-- the parallel list keeps the readings for all entries in the list
 abbrev pub KeepsReadings : (Entry → Reading → Type 0) → List Entry → List Entry → List Reading → List Reading → Type 0
 KeepsReadings Is old new before after = AllZip Is old before → AllZip Is new after

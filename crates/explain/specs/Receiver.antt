@@ -1,4 +1,4 @@
--- A receiver: a way to read the cells of a recording that send by one kind of carrier. (own)
+-- A receiver: how to read the cells in a recording that use one transmission scheme. (own)
 use Rattle.std.specs.Prelude.{ℕ, ◌*◌, ◌≤◌, Bool, true, nat_eq, nat_le, if◌then◌else◌, List, filter, ℤ, Option, Some, None, Result, Ok}
 use Rattle.cs_num.specs.declared.Sample.{Sample}
 use Rattle.lte_types.specs.CellPlace.{Place}
@@ -19,22 +19,22 @@ use Rattle.sib1_reader.specs.Subframe.{Subframe, subframe_by}
 use Rattle.explain.specs.declared.scheme.Scheme.{Scheme}
 use Rattle.explain.specs.Frame.{seen_slot, frame_at, broadcast_slot, values_in}
 
--- the values of subframe 5 of frame j of the cell at a place, with PHICH of this duration and resource
+-- the soft values of subframe 5 of frame j of the cell at a place, with this PHICH duration and resource
 abbrev pub Subframes : Type 0
 Subframes = List Sample → Place → ℕ → Duration → Resource → Subframe
 
 pub record Receiver : Type 0 where
-  -- how the cells send
+  -- the transmission scheme
   pub carrier : Carrier
-  -- how many values the broadcast channel has in a frame
+  -- the number of PBCH soft values in a frame
   pub count : ℕ
-  -- the values of the broadcast channel in frame j of the cell at a place
+  -- the PBCH soft values in frame j of the cell at a place
   pub broadcast : List Sample → Place → ℕ → List ℤ
-  -- how many frames there are at most of which the values are added for one master block
+  -- the maximum number of frames that are combined for one MIB
   pub most_frames : ℕ
-  -- the count of antenna ports that a master block has to tell; where there is none, each is taken
+  -- the antenna port count that a MIB must carry; if there is none, every count is accepted
   pub ports : Option ℕ
-  -- the values of subframe 5, by which system information is read, or why it is not
+  -- the soft values in subframe 5, from which system information is read, or the reason why it is not read
   pub subframe : Result Subframes Sib1Reason
 
 -- the constants of a receiver
@@ -45,12 +45,12 @@ scheme_of receiver = record {
   ports = receiver.ports;
 }
 
--- a master block with this count of antenna ports is taken, where one count or none is asked for
+-- whether a MIB with this antenna port count is accepted
 abbrev pub is_wanted : Option ℕ → ℕ → Bool
 is_wanted None count = true
 is_wanted (Some wanted) count = nat_eq count wanted
 
--- ---- receivers by slots with the normal prefix, and by a way to make soft values of their places
+-- ---- receivers that read slots with the normal cyclic prefix, for any `Valuing`
 
 abbrev pub broadcast_by : Valuing → List Sample → Place → ℕ → List ℤ
 broadcast_by values recording place j = received_values_by values (broadcast_slot recording place.id place.start j)
@@ -70,33 +70,32 @@ by_slots kind wanted values = record {
   subframe = Ok (subframes_by kind values);
 }
 
--- the receiver of one antenna port: each master block is taken, whatever ports it tells
+-- the receiver for one antenna port: every MIB is accepted, whatever its port count
 abbrev pub one_port_receiver : Receiver
 one_port_receiver = by_slots OnePort None placed_values
 
--- ---- what a receiver makes of a recording
+-- ---- hits, places and sums for a receiver
 
 -- there is room before a hit for the secondary signal, one symbol earlier
 abbrev pub has_step_before : Carrier → Hit → Bool
 has_step_before carrier hit = nat_le (symbol_step (prefix_of carrier)) hit.t
 
--- the hits that a receiver takes: those with room before them for the secondary signal, which with the normal prefix
--- are all
+-- the hits that a receiver uses: those with room before them for the secondary signal, which with the normal prefix are
+-- all hits
 abbrev pub hits_by : Carrier → List Sample → List Hit
 hits_by carrier recording =
     if is_extended (prefix_of carrier) then filter (has_step_before carrier) (hits_of recording) else hits_of recording
 
--- a hit lies in the span of one frame, and there is room before it for the secondary signal
+-- a hit lies in the span of one frame, with room before it for the secondary signal
 pub record HasRoom (carrier : Carrier) (hit : Hit) : Type 0 where
   pub span : IsInSpan hit
   pub before : symbol_step (prefix_of carrier) ≤ hit.t
 
--- the place of the cell that a hit tells
+-- the place of a hit's cell
 abbrev pub place_by : Carrier → List Sample → Hit → Place
 place_by carrier recording hit = prefix_place (prefix_of carrier) recording hit
 
--- the sums by which frames of a cell tell a master block, from their values, one frame after the other, the first of
--- them at its phase
+-- the combined soft values for a MIB in a cell's frames, frame after frame, the first of them at its phase
 abbrev pub sums_by : Receiver → List Sample → Place → Frames → List (List ℤ)
 sums_by receiver recording place frames =
     summed_values place.id (receiver.count * frames.phase)

@@ -1,4 +1,4 @@
--- What the frames of a cell tell, as relations, which a receiver has. (own)
+-- The content of a cell's frames, as relations that a receiver provides. (own)
 use Rattle.std.specs.Prelude.{ℕ, Option, Result}
 use Rattle.lte_types.specs.CellPlace.{Place}
 use Rattle.lte_types.specs.Frames.{Frames}
@@ -9,24 +9,23 @@ use Rattle.dci.specs.declared.grant.Grant.{Grant}
 use Rattle.pbch.specs.declared.master.Master.{Master}
 use Rattle.sib1_reader.specs.declared.reading.Attempt.{Attempt}
 
--- which master block frames of the cell at a place tell
+-- the MIB that frames of the cell at a place carry
 abbrev pub Telling : Type 1
 Telling = Place → Frames → Master → Type 0
 
--- what is told of the system information of the cell at a place, by the number of its first frame, its count of
--- antenna ports and its master block
+-- the system information for the cell at a place, by the number of its first frame, its antenna port count and its MIB
 abbrev pub Informing : Type 1
 Informing = Place → ℕ → ℕ → Mib → Result Sib1 Sib1Reason → Type 0
 
--- what a frame of one cell answers, by its number from the first frame on
+-- the answer of one frame of a cell, by its number from the first frame on
 abbrev pub Answering : Type 1
 Answering = ℕ → Result Sib1 Sib1Reason → Type 0
 
--- the attempt to read system information in a frame of one cell, by its number from the first frame on
+-- the attempt to read system information in one frame of a cell, by its number from the first frame on
 abbrev pub Attempting : Type 1
 Attempting = ℕ → Attempt → Type 0
 
--- the indicator and the grant by which an answer on the cell at a place was read, or none, by the number of its first
--- frame and its master block
+-- the indicator and the grant with which an answer was read for the cell at a place, or none, by the number of its
+-- first frame and its MIB
 abbrev pub Granting : Type 1
 Granting = Place → ℕ → Mib → Result Sib1 Sib1Reason → Option (ℕ × Grant) → Type 0

@@ -1,6 +1,6 @@
--- The frames of a cell in which its master blocks are looked for: frames 0 to 7 of its start, as far as they lie within
--- the recording, one alone, or two to four that follow one another in one period of four. `Tells` says which master
--- block frames tell; by a receiver that adds fewer, more of them tell none. (own)
+-- The frames in which a cell's MIBs are searched: frames 0 to 7 from its start, as far as they lie within the
+-- recording, one alone or two to four consecutive ones in one period of four. `Tells` says which MIB frames carry; for
+-- a receiver that combines fewer frames, more of them carry none. (own)
 use Rattle.std.specs.Prelude.{◌≡◌, ◌⊎◌, ℕ, ◌+◌, ◌<◌, ◌≤◌, List}
 use Rattle.cs_num.specs.declared.Sample.{Sample}
 use Rattle.lte_types.specs.CellPlace.{Place}
@@ -9,34 +9,34 @@ use Rattle.pbch.specs.declared.master.Master.{Master}
 use Rattle.explain.specs.Frame.{IsWhole}
 use Rattle.explain.specs.Told.{Telling}
 
--- a count of frames from frame j of a start on are looked at together
+-- a count of frames from frame j on are tried together
 pub record IsInWindow (recording : List Sample) (start count j : ℕ) : Type 0 where
   pub some : 1 ≤ count
   pub few : count ≤ 4
   pub known : j + count ≤ 8
   pub whole : (m : ℕ) → m < count → IsWhole recording start (j + m)
 
--- frames that follow one another, by their count and the first of them, are looked at before others: they are fewer, or
--- as many and begin earlier
+-- consecutive frames, given by their count and their first frame, are tried before others: they are fewer, or as many
+-- and begin earlier
 abbrev pub ComeBefore : ℕ × ℕ → ℕ × ℕ → Type 0
 ComeBefore (few, i) (count, j) = (few < count) ⊎ ((few ≡ count) × (i < j))
 
--- a count of frames from frame j on tell no master block, at any phase
+-- a count of frames from frame j on carry no MIB, at any phase
 abbrev pub TellNone : Telling → Place → ℕ → ℕ → Type 0
 TellNone Tells place count j =
     (phase : ℕ) (master : Master) → phase + count ≤ 4 → Tells place (frames_from count j phase) master → ⊥
 
--- no frames that are looked at before these tell any master block
+-- no frames that are tried before these carry a MIB
 abbrev pub HasNoMasterBefore : Telling → List Sample → Place → ℕ → ℕ → Type 0
 HasNoMasterBefore Tells recording place count j =
     (few i : ℕ) → IsInWindow recording place.start few i → ComeBefore (few, i) (count, j) → TellNone Tells place few i
 
--- no frames that are looked at tell any master block
+-- no frames that are tried carry a MIB
 abbrev pub HasNoMasters : Telling → List Sample → Place → Type 0
 HasNoMasters Tells recording place =
     (count j : ℕ) → IsInWindow recording place.start count j → TellNone Tells place count j
 
--- a count of frames from frame j on are looked at, and none before them tell a master block
+-- a count of frames from frame j on are tried, and none before them carry a MIB
 pub record AreFirstFrames (Tells : Telling) (recording : List Sample) (place : Place) (count j : ℕ) : Type 0 where
   pub inside : IsInWindow recording place.start count j
   pub first : HasNoMasterBefore Tells recording place count j

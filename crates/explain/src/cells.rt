@@ -1,4 +1,4 @@
-//! The list of the cells of a recording.
+//! The cell list of a recording with one antenna port, by the rules of `explain_by`.
 
 ghost use Rattle.std.specs.Prelude.{◌≡◌, ◌<◌, All, IfOk};
 ghost use Rattle.std.specs.List.{AllZip};
@@ -17,15 +17,8 @@ use lte_types::{CellPlace, Entry};
 use pbch::{Received, received, sums_of};
 use sample_file::Recording;
 
-/// Afterwards the list is that of the recording, whatever it held before. Each hit, by place, tells
-/// an identity and a start of frames. The first of its whole frames 0 to 7 that has a master block at any
-/// phase gives an entry for each of its master blocks, by phase; where none has, the first two, three or
-/// four frames that follow one another in one period and have one by the sums of their values. An entry
-/// has the first fields of SystemInformationBlockType1 that one of its first eight whole frames of even
-/// number tells, or a `Sib1Reason` where none does. An entry is dropped where a kept one before it has the
-/// same identity and an epoch at most 9 samples away, modulo 1,024 frames. The list is in order of start,
-/// identity and frame number. Fields of SystemInformationBlockType1 are in their ranges. The workspace then has how
-/// each entry was read. It takes no memory. (own)
+/// Replaces `list` with a recording's cell list for one antenna port, and the content of `work` with how each entry was
+/// read. Does not allocate. (own)
 pub fn explain(recording: &Recording, work: &mut Workspace, list: &mut EntryList)
     ensures list { IsExplained recording.now list.new }
     ensures readings { AllZip (IsReading recording.now) list.new work.new }
@@ -34,10 +27,8 @@ pub fn explain(recording: &Recording, work: &mut Workspace, list: &mut EntryList
     explain_by(&OnePort, recording, work, list);
 }
 
-/// The values of an entry's master block: for each place and stream of its coded word the sum of the
-/// soft values of the frames that tell it. The entry is in the recording's list. Each has size at
-/// most 2,032. The entry's ports and master block are those that the least word of these values tells,
-/// and its cost is that word's.
+/// Returns the combined soft values from which an entry's MIB is decoded, for each position and stream of the codeword,
+/// each at most 2,032 in magnitude. The entry is in the recording's list.
 pub fn values_of(recording: &Recording, entry: &Entry) -> [[i32; 3]; 40]
     requires { IsInList recording.now entry.now }
     ensures values { result ≡ values_of_entry recording.now entry.now }
@@ -52,7 +43,7 @@ pub fn values_of(recording: &Recording, entry: &Entry) -> [[i32; 3]; 40]
     sums_of(entry.id, 480 * entry.phase as usize, frames.as_slice())
 }
 
-/// The place of the cell of an entry, whose start lies within the samples of a frame.
+/// Returns the place of an entry's cell. The entry's start lies within the samples of one frame.
 pub fn place_in(entry: &Entry) -> CellPlace
     requires { entry.now.start < 19200 }
     ensures { result ≡ place_of_entry entry.now }

@@ -9,8 +9,8 @@ use lte_types::Entry;
 use std::alloc::{AllocError, Global};
 use std::marker::Model;
 
-/// A list of entries with room for 23,040: four master blocks for each of 5,760 hits. Contracts see
-/// it as the list of its items.
+/// A list of entries with capacity for 23,040: four MIBs for each of 5,760 hits. Contracts see it as the list of its
+/// items.
 #[derive(Drop)]
 pub struct EntryList {
     entries: Vec<Entry>,
@@ -25,7 +25,7 @@ impl Model for EntryList {
 }
 
 impl EntryList {
-    /// The empty list, with its memory taken. Only memory can be wanting.
+    /// Returns an empty list. Fails only if its allocation fails.
     pub fn new(alloc: Global) -> Result<Self, AllocError>
         ensures { IfOk result (λ l. l ≡ []) }
     {
@@ -34,21 +34,21 @@ impl EntryList {
         })
     }
 
-    /// The items in order.
+    /// Returns the items in order.
     pub fn slice(&self) -> &[Entry]
         ensures { result.now ≡ self.now }
     {
         &self.entries
     }
 
-    /// Leaves the empty list.
+    /// Removes all items.
     pub fn clear(&mut self)
         ensures { self.new ≡ [] }
     {
         self.entries.clear();
     }
 
-    /// Puts the item at `at`; those from there on move up by one. It takes no memory.
+    /// Inserts `item` at index `at`, in front of the items from there on. Does not allocate.
     pub fn insert(&mut self, at: usize, item: Entry)
         requires at { at ≤ length self.old }
         requires room { length self.old < 23040 }

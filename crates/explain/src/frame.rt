@@ -14,14 +14,14 @@ use observe::symbol;
 use sample_file::Recording;
 use soft_bits::Slot;
 
-/// Whether frame `j` of a cell lies within the recording.
+/// Returns whether frame `j` of a cell lies within the recording.
 pub fn is_whole(recording: &Recording, place: CellPlace, j: u8) -> bool
     ensures { IsTrue result ↔ IsWhole recording.now place.start j }
 {
     place.start() as usize + FRAME_LENGTH * (j as usize + 1) <= recording.len()
 }
 
-/// How many of frames 0 to 7 of a cell lie within the recording: the first ones.
+/// Returns how many of a cell's frames 0 to 7 lie within the recording.
 pub(crate) fn whole_frames(recording: &Recording, place: CellPlace) -> u8
     ensures few { result ≤ 8 }
     ensures whole { (j : ℕ) → j < result → IsWhole recording.now place.start j }
@@ -31,7 +31,7 @@ pub(crate) fn whole_frames(recording: &Recording, place: CellPlace) -> u8
     (length / FRAME_LENGTH).min(8) as u8
 }
 
-// Symbol l of a slot, in a frame that begins at the given sample.
+// Returns demodulated symbol `l` of a slot, in a frame that begins at sample `frame`.
 fn symbol_of(recording: &Recording, frame: usize, number: u8, l: usize) -> [Cpx; 72]
     requires within { frame + frame_length ≤ length recording.now }
     requires small { frame < 2 ^ 40 }
@@ -46,7 +46,7 @@ fn symbol_of(recording: &Recording, frame: usize, number: u8, l: usize) -> [Cpx;
     )
 }
 
-// The seven symbols of a slot, in a frame that begins at the given sample.
+// Returns the seven demodulated symbols of a slot, in a frame that begins at sample `frame`.
 fn symbols_in(recording: &Recording, frame: usize, number: u8) -> [[Cpx; 72]; 7]
     requires within { frame + frame_length ≤ length recording.now }
     requires small { frame < 2 ^ 40 }
@@ -65,8 +65,8 @@ fn symbols_in(recording: &Recording, frame: usize, number: u8) -> [[Cpx; 72]; 7]
     ]
 }
 
-/// The seven symbols of a slot of frame `j` of a cell by its number, 0 to 19, as they are seen, each by 72 subcarriers.
-/// The frame lies within the recording. Components have size at most 2^25.
+/// Returns the seven demodulated symbols of slot `number`, 0 to 19, in frame `j` of a cell, with 72 subcarriers each.
+/// The frame lies within the recording; components have magnitude at most 2^25.
 pub(crate) fn symbols_of(
     recording: &Recording,
     place: CellPlace,
@@ -82,14 +82,15 @@ pub(crate) fn symbols_of(
     symbols_in(recording, frame, number)
 }
 
-// The values of a symbol that is not looked at.
+// Returns the values for a symbol that is not read.
 fn zeros() -> [Cpx; 72]
     ensures { All (IsWithin (2 ^ 25)) result }
 {
     [Cpx::ZERO; 72]
 }
 
-// The first five symbols of slot 1, in a frame that begins at the given sample, and two more that are not looked at.
+// Returns the first five demodulated symbols of slot 1, in a frame that begins at sample `frame`, and two zero symbols
+// that are not read.
 fn front_in(recording: &Recording, frame: usize) -> [[Cpx; 72]; 7]
     requires within { frame + frame_length ≤ length recording.now }
     requires small { frame < 2 ^ 40 }
@@ -108,9 +109,8 @@ fn front_in(recording: &Recording, frame: usize) -> [[Cpx; 72]; 7]
     ]
 }
 
-/// The first five symbols of the slot of frame `j` of a cell that carries the broadcast channel, as they are seen, and
-/// two more that are not looked at: neither the channel nor its reference signals are in them. The frame lies within
-/// the recording. Components have size at most 2^25.
+/// Returns the first five demodulated symbols of the PBCH slot in frame `j` of a cell, and two zero symbols, where
+/// neither the PBCH nor its reference signals are. The frame lies within the recording.
 pub(crate) fn broadcast_front(recording: &Recording, place: CellPlace, j: u8) -> [[Cpx; 72]; 7]
     requires { IsWhole recording.now place.start j }
     ensures front { (symbol : ℕ) → symbol < 5 → slice_index_or result symbol []
@@ -121,8 +121,7 @@ pub(crate) fn broadcast_front(recording: &Recording, place: CellPlace, j: u8) ->
     front_in(recording, frame)
 }
 
-/// The slot of frame `j` of a cell that carries the broadcast channel, as it is seen. The frame
-/// lies within the recording.
+/// Returns the demodulated slot that carries the PBCH in frame `j` of a cell. The frame lies within the recording.
 pub fn broadcast_slot(recording: &Recording, place: CellPlace, j: u8) -> Slot
     requires { IsWhole recording.now place.start j }
     ensures { result ≡ broadcast_slot_of recording.now place.id place.start j }

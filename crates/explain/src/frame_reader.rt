@@ -40,7 +40,7 @@ pub trait FrameReader {
         ensures values { result ≡ receiver.broadcast recording.now place j }
         ensures length { length result ≡ receiver.count };
 
-    /// Reads the system information of `cell`, and returns with it how it was read.
+    /// Returns the system information of `cell`, and how it was read.
     fn system_of(&self, recording: &Recording, cell: &NumberedCell, work: &mut Decoders) -> Informed
         ensures told { IsSystemFor receiver recording.now cell.now.place cell.now.sfn cell.now.master.ports
             cell.now.master.mib result.sib1 }

@@ -13,9 +13,8 @@ use pbch::Master;
 use sample_file::Recording;
 use soft_bits::Slot;
 
-/// The control format indicator and the grant by which an entry's SystemInformationBlockType1 was read: those of
-/// the first of its tried frames that answered with fields. `None` exactly where the entry has none. The entry
-/// is in the recording's list. The frames are read again: `Workspace::readings` has what the list read.
+/// Returns the control format indicator and the grant with which a listed entry's SystemInformationBlockType1 was
+/// read; `None` if the entry has none. Reads the frames again, unlike `Workspace::readings`.
 pub fn grant_of(recording: &Recording, entry: &Entry, work: &mut Workspace) -> Option<(Cfi, Grant)>
     requires { IsInList recording.now entry.now }
     ensures grant { IsGrantOf recording.now entry.now result }
@@ -34,7 +33,7 @@ pub fn grant_of(recording: &Recording, entry: &Entry, work: &mut Workspace) -> O
     .granted
 }
 
-// The master block of an entry.
+// Returns an entry's MIB.
 fn master_in(entry: &Entry) -> Master
     ensures { result ≡ master_of_entry entry.now }
 {
@@ -45,7 +44,7 @@ fn master_in(entry: &Entry) -> Master
     }
 }
 
-/// The indicator and the grant by which any receiver reads the system information of a cell are certain ones.
+/// A law: for any receiver, the indicator and the grant with which a cell's system information was read are unique.
 pub fn one_grant()
     ensures { IsOneGrant }
 {}

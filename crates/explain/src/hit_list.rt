@@ -1,4 +1,4 @@
-//! The hits that a way to read cells takes.
+//! The hits that a receiver uses.
 
 ghost use Rattle.std.specs.Prelude.{◌≡◌, ◌≤◌, All, drop, filter, length};
 ghost use Rattle.std.specs.List.{AllPairs};
@@ -10,7 +10,7 @@ use lte_types::{Carrier, CellPlace, Hit};
 use sample_file::Recording;
 use sss_detect::place_with;
 
-// The number of hits, from the first on, before which there is no room for the secondary signal.
+// Returns the number of leading hits without room before them for the secondary signal.
 pub(crate) fn early_hits(hits: &[Hit], carrier: Carrier) -> usize
     requires span { All IsInSpan hits.now }
     requires order { AllPairs IsEarlier hits.now }
@@ -26,7 +26,7 @@ pub(crate) fn early_hits(hits: &[Hit], carrier: Carrier) -> usize
     hits.len()
 }
 
-// The place of the cell that a hit tells.
+// Returns the place of a hit's cell.
 pub(crate) fn place_told(recording: &Recording, hit: &Hit, carrier: Carrier) -> CellPlace
     requires { HasRoom carrier hit.now }
     ensures { result ≡ place_by carrier recording.now hit.now }

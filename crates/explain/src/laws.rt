@@ -9,13 +9,11 @@ ghost use Rattle.explain.specs.Readings.{IsOneReading};
 
 use lte_types::FRAME_LENGTH;
 
-/// The samples of 17 frames: a list looks at no later ones. (own)
+/// The samples of 17 frames. A list does not depend on later ones. (own)
 pub const DECIDING_SAMPLES: usize = 17 * FRAME_LENGTH;
 
-/// The list of a recording by any receiver in plain words: there is only one; each of its entries is one of some
-/// hit; for each entry of each hit it has that entry or one of the same cell; and no two of it are of
-/// one cell, so that no two have the same identity, start and frame number. Where system information is read, no entry
-/// has the reason `Sib1Reason::LongPrefix`.
+/// A law: for any receiver, a recording has at most one list. Every listed entry comes from a hit, every hit's entry or
+/// one of its cell is listed, and no two listed entries belong to one cell.
 pub fn the_list_in_plain_words()
     ensures one { IsOneList }
     ensures sound { IsSound }
@@ -24,26 +22,24 @@ pub fn the_list_in_plain_words()
     ensures never_long { IsNeverLong }
 {}
 
-/// Two recordings of at least 326,400 samples, 17 frames, that agree in these have the same list: a longer
-/// recording may be cut there, and nothing of its list is lost. So it is by any receiver that looks at the first 16
-/// frames of a cell alone (`all`). (own)
+/// A law: recordings of at least 326,400 samples (17 frames) that agree in these have the same list, for any receiver
+/// that reads only a cell's first 16 frames. A longer recording may be cut there. (own)
 pub fn the_first_frames_decide()
     ensures samples { DECIDING_SAMPLES ≡ deciding_length }
     ensures one_port { FirstFramesDecide }
     ensures all { FirstFramesDecideAll }
 {}
 
-/// What one frame of a hit tells alone, by its own values, is still an entry of the hit, though frames are
-/// summed where none does. So it is in the list, or an entry of its cell is. By a receiver that adds no frames, as
-/// with the extended cyclic prefix, a hit has no other entries. (own)
+/// A law: the first frame of a hit that decodes alone gives an entry of the hit, listed itself or through one of its
+/// cell. A receiver that combines no frames has no other entries. (own)
 pub fn one_frame_is_enough()
     ensures tells { OneFrameTells }
     ensures alone { OneFrameAlone }
     ensures listed { OneFrameIsListed }
 {}
 
-/// An entry of a recording was read in one way by any receiver: one hit is the first that tells its place, and the
-/// sums, the indicator and the grant are certain ones. (own)
+/// A law: for any receiver, the reading of an entry is unique: the first hit that gives its place, the combined soft
+/// values, the indicator and the grant. (own)
 pub fn one_reading()
     ensures { IsOneReading }
 {}

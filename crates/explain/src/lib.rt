@@ -1,5 +1,6 @@
-//! The list of the cells that a recording explains: the master blocks that its hits tell, each cell
-//! once, with its system information or why there is none.
+//! From PSS detections (hits) to the cell list: the MIBs that a recording's hits give, each cell once, with its system
+//! information or why there is none.
+//! Tests: the crate `list_tests`.
 #![tactic(auto)]
 
 mod cells;

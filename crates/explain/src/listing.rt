@@ -1,4 +1,4 @@
-//! A list of entries, each cell once and in order.
+//! A list of entries, in order and with each cell once.
 
 ghost use Rattle.std.specs.Prelude.{◌≡◌, ◌+◌, ◌<◌, ◌≤◌, ◌↔◌, [], ◌∷◌, false, IfSome, IsNone, IsSome, IsTrue, length};
 ghost use Rattle.std.specs.List.{AllWithin, HoldsAt, list_any};
@@ -12,9 +12,8 @@ use lte_types::{CYCLE_LENGTH, Entry, FRAME_LENGTH};
 const CYCLE: u32 = CYCLE_LENGTH as u32;
 
 impl EntryList {
-    /// Adds an entry behind those from the first on that stand before it by start, identity and frame number, and
-    /// tells its index; where the list has one of its cell, nothing is added. Where the list was that of some
-    /// entries, and so in order, it is that of these and this one. It takes no memory.
+    /// Inserts an entry after the leading ones that come before it by start, identity and frame number, and returns its
+    /// index; `None`, without a change, if its cell is in the list. Does not allocate.
     pub fn add(&mut self, entry: Entry) -> Option<usize>
         requires room { length self.old < 23040 }
         ensures adds { Adds (entry ∷ []) self.old self.new }
@@ -32,7 +31,7 @@ impl EntryList {
     }
 }
 
-// When frame 0 of an entry began, modulo the samples of 1,024 frames.
+// Returns the sample at which frame 0 of an entry's numbering began, modulo the samples of 1,024 frames.
 fn epoch(entry: &Entry) -> u32
     ensures value { result ≡ epoch_of entry.now }
     ensures small { result < cycle_length }
@@ -41,7 +40,7 @@ fn epoch(entry: &Entry) -> u32
     (entry.start % CYCLE + (CYCLE - before)) % CYCLE
 }
 
-// Whether two entries are of one cell.
+// Returns whether two entries belong to one cell.
 fn is_same_cell(a: &Entry, b: &Entry) -> bool
     ensures { result ≡ same_cell a.now b.now }
 {
@@ -49,21 +48,21 @@ fn is_same_cell(a: &Entry, b: &Entry) -> bool
     a.id == b.id && gap.min(CYCLE - gap) <= 9
 }
 
-// Whether the first entry stands before the second.
+// Returns whether `a` comes before `b`.
 fn is_before(a: &Entry, b: &Entry) -> bool
     ensures { IsTrue result ↔ IsBefore a.now b.now }
 {
     (a.start, a.id.value(), a.sfn.value()) < (b.start, b.id.value(), b.sfn.value())
 }
 
-// Whether one of the entries is of this one's cell.
+// Returns whether the list has an entry for the cell of `entry`.
 fn has_cell(list: &[Entry], entry: &Entry) -> bool
     ensures { result ≡ list_any (λ other. same_cell other entry.now) list.now }
 {
     list.iter().any(|other| is_same_cell(other, entry))
 }
 
-// The number of entries, from the first on, that stand before this one.
+// Returns the number of leading entries that come before `entry`.
 fn index_of(list: &[Entry], entry: &Entry) -> usize
     ensures within { result ≤ length list.now }
     ensures before { AllWithin (λ other. IsBefore other entry.now) list.now 0 result }

@@ -1,4 +1,4 @@
-//! The master blocks of a cell by a way to read its frames.
+//! The MIBs of a cell, for any receiver.
 
 ghost use Rattle.std.specs.Prelude.{◌≡◌, ℕ, ◌<◌, ◌≤◌, All, List, [], IfSome, MatchOption, is_some, length};
 ghost use Rattle.finite.specs.Tests.{any_below};
@@ -22,8 +22,8 @@ use pbch::{Master, Received, WordSums, masters};
 use sample_file::Recording;
 use tailbite::Trellis;
 
-/// Frames of a cell that follow one another, by their count and the first of them, with the master block
-/// that they tell at each phase of the first, and the sums by which they do.
+/// Consecutive frames of a cell, by their count and their first frame, with the MIB at each phase of the first and the
+/// combined soft values for it.
 #[derive(Clone, Copy)]
 pub struct Masters {
     pub frames: u8,
@@ -32,12 +32,11 @@ pub struct Masters {
     pub sums: [WordSums; 4],
 }
 
-// What was received in the first frames of a cell, from frame 0 on, as far as they were read.
+// The soft values of a cell's frames from frame 0 on, as far as they were read.
 type ReceivedFrames = ArrayVec<Received, 8>;
 
-/// The first of the whole frames 0 to 7 of a cell that have a master block at any phase, with all their
-/// master blocks: a single frame, or else two, three or four that follow one another in one period, as many
-/// as the reader adds at most. `None` exactly where no frames have any. Each frame is received once.
+/// Returns the first frames that carry a MIB, with all their MIBs, among a cell's frames 0 to 7: a single frame, or
+/// else two to four consecutive ones, at most as many as the reader combines.
 pub(crate) fn first_masters<F: FrameReader>(
     reader: &F,
     recording: &Recording,
@@ -67,7 +66,7 @@ pub(crate) fn first_masters<F: FrameReader>(
     None
 }
 
-// The first of the first `whole` frames that has a master block alone. Where none has, all were received.
+// Returns the first among the first `whole` frames that carries a MIB alone. If none is found, all were received.
 fn first_alone<F: FrameReader>(
     reader: &F,
     recording: &Recording,
@@ -107,7 +106,7 @@ fn first_alone<F: FrameReader>(
     None
 }
 
-// The first `count` of the first frames that have a master block together, by what was received of all of these.
+// Returns the first `count` consecutive frames that carry a MIB together, from the soft values of all frames received.
 fn first_together<F: FrameReader>(
     reader: &F,
     cell: &ScrambledCell,
@@ -148,7 +147,7 @@ fn first_together<F: FrameReader>(
     None
 }
 
-// The master blocks of frames of which the first is frame `frame`, where they have any.
+// Returns the MIBs in frames that start with frame `frame`, if they carry any.
 fn masters_of<F: FrameReader>(
     reader: &F,
     cell: &ScrambledCell,
@@ -184,7 +183,7 @@ fn masters_of<F: FrameReader>(
     })
 }
 
-// The master blocks that are taken.
+// Returns the MIBs that are accepted.
 fn taken<F: FrameReader>(reader: &F, all: &[Option<Master>; 4]) -> [Option<Master>; 4]
     ensures length { length result ≡ 4 }
     ensures each { (phase : ℕ) → phase < 4 →
@@ -198,7 +197,7 @@ fn taken<F: FrameReader>(reader: &F, all: &[Option<Master>; 4]) -> [Option<Maste
     ]
 }
 
-// A master block, where it is taken.
+// Returns a MIB if it is accepted.
 fn taken_one<F: FrameReader>(reader: &F, found: Option<Master>) -> Option<Master>
     ensures { result ≡ taken_of (is_wanted F.receiver.ports) found }
 {
@@ -214,7 +213,7 @@ fn taken_one<F: FrameReader>(reader: &F, found: Option<Master>) -> Option<Master
     }
 }
 
-// Whether any phase of the first of some frames has a master block.
+// Returns whether any phase has a MIB.
 #[tactic(auto, unfolding(finite::specs::Tests::any_below))]
 fn has_master(at: &[Option<Master>; 4]) -> bool
     ensures { result ≡ any_below 4 (λ phase. is_some (master_at at.now phase)) }

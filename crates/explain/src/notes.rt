@@ -1,4 +1,4 @@
-//! What a search keeps beside its list.
+//! The state of a search apart from its list.
 
 ghost use Rattle.std.specs.Prelude.{◌≡◌, [], IfOk};
 
@@ -7,8 +7,7 @@ use crate::reading_list::Readings;
 use sib1_reader::Decoders;
 use std::alloc::{AllocError, Global};
 
-/// What a search keeps beside its list: the places of cells that it has met, how each entry was read, and the decoders
-/// by which it was.
+/// The state of a search apart from its list: the places found so far, how each entry was read, and the decoders.
 #[derive(Drop)]
 pub struct Notes {
     pub places: Places,
@@ -17,7 +16,7 @@ pub struct Notes {
 }
 
 impl Notes {
-    /// Takes all the memory. Only memory can be wanting.
+    /// Allocates everything up front. Fails only if an allocation fails.
     pub fn new(alloc: Global) -> Result<Notes, AllocError>
         ensures { IfOk result (λ notes. (notes.places ≡ []) × (notes.readings ≡ [])) }
     {

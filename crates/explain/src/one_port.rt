@@ -1,4 +1,4 @@
-//! The way to read the cells of a recording by one antenna port.
+//! The receiver for one antenna port.
 
 ghost use Rattle.explain.specs.Receiver.{one_port_receiver};
 
@@ -11,7 +11,7 @@ use sample_file::Recording;
 use sib1_reader::Decoders;
 use soft_bits::Slot;
 
-/// The way to read frames by one antenna port: each master block is taken, whatever ports it tells. (own)
+/// The receiver for one antenna port. It accepts every MIB, whatever its port count. (own)
 pub struct OnePort;
 
 impl FrameReader for OnePort {

@@ -1,4 +1,4 @@
-//! The places at which cells were met.
+//! The places at which cells were found.
 
 ghost use Rattle.std.specs.Prelude.{◌≡◌, ◌≤◌, ◌<◌, List, [], ◌∷◌, ◌++◌, length, IfOk};
 ghost use Rattle.std.specs.Vec.{vec_capacity};
@@ -9,8 +9,7 @@ use lte_types::CellPlace;
 use std::alloc::{AllocError, Global};
 use std::marker::Model;
 
-/// The places of hits with room for 5,760, which no recording passes. Contracts see them as the list of
-/// its items.
+/// The places of hits, with capacity for 5,760, which no recording exceeds. Contracts see it as the list of its items.
 #[derive(Drop)]
 pub struct Places {
     met: Vec<CellPlace>,
@@ -25,7 +24,7 @@ impl Model for Places {
 }
 
 impl Places {
-    /// No places, with the memory taken. Only memory can be wanting.
+    /// Returns an empty list. Fails only if its allocation fails.
     pub fn new(alloc: Global) -> Result<Self, AllocError>
         ensures { IfOk result (λ p. p ≡ []) }
     {
@@ -34,21 +33,21 @@ impl Places {
         })
     }
 
-    /// Leaves no places.
+    /// Removes all places.
     pub fn clear(&mut self)
         ensures { self.new ≡ [] }
     {
         self.met.clear();
     }
 
-    /// Whether the place is one of those that were met.
+    /// Returns whether the place is in the list.
     pub fn has(&self, place: &CellPlace) -> bool
         ensures { result ≡ is_met self.now place.now }
     {
         self.met.iter().any(|met| met == place)
     }
 
-    /// Puts the place at the end. It takes no memory.
+    /// Appends the place. Does not allocate.
     pub fn add(&mut self, place: &CellPlace)
         requires { length self.old < 5760 }
         ensures { self.new ≡ self.old ++ place.now ∷ [] }

@@ -1,4 +1,13 @@
-//! The list of the cells of a recording by a way to read them.
+//! The cell list of a recording, for any receiver. (own)
+//!
+//! Each PSS detection (hit) with room before it for the secondary signal gives a place: an identity and a start of
+//! frames. The first of the frames 0 to 7 from there that carries a MIB at any phase gives an entry for each of its
+//! MIBs, by phase. If no frame does, the first two, three or four consecutive frames in one period do that carry a MIB
+//! by the sums of their soft values, at most as many as the receiver combines. Only frames within the recording count.
+//!
+//! An entry has the cell's system information, whose fields are in their ranges. It is dropped if a kept one before it
+//! has the same identity and an epoch at most 9 samples away, modulo 1,024 frames. The list is in order of start,
+//! identity and frame number.
 
 ghost use Rattle.std.specs.Prelude.{◌≡◌, ◌+◌, ◌-◌, ◌<◌, ◌≤◌, true, false, List, [], ◌∷◌, ◌++◌, All, IfOk, length};
 ghost use Rattle.std.specs.List.{AllZip};
@@ -27,7 +36,7 @@ use pss_search::{hits, hits_are_right};
 use sample_file::Recording;
 use sib1_reader::Decoders;
 
-// What a hit tells: the place of a cell, and the master blocks of its first frames that have any.
+// A hit, the place of its cell, and the MIBs in the first of its frames that carry any.
 #[derive(Drop)]
 struct Found {
     hit: Hit,
@@ -35,14 +44,8 @@ struct Found {
     masters: Masters,
 }
 
-/// Afterwards the list is that of the recording by a way to read its cells, whatever it held before. Each hit that
-/// has room before it for the secondary signal tells a place, by their order: an identity and a start of frames.
-/// The first of its whole frames 0 to 7 that tells a master block at any phase gives an entry for each of its
-/// master blocks, by phase; where none does, the first two, three or four frames that follow one another in one
-/// period and do by the sums of their values, as many as the reader adds at most. An entry has the system
-/// information that is told of the cell, whose fields are in their ranges. An entry is dropped where a kept one before
-/// it has the same identity and an epoch at most 9 samples away, modulo 1,024 frames. The list is in order of start,
-/// identity and frame number. The workspace then has how each of them was read. It takes no memory. (own)
+/// Replaces `list` with a recording's cell list for a receiver, and the content of `work` with how each entry was read.
+/// Does not allocate. (own)
 pub fn explain_by<F: FrameReader>(
     reader: &F,
     recording: &Recording,
@@ -57,8 +60,8 @@ pub fn explain_by<F: FrameReader>(
     read_hits(reader, recording, work.hits.slice(), &mut work.notes, list);
 }
 
-/// Afterwards the list is that of `explain_by`, made of the hits of the recording, which are at hand, as where several
-/// receivers list one recording. It takes no memory. (own)
+/// Replaces `list` like `explain_by`, from the given hits of the recording, which several receivers can share. Does not
+/// allocate. (own)
 pub fn explain_hits<F: FrameReader>(
     reader: &F,
     recording: &Recording,
@@ -74,7 +77,7 @@ pub fn explain_hits<F: FrameReader>(
     read_hits(reader, recording, hits, &mut work.notes, list);
 }
 
-// Makes the list by the hits of a recording.
+// Makes the list from the hits of a recording.
 fn read_hits<F: FrameReader>(
     reader: &F,
     recording: &Recording,
@@ -95,7 +98,7 @@ fn read_hits<F: FrameReader>(
     add_hits(reader, recording, &hits[first..], notes, list);
 }
 
-// Adds the entries of the hits that are taken to the empty list.
+// Adds the entries of the hits that the receiver uses to the empty list.
 fn add_hits<F: FrameReader>(
     reader: &F,
     recording: &Recording,
@@ -116,8 +119,8 @@ fn add_hits<F: FrameReader>(
     }
 }
 
-// Adds the entries of a hit, unless its place was met before: each of them is then of the cell of one that
-// stands in the list already.
+// Adds the entries of a hit, unless its place was found before: then each of them belongs to a cell that is already in
+// the list.
 fn add_hit<F: FrameReader>(
     reader: &F,
     recording: &Recording,
@@ -164,7 +167,7 @@ fn add_hit<F: FrameReader>(
     }
 }
 
-// Adds the entries of the master blocks that a hit tells.
+// Adds the entries for the MIBs of a hit.
 fn add_masters<F: FrameReader>(
     reader: &F,
     recording: &Recording,
@@ -195,8 +198,8 @@ fn add_masters<F: FrameReader>(
     }
 }
 
-// Adds the entry of the master block of a phase, where there is one. A private call of six parameters: what a hit tells
-// at a phase is added to both lists.
+// Adds the entry for the MIB at a phase, if there is one, and its reading. It has six parameters because it adds to
+// both lists.
 fn add_phase<F: FrameReader>(
     reader: &F,
     recording: &Recording,
@@ -245,7 +248,7 @@ fn add_phase<F: FrameReader>(
     }
 }
 
-// The frames of these master blocks, where the first of them has this phase.
+// Returns the frames of these MIBs, with this phase of the first.
 fn frames_at(masters: &Masters, phase: u8) -> Frames
     requires { AreFrames (frames_from masters.now.frames masters.now.frame phase) }
     ensures { result ≡ frames_from masters.now.frames masters.now.frame phase }
@@ -256,7 +259,7 @@ fn frames_at(masters: &Masters, phase: u8) -> Frames
     }
 }
 
-// The entry of a master block that frames tell, and by which grant its system information was read.
+// Returns the entry for a MIB, and the grant with which its system information was read.
 fn entry_of<F: FrameReader>(
     reader: &F,
     recording: &Recording,
@@ -287,7 +290,7 @@ fn entry_of<F: FrameReader>(
     (entry, informed.granted)
 }
 
-// Adds an entry to the list, unless this has one of its cell, and how it was read at the same index beside it.
+// Adds an entry to the list, unless its cell has one there, and its reading at the same index of the parallel list.
 fn add_entry(entry: Entry, reading: Reading, readings: &mut Readings, list: &mut EntryList)
     requires beside { length readings.old ≡ length list.old }
     requires room { length list.old < 23040 }

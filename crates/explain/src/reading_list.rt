@@ -12,8 +12,8 @@ use pbch::WordSums;
 use std::alloc::{AllocError, Global};
 use std::marker::Model;
 
-/// How the entries of a list were read, in the order of the list, with room for 23,040. Contracts see it as the list
-/// of its items.
+/// How the entries of a list were read, in the order of the list, with capacity for 23,040. Contracts see it as the
+/// list of its items.
 #[derive(Drop)]
 pub struct Readings {
     readings: Vec<Reading>,
@@ -28,7 +28,7 @@ impl Model for Readings {
 }
 
 impl Readings {
-    /// The empty list, with its memory taken. Only memory can be wanting.
+    /// Returns an empty list. Fails only if its allocation fails.
     pub fn new(alloc: Global) -> Result<Self, AllocError>
         ensures { IfOk result (λ r. r ≡ []) }
     {
@@ -37,21 +37,21 @@ impl Readings {
         })
     }
 
-    /// The items in order.
+    /// Returns the items in order.
     pub fn slice(&self) -> &[Reading]
         ensures { result.now ≡ self.now }
     {
         &self.readings
     }
 
-    /// Leaves the empty list.
+    /// Removes all items.
     pub fn clear(&mut self)
         ensures { self.new ≡ [] }
     {
         self.readings.clear();
     }
 
-    /// Puts how an entry was read at index `at`; those from there on move up by one. It takes no memory.
+    /// Inserts how an entry was read at index `at`, in front of the items from there on. Does not allocate.
     pub fn insert(&mut self, at: usize, hit: Hit, sums: WordSums, granted: Option<(Cfi, Grant)>)
         requires at { at ≤ length self.old }
         requires room { length self.old < 23040 }

@@ -7,11 +7,10 @@ use pbch::WordSums;
 /// How an entry of a list was read. (own)
 #[derive(Clone, Copy)]
 pub struct Reading {
-    /// The first hit that tells the place of the entry's cell.
+    /// The first hit that gives the place of the entry's cell.
     pub hit: Hit,
-    /// The sums that tell the entry's master block.
+    /// The combined soft values from which the entry's MIB was decoded.
     pub sums: WordSums,
-    /// The control format indicator and the grant by which system information was read; `None` where the entry has
-    /// none.
+    /// The control format indicator and the grant with which system information was read; `None` if the entry has none.
     pub granted: Option<(Cfi, Grant)>,
 }

@@ -17,7 +17,7 @@ pub struct Scheme {
 }
 
 impl Scheme {
-    // Whether a master block with this count of antenna ports is taken.
+    // Returns whether a MIB with this antenna port count is accepted.
     pub(crate) fn takes(&self, count: u8) -> bool
         ensures { result ≡ is_wanted self.now.ports count }
     {

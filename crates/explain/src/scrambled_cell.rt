@@ -1,4 +1,4 @@
-//! A cell whose master blocks are looked for.
+//! A cell whose MIBs are searched.
 
 ghost use Rattle.std.specs.Prelude.{◌≡◌};
 ghost use Rattle.lte_types.specs.CellPlace.{Place};
@@ -7,7 +7,7 @@ use lte_types::CellPlace;
 use pbch::CellScrambling;
 use std::marker::Model;
 
-// The place of a cell, with the bits that scramble its broadcast channel, made once. Contracts see it as the place.
+// The place of a cell, with the scrambling sequence of its PBCH, computed once. Contracts see it as the place.
 #[derive(Drop)]
 pub(crate) struct ScrambledCell {
     place: CellPlace,

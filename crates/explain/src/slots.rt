@@ -1,4 +1,4 @@
-//! The frames of a cell by slots with the normal cyclic prefix.
+//! The slots of a cell's frames, with the normal cyclic prefix.
 
 ghost use Rattle.std.specs.Prelude.{◌≡◌, ◌<◌, length};
 ghost use Rattle.soft_bits.specs.Front.{HaveOneFront};
@@ -13,7 +13,7 @@ use sample_file::Recording;
 use sib1_reader::{Attempt, Decoders, attempt_in};
 use soft_bits::ReadSlot;
 
-/// A slot of frame `j` of a cell by its number, 0 to 19, as it is seen. The frame lies within the recording.
+/// Returns demodulated slot `number`, 0 to 19, in frame `j` of a cell. The frame lies within the recording.
 pub fn slot_of<S: ReadSlot>(recording: &Recording, place: CellPlace, j: u8, number: u8) -> S
     requires whole { IsWhole recording.now place.start j }
     requires number { number < 20 }
@@ -22,7 +22,7 @@ pub fn slot_of<S: ReadSlot>(recording: &Recording, place: CellPlace, j: u8, numb
     S::of(symbols_of(recording, place, j, number), number, place.id())
 }
 
-// The slot of frame `j` of a cell that carries the broadcast channel, as far as the channel's values hang on it.
+// Returns the slot that carries the PBCH in frame `j` of a cell, as far as the PBCH soft values depend on it.
 fn front_of<S: ReadSlot>(recording: &Recording, place: CellPlace, j: u8) -> S
     requires { IsWhole recording.now place.start j }
     ensures { HaveOneFront (S.seen_as result) (broadcast_slot_of recording.now place.id place.start j) }
@@ -30,8 +30,7 @@ fn front_of<S: ReadSlot>(recording: &Recording, place: CellPlace, j: u8) -> S
     S::of(broadcast_front(recording, place, j), 1, place.id())
 }
 
-/// The values of the broadcast channel in frame `j` of a cell, by the slot that carries it. The frame lies within the
-/// recording.
+/// Returns the PBCH soft values in frame `j` of a cell. The frame lies within the recording.
 pub fn received_in<S: ReadSlot>(recording: &Recording, place: CellPlace, j: u8) -> Received
     requires { IsWhole recording.now place.start j }
     ensures values { result ≡ broadcast_by S.values_by recording.now place j }
@@ -42,7 +41,8 @@ pub fn received_in<S: ReadSlot>(recording: &Recording, place: CellPlace, j: u8) 
     received(&slot)
 }
 
-/// The attempt to read system information in subframe 5 of frame `j` of a cell, which lies within the recording.
+/// Returns the attempt to read system information in subframe 5 of frame `j` of a cell. The frame lies within the
+/// recording.
 pub(crate) fn attempt_at<S: ReadSlot>(
     recording: &Recording,
     place: CellPlace,

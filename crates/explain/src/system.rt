@@ -1,4 +1,7 @@
 //! The system information of a cell.
+//!
+//! `NotOnePort` is returned if the MIB's antenna port count is not the transmission scheme's, and `Bandwidth` if the
+//! cell is not 6 resource blocks wide.
 
 ghost use Rattle.std.specs.Prelude.{◌≡◌, ◌<◌, ◌+◌, ◌*◌, ◌%◌, None, Ok, Err};
 ghost use Rattle.explain.specs.Receiver.{subframes_by};
@@ -15,20 +18,17 @@ use sample_file::Recording;
 use sib1_reader::{Attempt, Decoders};
 use soft_bits::ReadSlot;
 
-/// What is told of the system information of a cell, and by which indicator and grant it was read.
+/// The system information of a cell, and the indicator and the grant with which it was read.
 #[derive(Drop)]
 pub struct Informed {
     /// The fields of SystemInformationBlockType1, or why there are none.
     pub sib1: Result<Sib1, Sib1Reason>,
-    /// The control format indicator and the grant by which the fields were read; `None` where there are none.
+    /// The control format indicator and the grant with which the fields were read; `None` if there are none.
     pub granted: Option<(Cfi, Grant)>,
 }
 
-/// SystemInformationBlockType1 of a cell whose first frame has the number `sfn`, by slots with the normal cyclic
-/// prefix: `NotOnePort` where the master block tells other antenna ports than the slot's carrier has, `Bandwidth`
-/// where it tells another bandwidth than 6 resource blocks; otherwise the first fields that one of the first eight
-/// whole frames of even number tells, or the reason of the first of these frames. With fields come the indicator
-/// and the grant by which that frame's were read.
+/// Reads the system information of a cell whose first frame has the number `sfn`: the first fields in its first eight
+/// even-numbered frames, or the first frame's reason. `NotOnePort` and `Bandwidth` take precedence.
 pub fn system_in<S: ReadSlot>(
     recording: &Recording,
     place: CellPlace,
@@ -50,7 +50,7 @@ pub fn system_in<S: ReadSlot>(
     read_frames::<S>(recording, place, sfn, master.mib, work)
 }
 
-// No fields for this reason.
+// Returns a reason, without fields.
 fn not_read(reason: Sib1Reason) -> Informed
     ensures reason { result.sib1 ≡ Err reason }
     ensures none { result.granted ≡ None }
@@ -61,7 +61,7 @@ fn not_read(reason: Sib1Reason) -> Informed
     }
 }
 
-// The first fields that a tried frame tells, or else the reason of the first.
+// Returns the first fields that a tried frame gives, or else the reason of the first.
 fn read_frames<S: ReadSlot>(
     recording: &Recording,
     place: CellPlace,
@@ -75,7 +75,7 @@ fn read_frames<S: ReadSlot>(
         recording.now place.start sfn result.sib1 result.granted }
 {
     let first = even_frame(sfn, 0);
-    // A recording has at least three frames, so that the first of even number lies within it.
+    // A recording has at least three frames, so the first even-numbered frame lies within it.
     let count = recording.len();
     let start = place.start();
     prove!(57_600 <= count && start < 19_200);
@@ -96,7 +96,7 @@ fn read_frames<S: ReadSlot>(
     told
 }
 
-// What an attempt tells.
+// Returns the answer and the grant of an attempt.
 fn informed_by(attempt: Attempt) -> Informed
     ensures sib1 { result.sib1 ≡ attempt.answer }
     ensures granted { result.granted ≡ granted_by attempt }
@@ -108,7 +108,7 @@ fn informed_by(attempt: Attempt) -> Informed
     }
 }
 
-/// Number `i`, 0 to 7, of a cell's frames of even number, counted from its first frame, whose number is `sfn`.
+/// Returns the index, from a cell's first frame with number `sfn`, of its even-numbered frame `i`, 0 to 7.
 pub fn even_frame(sfn: Sfn, i: u8) -> u8
     requires { i < 8 }
     ensures value { result ≡ even_frame_of sfn i }

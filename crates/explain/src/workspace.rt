@@ -9,8 +9,8 @@ use pss_search::HitList;
 use std::alloc::{AllocError, Global};
 use std::marker::Model;
 
-/// The working memory of a search for cells by any receiver. Contracts see it as how the entries of the last list were
-/// read, in the order of the list; what else it holds between two searches means nothing.
+/// The working memory of a search for cells, for any receiver. Contracts see it as how the entries of the last list
+/// were read, in the order of the list. Its other contents between two searches have no meaning.
 #[derive(Drop)]
 pub struct Workspace {
     pub(crate) hits: HitList,
@@ -24,7 +24,7 @@ impl Model for Workspace {
 }
 
 impl Workspace {
-    /// Takes all the memory. Only memory can be wanting.
+    /// Allocates everything up front. Fails only if an allocation fails.
     pub fn new(alloc: Global) -> Result<Workspace, AllocError>
         ensures { IfOk result (λ work. work ≡ []) }
     {
@@ -33,7 +33,7 @@ impl Workspace {
         Ok(Workspace { hits, notes })
     }
 
-    /// How the entries of the last list were read, in its order.
+    /// Returns how the entries of the last list were read, in its order.
     pub fn readings(&self) -> &[Reading]
         ensures { result.now ≡ self.now }
     {

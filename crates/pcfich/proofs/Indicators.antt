@@ -1,4 +1,4 @@
--- Values tell one indicator.
+-- Soft values select exactly one indicator.
 use Rattle.std.proofs.Common.{◌≡◌, ◌⊎◌, ℕ, zero, suc, ◌-◌, ◌%◌, ◌<◌, ◌≤◌, inl, inr, Bool, true, false, nat_eq, refl, sym, ◌∙◌, List, ℤ, pos, slice_index_or, arith}
 use Rattle.std.proofs.lemmas.Bool.{cases_lt, eqb-true, eq-eqb, false≢true}
 use Rattle.std.proofs.lemmas.Bool.Decides.{nat_tests}
@@ -7,7 +7,7 @@ use Rattle.cs_bits.specs.Signs.{disagreement}
 use Rattle.grid_map.specs.Scrambling.{indicator_bit}
 use Rattle.pcfich.specs.Indicator.{cost, IsIndicator, Speak}
 
--- what holds of 1, 2 and 3 holds of each indicator
+-- a property that 1, 2 and 3 have holds for each indicator
 of_each : (P : ℕ → Type 0) → P 1 → P 2 → P 3 → (k : ℕ) → 1 ≤ k → k ≤ 3 → P k
 of_each P a b c zero low high = absurd (omega (arith, low))
 of_each P a b c (suc zero) low high = a
@@ -15,7 +15,7 @@ of_each P a b c (suc (suc zero)) low high = b
 of_each P a b c (suc (suc (suc zero))) low high = c
 of_each P a b c (suc (suc (suc (suc k)))) low high = absurd (omega (arith, high))
 
--- an indicator that costs no more than the others, and less than those before it
+-- an indicator that costs no more than the others, and less than the lower ones, is selected
 best : (values : List ℤ) (k : ℕ) → 1 ≤ k → k ≤ 3 → cost values k ≤ cost values 1 → cost values k ≤ cost values 2 → cost values k ≤ cost values 3 →
     (1 < k → cost values k < cost values 1) → (2 < k → cost values k < cost values 2) → IsIndicator values k
 best values k low high one two three first second = record {
@@ -37,7 +37,7 @@ some_indicator values = elim (cases_lt (cost values 2) (cost values 1)) [
   ]
 ]
 
--- and no other
+-- no two indicators are selected
 pub one_indicator : (values : List ℤ) (a b : ℕ) → IsIndicator values a → IsIndicator values b → a ≡ b
 one_indicator values a b p q = cases (cases_lt a b) (cases_lt b a)
   where
@@ -46,16 +46,16 @@ one_indicator values a b p q = cases (cases_lt a b) (cases_lt b a)
     cases (inr l) (inl m) = absurd (let x = p.first b q.range.0 m in let y = q.least a p.range.0 p.range.1 in omega (arith, x, y))
     cases (inr l) (inr m) = omega (arith, l, m)
 
--- ---- values that speak for one
+-- ---- values that agree with an indicator
 
--- what is sent costs nothing
+-- an indicator with which all values agree costs nothing
 sent_free : (values : List ℤ) (sent : ℕ) → Speak values sent → cost values sent ≡ 0
 unfolding cost
 sent_free values sent speak =
     let within = total_below-within 32 0 (λ i. disagreement (slice_index_or values i (pos 0)) (indicator_bit sent i)) (λ k l. let none = (speak k l).free in omega (arith, none)) in
     omega (arith, within)
 
--- another indicator has the other bit at a place
+-- any other indicator differs in some bit, and so costs more than 0
 other_dear : (values : List ℤ) (sent other : ℕ) → 1 ≤ sent → sent ≤ 3 → 1 ≤ other → other ≤ 3 → (sent ≡ other → ⊥) → Speak values sent → 0 < cost values other
 unfolding cost
 other_dear values sent other a b c d differ speak =
@@ -65,7 +65,7 @@ other_dear values sent other a b c d differ speak =
     let dear' = rw own at dear in
     total_some 32 (sent - 1) (λ i. disagreement (slice_index_or values i (pos 0)) (indicator_bit other i)) (omega arith) (rw others (omega (arith, dear')))
 
--- values that speak for one tell it
+-- if all values agree with an indicator, it is selected
 pub spoken_indicator : (values : List ℤ) (sent told : ℕ) → 1 ≤ sent → sent ≤ 3 → Speak values sent → IsIndicator values told → told ≡ sent
 spoken_indicator values sent told a b speak is = settle (nat_eq sent told) refl
   where

@@ -1,20 +1,20 @@
--- The control format indicator that values tell.
+-- The control format indicator that soft values select.
 use Rattle.std.specs.Prelude.{ℕ, ◌<◌, ◌≤◌, List, slice_index_or, ℤ, pos}
 use Rattle.finite.specs.Sums.{total_below}
 use Rattle.cs_bits.specs.Signs.{disagreement, SpeaksFor}
 use Rattle.grid_map.specs.Scrambling.{indicator_bit}
 
--- what an indicator costs: the sum of the sizes of the values that speak against its bits (own)
+-- an indicator's cost: the summed magnitudes of the values whose signs disagree with its bits (own)
 unfoldable pub cost : List ℤ → ℕ → ℕ
 cost values indicator =
     total_below 32 (λ i. disagreement (slice_index_or values i (pos 0)) (indicator_bit indicator i))
 
--- the indicator of least cost among all three, and of equals the lowest (own)
+-- the indicator with the minimum cost; ties go to the lowest (own)
 pub record IsIndicator (values : List ℤ) (indicator : ℕ) : Type 0 where
   pub range : (1 ≤ indicator) × (indicator ≤ 3)
   pub least : (other : ℕ) → 1 ≤ other → other ≤ 3 → cost values indicator ≤ cost values other
   pub first : (other : ℕ) → 1 ≤ other → other < indicator → cost values indicator < cost values other
 
--- every value speaks for its bit of an indicator (own)
+-- every value agrees in sign with its bit of the indicator (own)
 abbrev pub Speak : List ℤ → ℕ → Type 0
 Speak values indicator = (i : ℕ) → i < 32 → SpeaksFor (slice_index_or values i (pos 0)) (indicator_bit indicator i)

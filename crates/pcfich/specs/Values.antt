@@ -1,16 +1,15 @@
--- The soft values of the physical control format indicator channel in a slot, which is the first of
--- its subframe (TS 36.211 section 6.7).
+-- The PCFICH soft values in a subframe's first slot (TS 36.211 section 6.7).
 use Rattle.std.specs.Prelude.{List, ℤ}
 use Rattle.grid_map.specs.Control.{pcfich_places}
 use Rattle.grid_map.specs.Scrambling.{pcfich_c_init}
 use Rattle.soft_bits.specs.Soft.{SeenSlot}
 use Rattle.soft_bits.specs.Places.{Valuing, placed_values, descrambled}
 
--- the 32 values by the bits before scrambling, by a way to make soft values
+-- the 32 descrambled soft values, for any `Valuing`, the method that computes soft values
 unfoldable pub indicator_values_by : Valuing → SeenSlot → List ℤ
 indicator_values_by values slot =
     descrambled (pcfich_c_init slot.identity slot.number) 0 (values (λ p. slot) (pcfich_places slot.identity))
 
--- the 32 values by the bits before scrambling, with one antenna port
+-- the 32 descrambled soft values with one antenna port
 abbrev pub indicator_values : SeenSlot → List ℤ
 indicator_values = indicator_values_by placed_values

@@ -1,4 +1,4 @@
-//! The indicator that the values tell.
+//! The choice of the control format indicator from soft values.
 
 ghost use Rattle.std.specs.Prelude.{◌≡◌, ℕ, ◌*◌, ◌<◌, ◌≤◌, ℤ, List, nat_le, ◌&&◌, length, if◌then◌else◌};
 ghost use Rattle.finite.specs.Sizes.{AllWithin};
@@ -11,8 +11,8 @@ use grid_map::indicator_bit;
 use lte_types::Cfi;
 use soft_bits::ReadSlot;
 
-/// The control format indicator of least cost in slot 10, the first of subframe 5; of equals the
-/// lowest. A cost is the sum of the sizes of the values that speak against the indicator's 32 bits.
+/// Returns the minimum-cost control format indicator in slot 10, the first of subframe 5; ties go to the lowest. The
+/// cost is the summed magnitude of the soft values that disagree with the indicator's 32 bits.
 pub fn cfi<S: ReadSlot>(slot: &S) -> Cfi
     requires { (S.seen_as slot.now).number ≡ 10 }
     ensures { IsIndicator (indicator_values_by S.values_by (S.seen_as slot.now)) result }
@@ -20,8 +20,8 @@ pub fn cfi<S: ReadSlot>(slot: &S) -> Cfi
     indicator(&received(slot))
 }
 
-/// The control format indicator of least cost by the 32 values of its channel, each of size at most
-/// 127; of equals the lowest.
+/// Returns the minimum-cost control format indicator for the 32 PCFICH soft values, each from -127 to 127; ties go to
+/// the lowest.
 pub fn indicator(values: &[i16; 32]) -> Cfi
     requires { AllWithin 127 values.now }
     ensures { IsIndicator values.now result }
@@ -30,7 +30,7 @@ pub fn indicator(values: &[i16; 32]) -> Cfi
     Cfi::new(best).unwrap()
 }
 
-// The number of the least of three costs; of equals the first.
+// Returns the number, 1 to 3, of the minimum cost; ties go to the first.
 fn least_of(first: u32, second: u32, third: u32) -> u8
     ensures value { result ≡ (if nat_le first second && nat_le first third then 1
         else (if nat_le second third then 2 else 3)) }
@@ -45,7 +45,7 @@ fn least_of(first: u32, second: u32, third: u32) -> u8
     }
 }
 
-// What an indicator costs.
+// Returns the indicator's cost.
 fn cost_of(values: &[i16; 32], indicator: u8) -> u32
     requires some { 1 ≤ indicator }
     requires sizes { AllWithin 127 values.now }
@@ -58,8 +58,8 @@ fn cost_of(values: &[i16; 32], indicator: u8) -> u32
     cost
 }
 
-/// Values tell one indicator, and no other; where they all speak for the bits of an indicator, they
-/// tell that one.
+/// A law: soft values select exactly one indicator. If they all agree with one indicator's bits, that indicator is
+/// selected.
 pub fn only_one_indicator()
     ensures one { (values : List ℤ) (a b : ℕ) → IsIndicator values a → IsIndicator values b → a ≡ b }
     ensures some { (values : List ℤ) → (indicator : ℕ) × IsIndicator values indicator }

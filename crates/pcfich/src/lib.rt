@@ -1,5 +1,6 @@
-//! The control format indicator of a subframe: the soft values of its channel, and the indicator
-//! that they tell (TS 36.211 section 6.7, TS 36.212 section 5.3.4).
+//! The control format indicator of a subframe: the PCFICH soft values, and the indicator that they select (TS 36.211
+//! section 6.7, TS 36.212 section 5.3.4).
+//! Tests: the crate `slot_tests`.
 #![tactic(auto)]
 
 mod least;

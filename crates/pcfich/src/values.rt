@@ -1,4 +1,4 @@
-//! The soft values of the channel.
+//! The PCFICH soft values.
 
 ghost use Rattle.std.specs.Prelude.{◌≡◌, ◌≤◌};
 ghost use Rattle.finite.specs.Sizes.{AllWithin};
@@ -7,7 +7,7 @@ ghost use Rattle.pcfich.specs.Values.{indicator_values_by};
 use grid_map::{pcfich_c_init, pcfich_places};
 use soft_bits::{ReadSlot, descramble, fill_slot};
 
-// The 32 values by the bits before scrambling.
+// Returns the 32 descrambled PCFICH soft values.
 pub(crate) fn received<S: ReadSlot>(slot: &S) -> [i16; 32]
     ensures values { result ≡ indicator_values_by S.values_by (S.seen_as slot.now) }
     ensures sizes { AllWithin 127 result }

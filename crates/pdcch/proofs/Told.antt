@@ -1,4 +1,4 @@
--- Values where there are four elements at least.
+-- The candidate's soft values, if there are at least four elements.
 use Rattle.std.proofs.Common.{◌≡◌, ℕ, ◌<◌, ◌≤◌, Bool, true, false, List, Some, None, ℤ, refl}
 use Rattle.std.specs.Prelude.{nat_lt, if◌then◌else◌}
 use Rattle.std.proofs.lemmas.Bool.{lt-ltb, le-ltb, ltb-true, ltb-false}
@@ -19,7 +19,7 @@ pub enough : (by : Valuing) (slot : SeenSlot) (indicator : ℕ) (duration : Dura
 unfolding candidate_if_by
 enough by slot indicator duration resource values many is = rw (is, le-ltb (element_count indicator duration resource) 4 many) refl
 
--- what a candidate tells
+-- `values` is the candidate, and there are at least four elements
 pub record IsCandidate (by : Valuing) (slot : SeenSlot) (indicator : ℕ) (duration : Duration) (resource : Resource) (values : List ℤ) : Type 0 where
   pub many : 4 ≤ element_count indicator duration resource
   pub is : values ≡ candidate_values_by by slot indicator duration resource

@@ -1,5 +1,5 @@
--- The soft values of the physical downlink shared channel that carries SystemInformationBlockType1, in
--- subframe 5, of which both slots were seen (TS 36.211 sections 6.3.1 and 6.4).
+-- The PDSCH soft values for SystemInformationBlockType1, in the two slots of subframe 5 (TS 36.211 sections 6.3.1 and
+-- 6.4).
 use Rattle.std.specs.Prelude.{ℕ, List, ℤ}
 use Rattle.lte_types.specs.declared.carrier.Carrier.{Carrier}
 use Rattle.lte_types.specs.declared.carrier.Carrier.TheVariants.{OnePort}
@@ -9,13 +9,13 @@ use Rattle.dci.specs.Fields.{system_information_rnti}
 use Rattle.soft_bits.specs.Soft.{SeenSlot}
 use Rattle.soft_bits.specs.Places.{Valuing, in_subframe, placed_values, descrambled}
 
--- the values of a count of blocks from a first one on, by the bits before scrambling and by a way to make soft
--- values; the sequence begins with the first place of the subframe and runs on through both slots
+-- the descrambled soft values for a count of resource blocks from block `start` on, for any `Valuing`, the method that
+-- computes soft values; the scrambling sequence starts with the subframe and runs on through both slots
 unfoldable pub shared_values_by : Carrier → Valuing → SeenSlot → SeenSlot → ℕ → ℕ → ℕ → List ℤ
 shared_values_by carrier values first second cfi start blocks =
     descrambled (pdsch_c_init first.identity first.number system_information_rnti) 0
     (values (in_subframe first second) (shared_places_of carrier first.identity cfi start blocks))
 
--- the values of a count of blocks from a first one on, with one antenna port
+-- the descrambled soft values for a count of resource blocks from block `start` on, with one antenna port
 abbrev pub shared_values : SeenSlot → SeenSlot → ℕ → ℕ → ℕ → List ℤ
 shared_values = shared_values_by OnePort placed_values

@@ -1,4 +1,5 @@
-//! The values of a block.
+//! The soft values for the assigned resource blocks: two per resource element, each from -127 to 127, ordered as in
+//! TS 36.211 section 6.4. The scrambling sequence starts once, with the subframe (section 6.3.1).
 
 ghost use Rattle.std.specs.Prelude.{◌≡◌, ◌*◌, ◌%◌, ◌<◌, ◌≤◌, All, length, take, drop};
 ghost use Rattle.finite.specs.Sizes.{AllWithin};
@@ -14,17 +15,11 @@ use grid_map::{Place, pdsch_c_init, shared_count, shared_place};
 use lte_types::{Assignment, Carrier, CellId, Cfi};
 use soft_bits::{ReadSlot, descramble};
 
-/// The most values that a grant has: those of six blocks with indicator 2 and one antenna port.
+/// The maximum number of soft values in a grant: six resource blocks, indicator 2 and one antenna port.
 pub const MOST_VALUES: usize = 1224;
 
-/// Writes the values of a grant's blocks, by the bits before scrambling, to the front of `out`, and
-/// gives their count, two for each place that `grid_map::block_places` tells of a block; what stands behind them is
-/// unchanged.
-///
-/// There are two values a place, of size at most 127, in the order of the places
-/// (TS 36.211 section 6.4). The scrambling sequence begins once, with the subframe (section 6.3.1).
-/// `first` and `second` are slots 10 and 11 of one cell, `cfi` is 2 or 3, and the grant is one that
-/// `dci::read` can answer.
+/// Writes a grant's descrambled soft values to the front of `out`, two per resource element, and returns their count.
+/// `first` and `second` are slots 10 and 11 of one cell, `cfi` is 2 or 3.
 pub fn values<S: ReadSlot>(
     first: &S,
     second: &S,
@@ -49,7 +44,7 @@ pub fn values<S: ReadSlot>(
     }
 }
 
-// Writes the values of the assigned blocks to the front of `out`, and gives their count.
+// Writes the soft values for the assigned blocks to the front of `out`, and returns their count.
 fn fill_values<S: ReadSlot>(
     first: &S,
     second: &S,
@@ -69,7 +64,7 @@ fn fill_values<S: ReadSlot>(
     2 * count
 }
 
-// Writes the places of the assigned blocks to the front of `places`, and gives their count.
+// Writes the assigned blocks' resource elements to the front of `places`, and returns their count.
 fn fill_places(
     carrier: Carrier,
     id: CellId,
@@ -89,7 +84,7 @@ fn fill_places(
     count
 }
 
-// Writes the values of places of the shared channel, by the bits before scrambling.
+// Writes the descrambled PDSCH soft values at the resource elements `places`.
 fn fill_shared<S: ReadSlot>(first: &S, second: &S, places: &[Place], values: &mut [i16])
     requires few { length places.now ≤ 612 }
     requires inside { All (λ p. (p.symbol < 14) × (p.k < 72)) places.now }

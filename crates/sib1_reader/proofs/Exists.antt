@@ -1,4 +1,4 @@
--- There is an answer to each attempt, and its fields are in their ranges.
+-- Each subframe has an attempt, and fields that are read are in their ranges.
 use Rattle.std.proofs.Common.{◌≡◌, ℕ, inl, inr, Bool, true, false, List, ℤ, Option, None, Some, Result, Ok, Err, refl, sym, subst, ◌∙◌}
 use Rattle.std.specs.Prelude.{nat_eq, bit_xor}
 use Rattle.std.proofs.lemmas.Bool.{cases_lt, eqb-true, eq-eqb, false≢true}
@@ -58,7 +58,7 @@ some_control count candidate = elim (cases_lt count 4) [
       by_check count candidate word (record { enough = enough; least = least }) (nat_eq (check_of 16 word) (bit_xor (crc16_of (message_of 16 word)) system_information_rnti)) refl
 ]
 
--- what is granted is a grant
+-- a decoded grant has its fields in their ranges
 granted : (count : ℕ) (candidate : List ℤ) (grant : Grant) → Grants count candidate (Ok grant) → IsGrant grant
 granted count candidate grant g = carried_is_grant (message_of 16 g.word) grant g.says
 

@@ -1,4 +1,4 @@
--- The indicator and the grant by which an attempt has read its fields.
+-- The indicator and the grant with which an attempt read its fields.
 use Rattle.std.proofs.Common.{◌≡◌, ℕ, Option, Some, None, Result, Ok, Err, refl, sym}
 use Rattle.lte_types.specs.declared.sib1.Sib1.{Sib1}
 use Rattle.lte_types.specs.declared.sib1_reason.Sib1Reason.{Sib1Reason}
@@ -7,7 +7,7 @@ use Rattle.sib1_reader.specs.declared.reading.Attempt.{Attempt}
 use Rattle.sib1_reader.specs.Subframe.{Subframe}
 use Rattle.sib1_reader.specs.Attempt.{Follows, granted_with}
 
--- an attempt has read fields, by this indicator and this grant
+-- the attempt read fields, with this indicator and this grant
 pub record HasRead (attempt : Attempt) (told : ℕ × Grant) : Type 0 where
   pub fields : Sib1
   pub is : attempt ≡ record { cfi = told.0; grant = Some told.1; answer = Ok fields }
@@ -19,7 +19,7 @@ has_read i (Some g) (Err reason) told e = absurd cc
 has_read i None (Ok fields) told e = absurd cc
 has_read i None (Err reason) told e = absurd cc
 
--- one without them has read no fields
+-- an attempt without an indicator and a grant read no fields
 pub none_read : (values : Subframe) (i : ℕ) (g : Option Grant) (a : Result Sib1 Sib1Reason) (fields : Sib1) → Follows values i g a →
     granted_with i g a ≡ None → a ≡ Ok fields → ⊥
 none_read values i (Some g) (Ok told) fields follows e same = absurd cc

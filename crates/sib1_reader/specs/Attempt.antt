@@ -1,4 +1,4 @@
--- One attempt to read SystemInformationBlockType1, in subframe 5 of one frame (own order of the refusals).
+-- One attempt to read SystemInformationBlockType1 in subframe 5 of one frame (the order of the refusals is own).
 use Rattle.std.specs.Prelude.{◌≡◌, ℕ, Option, None, Some, Result, Ok, Err}
 use Rattle.lte_types.specs.declared.sib1.Sib1.{Sib1}
 use Rattle.lte_types.specs.declared.sib1_reason.Sib1Reason.{Sib1Reason}
@@ -9,23 +9,23 @@ use Rattle.sib1_reader.specs.Subframe.{Subframe}
 use Rattle.sib1_reader.specs.Control.{Grants}
 use Rattle.sib1_reader.specs.Block.{Tells}
 
--- the grant tells the blocks whose values tell the answer
+-- the grant was decoded, and the resource blocks that it assigns give the answer
 pub record IsGranted (values : Subframe) (indicator : ℕ) (grant : Grant) (answer : Result Sib1 Sib1Reason) : Type 0 where
   pub grants : Grants (values.elements indicator) (values.candidate indicator) (Ok grant)
   pub tells : Tells (values.shared indicator grant.start grant.blocks) grant answer
 
--- the answer by what was granted; where nothing was, the reason why is the answer
+-- the answer that follows from the grant; without a grant, the reason for its absence
 abbrev pub Follows : Subframe → ℕ → Option Grant → Result Sib1 Sib1Reason → Type 0
 Follows values indicator (Some grant) answer = IsGranted values indicator grant answer
 Follows values indicator None (Err reason) = Grants (values.elements indicator) (values.candidate indicator) (Err reason)
 Follows values indicator None (Ok fields) = ⊥
 
--- the attempt on a subframe with these values
+-- the attempt on a subframe with these soft values
 pub record IsAttempt (values : Subframe) (attempt : Attempt) : Type 0 where
   pub told : IsIndicator values.indicator attempt.cfi
   pub follows : Follows values attempt.cfi attempt.grant attempt.answer
 
--- the indicator and the grant by which an attempt has read its fields, or none where it has none
+-- the indicator and the grant with which an attempt read its fields, or none if it read none
 abbrev pub granted_with : ℕ → Option Grant → Result Sib1 Sib1Reason → Option (ℕ × Grant)
 granted_with indicator (Some grant) (Ok fields) = Some (indicator, grant)
 granted_with indicator (Some grant) (Err reason) = None
@@ -34,7 +34,7 @@ granted_with indicator None answer = None
 abbrev pub granted_by : Attempt → Option (ℕ × Grant)
 granted_by attempt = granted_with attempt.cfi attempt.grant attempt.answer
 
--- the answer of a subframe with these values
+-- a subframe's answer with these soft values
 pub record Reads (values : Subframe) (answer : Result Sib1 Sib1Reason) : Type 0 where
   pub attempt : Attempt
   pub is : IsAttempt values attempt

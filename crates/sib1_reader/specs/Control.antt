@@ -1,5 +1,5 @@
--- What the control information of the common search space says (TS 36.212 sections 5.3.3.1.3 and 5.3.3.2,
--- TS 36.213 section 9.1.1), by the count of control channel elements and the 288 values of the first four.
+-- The PDCCH candidate's content in the common search space (TS 36.212 sections 5.3.3.1.3 and 5.3.3.2, TS 36.213 section
+-- 9.1.1), from the number of control channel elements and the 288 soft values for the first four.
 use Rattle.std.specs.Prelude.{◌≡◌, ℕ, ◌<◌, ◌≤◌, Bool, List, ℤ, Result, Err}
 use Rattle.lte_types.specs.declared.sib1_reason.Sib1Reason.{Sib1Reason}
 use Rattle.lte_types.specs.declared.sib1_reason.Sib1Reason.TheVariants.{NoSearchSpace, NoControl}
@@ -10,30 +10,30 @@ use Rattle.dci.specs.declared.grant.Grant.{Grant}
 use Rattle.dci.specs.Format1A.{Says}
 use Rattle.dci.specs.Fields.{system_information_rnti}
 
--- there are too few control channel elements for a candidate, and their count is told
+-- there are too few control channel elements for a candidate; the answer reports their count
 pub record HasNoSearchSpace (count told : ℕ) : Type 0 where
   pub told_is : told ≡ count
   pub few : count < 4
 
--- the candidate's word: of all words of 37 bits the least by the sums of its values
+-- the candidate's information word: the minimum-cost 37-bit word for the combined soft values
 pub record IsWord (count : ℕ) (candidate : List ℤ) (word : List Bool) : Type 0 where
   pub enough : 4 ≤ count
   pub least : IsLeastWord (summed 37 candidate) word
 
--- the check of the candidate's word, masked by the identifier, fails
+-- the CRC in the candidate's word, masked with the SI-RNTI, fails
 pub record HasNoControl (count : ℕ) (candidate : List ℤ) : Type 0 where
   pub word : List Bool
   pub is : IsWord count candidate word
   pub fails : HasCheck16 system_information_rnti word → ⊥
 
--- the check of the candidate's word passes, and the 21 bits before it say this
+-- the CRC in the candidate's word passes, and the 21 bits in front of it give this answer
 pub record ControlSays (count : ℕ) (candidate : List ℤ) (answer : Result Grant Sib1Reason) : Type 0 where
   pub word : List Bool
   pub is : IsWord count candidate word
   pub passes : HasCheck16 system_information_rnti word
   pub says : Says (message_of 16 word) answer
 
--- the grant, or the first reason that applies why there is none
+-- the grant, or the first reason why there is none
 abbrev pub Grants : ℕ → List ℤ → Result Grant Sib1Reason → Type 0
 Grants count candidate (Err (NoSearchSpace told)) = HasNoSearchSpace count told
 Grants count candidate (Err NoControl) = HasNoControl count candidate

@@ -1,5 +1,4 @@
--- The soft values of subframe 5 of a frame, by the bits before scrambling: all that system information is
--- read from.
+-- The descrambled soft values of subframe 5 from which system information is read.
 use Rattle.std.specs.Prelude.{ℕ, List, ℤ}
 use Rattle.lte_types.specs.declared.duration.Duration.{Duration}
 use Rattle.lte_types.specs.declared.resource.Resource.{Resource}
@@ -13,17 +12,17 @@ use Rattle.pdcch.specs.Candidate.{candidate_values_by}
 use Rattle.pdsch.specs.Values.{shared_values_by}
 
 pub record Subframe : Type 0 where
-  -- the 32 values of the control format indicator
+  -- the 32 PCFICH soft values
   pub indicator : List ℤ
-  -- how many control channel elements there are, by indicator
+  -- the number of control channel elements, by indicator
   pub elements : ℕ → ℕ
-  -- the 288 values of control channel elements 0 to 3, by indicator
+  -- the 288 soft values for control channel elements 0 to 3, by indicator
   pub candidate : ℕ → List ℤ
-  -- the values of the shared channel, by indicator, first block and count of blocks
+  -- the PDSCH soft values, by indicator, first resource block and count of blocks
   pub shared : ℕ → ℕ → ℕ → List ℤ
 
--- the values of a subframe of which both slots were seen, by the carrier and a way to make soft values, with the
--- PHICH of the master block
+-- a subframe's soft values from its two slots, for a transmission scheme and any `Valuing`, the method that computes
+-- soft values, with the MIB's PHICH configuration
 abbrev pub subframe_by : Carrier → Valuing → SeenSlot → SeenSlot → Duration → Resource → Subframe
 subframe_by carrier values first second duration resource = record {
   indicator = indicator_values_by values first;
@@ -32,6 +31,6 @@ subframe_by carrier values first second duration resource = record {
   shared = shared_values_by carrier values first second;
 }
 
--- the values of a subframe of which both slots were seen, with one antenna port
+-- a subframe's soft values from its two slots, with one antenna port
 abbrev pub one_port : SeenSlot → SeenSlot → Duration → Resource → Subframe
 one_port = subframe_by OnePort placed_values

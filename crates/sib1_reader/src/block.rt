@@ -1,4 +1,4 @@
-//! The transport block.
+//! The transport block of SystemInformationBlockType1.
 
 ghost use Rattle.std.specs.Prelude.{◌≡◌, ◌+◌, ◌<◌, ◌≤◌, All, IfOk, length};
 ghost use Rattle.std.specs.Option.{option_map};
@@ -18,8 +18,8 @@ use soft_bits::ReadSlot;
 use turbo_code::{Combined, Row, combine, row_of};
 use turbo_dec::{Block, Work, decode};
 
-/// The fields that the blocks of a grant tell, as `fields_of` gives them. `first` and `second` are slots 10
-/// and 11 of one cell, `cfi` is 2 or 3, and the grant is one that `dci::read` can answer.
+/// Returns the fields of the transport block that `grant` assigns, as `fields_of` does. `first` and `second` are slots
+/// 10 and 11 of one cell, and `cfi` is 2 or 3.
 pub(crate) fn fields_in<S: ReadSlot>(
     first: &S,
     second: &S,
@@ -41,9 +41,8 @@ pub(crate) fn fields_in<S: ReadSlot>(
     fields_of(&values[..count], grant, turbo)
 }
 
-/// The fields that the values of the shared channel tell, at most 5,760 and each of size at most 127, or
-/// why they tell none: `NotDecoded` where no block passes its check; otherwise the answer is that of
-/// `sib1::read`. The grant is one that `dci::read` can answer.
+/// Returns the fields decoded from the PDSCH soft values, at most 5,760 from -127 to 127, or why there are none:
+/// `NotDecoded` if no CRC passes, otherwise the error from `sib1::read`.
 pub fn fields_of(values: &[i16], grant: &Grant, turbo: &mut Work) -> Result<Sib1, Sib1Reason>
     requires count { length values.now ≤ 5760 }
     requires sizes { AllWithin 127 values.now }
@@ -57,8 +56,8 @@ pub fn fields_of(values: &[i16], grant: &Grant, turbo: &mut Work) -> Result<Sib1
     }
 }
 
-/// The transport block that the values of the shared channel tell, at most 5,760 and each of size at most
-/// 127; `None` exactly where no iterate passes its check. The grant is one that `dci::read` can answer.
+/// Returns the transport block decoded from the PDSCH soft values, at most 5,760 from -127 to 127; `None` if no iterate
+/// passes its CRC. `grant` is one that `dci::read` can return.
 pub fn block_of(values: &[i16], grant: &Grant, turbo: &mut Work) -> Option<Block>
     requires count { length values.now ≤ 5760 }
     requires sizes { AllWithin 127 values.now }
@@ -69,7 +68,7 @@ pub fn block_of(values: &[i16], grant: &Grant, turbo: &mut Work) -> Option<Block
     decode(&sums_of(values, row, grant.rv), row, turbo)
 }
 
-// The row of the table for the grant's size.
+// Returns the table row for the grant's transport block size.
 fn row_for(grant: &Grant) -> Row
     requires { IsGrant grant.now }
     ensures row { IsRow result }
@@ -81,7 +80,7 @@ fn row_for(grant: &Grant) -> Row
     }
 }
 
-// The sums of the values by coded bit.
+// Returns the soft values combined by coded bit.
 fn sums_of(values: &[i16], row: Row, rv: u8) -> Combined
     requires count { length values.now ≤ 5760 }
     requires sizes { AllWithin 127 values.now }

@@ -1,4 +1,4 @@
-//! The control information.
+//! The downlink control information of the common search space.
 
 ghost use Rattle.std.specs.Prelude.{◌≡◌, ℕ, ◌≤◌, ◌^◌, IfOk, IsTrue, ◌↔◌};
 ghost use Rattle.finite.specs.Sizes.{AllWithin, RowsWithin};
@@ -18,11 +18,11 @@ use pdcch::{candidate, elements};
 use soft_bits::ReadSlot;
 use tailbite::{Trellis, least};
 
-// How many bits the control information has before its check.
+// The count of control information bits in front of the CRC.
 const INFORMATION: usize = 21;
 
-/// The grant of subframe 5, or the first reason that applies why there is none: too few control channel
-/// elements, no word that passes its check, or one of those that `dci::read` gives. `first` is slot 10.
+/// Returns the grant of subframe 5, or the first reason why there is none: too few control channel elements, no word
+/// whose CRC passes, or an error from `dci::read`. `first` is slot 10.
 pub fn granted<S: ReadSlot>(
     first: &S,
     cfi: Cfi,
@@ -41,9 +41,8 @@ pub fn granted<S: ReadSlot>(
     }
 }
 
-/// The grant that the 288 values of control channel elements 0 to 3 tell, each of size at most 127: their
-/// least word of 37 bits has the 21 bits of the grant and their check. `NoControl` where the check fails;
-/// otherwise the answer is that of `dci::read`.
+/// Returns the grant decoded from the 288 soft values for control channel elements 0 to 3, each from -127 to 127. The
+/// errors are `NoControl` if the CRC in the 37-bit word fails, and those from `dci::read`.
 pub fn grant_of(values: &[i16; 288], trellis: &mut Trellis) -> Result<Grant, Sib1Reason>
     requires { AllWithin 127 values.now }
     ensures answer { (count : ℕ) → 4 ≤ count → Grants count values.now result }
@@ -56,7 +55,7 @@ pub fn grant_of(values: &[i16; 288], trellis: &mut Trellis) -> Result<Grant, Sib
     dci::read(&information_of(&word))
 }
 
-// The sums of the values by place of the coded word.
+// Returns the soft values combined by coded bit.
 fn sums_of(values: &[i16; 288]) -> [[i32; 3]; 37]
     requires { AllWithin 127 values.now }
     ensures sums { result ≡ summed 37 values.now }
@@ -65,8 +64,7 @@ fn sums_of(values: &[i16; 288]) -> [[i32; 3]; 37]
     combine(values)
 }
 
-// Whether the last 16 bits are the check of the others, masked by the identifier
-// (TS 36.212 section 5.3.3.2).
+// Returns whether the last 16 bits are the CRC of the others, masked with the SI-RNTI (TS 36.212 section 5.3.3.2).
 fn is_checked(word: &Bits<37>) -> bool
     ensures { IsTrue result ↔ HasCheck16 system_information_rnti word.now }
 {
@@ -74,7 +72,7 @@ fn is_checked(word: &Bits<37>) -> bool
     number_of(check) as u16 == crc16(information) ^ SI_RNTI
 }
 
-// The bits before the check.
+// Returns the bits in front of the CRC.
 fn information_of(word: &Bits<37>) -> Bits<21>
     ensures { result ≡ message_of 16 word.now }
 {

@@ -1,20 +1,20 @@
-//! The working memory.
+//! Working memory for the decoders.
 
 use std::alloc::{AllocError, Global};
 use tailbite::Trellis;
 use turbo_dec::Work;
 
-/// The working memory of both decoders. What it holds between two calls means nothing.
+/// Working memory for both decoders. Its contents between two calls have no meaning.
 #[derive(Drop)]
 pub struct Decoders {
     /// The trellis of the tail-biting code.
     pub trellis: Trellis,
-    /// The working memory of the turbo code.
+    /// The working memory of the turbo decoder.
     pub turbo: Work,
 }
 
 impl Decoders {
-    /// Takes all the memory. Only memory can be wanting.
+    /// Allocates everything up front. Fails only if an allocation fails.
     pub fn new(alloc: Global) -> Result<Decoders, AllocError> {
         let trellis = Trellis::new(alloc)?;
         let turbo = Work::new(alloc)?;

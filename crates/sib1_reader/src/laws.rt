@@ -2,8 +2,7 @@
 
 ghost use Rattle.sib1_reader.specs.Laws.{IsOneAttempt, IsOneAnswer, IsSomeAttempt, IsSomeAnswer, IsReadValid};
 
-/// On each subframe there is one attempt and no other, and so one answer; fields that are read are in their
-/// ranges.
+/// A law: each subframe has exactly one attempt, and so one answer; fields that are read are in their ranges.
 pub fn one_answer()
     ensures attempt { IsOneAttempt }
     ensures answer { IsOneAnswer }

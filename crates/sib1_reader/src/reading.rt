@@ -14,19 +14,25 @@ use lte_types::{Cfi, Mib, Sib1, Sib1Reason};
 use pcfich::cfi;
 use soft_bits::ReadSlot;
 
-/// One attempt to read SystemInformationBlockType1: what was read on the way, and the answer. (own)
+/// One attempt to read SystemInformationBlockType1 (own): the intermediate results and the answer.
 #[derive(Debug, Drop)]
 pub struct Attempt {
     /// The control format indicator.
     pub cfi: Cfi,
-    /// The grant, where one was read.
+    /// The grant, if one was read.
     pub grant: Option<Grant>,
-    /// The fields, or the first reason that applies why there are none.
+    /// The fields, each in its range, or the first reason that applies:
+    ///
+    /// - `NoSearchSpace` with the count of control channel elements, if there are fewer than four;
+    /// - `NoControl`, if the control information's CRC fails;
+    /// - `NotFormat1A`, `Distributed`, `BadRiv`, `ReservedMcs` or `BlockTooLarge`, as returned by `dci::read`;
+    /// - `NotDecoded`, if no transport block passes its CRC;
+    /// - `NotSib1` or `BadFields`, as returned by `sib1::read`.
     pub answer: Result<Sib1, Sib1Reason>,
 }
 
 impl Attempt {
-    /// The indicator and the grant by which the fields were read; `None` where there are no fields, or no grant.
+    /// Returns the indicator and the grant with which the fields were read; `None` if there are no fields or no grant.
     pub fn granted(&self) -> Option<(Cfi, Grant)>
         ensures { result ≡ granted_by self.now }
     {
@@ -38,17 +44,8 @@ impl Attempt {
     }
 }
 
-/// The attempt on subframe 5 of a frame. Its answer is the fields, each in its range, or the first reason
-/// that applies why there are none:
-///
-/// - `NoSearchSpace` with the count of control channel elements, where there are fewer than four;
-/// - `NoControl`, where the least word of the first four fails its check;
-/// - `NotFormat1A`, `Distributed`, `BadRiv`, `ReservedMcs` or `BlockTooLarge`, as `dci::read` gives them;
-/// - `NotDecoded`, where no transport block passes its check;
-/// - `NotSib1` or `BadFields`, as `sib1::read` gives them.
-///
-/// `first` and `second` are slots 10 and 11 of one cell, and `mib` is its master
-/// block, of which only the duration and the resource of the PHICH are looked at.
+/// Returns the attempt to read SystemInformationBlockType1 in subframe 5. `first` and `second` are slots 10 and 11 of
+/// one cell; of its MIB, only the PHICH duration and resource are used.
 pub fn attempt_in<S: ReadSlot>(first: &S, second: &S, mib: Mib, work: &mut Decoders) -> Attempt
     requires first { (S.seen_as first.now).number ≡ 10 }
     requires second { (S.seen_as second.now).number ≡ 11 }
@@ -73,7 +70,7 @@ pub fn attempt_in<S: ReadSlot>(first: &S, second: &S, mib: Mib, work: &mut Decod
     }
 }
 
-/// The answer of the attempt on subframe 5 of a frame, as `attempt_in` gives it.
+/// Returns the attempt's answer for subframe 5, as in `attempt_in`.
 pub fn read<S: ReadSlot>(
     first: &S,
     second: &S,

@@ -1,4 +1,4 @@
--- Least costs make tables that hold.
+-- Minimum costs make tables that hold.
 use Rattle.std.proofs.Common.{◌≡◌, ◌≢◌, ℕ, zero, suc, ◌^◌, ◌<◌, ◌≤◌, List, [], Some, length, get_or, ℤ, refl, sym, ◌∙◌, inl, inr, arith}
 use Rattle.std.proofs.lemmas.Bool.Decides.{eqb_tells}
 use Rattle.trellis.specs.Paths.{end_of}
@@ -11,11 +11,11 @@ use Rattle.tailbite.proofs.Branches.{word_cost-path}
 use Rattle.tail_cert.specs.Certificate.{IsLowerBound, StartHolds, StepsHold, bound, from_state, unbounded}
 use Rattle.tail_cert.specs.Forward.{HasLeastRows, IsTableFrom}
 
--- the start row of the state s: 0 there, and elsewhere more than the cost of every word
+-- the start row of state s: 0 there, and elsewhere more than the cost of every word
 pub record IsStartRow (s : ℕ) (start : List ℕ) : Type 0 where
   pub row : (x : ℕ) → x < 64 → get_or start x 0 ≡ ends_in (2 ^ 30) s x
 
--- where each bound of no step bounds nothing, or is the start's cost
+-- the steps hold if each bound before the first step bounds nothing or is the start's cost
 pub steps_hold : (values : List (List ℤ)) (first : ℕ → ℕ) (start : List ℕ) (table : List (List ℕ)) →
     ((x : ℕ) → x < 64 → first x ≢ unbounded → get_or start x 0 ≡ first x) → HasLeastRows values start table 40 → StepsHold values first table
 steps_hold values first start table same rows zero x b inside below some =
@@ -27,7 +27,7 @@ steps_hold values first start table same rows (suc i) x b inside below some =
     least_to-le shift (step_cost values) (λ y. get_or start y 0) 64 (suc i) x b _ _ ((rows.row i (omega arith)).least.least x below)
     ((rows.row (suc i) inside).least.least (shift x b) (shift_below x b below))
 
--- the least costs from a state bound each word that starts and ends there
+-- the minimum costs from a state bound each word that starts and ends there
 accepted : (values : List (List ℤ)) (cost s : ℕ) (general : List (List ℕ)) (start : List ℕ) (table : List (List ℕ)) → s < 64 → length values ≡ 40 → IsStartRow s start →
     IsLowerBound values cost → cost ≤ 2 ^ 30 → HasLeastRows values start table 40 → StartHolds values cost general s (Some table)
 accepted values cost s general start table below places is_start lower small rows = (steps_hold values (from_state s) start table first rows, ends)
@@ -53,7 +53,7 @@ accepted values cost s general start table below places is_start lower small row
               omega (arith, total, far_is, small)
         ]
 
--- the least costs are those from starts that cost the same
+-- equal start costs give equal minimum costs
 same_starts : (values : List (List ℤ)) (f g : ℕ → ℕ) (k x m : ℕ) → ((y : ℕ) → y < 64 → f y ≡ g y) →
     IsLeastTo shift (step_cost values) f 64 k x m → IsLeastTo shift (step_cost values) g 64 k x m
 same_starts values f g k x m same p =
@@ -64,7 +64,7 @@ same_starts values f g k x m same p =
       least = λ z ds below' size' there'. let d = same z below' in let h = p.least z ds below' size' there' in omega (arith, h, d);
     }
 
--- the table of a state
+-- the table that is written for a state
 pub table_from : (values : List (List ℤ)) (s : ℕ) (start : List ℕ) (table : List (List ℕ)) → s < 64 → length values ≡ 40 → IsStartRow s start →
     HasLeastRows values start table 40 → IsTableFrom values s table
 table_from values s start table below places is_start rows = record {

@@ -1,4 +1,4 @@
--- Bytes tell what they stand for.
+-- Bytes determine their content.
 use Rattle.std.proofs.Common.{◌≡◌, ℕ, zero, suc, ◌+◌, ◌*◌, ◌-◌, ◌/◌, ◌^◌, ◌<◌, ◌≤◌, Bool, false, cond, List, [], ◌∷◌, ◌++◌, Option, Some, None, length, take, drop, get_or, ℤ, pos, negsuc, refl, sym, subst, ap, ◌∙◌, arith, add-one}
 use Rattle.std.specs.Prelude.{All, is_some, nat_abs}
 use Rattle.std.specs.List.{flat_map}
@@ -19,12 +19,12 @@ use Rattle.tail_cert.specs.Form.{bytes_of, entry_bytes, head_count, mark, maybe_
 use Rattle.tail_cert.proofs.Pieces.{one_more}
 use Rattle.tail_cert.proofs.Values.{fits_16}
 
--- f writes each element with a property in w bytes, and these tell which it is
+-- f writes each element with property P in w bytes, and the bytes determine the element
 pub record IsCode {A : Type 0} (P : A → Type 0) (f : A → List ℕ) (w : ℕ) : Type 0 where
   pub size : (x : A) → P x → length (f x) ≡ w
   pub same : (x y : A) → P x → P y → f x ≡ f y → x ≡ y
 
--- lists that start with lists of one length are the same part by part
+-- equal lists whose first parts have equal lengths have equal parts
 pub same_parts : (a a' b b' : List ℕ) → length a ≡ length a' → a ++ b ≡ a' ++ b' → (a ≡ a') × (b ≡ b')
 same_parts a a' b b' size e = (
   sym (take_at a b (length a) refl) ∙ ap (take (length a)) e ∙ take_at a' b' (length a) (sym size),
@@ -74,7 +74,7 @@ bits_below : (z : ℤ) → nat_abs z ≤ 2032 → cast_unsigned w16 z < 2 ^ 16
 bits_below (pos n) h = omega arith
 bits_below (negsuc n) h = omega arith
 
--- a value is read back
+-- a value is read back from its bytes
 pub value_back : (z : ℤ) → nat_abs z ≤ 2032 → cast_signed w16 (little_number 2 (value_bytes z)) ≡ z
 unfolding value_bytes
 value_back z h = ap (cast_signed w16) (little_back_2 (cast_unsigned w16 z) (bits_below z h)) ∙ to_z-of_z w16 z (fits_16 z h)
@@ -119,9 +119,9 @@ table_code = list_code IsRow row_bytes 256 40 row_code
 values_code : IsCode (Counted 40 IsTriple) (flat_map place_bytes) 240
 values_code = list_code IsTriple place_bytes 6 40 place_code
 
--- ---- the set of the start states that have a table
+-- ---- the set of start states that have a table
 
--- a number of 64 bits is read back
+-- a 64-bit set is read back from its bytes
 pub set_back : (tables : List (Option (List (List ℕ)))) (more : List ℕ) → little_number 8 (set_bytes tables ++ more) ≡ number (set_of tables)
 unfolding set_bytes set_of
 set_back tables more =
@@ -133,7 +133,7 @@ pub set_size : (tables : List (Option (List (List ℕ)))) → length (set_bytes 
 unfolding set_bytes
 set_size tables = refl
 
--- the set tells of each start state whether it has a table
+-- the set says for each start state whether it has a table
 pub set_tells : (tables : List (Option (List (List ℕ)))) (s : ℕ) → s < 64 → odd (number (set_of tables) / 2 ^ s) ≡ is_some (get_or tables s None)
 unfolding set_of
 set_tells tables s below =
@@ -144,7 +144,7 @@ set_tells tables s below =
     ap (λ n. odd (number (set_of tables) / 2 ^ n)) (sym power) ∙ sym bit
     ∙ values_below_at (λ i. is_some (get_or tables (63 - i) None)) 64 (63 - s) false (omega (arith, below)) ∙ ap (λ k. is_some (get_or tables k None)) back
 
--- ---- tables that may be there
+-- ---- tables that may be absent
 
 maybe_size : (maybe : Option (List (List ℕ))) → IsMaybeTable maybe → length (maybe_bytes maybe) ≡ table_count * cond (is_some maybe) 1 0
 unfolding maybe_bytes
@@ -174,7 +174,7 @@ maybes_size tables h =
     let is : tables ≡ values_below 64 (λ s. get_or tables s None) = values_below_is None 64 (λ s. get_or tables s None) tables size (λ s below. refl) in
     ap (λ l. length (flat_map maybe_bytes l)) is ∙ first_maybes 64 (λ s. get_or tables s None) (λ s below. h.all s None (omega (arith, size, below)))
 
--- where the same tables are there, their bytes tell them
+-- if the same tables are present, their bytes determine them
 maybes_same : (xs ys : List (Option (List (List ℕ)))) → length xs ≡ length ys → ((s : ℕ) → s < length xs → is_some (get_or xs s None) ≡ is_some (get_or ys s None)) →
     All IsMaybeTable xs → All IsMaybeTable ys → flat_map maybe_bytes xs ≡ flat_map maybe_bytes ys → xs ≡ ys
 unfolding maybe_bytes
@@ -196,7 +196,7 @@ maybes_same (Some t ∷ xs) (Some u ∷ ys) size there p q e =
 
 -- ---- whole certificates
 
--- the parts up to the values, the word, the cost, the general table and the set, and how long they are
+-- the parts up to the values, the word, the cost, the general table and the set, with their lengths
 abbrev to_values : Held → List ℕ
 to_values c = mark ++ flat_map place_bytes c.values
 
@@ -237,7 +237,7 @@ sizes_of c h =
     let general : length (to_general c) ≡ 10493 = omega (arith, cost, g, l4) in
     record { values = values; word = word; cost = cost; general = general; set = omega (arith, general, s, l5) }
 
--- how many bytes a certificate has
+-- the length of a certificate
 pub length-bytes_of : (c : Held) → IsWhole c → length (bytes_of c) ≡ head_count + table_count * tables_there c.tables
 unfolding bytes_of
 length-bytes_of c h =
@@ -245,7 +245,7 @@ length-bytes_of c h =
     let rest = maybes_size c.tables h.starts in
     omega (arith, head, rest, length-append (head_of c) (flat_map maybe_bytes c.tables))
 
--- certificates with the same bytes are the same
+-- certificates with equal bytes are equal
 pub same_certificate : (c d : Held) → IsWhole c → IsWhole d → bytes_of c ≡ bytes_of d → c ≡ d
 unfolding bytes_of
 same_certificate c d p q e =

@@ -1,4 +1,4 @@
--- Lists that are read from bytes, element after element.
+-- Lists read from bytes, element by element.
 use Rattle.std.proofs.Common.{◌≡◌, ◌≢◌, ℕ, ◌+◌, ◌*◌, ◌<◌, ◌≤◌, List, [], ◌∷◌, ◌++◌, length, take, drop, set, get_or, refl, sym, ap, ◌∙◌, inl, inr, arith}
 use Rattle.std.specs.List.{flat_map}
 use Rattle.std.proofs.Math.Seq.{take-add}
@@ -7,7 +7,7 @@ use Rattle.std.proofs.lemmas.List.{append-nil, length-set, take_more_set, take_a
 use Rattle.std.proofs.lemmas.List.Concat.{flat_map-append}
 use Rattle.tail_cert.specs.Certificate.{Counted}
 
--- the first i of n elements are read, each from w bytes, and have a property
+-- the first i of n elements have been read, each from w bytes, and have property P
 pub record IsReadTo {A : Type 0} (f : A → List ℕ) (P : A → Type 0) (w n at : ℕ) (bytes : List ℕ) (xs : List A) (i : ℕ) : Type 0 where
   pub size : length xs ≡ n
   pub read : flat_map f (take i xs) ≡ take (w * i) (drop at bytes)

@@ -1,4 +1,4 @@
--- Values of a small size have an accepted certificate with their least word.
+-- Small values have an accepted certificate with their minimum-cost word.
 use Rattle.std.proofs.Common.{◌≡◌, ℕ, zero, suc, ◌-◌, ◌*◌, ◌^◌, ◌<◌, ◌≤◌, Bool, false, List, [], length, get_or, ℤ, map, refl, sym, subst, ap, ◌∙◌, inl, inr, arith}
 use Rattle.std.specs.Prelude.{All, nat_lt, replicate}
 use Rattle.std.proofs.lemmas.Bool.Decides.{eqb_tells}
@@ -25,13 +25,13 @@ use Rattle.tail_cert.proofs.Shown.{stored_whole}
 abbrev AreSmall : List (List ℤ) → Type 0
 AreSmall values = RowsWithin 2032 values
 
--- no branch costs more than three values
+-- no branch costs more than three values of the maximum magnitude
 branch_within : (values : List (List ℤ)) → AreSmall values → (k x : ℕ) (b : Bool) → branch_cost (get_or values k []) x b ≤ 3 * 2032
 branch_within values small k x b =
     triple_cost-le 2032 (get_or values k []) (parity (map (window_bit x b) taps_0)) (parity (map (window_bit x b) taps_1)) (parity (map (window_bit x b) taps_2))
     (row-within 2032 values k small)
 
--- the least costs of k steps from a start row
+-- the minimum costs of k steps from a start row
 row_after : List (List ℤ) → List ℕ → ℕ → List ℕ
 row_after values start zero = start
 row_after values start (suc k) = values_below 64 (forward_least (get_or values k []) (row_after values start k))
@@ -49,7 +49,7 @@ row_is_least values start small size room (suc k) =
     let branch = branch_within values small k (first_from x) (newest_bit x) in
     rw (values_below_at step 64 x 0 below) (omega (arith, branch)))
 
--- the table of a start state
+-- a start state's table
 start_of : ℕ → List ℕ
 start_of s = values_below 64 (ends_in (2 ^ 30) s)
 
@@ -81,7 +81,7 @@ table_size : (values : List (List ℤ)) (s : ℕ) → length (table_of values s)
 unfolding table_of
 table_size values s = values_below-length 40 (λ i. row_after values (start_of s) (suc i))
 
--- ---- the certificate of values and a word
+-- ---- the certificate for values and a word
 
 start_of_any : List ℕ
 start_of_any = replicate 64 0
@@ -129,7 +129,7 @@ certificate_of values word = record {
   tables = shown (states_of values word) (values_below 64 (table_of values));
 }
 
--- of a least word it is whole, accepted, and as one that is filled
+-- for a minimum-cost word, the certificate is whole, accepted and filled
 pub record IsCertificate (values : List (List ℤ)) (word : List Bool) (c : Held) : Type 0 where
   pub whole : IsWhole c
   pub accepted : IsAccepted c

@@ -1,4 +1,4 @@
--- The tables that are filled, one start state after the other.
+-- The tables filled so far, start state by start state.
 use Rattle.std.proofs.Common.{◌≡◌, ◌≢◌, ℕ, suc, ◌+◌, ◌-◌, ◌^◌, ◌<◌, ◌≤◌, ◌↔◌, Bool, true, false, cond, List, [], Some, None, length, get_or, set, ℤ, sym, subst, ◌∙◌, inl, inr, arith, length-set, get_or-set_other, get_or-set_same, ap, refl}
 use Rattle.std.specs.Prelude.{IfSome, IsSome, is_some, nat_lt, replicate}
 use Rattle.std.proofs.lemmas.Bool.{cases_lt, lt-ltb, ltb-true, ltb-false}
@@ -18,7 +18,7 @@ use Rattle.tail_cert.specs.Stored.{AreStored, has_table, shown, shown_at}
 use Rattle.tail_cert.proofs.Accept.{steps_hold}
 use Rattle.tail_cert.proofs.Shown.{some_shown, starts_shown, stored_with}
 
--- of the states below n those with a bound below the cost are in the set
+-- among the states below n, the set contains those whose bound is below the cost
 pub record AreNeededTo (cost : ℕ) (ends : List ℕ) (states : List Bool) (n : ℕ) : Type 0 where
   pub size : length states ≡ 64
   pub needed : (s : ℕ) → s < n → has_table states s ≡ nat_lt (get_or ends s 0) cost
@@ -29,7 +29,7 @@ needed_none cost ends = record {
   needed = λ s below. absurd (omega (arith, below));
 }
 
--- one state more
+-- one more state
 pub needed_more : (cost : ℕ) (ends : List ℕ) (states : List Bool) (n : ℕ) → AreNeededTo cost ends states n → n < 64 →
     AreNeededTo cost ends (set states (63 - n) (nat_lt (get_or ends n 0) cost)) (n + 1)
 needed_more cost ends states n known below =
@@ -45,7 +45,7 @@ needed_more cost ends states n known below =
       ];
     }
 
--- the tables of the states of the set below n are those of least costs from there
+-- the tables of the set's states below n hold the minimum costs from those states
 pub record AreFilledTo (values : List (List ℤ)) (states : List Bool) (tables : List (List (List ℕ))) (n : ℕ) : Type 0 where
   pub tables_are : AreStored states tables
   pub bounds : (s : ℕ) → s < n → has_table states s ≡ true → IsTableFrom values s (get_or tables s [])
@@ -56,7 +56,7 @@ filled_none values states tables stored = record {
   bounds = λ s below there. absurd (omega (arith, below));
 }
 
--- a state that the set has not
+-- a state that is not in the set
 pub without : (values : List (List ℤ)) (states : List Bool) (tables : List (List (List ℕ))) (n : ℕ) → AreFilledTo values states tables n → has_table states n ≡ false →
     AreFilledTo values states tables (n + 1)
 without values states tables n known none = record {
@@ -67,7 +67,7 @@ without values states tables n known none = record {
   ];
 }
 
--- one that it has
+-- a state in the set
 pub with_table : (values : List (List ℤ)) (states : List Bool) (tables : List (List (List ℕ))) (n : ℕ) (table : List (List ℕ)) → AreFilledTo values states tables n →
     n < 64 → has_table states n ≡ true → IsTable table → IsTableFrom values n table → AreFilledTo values states (set tables n table) (n + 1)
 with_table values states tables n table known below there whole holds =
@@ -80,16 +80,16 @@ with_table values states tables n table known below there whole holds =
       ];
     }
 
--- ---- the certificate that is filled
+-- ---- the filled certificate
 
--- what is asked of a start state, by whether its bound in the general table is below the cost
+-- a start state holds, whether or not its bound in the general table is below the cost
 start_filled : (values : List (List ℤ)) (cost : ℕ) (general : List (List ℕ)) (s : ℕ) (table : List (List ℕ)) (b : Bool) →
     b ≡ nat_lt (bound from_any general 40 s) cost → (b ≡ true → StartHolds values cost [] s (Some table)) →
     StartHolds values cost general s (cond b (Some table) None)
 start_filled values cost general s table true e own = own refl
 start_filled values cost general s table false e own = ltb-false (bound from_any general 40 s) cost (sym e)
 
--- a table is there exactly where it is needed
+-- a table is present exactly if it is needed
 there_where_needed : (set : List Bool) (tables : List (List (List ℕ))) (s m cost : ℕ) → s < 64 → has_table set s ≡ nat_lt m cost →
     IsSome (get_or (shown set tables) s None) ↔ (m < cost)
 there_where_needed set tables s m cost below e = (
@@ -97,7 +97,7 @@ there_where_needed set tables s m cost below e = (
   λ low. some_shown set tables s below ∙ e ∙ lt-ltb m cost low,
 )
 
--- the table of a state, where it is there, is one of least costs from the state
+-- a state's table, if present, holds the minimum costs from the state
 own_by : (values : List (List ℤ)) (s : ℕ) (table : List (List ℕ)) (b : Bool) → (b ≡ true → HasLeastFrom values s table) →
     IfSome (cond b (Some table) None) (HasLeastFrom values s)
 own_by values s table true h = h refl
@@ -116,7 +116,7 @@ zero_start = fun_ext (λ y. elim (cases_lt y 64) [
   | inr past ↦ get_or_past (replicate 64 0) y 0 (omega (arith, past, length-replicate {A = ℕ} 64 0))
 ])
 
--- values of a small size with their least word and such tables: accepted, and filled
+-- a certificate with small values, their minimum-cost word and such tables is accepted and filled
 pub filled : (values copied : List (List ℤ)) (word : List Bool) (cost : ℕ) (general : List (List ℕ)) (set : List Bool) (tables kept : List (List (List ℕ))) →
     copied ≡ values → kept ≡ tables → RowsWithin 2032 values → length values ≡ 40 → IsLeastWord values word → cost ≡ word_cost values word →
     HasLeastRows values (replicate 64 0) general 40 →
@@ -145,9 +145,9 @@ filled values copied word cost general set tables kept copy same sizes places le
     small : cost ≤ 2 ^ 30
     small = let h = word_cost-le 2032 values word sizes in omega (arith, h, stated, places)
 
--- ---- certificates of the same values and cost have the same tables
+-- ---- certificates with equal values and costs have equal tables
 
--- there is one least cost to a state
+-- the minimum cost to a state is unique
 one_least : (next : ℕ → Bool → ℕ) (c : ℕ → ℕ → Bool → ℕ) (starts : ℕ → ℕ) (limit k x m n : ℕ) → IsLeastTo next c starts limit k x m → IsLeastTo next c starts limit k x n → m ≡ n
 one_least next c starts limit k x m n p q =
     let (y, bs, below, size, there, cost) = p.reached in

@@ -1,4 +1,4 @@
--- Numbers that were read from bytes have these bytes.
+-- Numbers read from bytes are written as those bytes.
 use Rattle.std.proofs.Common.{◌≡◌, ℕ, ◌+◌, ◌*◌, ◌/◌, ◌%◌, ◌^◌, ◌<◌, ◌≤◌, List, [], ◌∷◌, length, take, drop, get_or, ◌++◌, take-append-drop, drop-drop, length-drop, sym, suc, inl, inr, Fits, w8, refl, ap, ◌∙◌, arith}
 use Rattle.std.specs.Int.{w16, w32, cast_unsigned, cast_signed}
 use Rattle.std.proofs.Math.Facts.{sfits_to_z, sfits_widen}
@@ -44,7 +44,7 @@ four_bytes (a ∷ b ∷ c ∷ d ∷ xs) l h =
     let e3 : (a + 256 * (b + 256 * (c + 256 * (d + 256 * 0)))) / 16777216 % 256 ≡ d = omega arith in
     rw (e0, e1, e2, e3) refl
 
--- numbers of four bytes each, read one after the other
+-- numbers of four bytes each, read one after another
 pub entries_read : (bytes xs : List ℕ) → length bytes ≡ 4 * length xs → ((i : ℕ) → get_or bytes i 0 < 256) → IsRead little_number 4 bytes xs →
     flat_map (little_bytes 4) xs ≡ bytes
 entries_read [] [] size fits h = refl
@@ -109,7 +109,7 @@ five_bytes (a ∷ b ∷ c ∷ d ∷ e ∷ xs) l h =
     let e4 : (a * 4294967296 + (b * 16777216 + (c * 65536 + (d * 256 + (e * 1 + 0))))) % 256 ≡ e = omega arith in
     (rw (e0, e1, e2, e3, e4) refl, omega arith)
 
--- a number of 16 bits, read as signed and made wider
+-- a 16-bit number, read as signed and widened
 pub wide_value : (n : ℕ) → n < 2 ^ 16 → cast_signed w32 (cast_unsigned w32 (cast_signed w16 (cast_unsigned w16 (cast_signed w16 n)))) ≡ cast_signed w16 n
 wide_value n h =
     let e : cast_signed w16 (cast_unsigned w16 (cast_signed w16 n)) ≡ cast_signed w16 n = ap (cast_signed w16) (of_z-to_z w16 n h) in

@@ -1,4 +1,4 @@
--- Pieces of bytes that are replaced one after the other.
+-- Pieces of bytes, replaced one after another.
 use Rattle.std.proofs.Common.{◌≡◌, ℕ, ◌+◌, ◌*◌, ◌-◌, ◌<◌, ◌≤◌, cond, List, [], ◌∷◌, ◌++◌, Option, Some, None, length, take, drop, get_or, refl, sym, ap, ◌∙◌, arith}
 use Rattle.std.specs.Prelude.{is_some}
 use Rattle.std.specs.List.{flat_map}
@@ -10,12 +10,12 @@ use Rattle.finite.proofs.Lists.{values_below_more}
 use Rattle.finite.proofs.Sums.{total_below_more}
 use Rattle.tail_cert.specs.Form.{maybe_bytes, table_bytes, table_count, with_piece}
 
--- the bytes of the tables that may be there, with one more
+-- the bytes of n + 1 tables that may be absent, from the bytes of n
 pub one_more : (n : ℕ) (f : ℕ → Option (List (List ℕ))) → flat_map maybe_bytes (values_below (n + 1) f) ≡ flat_map maybe_bytes (values_below n f) ++ maybe_bytes (f n)
 one_more n f = ap (flat_map maybe_bytes) (values_below_more n f) ∙ flat_map-append maybe_bytes (values_below n f) (f n ∷ [])
     ∙ ap (λ l. flat_map maybe_bytes (values_below n f) ++ l) (append-nil (maybe_bytes (f n)))
 
--- a write to the rest of the bytes from a place on
+-- a write to the rest of the bytes from an offset on
 pub put_piece : (at : ℕ) (piece bytes mid : List ℕ) → mid ≡ piece ++ drop (length piece) (take (length bytes - at) (drop at bytes)) → at ≤ length bytes →
     take at bytes ++ (mid ++ drop (length bytes - at) (drop at bytes)) ≡ with_piece at piece bytes
 unfolding with_piece
@@ -34,12 +34,12 @@ put_part at n piece bytes part e size =
     let count : at + n - at ≡ length piece = omega (arith, size) in
     rw (count, e, drop-drop (length piece) at bytes) (sym (append_assoc (take at bytes) piece (drop (at + length piece) bytes)))
 
--- pieces of w bytes each
+-- the total length of pieces with w bytes each
 pub pieces_size : {A : Type 0} (f : A → List ℕ) (w : ℕ) → ((x : A) → length (f x) ≡ w) → (xs : List A) → length (flat_map f xs) ≡ w * length xs
 pieces_size f w wide [] = omega arith
 pieces_size f w wide (x ∷ xs) = omega (arith, ap length (flat_map-cons f x xs), length-append (f x) (flat_map f xs), wide x, pieces_size f w wide xs)
 
--- one piece after another
+-- two adjacent pieces make one piece
 pub with_pieces : (at : ℕ) (a b bytes : List ℕ) → at + length a ≤ length bytes →
     with_piece (at + length a) b (with_piece at a bytes) ≡ with_piece at (a ++ b) bytes
 unfolding with_piece
@@ -67,7 +67,7 @@ length-with_piece at piece bytes room =
     let d = length-drop (at + length piece) bytes in
     omega (arith, a, b, c, d, room)
 
--- the pieces of the first elements of a list are written, each of w bytes
+-- the pieces of the first i elements are written, each w bytes long
 pub record IsWritten {A : Type 0} (f : A → List ℕ) (w : ℕ) (xs : List A) (at : ℕ) (old new : List ℕ) (i : ℕ) : Type 0 where
   pub bytes : new ≡ with_piece at (flat_map f (take i xs)) old
   pub size : length (flat_map f (take i xs)) ≡ w * i
@@ -108,7 +108,7 @@ written_all f w n xs at old new i known size done most =
     let e : i ≡ n = omega (arith, done, most) in
     (rw all at known.bytes, rw (all, e) at known.size)
 
--- seven pieces, from the first place to the end
+-- seven pieces that cover all bytes
 pub seven_pieces : (a b c d e f g bytes : List ℕ) (i j k l m n : ℕ) → length a ≡ i → i + length b ≡ j → j + length c ≡ k → k + length d ≡ l → l + length e ≡ m → m + length f ≡ n →
     n + length g ≡ length bytes →
     with_piece n g (with_piece m f (with_piece l e (with_piece k d (with_piece j c (with_piece i b (with_piece 0 a bytes)))))) ≡ a ++ b ++ c ++ d ++ e ++ f ++ g
@@ -129,9 +129,9 @@ seven_pieces a b c d e f g bytes i j k l m n hi hj hk hl hm hn size =
         let e : at ≡ 0 + length front = omega (arith, size) in
         rw e (with_pieces 0 front piece bytes (omega (arith, size, inside)))
 
--- ---- tables that may be there, one start state after the other
+-- ---- tables that may be absent, start state by start state
 
--- the tables of the states below n are written from a place on, and the next comes at another place
+-- the tables of the states below n are written from offset `from` on, and the next table goes to offset `place`
 pub record AreWrittenTo (f : ℕ → Option (List (List ℕ))) (from place : ℕ) (old new : List ℕ) (n : ℕ) : Type 0 where
   pub bytes : new ≡ with_piece from (flat_map maybe_bytes (values_below n f)) old
   pub size : length (flat_map maybe_bytes (values_below n f)) ≡ table_count * total_below n (λ s. cond (is_some (f s)) 1 0)
@@ -149,7 +149,7 @@ maybes_none f from old = record {
   same = refl;
 }
 
--- one that is not there
+-- a state without a table
 pub maybe_none : (f : ℕ → Option (List (List ℕ))) (from place : ℕ) (old new : List ℕ) (n : ℕ) → AreWrittenTo f from place old new n → f n ≡ None →
     AreWrittenTo f from place old new (n + 1)
 unfolding maybe_bytes
@@ -165,7 +165,7 @@ maybe_none f from place old new n known none =
       same = known.same;
     }
 
--- one that is there
+-- a state with a table
 pub maybe_some : (f : ℕ → Option (List (List ℕ))) (from place : ℕ) (old new next : List ℕ) (n : ℕ) (table : List (List ℕ)) → AreWrittenTo f from place old new n →
     f n ≡ Some table → length (table_bytes table) ≡ table_count → place + table_count ≤ length old → next ≡ with_piece place (table_bytes table) new →
     AreWrittenTo f from (place + table_count) old next (n + 1)

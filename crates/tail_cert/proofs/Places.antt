@@ -1,4 +1,4 @@
--- The cost of a word at a place, from its coded word.
+-- A word's cost at one position, from its codeword.
 use Rattle.std.proofs.Common.{◌≡◌, ℕ, ◌<◌, Bool, false, List, [], length, get_or, ℤ, refl, ◌∙◌, ap}
 use Rattle.finite.proofs.Lists.{values_below_at}
 use Rattle.conv_code.specs.Code.{coded_bits, coded_word}

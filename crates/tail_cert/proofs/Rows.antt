@@ -1,4 +1,4 @@
--- The rows of least costs, one after the other.
+-- The rows of minimum costs, one after another.
 use Rattle.std.proofs.Common.{◌≡◌, ◌≢◌, ℕ, suc, ◌+◌, ◌*◌, ◌^◌, ◌<◌, ◌≤◌, List, [], length, get_or, set, ℤ, refl, ◌∙◌, inl, inr, arith, get_or-set_other, get_or-set_same}
 use Rattle.std.proofs.lemmas.Bool.{cases_lt}
 use Rattle.std.proofs.lemmas.List.{get_or_default}
@@ -24,7 +24,7 @@ later_row values start k row later known size step growth = record {
   least = forward_row_is values (λ y. get_or start y 0) (2 ^ 30) (3 * 2 ^ 20) k row later known.least step growth;
 }
 
--- one row on, by a table of costs
+-- the next row, computed from a table of costs
 pub row_by_table : (values : List (List ℤ)) (start : List ℕ) (k : ℕ) (costs row later : List ℕ) → AreCosts (get_or values k []) costs →
     IsStepRow values start k row → length later ≡ 64 →
     ((x : ℕ) → x < 64 → get_or later x 0 ≡ shared_least costs row x) →
@@ -44,7 +44,7 @@ rows_more values start table k row inside known here = record {
   ];
 }
 
--- rows of least costs are in the range of a table
+-- rows of minimum costs are within a table's range
 pub rows_fit : (values : List (List ℤ)) (start : List ℕ) (table : List (List ℕ)) → length table ≡ 40 → HasLeastRows values start table 40 → IsTable table
 rows_fit values start table size rows = record {
   count = size;

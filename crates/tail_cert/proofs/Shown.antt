@@ -1,4 +1,4 @@
--- The tables that a set of start states shows.
+-- The tables that a set of start states selects.
 use Rattle.std.proofs.Common.{◌≡◌, ◌≢◌, ℕ, ◌+◌, ◌*◌, ◌-◌, ◌<◌, ◌≤◌, ◌↔◌, Bool, true, false, cond, List, [], ◌++◌, Some, None, length, take, drop, get_or, set, ℤ, refl, subst, sym, ap, ◌∙◌, arith, append-nil, drop-drop, length-set, get_or-set_other, get_or-set_same}
 use Rattle.std.specs.Prelude.{All, is_some}
 use Rattle.std.specs.List.{flat_map}
@@ -19,18 +19,18 @@ some_by : {A : Type 0} (b : Bool) (x : A) → is_some (cond b (Some x) None) ≡
 some_by true x = refl
 some_by false x = refl
 
--- the table of a state is there exactly where the set has the state
+-- a state's table is present exactly if the set contains the state
 pub some_shown : (set : List Bool) (tables : List (List (List ℕ))) (s : ℕ) → s < 64 → is_some (get_or (shown set tables) s None) ≡ has_table set s
 unfolding shown
 some_shown set tables s below =
     ap is_some (values_below_at (shown_at set tables) 64 s None below) ∙ some_by (has_table set s) (get_or tables s [])
 
--- as many are there as the set has states
+-- the number of tables present is the number of states in the set
 pub as_many : (set : List Bool) (tables : List (List (List ℕ))) → tables_there (shown set tables) ≡ total_below 64 (λ s. cond (has_table set s) 1 0)
 as_many set tables = total_below_same 64 (λ s. cond (is_some (get_or (shown set tables) s None)) 1 0) (λ s. cond (has_table set s) 1 0)
     (λ s below. ap (λ b. cond b 1 0) (some_shown set tables s below))
 
--- the set of the tables that are there
+-- the set is recovered from the tables present
 pub same_set : (set : List Bool) (tables : List (List (List ℕ))) → length set ≡ 64 → set_of (shown set tables) ≡ set
 unfolding set_of
 same_set set tables size = sym (values_below_is false 64 (λ i. is_some (get_or (shown set tables) (63 - i) None)) set size (λ i below.
@@ -41,7 +41,7 @@ maybe_table : (b : Bool) (table : List (List ℕ)) → (b ≡ true → IsTable t
 maybe_table true table h = h refl
 maybe_table false table h = tt
 
--- what memory holds is whole
+-- a certificate in memory is whole
 pub stored_whole : (c : Held) (set : List Bool) (tables : List (List (List ℕ))) → IsStored c.values c.word c.cost c.general set tables →
     c.tables ≡ shown set tables → IsWhole c
 unfolding shown
@@ -57,7 +57,7 @@ stored_whole c set tables h same = record {
   });
 }
 
--- tables up to one past the last state of a set
+-- tables up to one past the set's last state suffice
 pub stored_to : (set : List Bool) (tables : List (List (List ℕ))) (end : ℕ) → ((s : ℕ) → s < 64 → has_table set s ≡ true → s < end) → All IsTable tables →
     length tables ≤ 64 → end ≤ length tables → AreStored set tables
 stored_to set tables end past each most enough = record {
@@ -66,7 +66,7 @@ stored_to set tables end past each most enough = record {
   room = λ s below there. let p = past s below there in omega (arith, p, enough);
 }
 
--- with a table in the place of another
+-- tables stay stored if one is replaced
 pub stored_with : (states : List Bool) (tables : List (List (List ℕ))) (n : ℕ) (table : List (List ℕ)) → AreStored states tables → IsTable table →
     AreStored states (set tables n table)
 stored_with states tables n table known whole =
@@ -77,13 +77,13 @@ stored_with states tables n table known whole =
       room = λ s below there. omega (arith, known.room s below there, size);
     }
 
--- what is asked of a start state, by whether the set has it
+-- the condition on a start state, with its table selected by the set
 pub start_there : (values : List (List ℤ)) (cost : ℕ) (general : List (List ℕ)) (s : ℕ) (table : List (List ℕ)) (b : Bool) → b ≡ true →
     StartHolds values cost general s (Some table) ↔ StartHolds values cost general s (cond b (Some table) None)
 start_there values cost general s table true e = ((λ h. h), λ h. h)
 start_there values cost general s table false e = absurd (cc e)
 
--- of all start states, by their tables
+-- the conditions on all start states, with their tables selected by the set
 pub starts_shown : (values : List (List ℤ)) (cost : ℕ) (general : List (List ℕ)) (set : List Bool) (tables : List (List (List ℕ))) →
     ((s : ℕ) → s < 64 → StartHolds values cost general s (get_or (shown set tables) s None)) ↔
     ((s : ℕ) → s < 64 → StartHolds values cost general s (shown_at set tables s))
@@ -93,7 +93,7 @@ starts_shown values cost general set tables = (
   λ h s below. subst (StartHolds values cost general s) (sym (values_below_at (shown_at set tables) 64 s None below)) (h s below),
 )
 
--- a certificate in memory is accepted where its cost, its general table and all start states hold
+-- a certificate in memory is accepted exactly if its cost, its general table and all start states hold
 pub accepted_by : (values : List (List ℤ)) (word : List Bool) (cost : ℕ) (general : List (List ℕ)) (set : List Bool) (tables kept : List (List (List ℕ))) (P : Type 0) →
     kept ≡ tables → cost ≡ word_cost values word →
     P ↔ (StepsHold values from_any general × ((s : ℕ) → s < 64 → StartHolds values cost general s (shown_at set kept s))) →
@@ -104,12 +104,12 @@ accepted_by values word cost general set tables kept P same stated holds =
       λ accepted. each.1 (accepted.general, (starts_shown values cost general set tables).0 accepted.starts),
     )
 
--- ---- how many of the first states have a table
+-- ---- the number of first states that have a table
 
 pub some_at : (set : List Bool) (tables : List (List (List ℕ))) (s : ℕ) → is_some (shown_at set tables s) ≡ has_table set s
 some_at set tables s = some_by (has_table set s) (get_or tables s [])
 
--- the table of a state that the set has, and of one that it has not
+-- the selected table of a state in the set, and of a state not in it
 pub shown_there : (set : List Bool) (tables : List (List (List ℕ))) (s : ℕ) → has_table set s ≡ true → shown_at set tables s ≡ Some (get_or tables s [])
 shown_there set tables s there = ap (λ b. cond b (Some (get_or tables s [])) None) there
 
@@ -134,7 +134,7 @@ room_for set tables n from place len below there room at =
     let most = fewer (n + 1) 64 (λ s. cond (has_table set s) 1 0) (omega (arith, below)) in
     omega (arith, room, at, same, one, more, most)
 
--- the tables that are written one state after the other are those that are shown
+-- tables written state by state are the bytes of the selected tables
 pub shown_bytes : (set : List Bool) (tables : List (List (List ℕ))) (from place : ℕ) (old new : List ℕ) → AreWrittenTo (shown_at set tables) from place old new 64 →
     (new ≡ with_piece from (flat_map maybe_bytes (shown set tables)) old) ×
     (length (flat_map maybe_bytes (shown set tables)) ≡ table_count * total_below 64 (λ s. cond (has_table set s) 1 0))
@@ -143,9 +143,9 @@ shown_bytes set tables from place old new w =
     let same = total_below_same 64 (λ s. cond (is_some (shown_at set tables s)) 1 0) (λ s. cond (has_table set s) 1 0) (λ s l. ap {B = ℕ} (λ b. cond b 1 0) (some_at set tables s)) in
     (w.bytes, w.size ∙ ap (λ n. table_count * n) same)
 
--- ---- tables that are read, one start state after the other
+-- ---- tables read, start state by start state
 
--- the tables of the states of the set below n are read from a place on, and the next comes from another place
+-- the tables of the set's states below n have been read from offset `from` on, and the next is read from offset `place`
 pub record AreReadTo (set : List Bool) (tables : List (List (List ℕ))) (from place : ℕ) (bytes : List ℕ) (n : ℕ) : Type 0 where
   pub tables_are : AreStored set tables
   pub read : flat_map maybe_bytes (values_below n (shown_at set tables)) ≡ take (place - from) (drop from bytes)
@@ -159,7 +159,7 @@ read_none set tables from bytes stored = record {
   at = omega arith;
 }
 
--- one that is not there
+-- a state without a table
 pub read_not : (set : List Bool) (tables : List (List (List ℕ))) (from place : ℕ) (bytes : List ℕ) (n : ℕ) → AreReadTo set tables from place bytes n → has_table set n ≡ false →
     AreReadTo set tables from place bytes (n + 1)
 unfolding maybe_bytes
@@ -176,7 +176,7 @@ read_not set tables from place bytes n known none =
       at = omega (arith, known.at, count, zero);
     }
 
--- one that is there
+-- a state with a table
 pub read_there : (states : List Bool) (tables : List (List (List ℕ))) (from place : ℕ) (bytes : List ℕ) (n : ℕ) (table : List (List ℕ)) → AreReadTo states tables from place bytes n →
     n < 64 → has_table states n ≡ true → IsTable table → table_bytes table ≡ take table_count (drop place bytes) →
     AreReadTo states (set tables n table) from (place + table_count) bytes (n + 1)

@@ -9,7 +9,7 @@ use Rattle.tailbite.proofs.Windows.{same_end, end_below, shift_below}
 use Rattle.tailbite.proofs.Branches.{word_cost-path}
 use Rattle.tail_cert.specs.Certificate.{Held, IsAccepted, IsLowerBound, IsMaybeTable, IsRow, IsTable, IsWhole, StartHolds, StepsHold, bound, from_any, from_state, unbounded}
 
--- no bound of a table is above the one that bounds nothing
+-- every bound in a table is at most the entry that bounds nothing
 entry_below : (table : List (List ℕ)) → IsTable table → (i x : ℕ) → i < 40 → x < 64 → get_or (get_or table i []) x 0 < 2 ^ 32
 entry_below table size i x inside below =
     let rows = size.count in
@@ -17,7 +17,7 @@ entry_below table size i x inside below =
     let states = row.count in
     row.all x 0 (omega (arith, states, below))
 
--- so each branch leads to one that is greater by no more than the branch costs
+-- along each branch, a bound rises by at most the branch's cost
 rises : (values : List (List ℤ)) (first : ℕ → ℕ) (table : List (List ℕ)) → IsTable table → StepsHold values first table →
     (i x : ℕ) (b : Bool) → i < 40 → x < 64 → bound first table (suc i) (shift x b) ≤ bound first table i x + step_cost values i x b
 rises values first table size holds i x b inside below = elim (eqb_tells (bound first table i x) unbounded) [
@@ -25,7 +25,7 @@ rises values first table size holds i x b inside below = elim (eqb_tells (bound 
   | inr (f, other) ↦ holds i x b inside below other
 ]
 
--- the bound of 40 steps back to the state s is at most the cost of each path there
+-- the bound after 40 steps back to state s is at most the cost of each path there
 path_bounded : (values : List (List ℤ)) (first : ℕ → ℕ) (table : List (List ℕ)) → IsTable table → StepsHold values first table →
     (s : ℕ) → s < 64 → (bs : List Bool) → length bs ≡ 40 → end_of shift s bs ≡ s →
     bound first table 40 s ≤ first s + path_cost shift (step_cost values) 0 s bs
@@ -34,7 +34,7 @@ path_bounded values first table size holds s below bs long back =
     let end_is = ap (bound first table 40) back in
     omega (arith, total, end_is)
 
--- so the cost is, by the table of the state or by the general one
+-- the certificate's cost is at most that of each path, by the state's own table or the general one
 start_bounded : (values : List (List ℤ)) (cost : ℕ) (general : List (List ℕ)) (s : ℕ) (maybe : Option (List (List ℕ))) → IsTable general →
     StepsHold values from_any general → IsMaybeTable maybe → StartHolds values cost general s maybe → s < 64 →
     (bs : List Bool) → length bs ≡ 40 → end_of shift s bs ≡ s → cost ≤ path_cost shift (step_cost values) 0 s bs

@@ -1,4 +1,4 @@
--- The bytes of a certificate do not break the form.
+-- The bytes of a certificate have no format error.
 use Rattle.std.proofs.Common.{◌≡◌, ℕ, zero, suc, ◌+◌, ◌*◌, ◌-◌, ◌/◌, ◌%◌, ◌^◌, ◌<◌, ◌≤◌, min, Bool, true, false, cond, List, [], ◌∷◌, ◌++◌, None, length, take, drop, get_or, ℤ, pos, refl, sym, ap, ◌∙◌, inl, inr, arith}
 use Rattle.std.specs.Prelude.{All, is_some, nat_abs}
 use Rattle.std.specs.List.{flat_map}
@@ -45,7 +45,7 @@ front_at a b c d e f n h =
     get_or_append_left (a ++ b ++ c ++ d ++ e) f 0 n (omega (arith, ab, abc, abcd, abcde, h)) ∙ get_or_append_left (a ++ b ++ c ++ d) e 0 n (omega (arith, ab, abc, abcd, h))
     ∙ get_or_append_left (a ++ b ++ c) d 0 n (omega (arith, ab, abc, h)) ∙ get_or_append_left (a ++ b) c 0 n (omega (arith, ab, h)) ∙ get_or_append_left a b 0 n h
 
--- value j in the order of the bytes
+-- value j, in the order of the bytes
 value_of : Held → ℕ → ℤ
 value_of c j = get_or (get_or c.values (j / 3) []) (j % 3) (pos 0)
 
@@ -83,9 +83,9 @@ value_there c h j below =
     get_or-drop (4 + 2 * j) (bytes_of c) 1 0 ∙ byte_of_value c h j 1 below (omega arith) in
     rw (b0, b1) (value_back (value_of c j) (small_value c h j below))
 
--- ---- how many bytes a certificate has is told by its first ones
+-- ---- a certificate's length follows from its first bytes
 
--- bytes that go on have as many
+-- appended bytes do not change the length
 pub count_longer : (bytes more : List ℕ) → head_count ≤ length bytes → count_of (bytes ++ more) ≡ count_of bytes
 unfolding count_of
 count_longer bytes more long =
@@ -93,7 +93,7 @@ count_longer bytes more long =
     let set = ap (little_number 8) split ∙ little_from-append 8 (drop 10493 bytes) more (omega (arith, long, length-drop 10493 bytes)) in
     ap (λ n. head_count + table_count * total_below 64 (λ s. cond (odd (n / 2 ^ s)) 1 0)) set
 
--- the bytes of a certificate are as many as they tell
+-- the bytes of a certificate have the length that they state
 pub count_whole : (c : Held) → IsWhole c → count_of (bytes_of c) ≡ length (bytes_of c)
 unfolding bytes_of count_of
 count_whole c h =
@@ -116,13 +116,13 @@ whole_unbroken c h p (inr (inl (low, high, even, room, large))) =
     absurd (omega (arith, large', small))
 whole_unbroken c h p (inr (inr (end, early))) = absurd (omega (arith, end, early, count_whole c h))
 
--- the first bytes tell it
+-- the first bytes suffice for the length
 pub count_of_front : (bytes : List ℕ) → head_count ≤ length bytes → count_of bytes ≡ count_of (take head_count bytes)
 count_of_front bytes long =
     let size = length-take-le head_count bytes long in
     ap count_of (sym (take-append-drop head_count bytes)) ∙ count_longer (take head_count bytes) (drop head_count bytes) (omega (arith, size))
 
--- it is no more than the longest certificate has
+-- the stated length is at most that of the longest certificate
 pub count_most : (bytes : List ℕ) → count_of bytes ≤ most_count
 unfolding count_of
 count_most bytes =
@@ -133,7 +133,7 @@ count_most bytes =
     at_most_one true = omega arith
     at_most_one false = omega arith
 
--- as many of the bytes as their first ones tell are no more than these tell
+-- bytes cut to the length that their first bytes state are no longer than they state themselves
 pub front_fits : (bytes : List ℕ) (whole : ℕ) → head_count ≤ length bytes → whole ≡ count_of (take (min (length bytes) head_count) bytes) →
     length (take (min (length bytes) whole) bytes) ≤ count_of (take (min (length bytes) whole) bytes)
 front_fits bytes whole long told =

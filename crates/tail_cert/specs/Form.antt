@@ -1,4 +1,4 @@
--- The bytes of a certificate (own).
+-- The byte format of a certificate (own).
 use Rattle.std.specs.Prelude.{◌≡◌, ◌≢◌, ℕ, ◌+◌, ◌-◌, ◌*◌, ◌/◌, ◌%◌, ◌^◌, ◌<◌, ◌≤◌, ◌++◌, ◌⊎◌, Bool, cond, List, [], ◌∷◌, Option, Some, None, codes, is_some, length, nat_abs, slice_index, slice_index_or, take, drop, ℤ}
 use Rattle.std.specs.Fmt.{decimal}
 use Rattle.std.specs.List.{flat_map}
@@ -10,23 +10,23 @@ use Rattle.finite.specs.Sums.{total_below}
 use Rattle.cs_bits.specs.Numbers.{number}
 use Rattle.tail_cert.specs.Certificate.{Held}
 
--- the first four bytes of a certificate
+-- the mark (magic number), a certificate's first four bytes
 abbrev pub mark : List ℕ
 mark = 0x4c ∷ 0x54 ∷ 0x43 ∷ 0x32 ∷ []
 
--- a value, in 16 bits with its low byte first, as two's complement
+-- a value as a 16-bit two's complement number, little-endian
 unfoldable pub value_bytes : ℤ → List ℕ
 value_bytes z = little_bytes 2 (cast_unsigned w16 z)
 
--- a number in 32 bits with its low byte first
+-- a 32-bit number, little-endian
 unfoldable pub entry_bytes : ℕ → List ℕ
 entry_bytes n = little_bytes 4 n
 
--- the 40 bits of a word, the first in the highest place of the first byte
+-- a word's 40 bits, most significant bit first
 unfoldable pub word_bytes : List Bool → List ℕ
 word_bytes word = big_bytes 5 (number word)
 
--- the values of a place, the bounds of a step, and those of a table
+-- the bytes of a position's values, of a step's bounds, and of a table
 unfoldable pub place_bytes : List ℤ → List ℕ
 place_bytes values = flat_map value_bytes values
 
@@ -36,83 +36,83 @@ row_bytes row = flat_map entry_bytes row
 unfoldable pub table_bytes : List (List ℕ) → List ℕ
 table_bytes table = flat_map row_bytes table
 
--- the set of the start states that have a table: 64 bits, from the state 63 down to 0, so that the bit of s has weight 2 ^ s,
--- as a number with its low byte first
+-- the set of start states that have a table: 64 bits, from state 63 down to 0, written as a little-endian number in
+-- which state s has weight 2 ^ s
 unfoldable pub set_of : List (Option (List (List ℕ))) → List Bool
 set_of tables = values_below 64 (λ i. is_some (slice_index_or tables (63 - i) None))
 
 unfoldable pub set_bytes : List (Option (List (List ℕ))) → List ℕ
 set_bytes tables = little_bytes 8 (number (set_of tables))
 
--- the table of a start state, where there is one
+-- the bytes of a start state's table, if it has one
 unfoldable pub maybe_bytes : Option (List (List ℕ)) → List ℕ
 maybe_bytes None = []
 maybe_bytes (Some table) = table_bytes table
 
--- the mark, the values by place and stream, the word, the cost, the general table, the set of start states, and their tables,
--- the bounds of each table by step and state
+-- the bytes of a certificate: the mark, the values by position and stream, the word, the cost, the general table, the
+-- set of start states, and their tables; a table has its bounds by step and state
 unfoldable pub bytes_of : Held → List ℕ
 bytes_of c =
     mark ++ flat_map place_bytes c.values ++ word_bytes c.word ++ entry_bytes c.cost ++ table_bytes c.general ++ set_bytes c.tables
     ++ flat_map maybe_bytes c.tables
 
--- the bytes with a piece of them replaced, from a place on
+-- the bytes with a piece replaced from offset `at` on
 unfoldable pub with_piece : ℕ → List ℕ → List ℕ → List ℕ
 with_piece at piece bytes = take at bytes ++ piece ++ drop (at + length piece) bytes
 
--- ---- how many bytes there are
+-- ---- lengths
 
--- how many bytes a certificate has up to its set of start states, with the set
+-- the length of a certificate up to and including its set of start states
 abbrev pub head_count : ℕ
 head_count = 10501
 
--- how many bytes a table has
+-- the length of a table
 abbrev pub table_count : ℕ
 table_count = 10240
 
--- how many bytes the longest certificate has
+-- the length of the longest certificate
 abbrev pub most_count : ℕ
 most_count = 665861
 
--- whether the set in the eight bytes from 10,493 on has the state s
+-- whether the set in the eight bytes at offset 10,493 contains state s
 abbrev pub tells_table : List ℕ → ℕ → Bool
 tells_table bytes s = odd (little_number 8 (drop 10493 bytes) / 2 ^ s)
 
--- how many bytes the certificate has that these bytes begin, or are: its set tells it, where it is there
+-- the length of the certificate that begins with these bytes, according to its set if they include it
 unfoldable pub count_of : List ℕ → ℕ
 count_of bytes = head_count + table_count * total_below 64 (λ s. cond (tells_table bytes s) 1 0)
 
--- ---- where the form is broken
+-- ---- format errors
 
--- the value in the two bytes from a place on
+-- the value in the two bytes at offset p
 unfoldable pub value_at : List ℕ → ℕ → ℤ
 value_at bytes p = cast_signed w16 (little_number 2 (drop p bytes))
 
--- a byte is another than the mark has there
+-- the byte at offset p differs from the mark
 abbrev pub IsOffMark : List ℕ → ℕ → Type 0
 IsOffMark bytes p = (p < 4) × (p < length bytes) × (slice_index bytes p ≢ slice_index mark p)
 
--- the first byte of a value of size above 2,032
+-- a value above 2,032 in magnitude begins at offset p
 abbrev pub IsLargeValue : List ℕ → ℕ → Type 0
 IsLargeValue bytes p = (4 ≤ p) × (p < 244) × (p % 2 ≡ 0) × (p + 2 ≤ length bytes) × (2032 < nat_abs (value_at bytes p))
 
--- the bytes end before there are as many as there have to be
+-- the bytes end at offset p, before the required length
 abbrev pub IsEarlyEnd : ℕ → List ℕ → ℕ → Type 0
 IsEarlyEnd count bytes p = (p ≡ length bytes) × (p < count)
 
--- the form of a certificate's first bytes, as many as the count says, is broken at this place
+-- a certificate's first `count` bytes have a format error at offset p
 abbrev pub BreaksUpTo : ℕ → List ℕ → ℕ → Type 0
 BreaksUpTo count bytes p = IsOffMark bytes p ⊎ IsLargeValue bytes p ⊎ IsEarlyEnd count bytes p
 
--- the form of a whole certificate is broken at this place
+-- a whole certificate has a format error at offset p
 abbrev pub Breaks : List ℕ → ℕ → Type 0
 Breaks bytes p = BreaksUpTo (count_of bytes) bytes p
 
--- the form of a certificate's first bytes, as many as the count says, is nowhere broken
+-- a certificate's first `count` bytes have no format error
 abbrev pub IsUnbrokenUpTo : ℕ → List ℕ → Type 0
 IsUnbrokenUpTo count bytes = (p : ℕ) → BreaksUpTo count bytes p → ⊥
 
--- the first place where the form of a certificate's first bytes, as many as the count says, is broken
+-- the first format error in a certificate's first `count` bytes is at offset p
 pub record IsFirstBreakUpTo (count : ℕ) (bytes : List ℕ) (p : ℕ) : Type 0 where
   pub here : BreaksUpTo count bytes p
   pub before : (q : ℕ) → q < p → BreaksUpTo count bytes q → ⊥
@@ -120,6 +120,6 @@ pub record IsFirstBreakUpTo (count : ℕ) (bytes : List ℕ) (p : ℕ) : Type 0 
 abbrev pub IsFirstBreak : List ℕ → ℕ → Type 0
 IsFirstBreak bytes p = IsFirstBreakUpTo (count_of bytes) bytes p
 
--- what is told of a broken form, with the place
+-- the error message, with the byte offset
 abbrev pub broken_text : ℕ → List ℕ
 broken_text place = codes "bad certificate at byte " ++ decimal place

@@ -1,37 +1,38 @@
--- The least costs up to each state, step by step, and the tables that are needed (own).
+-- The minimum costs to each state, step by step, and the tables that a certificate needs (own).
 use Rattle.std.specs.Prelude.{◌≡◌, ◌↔◌, ℕ, suc, ◌*◌, ◌^◌, ◌<◌, ◌≤◌, List, [], Some, None, IfSome, IsSome, length, slice_index, slice_index_or, ℤ}
 use Rattle.trellis.specs.Least.{IsLeastTo, ends_in}
 use Rattle.trellis.specs.Rows.{IsLeastRow}
 use Rattle.tailbite.specs.Machine.{shift, step_cost}
 use Rattle.tail_cert.specs.Certificate.{Held, IsLowerBound, StartHolds, bound, from_any}
 
--- the row has the least costs of k steps, from starts that cost what the start row says; no value is larger than 2 ^ 20
+-- the row holds the minimum costs of k steps, from the start costs; no value exceeds 2 ^ 20 in magnitude
 pub record IsStepRow (values : List (List ℤ)) (start : List ℕ) (k : ℕ) (row : List ℕ) : Type 0 where
   pub size : length row ≡ 64
   pub least : IsLeastRow shift (step_cost values) (λ y. slice_index start y) 64 (2 ^ 30) (3 * 2 ^ 20) k row
 
--- the rows of the steps up to n, from step 1 on
+-- the first n rows of the table hold the minimum costs after steps 1 to n
 pub record HasLeastRows (values : List (List ℤ)) (start : List ℕ) (table : List (List ℕ)) (n : ℕ) : Type 0 where
   pub row : (i : ℕ) → i < n → IsStepRow values start (suc i) (slice_index_or table i [])
 
--- the table of the state s shows each lower bound of what words cost, up to 2 ^ 30, for the paths from s back to it
+-- the table of state s shows every lower bound on word costs, up to 2 ^ 30, for the paths from s back to s
 abbrev pub ShowsBounds : List (List ℤ) → ℕ → List (List ℕ) → Type 0
 ShowsBounds values s table =
     (cost : ℕ) → IsLowerBound values cost → cost ≤ 2 ^ 30 → StartHolds values cost [] s (Some table)
 
--- each bound of a table is the least cost of so many steps from the state s, where a start in any other costs 2 ^ 30
+-- each bound in the table is the minimum cost after its step from state s, where a start in any other state costs 2 ^
+-- 30
 abbrev pub HasLeastFrom : List (List ℤ) → ℕ → List (List ℕ) → Type 0
 HasLeastFrom values s table =
     (i x : ℕ) → i < 40 → x < 64 →
     IsLeastTo shift (step_cost values) (ends_in (2 ^ 30) s) 64 (suc i) x (slice_index (slice_index_or table i []) x)
 
--- the table of the state s that is written: of least costs from there, which show each lower bound
+-- the table that is written for state s: its bounds are minimum costs from s, and show every lower bound
 pub record IsTableFrom (values : List (List ℤ)) (s : ℕ) (table : List (List ℕ)) : Type 0 where
   pub least : HasLeastFrom values s table
   pub shows : ShowsBounds values s table
 
--- each bound of the general table is the least cost of so many steps from any state; a start state has a table exactly
--- where its bound in the general table is below the cost, and then one of least costs from there
+-- each bound in the general table is the minimum cost after its step from any state; a start state has a table exactly
+-- if its bound in the general table is below the cost, and that table holds the minimum costs from the state
 pub record IsFilled (c : Held) : Type 0 where
   pub least : (i x : ℕ) → i < 40 → x < 64 → IsLeastTo shift (step_cost c.values) from_any 64 (suc i) x (bound from_any c.general (suc i) x)
   pub needed : (s : ℕ) → s < 64 → IsSome (slice_index_or c.tables s None) ↔ (bound from_any c.general 40 s < c.cost)

@@ -12,13 +12,13 @@ use cs_bits::Bits;
 use std::alloc::{AllocError, Global};
 use std::marker::Model;
 
-/// The lower bounds of a table: for each step from 1 to 40 and each of the 64 states after it.
+/// A table's lower bounds, for each step from 1 to 40 and each of the 64 states after it.
 pub(crate) type Table = [[u32; 64]; 40];
 
-/// A certificate: the three values of each of 40 places, a word of 40 bits, its cost, a general table of
-/// bounds for paths from all of the 64 start states, and for each start state a table of its own, or none.
-/// Contracts see it as the record of these. It has the memory of all tables, and touches only that of the
-/// tables up to the last one that it had.
+/// A certificate: three soft values for each of 40 positions, a 40-bit information word, its cost, a general table of
+/// bounds for paths from all 64 start states, and for each start state a table of its own or none. Contracts see it as
+/// the record of these. It allocates memory for all tables, and touches only the tables up to the last one that it has
+/// held.
 #[derive(Drop)]
 pub struct Certificate {
     pub(crate) values: [[i32; 3]; 40],
@@ -49,35 +49,35 @@ impl Model for Certificate {
         × (64 ≤ vec_capacity c.tables) };
 }
 
-/// Values of zeros.
+/// Returns all-zero values.
 fn zero_values() -> [[i32; 3]; 40]
     ensures { result ≡ replicate 40 (replicate 3 (pos 0)) }
 {
     [[0; 3]; 40]
 }
 
-/// The word of zeros.
+/// Returns the all-zero word.
 fn zero_word() -> Bits<40>
     ensures { result ≡ replicate 40 false }
 {
     Bits::new([false; 40])
 }
 
-/// The set of no start state.
+/// Returns the empty set of start states.
 fn no_states() -> Bits<64>
     ensures { result ≡ replicate 64 false }
 {
     Bits::new([false; 64])
 }
 
-/// A table of zeros.
+/// Returns an all-zero table.
 fn zero_table() -> Table
     ensures { result ≡ replicate 40 (replicate 64 0) }
 {
     [[0; 64]; 40]
 }
 
-/// Whether a set of start states has the state s.
+/// Returns whether a set of start states contains state `s`.
 pub(crate) fn has(set: &Bits<64>, s: usize) -> bool
     requires { s < 64 }
     ensures { result ≡ has_table set.now s }
@@ -85,7 +85,7 @@ pub(crate) fn has(set: &Bits<64>, s: usize) -> bool
     set.get(63 - s)
 }
 
-/// One past the last start state of a set, and 0 where it has none.
+/// Returns one past the last start state in a set, or 0 if it is empty.
 fn end_of(set: &Bits<64>) -> usize
     ensures past { (s : ℕ) → s < 64 → has_table set.now s ≡ true → s < result }
     ensures most { result ≤ 64 }
@@ -99,7 +99,7 @@ fn end_of(set: &Bits<64>) -> usize
     end
 }
 
-/// Adds a table of zeros, for which there is room.
+/// Appends an all-zero table, for which there is capacity.
 fn add_table(tables: &mut Vec<Table>)
     requires room { length tables.old.items < vec_capacity tables.old }
     ensures tables { tables.new.items ≡ tables.old.items ++ replicate 40 (replicate 64 0) ∷ [] }
@@ -111,7 +111,7 @@ fn add_table(tables: &mut Vec<Table>)
     }
 }
 
-/// Adds tables of zeros until each start state of a set has one. It takes no memory.
+/// Appends all-zero tables until each start state in the set has one. Does not allocate.
 pub(crate) fn make_tables(set: &Bits<64>, tables: &mut Vec<Table>)
     requires each { All IsTable tables.old.items }
     requires most { length tables.old.items ≤ 64 }
@@ -125,7 +125,7 @@ pub(crate) fn make_tables(set: &Bits<64>, tables: &mut Vec<Table>)
     }
 }
 
-/// How many start states a set has.
+/// Returns the number of start states in a set.
 pub(crate) fn states_in(set: &Bits<64>) -> usize
     ensures count { result ≡ total_below 64 (λ s. cond (has_table set.now s) 1 0) }
     ensures most { result ≤ 64 }
@@ -137,14 +137,14 @@ pub(crate) fn states_in(set: &Bits<64>) -> usize
     count
 }
 
-/// How many bytes a certificate has with the tables of the start states of a set.
+/// Returns the length in bytes of a certificate with tables for the start states in a set.
 pub(crate) fn length_with(set: &Bits<64>) -> usize
     ensures { result ≡ head_count + table_count * total_below 64 (λ s. cond (has_table set.now s) 1 0) }
 {
     HEAD_BYTES + TABLE_BYTES * states_in(set)
 }
 
-/// The number of a certificate's bytes: 10,501, and 10,240 for each table of a start state.
+/// Returns a certificate's length in bytes: 10,501, and 10,240 for each start state's table.
 pub fn length(certificate: &Certificate) -> usize
     ensures count { result ≡ head_count + table_count * tables_there certificate.now.tables }
     ensures bytes { result ≡ length (bytes_of certificate.now) }
@@ -153,8 +153,8 @@ pub fn length(certificate: &Certificate) -> usize
 }
 
 impl Certificate {
-    /// Takes the memory of the longest certificate: 120 zeros as values, the zero word, cost 0, a 0 in each
-    /// entry of the general table, and no table of a start state.
+    /// Allocates memory for the longest certificate. All values, bits and bounds and the cost are 0, and no start state
+    /// has a table. Fails only if the allocation fails.
     pub fn new(alloc: Global) -> Result<Certificate, AllocError>
         ensures { IfOk result (λ certificate. certificate ≡ of_zeros) }
     {

@@ -1,4 +1,8 @@
 //! The check of a certificate.
+//!
+//! The stated cost must be the word's. Along each branch, a table's bound may rise by at most the branch's cost, unless
+//! it bounds nothing. For each start state, the cost may be at most the bound after 40 steps back to it, in the state's
+//! own table if it has one and otherwise in the general table.
 
 ghost use Rattle.std.specs.Prelude.{◌≡◌, ◌+◌, ◌*◌, ◌^◌, ◌<◌, ◌≤◌, ◌↔◌, ℕ, IsTrue, length, slice_index};
 ghost use Rattle.finite.specs.Sizes.{RowsWithin};
@@ -21,14 +25,14 @@ const STEPS: usize = 40;
 /// The entry that bounds nothing.
 const UNBOUNDED: u32 = 0xffff_ffff;
 
-/// Whether the inequality of a branch holds.
+/// Returns whether the inequality of a branch holds.
 fn step_holds(cost: u32, from: u32, to: u32) -> bool
     ensures { IsTrue result ↔ StepHolds cost from to }
 {
     from == UNBOUNDED || to as u64 <= from as u64 + cost as u64
 }
 
-/// Whether the inequalities of both branches from a state hold.
+/// Returns whether the inequalities of both branches from state `x` hold.
 fn both_hold(costs: &StepCosts, from: u32, to: &[u32; 64], x: usize) -> bool
     requires { x < 64 }
     ensures { IsTrue result ↔ BothHold costs.now from to.now x }
@@ -37,7 +41,7 @@ fn both_hold(costs: &StepCosts, from: u32, to: &[u32; 64], x: usize) -> bool
         && step_holds(cost_at(costs, x, true), from, to[next(x, true)])
 }
 
-/// Whether the inequalities of the branches from the states 2h and 2h + 1 hold.
+/// Returns whether the inequalities of the branches from states `2 * h` and `2 * h + 1` hold.
 fn pair_holds(costs: &StepCosts, from: &[u32; 64], to: &[u32; 64], h: usize) -> bool
     requires { h < 32 }
     ensures { IsTrue result ↔ (BothHold costs.now (slice_index from.now (2 * h)) to.now (2 * h)
@@ -46,7 +50,7 @@ fn pair_holds(costs: &StepCosts, from: &[u32; 64], to: &[u32; 64], h: usize) -> 
     both_hold(costs, from[2 * h], to, 2 * h) && both_hold(costs, from[2 * h + 1], to, 2 * h + 1)
 }
 
-/// Whether the inequalities of all branches of a step hold.
+/// Returns whether the inequalities of all branches in a step hold.
 fn row_holds(costs: &StepCosts, from: &[u32; 64], to: &[u32; 64]) -> bool
     ensures { IsTrue result ↔ RowHolds costs.now from.now to.now }
 {
@@ -58,7 +62,7 @@ fn row_holds(costs: &StepCosts, from: &[u32; 64], to: &[u32; 64]) -> bool
     true
 }
 
-/// Whether the inequalities of all steps of a table hold, from the bounds of no step on.
+/// Returns whether the inequalities of all steps in a table hold, with the bounds `first` before the first step.
 fn steps_hold(costs: &PathCosts, first: &[u32; 64], table: &Table) -> bool
     ensures { IsTrue result ↔ StepsHold costs.now.values.now (λ x. slice_index first.now x) table.now }
 {
@@ -72,7 +76,7 @@ fn steps_hold(costs: &PathCosts, first: &[u32; 64], table: &Table) -> bool
     true
 }
 
-/// The bounds of no step from the state s.
+/// Returns the bounds before the first step for paths that start in state `s`.
 fn row_from(s: usize) -> [u32; 64]
     requires { s < 64 }
     ensures { (x : ℕ) → x < 64 → slice_index result x ≡ from_state s x }
@@ -82,7 +86,7 @@ fn row_from(s: usize) -> [u32; 64]
     row
 }
 
-/// Whether the cost bounds every path from a state back to it.
+/// Returns whether the cost is a lower bound for every path from state `s` back to it.
 fn start_holds(
     costs: &PathCosts,
     cost: u32,
@@ -103,7 +107,7 @@ fn start_holds(
     }
 }
 
-/// Whether the cost bounds every path from each state back to it.
+/// Returns whether the cost is a lower bound for every path from each state back to it.
 fn starts_hold(
     costs: &PathCosts,
     cost: u32,
@@ -123,7 +127,7 @@ fn starts_hold(
     true
 }
 
-/// Whether the general table and all start states hold.
+/// Returns whether the general table and all start states hold.
 fn tables_hold(
     values: &[[i32; 3]; 40],
     cost: u32,
@@ -145,7 +149,7 @@ fn tables_hold(
     steps_hold(&costs, &[0; STATES], general) && starts_hold(&costs, cost, general, set, tables)
 }
 
-/// The cost of a word.
+/// Returns the cost of a word.
 fn cost_of(values: &[[i32; 3]; 40], word: &Bits<40>) -> u32
     requires sizes { RowsWithin (2 ^ 20) values.now }
     requires bits { length word.now ≡ 40 }
@@ -159,10 +163,8 @@ fn cost_of(values: &[[i32; 3]; 40], word: &Bits<40>) -> u32
     cost
 }
 
-/// Whether a certificate is accepted: the stated cost is the word's, each bound of a table that bounds
-/// something is exceeded in the next step by no more than the branch costs, and for each start state the
-/// cost is at most the bound of 40 steps back to it, by the table of that state, where there is one, and
-/// else by the general one. If so, no word of 40 bits costs less than the stated cost.
+/// Returns whether a certificate is accepted: its stated cost is the word's, and its tables show that no path from a
+/// start state back to it costs less. If so, no 40-bit word costs less.
 pub fn check(certificate: &Certificate) -> bool
     ensures accepted { IsTrue result ↔ IsAccepted certificate.now }
     ensures least { IsTrue result → IsLowerBound certificate.now.values certificate.now.cost }

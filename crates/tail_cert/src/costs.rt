@@ -1,11 +1,11 @@
-//! The values of a certificate and the costs of its steps, made once for all its tables.
+//! A certificate's soft values and step costs, computed once for all its tables.
 
 ghost use Rattle.std.specs.Prelude.{◌≡◌, length};
 ghost use Rattle.tailbite.specs.Costs.{HaveCosts};
 
 use tailbite::StepCosts;
 
-/// The values of 40 places, and what the steps cost by them.
+/// The soft values at 40 positions, and the step costs that they give.
 #[derive(Clone, Copy)]
 pub(crate) struct PathCosts<'a> {
     pub(crate) values: &'a [[i32; 3]; 40],

@@ -1,4 +1,8 @@
-//! How a certificate is filled.
+//! The filling of a certificate.
+//!
+//! The general table holds the minimum costs from any state. A start state has a table of its own if its bound in the
+//! general table, after 40 steps back to it, is below the word's cost. That table holds the minimum costs from the
+//! state, where a start in any other state costs 2^30.
 
 ghost use Rattle.std.specs.Prelude.{◌≡◌, ◌*◌, ◌^◌, ◌<◌, ◌≤◌, ℕ, [], length, nat_lt, slice_index, slice_index_or, true};
 ghost use Rattle.finite.specs.Sizes.{RowsWithin};
@@ -17,7 +21,7 @@ const STATES: usize = 64;
 
 const STEPS: usize = 40;
 
-/// Fills a table with the least costs after each step, from starts that cost what the row says.
+/// Fills a table with the minimum costs after each step, from the start costs in `start`.
 fn fill_table(costs: &PathCosts, start: &[u32; 64], table: &mut Table)
     requires room { (y : ℕ) → y < 64 → slice_index start.now y ≤ 2 ^ 30 }
     ensures rows { HasLeastRows costs.now.values.now start.now table.new 40 }
@@ -30,7 +34,7 @@ fn fill_table(costs: &PathCosts, start: &[u32; 64], table: &mut Table)
     }
 }
 
-/// Fills the table of the start state s.
+/// Fills the table of start state `s`.
 fn fill_start(costs: &PathCosts, s: usize, table: &mut Table)
     requires state { s < 64 }
     ensures bounds { IsTableFrom costs.now.values.now s table.new }
@@ -39,7 +43,7 @@ fn fill_start(costs: &PathCosts, s: usize, table: &mut Table)
     fill_table(costs, &free_at(s), table);
 }
 
-/// The set of the start states whose bound in the general table, of all steps back to them, is below the cost.
+/// Returns the set of start states whose bound in the general table, after all steps back to them, is below the cost.
 fn states_below(cost: u32, general: &Table) -> Bits<64>
     ensures needed { (s : ℕ) → s < 64 → has_table result s ≡ nat_lt (bound from_any general.now 40 s) cost }
     ensures states { length result ≡ 64 }
@@ -51,7 +55,7 @@ fn states_below(cost: u32, general: &Table) -> Bits<64>
     Bits::new(set)
 }
 
-/// Fills the tables of the start states of a set.
+/// Fills the tables of the start states in a set.
 fn fill_tables(costs: &PathCosts, set: &Bits<64>, tables: &mut [Table])
     requires tables { AreStored set.now tables.old }
     ensures bounds { (s : ℕ) → s < 64 → has_table set.now s ≡ true →
@@ -65,7 +69,7 @@ fn fill_tables(costs: &PathCosts, set: &Bits<64>, tables: &mut [Table])
     }
 }
 
-/// The three values of a place.
+/// Returns a copy of a position's three values.
 fn triple_of(values: &[i32; 3]) -> [i32; 3]
     ensures same { result ≡ values.now }
     ensures count { length result ≡ 3 }
@@ -73,7 +77,7 @@ fn triple_of(values: &[i32; 3]) -> [i32; 3]
     *values
 }
 
-/// The values of all places, three for each.
+/// Returns a copy of all values, three per position.
 fn copy_of(values: &[[i32; 3]; 40]) -> [[i32; 3]; 40]
     ensures same { result ≡ values.now }
     ensures count { (k : ℕ) → k < 40 → length (slice_index_or result k []) ≡ 3 }
@@ -85,10 +89,8 @@ fn copy_of(values: &[[i32; 3]; 40]) -> [[i32; 3]; 40]
     copy
 }
 
-/// Fills a certificate with values of size at most 2,032, three for each place, their least word, its cost,
-/// the general table of least costs of so many steps from any state, and a table of each start state whose
-/// bound there, of 40 steps back to it, is below the cost: of least costs of so many steps from this state, where
-/// a start in any other costs 2^30. The certificate is then accepted.
+/// Fills a certificate with `values`, three per position and each at most 2,032 in magnitude, their minimum-cost word,
+/// its cost, and the tables. The certificate is then accepted.
 pub fn fill(certificate: &mut Certificate, values: &[[i32; 3]; 40], work: &mut Trellis)
     requires { RowsWithin 2032 values.now }
     ensures accepted { IsAccepted certificate.new }

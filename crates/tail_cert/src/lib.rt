@@ -1,7 +1,7 @@
-//! Certificates of least cost for the tail-biting code with 40 bits: the values of a word's places, a word
-//! and its cost, a table of lower bounds for the paths from all start states, and tables of start states
-//! that need one of their own, which together show that no word costs less.
-//! A certificate is checked without a decoder.
+//! Certificates of minimum cost for the 40-bit tail-biting code. They hold the soft values, an information word and its
+//! cost, a general table of lower bounds for the paths from all start states, and tables for the start states that need
+//! their own; together these show that no word costs less. A certificate is checked without a decoder.
+//! Tests: the crate `code_tests`.
 #![tactic(auto)]
 
 mod certificate;
@@ -17,19 +17,20 @@ pub use filling::fill;
 pub use reading::{BadCertificate, head, parse};
 pub use writing::to_bytes;
 
-/// The bytes of a certificate's mark and its values, which alone can break the form.
+/// The length in bytes of a certificate's mark and values, which alone can break the format.
 pub(crate) const FRONT_BYTES: usize = 244;
 
-/// The bytes of a certificate up to the set of the start states that have a table, which tells the rest.
+/// The length in bytes of a certificate up to and including the set of start states that have a table, from which the
+/// full length follows.
 pub const HEAD_BYTES: usize = 10_501;
 
-/// Where the set of the start states that have a table stands.
+/// The byte offset of the set of start states that have a table.
 pub(crate) const SET_PLACE: usize = HEAD_BYTES - 8;
 
-/// The bytes of a table.
+/// The length of a table in bytes.
 pub const TABLE_BYTES: usize = 10_240;
 
-/// The bytes of the longest certificate, with the tables of all 64 start states.
+/// The length in bytes of the longest certificate, with tables for all 64 start states.
 pub const MOST_BYTES: usize = HEAD_BYTES + 64 * TABLE_BYTES;
 
 const _: () = prove!(MOST_BYTES == 665_861);

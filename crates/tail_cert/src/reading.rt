@@ -1,4 +1,4 @@
-//! The bytes of a certificate, read.
+//! The parsing of a certificate.
 
 ghost use Rattle.std.specs.Prelude.{◌≡◌, ◌+◌, ◌*◌, ◌%◌, ◌^◌, ◌<◌, ◌≤◌, ◌↔◌, ◌⊎◌, ℕ, IfSome, IfOk, IsErr, IsErrOf, IsNone, IsOk, IsTrue, List, cond, drop, length, nat_abs, take};
 ghost use Rattle.std.specs.List.{flat_map};
@@ -14,11 +14,11 @@ use cs_bits::Bits;
 use std::fmt;
 use thiserror::Error;
 
-/// Bytes that are no certificate, with the place of the first byte that breaks the form; where the bytes
-/// end early, that is their number.
+/// Bytes that are not a certificate, with the offset of the first byte that breaks the format; if the bytes end early,
+/// that is their number.
 #[derive(Clone, Copy, Debug, PartialEq, Eq, Error)]
 pub struct BadCertificate {
-    /// The place, counted from 0.
+    /// The byte offset, counted from 0.
     pub place: u64,
 }
 
@@ -35,14 +35,14 @@ impl fmt::Display for BadCertificate {
 
 const MARK: [u8; 4] = [0x4c, 0x54, 0x43, 0x32];
 
-/// Whether the byte at a place is another than the mark's.
+/// Returns whether the byte at offset `p` differs from the mark's.
 fn is_off_mark(bytes: &[u8], p: usize) -> bool
     ensures { IsTrue result ↔ IsOffMark bytes.now p }
 {
     p < 4 && p < bytes.len() && bytes[p] != MARK[p]
 }
 
-/// The value in the two bytes from a place on.
+/// Returns the value in the two bytes at offset `at`.
 fn get_value(bytes: &[u8], at: usize) -> i32
     requires { at + 2 ≤ length bytes.now }
     ensures value { result ≡ value_at bytes.now at }
@@ -51,7 +51,7 @@ fn get_value(bytes: &[u8], at: usize) -> i32
     LittleEndian::read_i16(&bytes[at..]) as i32
 }
 
-/// Whether a value of size above 2,032 begins at a place.
+/// Returns whether a value above 2,032 in magnitude begins at offset `p`.
 fn is_large_value(bytes: &[u8], p: usize) -> bool
     ensures { IsTrue result ↔ IsLargeValue bytes.now p }
 {
@@ -62,15 +62,15 @@ fn is_large_value(bytes: &[u8], p: usize) -> bool
         && get_value(bytes, p).unsigned_abs() > 2032
 }
 
-/// Whether the mark or a value breaks the form at a place.
+/// Returns whether the mark or a value breaks the format at offset `p`.
 fn spoils(bytes: &[u8], p: usize) -> bool
     ensures { IsTrue result ↔ (IsOffMark bytes.now p ⊎ IsLargeValue bytes.now p) }
 {
     is_off_mark(bytes, p) || is_large_value(bytes, p)
 }
 
-/// The first place where the form of the first `count` bytes is broken: only the mark and the values can break it,
-/// and an early end.
+/// Returns the offset of the first format error in the first `count` bytes: in the mark, in a value, or at an early
+/// end.
 fn first_break(bytes: &[u8], count: usize) -> Option<usize>
     ensures some { IfSome result (λ p. IsFirstBreakUpTo count bytes.now p) }
     ensures none { IsNone result → IsUnbrokenUpTo count bytes.now }
@@ -87,7 +87,7 @@ fn first_break(bytes: &[u8], count: usize) -> Option<usize>
     }
 }
 
-/// Reads the values of a place.
+/// Reads a position's values.
 fn get_place(bytes: &[u8], at: usize, values: &mut [i32; 3])
     requires room { at + 6 ≤ length bytes.now }
     requires sizes { (t : ℕ) → t < 3 → nat_abs (value_at bytes.now (at + 2 * t)) ≤ 2032 }
@@ -99,7 +99,7 @@ fn get_place(bytes: &[u8], at: usize, values: &mut [i32; 3])
     }
 }
 
-/// Reads the values of all places.
+/// Reads the values at all positions.
 fn get_values(bytes: &[u8], values: &mut [[i32; 3]; 40])
     requires room { 244 ≤ length bytes.now }
     requires sizes { (j : ℕ) → j < 120 → nat_abs (value_at bytes.now (4 + 2 * j)) ≤ 2032 }
@@ -111,7 +111,7 @@ fn get_values(bytes: &[u8], values: &mut [[i32; 3]; 40])
     }
 }
 
-/// Reads an entry at a place.
+/// Reads the entry at offset `at`.
 fn get_entry(bytes: &[u8], at: usize) -> u32
     requires { at + 4 ≤ length bytes.now }
     ensures { entry_bytes result ≡ take 4 (drop at bytes.now) }
@@ -139,7 +139,7 @@ fn get_table(bytes: &[u8], at: usize, table: &mut Table)
     }
 }
 
-/// Reads the set of the start states that have a table.
+/// Reads the set of start states that have a table.
 fn get_set(bytes: &[u8]) -> Bits<64>
     requires { head_count ≤ length bytes.now }
     ensures states { (s : ℕ) → s < 64 → has_table result s ≡ tells_table bytes.now s }
@@ -150,7 +150,7 @@ fn get_set(bytes: &[u8]) -> Bits<64>
     Bits::of_number(LittleEndian::read_u64(&bytes[SET_PLACE..]))
 }
 
-/// How many bytes the certificate has that these bytes begin.
+/// Returns the length of the certificate that begins with these bytes.
 fn whole_length(bytes: &[u8]) -> usize
     requires { head_count ≤ length bytes.now }
     ensures count { result ≡ count_of bytes.now }
@@ -159,7 +159,7 @@ fn whole_length(bytes: &[u8]) -> usize
     length_with(&get_set(bytes))
 }
 
-/// Reads the tables of the start states of a set.
+/// Reads the tables of the start states in a set.
 fn get_tables(bytes: &[u8], at: usize, set: &Bits<64>, tables: &mut [Table])
     requires tables { AreStored set.now tables.old }
     requires size { at + table_count * total_below 64 (λ s. cond (has_table set.now s) 1 0) ≡ length bytes.now }
@@ -184,7 +184,7 @@ fn get_word(bytes: &[u8], at: usize) -> Bits<40>
     Bits::of_number(BigEndian::read_uint(&bytes[at..], 5))
 }
 
-/// Reads a whole certificate whose form is not broken.
+/// Reads a whole certificate without format errors.
 fn get_all(bytes: &[u8], into: &mut Certificate)
     requires unbroken { (p : ℕ) → Breaks bytes.now p → ⊥ }
     requires size { length bytes.now ≤ count_of bytes.now }
@@ -200,8 +200,8 @@ fn get_all(bytes: &[u8], into: &mut Certificate)
     get_tables(bytes, HEAD_BYTES, &into.set, &mut into.tables);
 }
 
-/// How many bytes the certificate has whose first 10,501 bytes these are. A wrong one of the first four
-/// bytes, a value of size above 2,032 and an early end break their form; then the answer is the first place.
+/// Returns the length of the certificate whose first 10,501 bytes are `bytes`. Fails with the offset of the first
+/// format error: a wrong mark, a value above 2,032 in magnitude, or an early end.
 pub fn head(bytes: &[u8]) -> Result<usize, BadCertificate>
     requires { length bytes.now ≤ head_count }
     ensures ok { IfOk result (λ count. count ≡ count_of bytes.now) }
@@ -217,7 +217,7 @@ pub fn head(bytes: &[u8]) -> Result<usize, BadCertificate>
     }
 }
 
-/// The first place where the form of a whole certificate is broken.
+/// Returns the offset of the first format error in a whole certificate.
 fn first_break_of_whole(bytes: &[u8]) -> Option<usize>
     ensures some { IfSome result (λ p. IsFirstBreak bytes.now p) }
     ensures none { IsNone result → ((p : ℕ) → Breaks bytes.now p → ⊥) }
@@ -229,10 +229,8 @@ fn first_break_of_whole(bytes: &[u8]) -> Option<usize>
     }
 }
 
-/// Reads a certificate from its bytes, which are at most 665,861, and no more than the certificate has by its
-/// first 10,501 where these are there and do not break the form. A wrong one of the first four bytes, a value
-/// of size above 2,032 and an early end break the form; then the answer is the first place, and `into` is
-/// unchanged.
+/// Reads a certificate from at most 665,861 `bytes`, with none past its end. Fails with the offset of the first format
+/// error, and leaves `into` unchanged: a wrong mark, a value above 2,032 in magnitude, or an early end.
 pub fn parse(bytes: &[u8], into: &mut Certificate) -> Result<(), BadCertificate>
     requires most { length bytes.now ≤ most_count }
     requires fits { IsUnbrokenUpTo head_count bytes.now → length bytes.now ≤ count_of bytes.now }

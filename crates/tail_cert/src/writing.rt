@@ -1,4 +1,4 @@
-//! The bytes of a certificate, written.
+//! The serialisation of a certificate.
 
 ghost use Rattle.std.specs.Prelude.{◌≡◌, ℕ, ◌+◌, ◌*◌, ◌^◌, ◌<◌, ◌≤◌, Bool, List, cond, length, pos, slice_index_or};
 ghost use Rattle.std.specs.List.{flat_map};
@@ -21,7 +21,7 @@ fn put_mark(out: &mut [u8])
     out[..4].copy_from_slice(b"LTC2");
 }
 
-/// Writes value t of a place.
+/// Writes value `t` of a position.
 fn put_value(values: &[i32; 3], t: usize, at: usize, out: &mut [u8])
     requires stream { t < 3 }
     requires sizes { AllWithin 2032 values.now }
@@ -32,7 +32,7 @@ fn put_value(values: &[i32; 3], t: usize, at: usize, out: &mut [u8])
     LittleEndian::write_i16(&mut out[at..], values[t] as i16);
 }
 
-/// Writes the values of a place.
+/// Writes a position's values.
 fn put_place(values: &[i32; 3], at: usize, out: &mut [u8])
     requires sizes { AllWithin 2032 values.now }
     requires room { at + 6 ≤ length out.old }
@@ -44,7 +44,7 @@ fn put_place(values: &[i32; 3], at: usize, out: &mut [u8])
     }
 }
 
-/// Writes the values of all places.
+/// Writes the values at all positions.
 fn put_values(values: &[[i32; 3]; 40], at: usize, out: &mut [u8])
     requires sizes { RowsWithin 2032 values.now }
     requires room { at + 240 ≤ length out.old }
@@ -56,7 +56,7 @@ fn put_values(values: &[[i32; 3]; 40], at: usize, out: &mut [u8])
     }
 }
 
-/// Writes an entry at a place.
+/// Writes an entry at offset `at`.
 fn put_entry(entry: u32, at: usize, out: &mut [u8])
     requires { at + 4 ≤ length out.old }
     ensures bytes { out.new ≡ with_piece at (entry_bytes entry) out.old }
@@ -85,7 +85,7 @@ fn put_table(table: &Table, at: usize, out: &mut [u8])
     }
 }
 
-/// Writes the set of the start states that have a table.
+/// Writes the set of start states that have a table.
 fn put_set(set: &Bits<64>, at: usize, out: &mut [u8])
     requires states { length set.now ≡ 64 }
     requires room { at + 8 ≤ length out.old }
@@ -96,7 +96,7 @@ fn put_set(set: &Bits<64>, at: usize, out: &mut [u8])
     LittleEndian::write_u64(&mut out[at..], number_of(set.slice()));
 }
 
-/// Writes the tables of the start states of a set.
+/// Writes the tables of the start states in a set.
 fn put_tables(set: &Bits<64>, tables: &[Table], at: usize, out: &mut [u8])
     requires starts { HaveTables set.now tables.now }
     requires room { at + table_count * total_below 64 (λ s. cond (has_table set.now s) 1 0) ≤ length out.old }
@@ -113,7 +113,7 @@ fn put_tables(set: &Bits<64>, tables: &[Table], at: usize, out: &mut [u8])
     }
 }
 
-/// Writes the bits of a word at a place.
+/// Writes the bits of a word at offset `at`.
 fn put_word(word: &Bits<40>, at: usize, out: &mut [u8])
     requires { at + 5 ≤ length out.old }
     ensures bytes { out.new ≡ with_piece at (word_bytes word.now) out.old }
@@ -122,7 +122,7 @@ fn put_word(word: &Bits<40>, at: usize, out: &mut [u8])
     BigEndian::write_uint(&mut out[at..], number_of(word.slice()), 5);
 }
 
-/// Writes the bytes of a certificate, for which `out` has as many places as `length` says.
+/// Writes the bytes of a certificate to `out`, which has the length that `length` returns.
 pub fn to_bytes(certificate: &Certificate, out: &mut [u8])
     requires { length out.old ≡ head_count + table_count * tables_there certificate.now.tables }
     ensures bytes { out.new ≡ bytes_of certificate.now }

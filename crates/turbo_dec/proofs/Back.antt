@@ -1,4 +1,4 @@
--- The backward pass.
+-- The backward recursion.
 use Rattle.std.proofs.Common.{◌≡◌, ◌≢◌, ℕ, suc, ◌+◌, ◌-◌, ◌*◌, ◌<◌, ◌≤◌, Bool, true, false, List, [], length, get_or, set, ℤ, pos, ◌+ℤ◌, ◌-ℤ◌, refl, ap, ◌∙◌, inl, inr, arith, get_or-set_other, get_or-set_same, length-set}
 use Rattle.std.proofs.lemmas.Bool.{cases_lt}
 use Rattle.std.proofs.lemmas.Int.{ints}
@@ -15,7 +15,7 @@ use Rattle.turbo_dec.proofs.Small.{AreSmall}
 use Rattle.turbo_dec.proofs.Greatest.{least_gives_greatest, extrinsic_is}
 use Rattle.turbo_code.proofs.Edges.{next_below}
 
--- the row has the least costs from each state at index k on, and the extrinsic values from there on are found
+-- `row` holds the minimum costs from each state at index k, and the extrinsic values from index k on are final
 pub record IsBackTo (v : Values) (row : List ℕ) (out : List ℤ) (k : ℕ) : Type 0 where
   pub size : length out ≡ length v.systematic
   pub index : k ≤ length v.systematic
@@ -23,7 +23,7 @@ pub record IsBackTo (v : Values) (row : List ℕ) (out : List ℤ) (k : ℕ) : T
   pub room : (x : ℕ) → x < 8 → get_or row x 0 ≤ 24576 + (length v.systematic - k) * 12288
   pub done : (j : ℕ) → k ≤ j → j < length v.systematic → get_or out j (pos 0) ≡ extrinsic v j
 
--- the least cost through an edge gives the greatest score with that bit
+-- the minimum cost over the steps with bit b gives the maximum score with that bit
 through_greatest : (v : Values) (k n : ℕ) (row after : List ℕ) (sum parity : ℤ) (b : Bool) (m : ℕ) → AreSmall v →
     k + suc n ≡ length v.systematic → length v.systematic ≤ 1024 → IsForwardRow v k row →
     ((x : ℕ) → x < 8 → get_or after x 0 ≡ best next (step_cost v) (tail_cost v.tail) (suc k) n x) →
@@ -80,13 +80,13 @@ back_step v row earlier forward out k sum parity e zeros ones small short known 
       ];
     }
 
--- at the start all are found
+-- at index 0, all extrinsic values are final
 pub back_all : (v : Values) (row : List ℕ) (out : List ℤ) (k : ℕ) → k ≤ 0 → IsBackTo v row out k → out ≡ extrinsics v
 unfolding extrinsics
 back_all v row out k none known =
     values_below_is (pos 0) (length v.systematic) (extrinsic v) out known.size (λ j below. known.done j (omega (arith, none)) below)
 
--- the rows do not read the tail
+-- the forward recursion's rows do not depend on the tail
 pub forward_row_of : (s p t q : List ℤ) (rows : List (List ℕ)) (n k : ℕ) → HasRows (values_of s p [] q) rows n → k ≤ n →
     IsForwardRow (values_of s p t q) k (get_or rows k [])
 forward_row_of s p t q rows n k has inside = record {

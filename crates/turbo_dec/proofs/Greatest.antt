@@ -1,4 +1,4 @@
--- The greatest score of a word with a bit, by its definition, and from the least cost of a path with that bit.
+-- The maximum score with a given bit: by its definition, and from the minimum path cost with that bit.
 use Rattle.std.proofs.Common.{◌≡◌, ℕ, suc, ◌+◌, ◌-◌, ◌/◌, ◌<◌, ◌≤◌, Bool, true, false, List, ◌∷◌, ◌++◌, length, ℤ, pos, ◌+ℤ◌, ◌-ℤ◌, refl, ap, ◌∙◌, inl, inr, arith, length-append}
 use Rattle.std.specs.Prelude.{nat_abs}
 use Rattle.std.proofs.lemmas.Bool.Decides.{eqb_tells}
@@ -17,7 +17,7 @@ use Rattle.turbo_dec.specs.Costs.{step_cost, tail_cost, far, starts}
 use Rattle.turbo_dec.proofs.Small.{AreSmall}
 use Rattle.turbo_dec.proofs.Scores.{worth, score_cost}
 
--- ---- the greatest score
+-- ---- the maximum score
 
 pub greatest_score_is_greatest : (v : Values) (k : ℕ) (b : Bool) → k < length v.systematic → IsGreatest v k b (greatest_score v k b)
 unfolding greatest_score
@@ -48,7 +48,7 @@ greatest_is_one v k b m m' one other =
     let down = one.greatest word' size' bit' in
     omega (arith, ints, up, down, is, is')
 
--- the extrinsic value, by any two numbers that are the greatest scores
+-- the extrinsic value, from any two numbers that are the maximum scores
 pub extrinsic_is : (v : Values) (k : ℕ) (zeros ones e : ℤ) → k < length v.systematic → IsGreatest v k false zeros → IsGreatest v k true ones →
     e ≡ within_2047 (((zeros -ℤ ones) -ℤ at v.systematic k) -ℤ at v.prior k) → e ≡ extrinsic v k
 unfolding extrinsic
@@ -58,7 +58,7 @@ extrinsic_is v k zeros ones e inside by_zeros by_ones is =
     is ∙ ap (λ m. within_2047 (((m -ℤ ones) -ℤ at v.systematic k) -ℤ at v.prior k)) z
     ∙ ap (λ m. within_2047 (((greatest_score v k false -ℤ m) -ℤ at v.systematic k) -ℤ at v.prior k)) o
 
--- ---- from the least cost
+-- ---- from the minimum cost
 
 sum_small : (a b : ℤ) → nat_abs a ≤ 4096 → nat_abs b ≤ 4096 → nat_abs (a +ℤ b) ≤ 8192
 sum_small a b h k = omega (arith, ints, h, k)

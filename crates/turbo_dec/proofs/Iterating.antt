@@ -1,4 +1,4 @@
--- What the iterations fill and hand on.
+-- The values that the iterations write and pass on.
 use Rattle.std.proofs.Common.{◌≡◌, ℕ, suc, ◌+◌, ◌<◌, ◌≤◌, inl, inr, Bool, true, false, List, length, get_or, take, map, replicate, Some, None, ℤ, pos, refl, ap, sym, subst, ◌∙◌, arith}
 use Rattle.std.specs.Prelude.{All}
 use Rattle.std.specs.Option.{option_map}
@@ -15,7 +15,7 @@ use Rattle.cs_bits.specs.Checks.{message_of, has_check_24}
 use Rattle.turbo_code.specs.Streams.{tail_items, bits_of_stream, in_order, in_word_order}
 use Rattle.turbo_dec.specs.Block.{handed_on, prior_after, told_by, word_by, block, first_extrinsics, second_extrinsics, second_after}
 
--- what is handed on of each
+-- the prior is derived from each extrinsic value
 pub handed_is : (found handed : List ℤ) (k : ℕ) → length found ≡ 1024 → length handed ≡ 1024 → 1024 ≤ k →
     ((j : ℕ) → j < k → get_or handed j (pos 0) ≡ handed_on (at found j)) → handed ≡ map handed_on found
 handed_is found handed k size size' past each =
@@ -53,7 +53,7 @@ told_is row sums prior s first second word es size ef ese h =
 
 -- ---- the block
 
--- the prior of the next iteration, and no iterate up to n has passed
+-- `prior` is the prior after n iterations, and no iterate before n passes the CRC
 pub record IsAfter (row : Row) (sums : List (List ℤ)) (prior : List ℤ) (n : ℕ) : Type 0 where
   pub small : All IsSmall prior
   pub prior_is : take row.k prior ≡ prior_after row sums n

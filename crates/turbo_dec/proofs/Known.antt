@@ -1,4 +1,4 @@
--- Extrinsic values that the definition tells, by computation over all words.
+-- Extrinsic values computed from the definition, over all words.
 use Rattle.std.proofs.Common.{◌≡◌, [], ◌∷◌, pos, negsuc, refl}
 use Rattle.turbo_dec.specs.Decoder.{values_of, score, greatest_score, extrinsic, extrinsics}
 use Rattle.trellis.specs.AllWords.{greatest}
@@ -13,7 +13,7 @@ clamped_bit : extrinsics (values_of (pos 0 ∷ []) (pos 4096 ∷ []) (pos 4096 �
 unfolding extrinsics extrinsic greatest_score greatest score sum_below before tail_x tail_z
 clamped_bit = refl
 
--- [2, -3, -2], [2, -3, -2], [-2, -3, 3, 1, -1, 0], [-1, -3, -3]
+-- systematic [2, -3, -2], parity [2, -3, -2], tail [-2, -3, 3, 1, -1, 0], prior [-1, -3, -3]
 three_bits : extrinsics (values_of (pos 2 ∷ negsuc 2 ∷ negsuc 1 ∷ []) (pos 2 ∷ negsuc 2 ∷ negsuc 1 ∷ [])
     (negsuc 1 ∷ negsuc 2 ∷ pos 3 ∷ pos 1 ∷ negsuc 0 ∷ pos 0 ∷ []) (negsuc 0 ∷ negsuc 2 ∷ negsuc 2 ∷ [])) ≡ pos 8 ∷ negsuc 2 ∷ negsuc 4 ∷ []
 unfolding extrinsics extrinsic greatest_score greatest score sum_below before tail_x tail_z

@@ -1,4 +1,4 @@
--- The rows of the forward pass.
+-- The forward recursion's rows.
 use Rattle.std.proofs.Common.{◌≡◌, ◌≢◌, ℕ, suc, ◌+◌, ◌<◌, ◌≤◌, List, [], length, get_or, set, ℤ, ◌+ℤ◌, inl, inr, arith, get_or-set_other, get_or-set_same}
 use Rattle.std.specs.Prelude.{nat_eq, cond, true, false}
 use Rattle.std.proofs.lemmas.Bool.{cases_lt}

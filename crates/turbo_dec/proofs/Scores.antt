@@ -1,4 +1,4 @@
--- The score of a word and the cost of its path make a constant.
+-- A word's score and its path cost have a constant sum.
 use Rattle.std.proofs.Common.{◌≡◌, ℕ, ◌+◌, ◌*◌, ◌/◌, Bool, true, false, List, length, ℤ, pos, negsuc, ◌+ℤ◌, refl, ap, ap₂, sym, ◌∙◌, arith}
 use Rattle.std.proofs.lemmas.Int.{ints}
 use Rattle.finite.specs.Sums.{sum_below, total_below}
@@ -11,27 +11,27 @@ use Rattle.turbo_code.specs.Machine.{next, tail_bit, tail_parity}
 use Rattle.turbo_dec.specs.Costs.{step_cost, tail_step_cost, tail_cost}
 use Rattle.turbo_code.proofs.Registers.{state, state_at, parity_at, tail_bit_is, tail_parity_is, half_is, path_is}
 
--- what a value gives and what it costs
+-- a value's term in the score plus its cost does not depend on the bit
 taken_cost : (z : ℤ) (b : Bool) → taken z b +ℤ pos (disagreement z b) ≡ pos (disagreement z true)
 taken_cost (pos n) false = omega (arith, ints)
 taken_cost (pos n) true = omega (arith, ints)
 taken_cost (negsuc n) false = omega (arith, ints)
 taken_cost (negsuc n) true = refl
 
--- sums whose terms make those of a third
+-- two sums whose terms add up to the terms of a third
 sums_make : (n : ℕ) (f : ℕ → ℤ) (g h : ℕ → ℕ) → ((k : ℕ) → f k +ℤ pos (g k) ≡ pos (h k)) → sum_below n f +ℤ pos (total_below n g) ≡ pos (total_below n h)
 sums_make n f g h each =
     ap (λ s. sum_below n f +ℤ s) (sym (sum_below_pos n g)) ∙ sym (sum_below_plus n f (λ k. pos (g k)))
     ∙ sum_below_same n (λ k. f k +ℤ pos (g k)) (λ k. pos (h k)) (λ k _. each k) ∙ sum_below_pos n h
 
--- what the two values at an index are worth at most, and those of a tail step
+-- the maximum contribution to a score from the two values at index k, and from those in a tail step
 worth_at : Values → ℕ → ℕ
 worth_at v k = disagreement (at v.systematic k +ℤ at v.prior k) true + disagreement (at v.parity k) true
 
 tail_worth : List ℤ → ℕ → ℕ
 tail_worth tail j = disagreement (at tail (2 * j)) true + disagreement (at tail (2 * j + 1)) true
 
--- all of them
+-- the maximum contribution of all values
 pub worth : Values → ℕ
 worth v = total_below (length v.systematic) (worth_at v) + total_below 3 (tail_worth v.tail)
 
@@ -50,7 +50,7 @@ step_makes v word j x bit check =
     let p = taken_cost (at v.tail (2 * j + 1)) (tail_z word j) in
     rw (← bit, ← check) (omega (arith, ints, s, p))
 
--- the cost of the tail from a state, by its bits
+-- the tail's cost from the state with bits a, b and c
 tail_cost_is : (tail : List ℤ) (a b c : Bool) →
     tail_cost tail (state a b c) ≡ tail_step_cost tail 0 (state a b c) + tail_step_cost tail 1 (state false a b) + tail_step_cost tail 2 (state false false a)
 tail_cost_is tail a b c =
@@ -77,7 +77,7 @@ tail_makes v word =
     (step_makes v word 1 (state false a b) (sym (tail_bit_is false a b)) (sym (tail_parity_is false a b)))
     (step_makes v word 2 (state false false a) (sym (tail_bit_is false false a)) (sym (tail_parity_is false false a)))
 
--- the cost of a word's path
+-- a word's path cost, with its tail
 abbrev pub cost : Values → List Bool → ℕ
 cost v word = path_cost next (step_cost v) 0 0 word + tail_cost v.tail (end_of next 0 word)
 

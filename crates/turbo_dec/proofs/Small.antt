@@ -1,4 +1,4 @@
--- Values of a size of at most 4,096.
+-- Values with magnitude at most 4,096.
 use Rattle.std.proofs.Common.{◌≡◌, ℕ, zero, suc, ◌+◌, ◌<◌, List, [], ◌∷◌, length, get_or, ℤ, pos, inl, inr, arith, rules}
 use Rattle.std.specs.Prelude.{All}
 use mir.Val.{SFits, to_z, of_z}
@@ -11,18 +11,18 @@ use Rattle.finite.proofs.Lists.{values_below-All}
 use Rattle.turbo_dec.specs.Decoder.{IsSmall, Values, values_of, at, extrinsic, extrinsics}
 use Rattle.turbo_code.specs.Streams.{tail_items}
 
--- such a number comes back from its 32 bits
+-- a value within that magnitude is unchanged by conversion to 32 bits and back
 pub small_back : (z : ℤ) → IsSmall z → to_z w32 (of_z w32 z) ≡ z
 small_back z h = let fits : SFits w32 z = search (arith, ints, rules) in to_z-of_z w32 z fits
 
--- an item of a list of small numbers, and 0 past its end
+-- an item in a list of small values is small, as is the 0 past its end
 pub small_item : (zs : List ℤ) (k : ℕ) → All IsSmall zs → IsSmall (at zs k)
 small_item zs k h = elim (cases_lt k (length zs)) [
   | inl inside ↦ All-get_or IsSmall zs k (pos 0) inside h
   | inr past ↦ rw (get_or_past zs k (pos 0) past) (omega arith)
 ]
 
--- a stream of small sums
+-- a stream with small sums is small
 small_stream : (sums : List (List ℤ)) (t : ℕ) → All (All IsSmall) sums → All IsSmall (get_or sums t [])
 small_stream sums t h = elim (cases_lt t (length sums)) [
   | inl inside ↦ All-get_or (All IsSmall) sums t [] inside h
@@ -42,7 +42,7 @@ small_six a b c d e f ha hb hc hd he hf = All-from_get_or IsSmall (a ∷ b ∷ c
     each (suc (suc (suc (suc (suc zero))))) h = hf
     each (suc (suc (suc (suc (suc (suc i)))))) h = absurd (omega (arith, h))
 
--- the values of a tail
+-- a tail's values are small
 pub small_tail : (sums : List (List ℤ)) (p : ℕ) → All (All IsSmall) sums → All IsSmall (tail_items (pos 0) sums p)
 small_tail sums p h =
     let s0 = small_stream sums 0 h in

@@ -1,5 +1,5 @@
--- The iterations between the two decoders, and the block: the first iterate whose check passes. (own; the check is that of TS 36.212
--- section 5.1.1)
+-- The iterations between the two constituent decoders, and the decoded block: the first iterate whose CRC24A passes
+-- (own; the CRC is in TS 36.212 section 5.1.1).
 use Rattle.std.specs.Prelude.{ℕ, zero, suc, ◌+◌, Bool, List, map, replicate, ℤ, pos, ◌+ℤ◌, ◌-ℤ◌, int_div, int_lt, Option}
 use Rattle.std.specs.List.{find}
 use Rattle.std.specs.Option.{option_map}
@@ -9,45 +9,45 @@ use Rattle.turbo_code.specs.declared.rows.Row.{Row}
 use Rattle.turbo_code.specs.Streams.{bits_of_stream, tail_items, in_order, in_word_order}
 use Rattle.turbo_dec.specs.Decoder.{values_of, at, extrinsics}
 
--- what is handed on of an extrinsic value: all but a quarter, which is rounded toward 0
+-- the prior derived from an extrinsic value: the value less its quarter, which is rounded toward 0
 abbrev pub handed_on : ℤ → ℤ
 handed_on e = e -ℤ int_div e (pos 4)
 
--- the extrinsic values of the first decoder, by the sums of the received values and a prior
+-- the first decoder's extrinsic values, from the combined soft values and its prior
 unfoldable pub first_extrinsics : Row → List (List ℤ) → List ℤ → List ℤ
 first_extrinsics row sums prior =
     extrinsics (values_of (bits_of_stream (pos 0) row sums 0) (bits_of_stream (pos 0) row sums 1) (tail_items (pos 0) sums row.k) prior)
 
--- the extrinsic values of the second decoder, in the order of the word, by what the first hands on
+-- the second decoder's extrinsic values, deinterleaved, from the combined soft values and its prior
 unfoldable pub second_extrinsics : Row → List (List ℤ) → List ℤ → List ℤ
 second_extrinsics row sums handed =
     in_word_order (pos 0) row (extrinsics (values_of
     (in_order (pos 0) row (bits_of_stream (pos 0) row sums 0)) (bits_of_stream (pos 0) row sums 2) (tail_items (pos 0) sums (row.k + 2))
     (in_order (pos 0) row handed)))
 
--- the extrinsic values of the second decoder in an iteration, by the prior of the first
+-- the second decoder's extrinsic values in an iteration, from the first decoder's prior
 abbrev pub second_after : Row → List (List ℤ) → List ℤ → List ℤ
 second_after row sums prior = second_extrinsics row sums (map handed_on (first_extrinsics row sums prior))
 
--- the prior of the first decoder after n iterations: what the second handed on in the last of them
+-- the first decoder's prior after n iterations: 0 at first, then derived from the second's last extrinsic values
 unfoldable pub prior_after : Row → List (List ℤ) → ℕ → List ℤ
 prior_after row sums zero = replicate row.k (pos 0)
 prior_after row sums (suc n) = map handed_on (second_after row sums (prior_after row sums n))
 
--- bit k of a word: it is 1 where the bit's value and both extrinsic values sum to less than 0
+-- the decision on bit k: 1 if the soft value and both extrinsic values sum to less than 0
 abbrev pub told_by : List ℤ → List ℤ → List ℤ → ℕ → Bool
 told_by systematic first second k = int_lt (at systematic k +ℤ at first k +ℤ at second k) (pos 0)
 
--- the word that an iteration tells, by its prior
+-- an iteration's hard decisions, from its prior
 unfoldable pub word_by : Row → List (List ℤ) → List ℤ → List Bool
 word_by row sums prior =
     values_below row.k
     (told_by (bits_of_stream (pos 0) row sums 0) (first_extrinsics row sums prior) (second_after row sums prior))
 
--- the first eight iterates
+-- the hard decisions of the first eight iterations
 abbrev pub iterates : Row → List (List ℤ) → List (List Bool)
 iterates row sums = values_below 8 (λ n. word_by row sums (prior_after row sums n))
 
--- the block of the sums of received values: the first of the iterates whose check passes, without the check
+-- the block decoded from the combined soft values: the first iterate whose CRC passes, without its CRC
 unfoldable pub block : Row → List (List ℤ) → Option (List Bool)
 block row sums = option_map (message_of 24) (find has_check_24 (iterates row sums))

@@ -1,5 +1,5 @@
--- One decoder of the turbo code: the scores of words, and extrinsic values as differences of greatest scores. (own; the encoder is
--- that of TS 36.212 section 5.1.3.2)
+-- One constituent decoder of the turbo code (own; the encoder is in TS 36.212 section 5.1.3.2): each information word's
+-- score, and extrinsic values as differences of maximum scores.
 use Rattle.std.specs.Prelude.{ℕ, ◌+◌, ◌-◌, ◌*◌, ◌≤◌, Bool, true, false, List, ◌∷◌, ◌++◌, length, slice_index_or, nat_abs, ℤ, pos, negsuc, ◌+ℤ◌, ◌-ℤ◌}
 use Rattle.std.specs.Int.{int_min, int_max}
 use Rattle.finite.specs.Sums.{sum_below}
@@ -7,8 +7,8 @@ use Rattle.finite.specs.Lists.{values_below}
 use Rattle.trellis.specs.AllWords.{greatest}
 use Rattle.turbo_code.specs.Encoder.{bit_at, parity, tail_x, tail_z}
 
--- what a decoder is given: a value for each bit of the word and for each of its parity bits, one for each of the six tail bits
--- x(K), z(K), x(K + 1), z(K + 1), x(K + 2), z(K + 2), and a prior for each bit of the word
+-- a constituent decoder's input: a soft value for each information bit, for each parity bit and for each of the six
+-- tail bits x(K), z(K), x(K + 1), z(K + 1), x(K + 2), z(K + 2), and a prior for each information bit
 pub record Values : Type 0 where
   pub systematic : List ℤ
   pub parity : List ℤ
@@ -18,24 +18,24 @@ pub record Values : Type 0 where
 abbrev pub values_of : List ℤ → List ℤ → List ℤ → List ℤ → Values
 values_of systematic parity tail prior = record { systematic = systematic; parity = parity; tail = tail; prior = prior }
 
--- value k of a list
+-- value k of a list, 0 past its end
 abbrev pub at : List ℤ → ℕ → ℤ
 at values k = slice_index_or values k (pos 0)
 
--- the size of a value is at most 4,096
+-- the magnitude of a value is at most 4,096
 abbrev pub IsSmall : ℤ → Type 0
 IsSmall value = nat_abs value ≤ 4096
 
--- a value counts where its bit is 0
+-- the term of a value in a score: the value if the bit is 0, and 0 if it is 1
 abbrev pub taken : ℤ → Bool → ℤ
 taken value false = value
 taken value true = pos 0
 
--- what the values at index k give to a word: that of the bit with its prior, and that of the parity bit
+-- the terms of index k in a word's score: the information bit's value with its prior, and the parity bit's value
 abbrev pub score_at : Values → List Bool → ℕ → ℤ
 score_at v word k = taken (at v.systematic k +ℤ at v.prior k) (bit_at word k) +ℤ taken (at v.parity k) (parity word k)
 
--- what the values of tail step j give to a word
+-- the terms of tail step j in a word's score
 abbrev pub tail_score : Values → List Bool → ℕ → ℤ
 tail_score v word j = taken (at v.tail (2 * j)) (tail_x word j) +ℤ taken (at v.tail (2 * j + 1)) (tail_z word j)
 
@@ -43,15 +43,16 @@ tail_score v word j = taken (at v.tail (2 * j)) (tail_x word j) +ℤ taken (at v
 unfoldable pub score : Values → List Bool → ℤ
 score v word = sum_below (length v.systematic) (score_at v word) +ℤ sum_below 3 (tail_score v word)
 
--- the greatest score of a word whose bit k is b, over all bits before it and all after it
+-- the maximum score among words whose bit k is b
 unfoldable pub greatest_score : Values → ℕ → Bool → ℤ
 greatest_score v k b = greatest k (λ before. greatest (length v.systematic - k - 1) (λ after. score v (before ++ b ∷ after)))
 
--- the nearest number from -2047 to 2047
+-- the number clamped to -2047 to 2047
 abbrev pub within_2047 : ℤ → ℤ
 within_2047 z = int_max (negsuc 2046) (int_min z (pos 2047))
 
--- the extrinsic value of bit k: how much greater the greatest score with 0 is than that with 1, beyond the bit's own value and its prior
+-- the extrinsic value of bit k (max-log-MAP): the maximum score with 0 less the maximum score with 1, less the bit's
+-- own value and prior
 unfoldable pub extrinsic : Values → ℕ → ℤ
 extrinsic v k =
     within_2047 (((greatest_score v k false -ℤ greatest_score v k true) -ℤ at v.systematic k) -ℤ at v.prior k)

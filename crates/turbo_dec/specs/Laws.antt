@@ -1,4 +1,4 @@
--- The greatest score in plain words, and the two orders of a word. (own)
+-- Laws of maximum scores, and of the interleaver's two orders (own).
 use Rattle.std.specs.Prelude.{◌≡◌, ℕ, ◌<◌, Bool, List, length, ℤ, pos, ◌≤ℤ◌}
 use Rattle.turbo_code.specs.Encoder.{bit_at}
 use Rattle.turbo_code.specs.declared.rows.Row.{Row}
@@ -6,16 +6,16 @@ use Rattle.turbo_code.specs.Table.{IsAnyRow}
 use Rattle.turbo_dec.specs.Decoder.{Values, score, greatest_score}
 use Rattle.turbo_code.specs.Streams.{in_order, in_word_order}
 
--- m is the greatest score of a word whose bit k is b: one has it, and none has more
+-- m is the maximum score among words whose bit k is b: some such word has it, and none has more
 pub record IsGreatest (v : Values) (k : ℕ) (b : Bool) (m : ℤ) : Type 0 where
   pub reached : (word : List Bool) × (length word ≡ length v.systematic) × (bit_at word k ≡ b) × (score v word ≡ m)
   pub greatest : (word : List Bool) → length word ≡ length v.systematic → bit_at word k ≡ b → score v word ≤ℤ m
 
--- for all values and each bit, the greatest score is one that a word has, and none has more
+-- `greatest_score` is the maximum score of a word with the given bit, for all values
 abbrev pub GreatestScoresAreGreatest : Type 0
 GreatestScoresAreGreatest = (v : Values) (k : ℕ) (b : Bool) → k < length v.systematic → IsGreatest v k b (greatest_score v k b)
 
--- values in the order of the second decoder, put back in the order of the word, are the values
+-- deinterleaving undoes interleaving
 abbrev pub OrdersUndoEachOther : Type 0
 OrdersUndoEachOther =
     (row : Row) (values : List ℤ) → IsAnyRow row → length values ≡ row.k → in_word_order (pos 0) row (in_order (pos 0) row values) ≡ values

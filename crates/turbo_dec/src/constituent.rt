@@ -1,4 +1,9 @@
-//! The extrinsic values of one decoder.
+//! A constituent decoder's extrinsic values, by max-log-MAP (own).
+//!
+//! For each bit, the extrinsic value is the maximum score of a word with 0 there, less the maximum score with 1, less
+//! the bit's value and prior, clamped to -2047 to 2047. A word's score is the sum of the soft values whose bits are 0
+//! in the word, its parity bits and its tail (TS 36.212 sections 5.1.3.2.1 and 5.1.3.2.2); an information bit counts
+//! its value and its prior.
 
 ghost use Rattle.std.specs.Prelude.{◌≡◌, ℕ, ◌+◌, ◌*◌, ◌^◌, ◌<◌, ◌≤◌, ◌+ℤ◌, ◌-ℤ◌, All, pos, nat_abs, length, slice_index, []};
 ghost use Rattle.turbo_dec.specs.Decoder.{IsSmall, at, values_of, within_2047, extrinsics, extrinsic};
@@ -7,10 +12,10 @@ ghost use Rattle.turbo_dec.specs.Costs.{starts, HasRows};
 use crate::costs::{Soft, backward_row, forward_row, least_through, tail_row};
 use crate::work::Work;
 
-/// More than the cost of every path.
+/// A cost greater than that of any path.
 const FAR: u32 = 0x1000_0000;
 
-/// What a decoder reads of a word: of each bit its value, that of its parity bit, and its prior.
+/// A decoder's soft values: for each information bit its value, its parity bit's value, and its prior.
 #[derive(Clone, Copy)]
 struct Streams<'a> {
     systematic: &'a [i32],
@@ -24,7 +29,7 @@ struct Streams<'a> {
     ghost small_prior: { All IsSmall prior.now },
 }
 
-/// What the step at index k reads.
+/// Returns the soft values for the step at index `k`.
 fn soft_at(streams: &Streams, k: usize) -> Soft
     requires index { k < length streams.now.systematic.now }
     ensures sum { result.sum ≡ at streams.now.systematic.now k +ℤ at streams.now.prior.now k }
@@ -37,7 +42,7 @@ fn soft_at(streams: &Streams, k: usize) -> Soft
     }
 }
 
-/// The row before the first step: the encoder starts in state 0.
+/// Returns the row before the first step: the encoder starts in state 0.
 fn start_row() -> [u32; 8]
     ensures row { (x : ℕ) → x < 8 → slice_index result x ≡ starts x }
     ensures size { length result ≡ 8 }
@@ -45,7 +50,7 @@ fn start_row() -> [u32; 8]
     [0, FAR, FAR, FAR, FAR, FAR, FAR, FAR]
 }
 
-/// Writes the rows of least costs to each state, before the first step and after each.
+/// Writes the rows of minimum costs to each state, before the first step and after each step.
 fn forward(streams: &Streams, rows: &mut [[u32; 8]])
     requires room { length streams.now.systematic.now < length rows.old }
     ensures { HasRows (values_of streams.now.systematic.now streams.now.parity.now [] streams.now.prior.now)
@@ -59,7 +64,7 @@ fn forward(streams: &Streams, rows: &mut [[u32; 8]])
     }
 }
 
-/// The extrinsic value, from the least costs of the paths with bit 0 and with bit 1.
+/// Returns the extrinsic value, from the minimum path costs with bit 0 and with bit 1.
 fn extrinsic_of(zeros: u32, ones: u32, soft: &Soft) -> i32
     requires zeros { zeros ≤ 2 ^ 30 }
     requires ones { ones ≤ 2 ^ 30 }
@@ -69,7 +74,7 @@ fn extrinsic_of(zeros: u32, ones: u32, soft: &Soft) -> i32
     difference.clamp(-2047, 2047)
 }
 
-/// Writes the extrinsic values, from the rows of the forward pass.
+/// Writes the extrinsic values by the backward recursion, from the forward recursion's rows.
 fn backward(streams: &Streams, tail: &[i32; 6], rows: &[[u32; 8]], out: &mut [i32])
     requires outs { length out.old ≡ length streams.now.systematic.now }
     requires small_tail { All IsSmall tail.now }
@@ -89,13 +94,8 @@ fn backward(streams: &Streams, tail: &[i32; 6], rows: &[[u32; 8]], out: &mut [i3
     }
 }
 
-/// Writes the extrinsic values (own) of a word of at most 1,024 bits: for each bit the greatest score of a
-/// word with 0 there, less that of a word with 1, less the bit's value and prior, clamped to -2047 to 2047. A
-/// word scores the sum of the values whose bits are 0 in it, its parity bits and its tail (TS 36.212 sections
-/// 5.1.3.2.1 and 5.1.3.2.2), where a bit of the word counts its value and its prior. `tail` has the values of
-/// x(K), z(K), x(K + 1), z(K + 1), x(K + 2) and z(K + 2). The four slices have one length, and each value that
-/// is read is at most 4,096 in size. They are slices of their own, since what the second decoder reads of the
-/// word stands in another order than its parity values.
+/// Writes the extrinsic values of a word of at most 1,024 bits to `out`. The four slices have one length, `tail` has
+/// the order x(K), z(K), x(K + 1), .., and each value is at most 4,096 in magnitude.
 pub fn half(
     systematic: &[i32],
     parity: &[i32],

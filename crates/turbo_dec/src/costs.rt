@@ -1,4 +1,4 @@
-//! The costs of the encoder's steps, and rows of least costs.
+//! The encoder's step costs (branch metrics), and the rows of minimum costs.
 
 ghost use Rattle.std.specs.Prelude.{◌≡◌, ℕ, ◌+◌, ◌*◌, ◌/◌, ◌^◌, ◌<◌, ◌≤◌, All, false, length, nat_abs, slice_index};
 ghost use Rattle.trellis.specs.Least.{IsLeastVia};
@@ -11,7 +11,7 @@ use turbo_code::{before, bit_to, next, parity_bit, tail_bit, tail_parity};
 
 const STATES: usize = 8;
 
-/// What a step reads: the value of the bit with its prior, and the value of the parity bit.
+/// A step's soft values: the information bit's value with its prior, and the parity bit's value.
 #[derive(Drop)]
 pub(crate) struct Soft {
     pub(crate) sum: i32,
@@ -20,7 +20,7 @@ pub(crate) struct Soft {
     ghost parity_small: { nat_abs parity ≤ 4096 },
 }
 
-/// The cost of a step.
+/// Returns the cost of the step from state `x` with bit `u`.
 fn edge(soft: &Soft, x: usize, u: bool) -> u32
     requires state { x < 8 }
     ensures cost { result ≡ edge_cost soft.now.sum soft.now.parity x u }
@@ -29,7 +29,7 @@ fn edge(soft: &Soft, x: usize, u: bool) -> u32
     disagreement_of(soft.sum, u) + disagreement_of(soft.parity, parity_bit(x, u))
 }
 
-/// The least cost to a state, where the row has that to each state one step before.
+/// Returns the minimum cost to state `x`, given the row of minimum costs one step before.
 fn forward_at(soft: &Soft, row: &[u32; 8], x: usize) -> u32
     requires state { x < 8 }
     requires room { (y : ℕ) → y < 8 → slice_index row.now y ≤ 2 ^ 31 }
@@ -42,7 +42,7 @@ fn forward_at(soft: &Soft, row: &[u32; 8], x: usize) -> u32
     by_first.min(by_second)
 }
 
-/// The least cost from a state, where the row has that from each state one step on.
+/// Returns the minimum cost from state `x`, given the row of minimum costs one step later.
 fn backward_at(soft: &Soft, row: &[u32; 8], x: usize) -> u32
     requires state { x < 8 }
     requires room { (y : ℕ) → y < 8 → slice_index row.now y ≤ 2 ^ 31 }
@@ -54,7 +54,7 @@ fn backward_at(soft: &Soft, row: &[u32; 8], x: usize) -> u32
     zero.min(one)
 }
 
-/// The row of least costs to each state, one step further on.
+/// Returns the row of minimum costs to each state, one step after `row`.
 pub(crate) fn forward_row(soft: &Soft, row: &[u32; 8]) -> [u32; 8]
     requires room { (y : ℕ) → y < 8 → slice_index row.now y ≤ 2 ^ 31 }
     ensures least { (x : ℕ) → x < 8 →
@@ -69,7 +69,7 @@ pub(crate) fn forward_row(soft: &Soft, row: &[u32; 8]) -> [u32; 8]
     later
 }
 
-/// The row of least costs from each state, one step before.
+/// Returns the row of minimum costs from each state, one step before `row`.
 pub(crate) fn backward_row(soft: &Soft, row: &[u32; 8]) -> [u32; 8]
     requires room { (y : ℕ) → y < 8 → slice_index row.now y ≤ 2 ^ 31 }
     ensures least { (x : ℕ) → x < 8 →
@@ -84,7 +84,7 @@ pub(crate) fn backward_row(soft: &Soft, row: &[u32; 8]) -> [u32; 8]
     earlier
 }
 
-/// The least cost of a path whose step is by the bit b, from the costs before and after the step.
+/// Returns the minimum cost over paths whose step has bit `b`, from the costs before and after the step.
 pub(crate) fn least_through(soft: &Soft, before: &[u32; 8], after: &[u32; 8], b: bool) -> u32
     requires before { (y : ℕ) → y < 8 → slice_index before.now y ≤ 2 ^ 30 }
     requires after { (y : ℕ) → y < 8 → slice_index after.now y ≤ 2 ^ 30 }
@@ -99,7 +99,7 @@ pub(crate) fn least_through(soft: &Soft, before: &[u32; 8], after: &[u32; 8], b:
     least
 }
 
-/// The cost of tail step j from a state.
+/// Returns the cost of tail step `j` from state `x`.
 fn tail_step(tail: &[i32; 6], j: usize, x: usize) -> u32
     requires step { j < 3 }
     requires small { All IsSmall tail.now }
@@ -109,7 +109,7 @@ fn tail_step(tail: &[i32; 6], j: usize, x: usize) -> u32
     disagreement_of(tail[2 * j], tail_bit(x)) + disagreement_of(tail[2 * j + 1], tail_parity(x))
 }
 
-/// The cost of the tail from a state.
+/// Returns the tail's cost from state `x`.
 fn tail_at(tail: &[i32; 6], x: usize) -> u32
     requires state { x < 8 }
     requires small { All IsSmall tail.now }
@@ -119,7 +119,7 @@ fn tail_at(tail: &[i32; 6], x: usize) -> u32
     tail_step(tail, 0, x) + tail_step(tail, 1, x / 2) + tail_step(tail, 2, x / 2 / 2)
 }
 
-/// The row of costs of the tail.
+/// Returns the row of the tail's costs from each state.
 pub(crate) fn tail_row(tail: &[i32; 6]) -> [u32; 8]
     requires small { All IsSmall tail.now }
     ensures row { (x : ℕ) → x < 8 → slice_index result x ≡ tail_cost tail.now x }

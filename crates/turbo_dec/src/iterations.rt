@@ -1,4 +1,8 @@
-//! The iterations between the two decoders.
+//! The iterations between the two constituent decoders (own).
+//!
+//! An iteration runs the first decoder, then the second, which reads the interleaved bits. Each decoder's prior is the
+//! other's last extrinsic values, each less its quarter rounded toward 0; the first prior is 0. A bit is decided as 1
+//! if its soft value and both extrinsic values, without that reduction, sum to less than 0.
 
 ghost use Rattle.std.specs.Prelude.{◌≡◌, ℕ, ◌+◌, ◌-◌, ◌<◌, ◌≤◌, ◌+ℤ◌, All, nat_abs, int_lt, length, map, take, pos};
 ghost use Rattle.arrayvec.specs.ArrayVec.{array_vec_len};
@@ -19,16 +23,16 @@ use turbo_code::{Combined, Row, interleaver};
 /// The bits of a block, at most 1,000, without their CRC.
 pub type Block = ArrayVec<bool, 1000>;
 
-/// How many iterations are tried.
+/// The maximum number of iterations.
 const ITERATIONS: usize = 8;
 
-/// How many bits the check has.
+/// The number of CRC bits.
 const CHECK: usize = 24;
 
-/// A value for each bit of a word, and others after them.
+/// One value per bit of a word; entries past the word are unused.
 type BitValues = [i32; 1024];
 
-/// The six values of a decoder's tail, which begins at an index.
+/// Returns a decoder's six tail values, which start at `index` of the streams.
 fn tail_of(sums: &[[i32; 1028]; 3], index: usize) -> [i32; 6]
     requires { index ≤ 1026 }
     ensures { result ≡ tail_items (pos 0) sums.now index }
@@ -43,7 +47,7 @@ fn tail_of(sums: &[[i32; 1028]; 3], index: usize) -> [i32; 6]
     ]
 }
 
-/// The values of the bits of a stream.
+/// Returns a stream's soft values without its tail.
 fn stream_of<'a>(stream: &'a [i32; 1028], row: &Row) -> &'a [i32]
     requires row { IsAnyRow row.now }
     ensures values { result.now ≡ values_below row.now.k (at stream.now) }
@@ -53,7 +57,7 @@ fn stream_of<'a>(stream: &'a [i32; 1028], row: &Row) -> &'a [i32]
     &stream[..row.k as usize]
 }
 
-/// The values of the bits of a word.
+/// Returns `values` without the unused entries.
 fn front_of<'a>(values: &'a BitValues, row: &Row) -> &'a [i32]
     requires row { IsAnyRow row.now }
     ensures values { result.now ≡ take row.now.k values.now }
@@ -63,7 +67,7 @@ fn front_of<'a>(values: &'a BitValues, row: &Row) -> &'a [i32]
     &values[..row.k as usize]
 }
 
-/// The bits of a word.
+/// Returns the bits of `word` without the unused entries.
 fn bits_of<'a>(word: &'a [bool; 1024], row: &Row) -> &'a [bool]
     requires row { IsAnyRow row.now }
     ensures bits { result.now ≡ take row.now.k word.now }
@@ -74,7 +78,7 @@ fn bits_of<'a>(word: &'a [bool; 1024], row: &Row) -> &'a [bool]
     &word[..row.k as usize]
 }
 
-/// The values in the order of the second decoder.
+/// Returns the values interleaved, in the order of the second decoder.
 fn in_order_of(row: &Row, values: &[i32]) -> BitValues
     requires row { IsAnyRow row.now }
     requires count { length values.now ≡ row.now.k }
@@ -90,7 +94,7 @@ fn in_order_of(row: &Row, values: &[i32]) -> BitValues
     ordered
 }
 
-/// Values in the order of the second decoder, in the order of the word.
+/// Returns the values deinterleaved, from the order of the second decoder.
 fn in_word_order_of(row: &Row, values: &[i32]) -> BitValues
     requires row { IsAnyRow row.now }
     requires count { length values.now ≡ row.now.k }
@@ -106,7 +110,7 @@ fn in_word_order_of(row: &Row, values: &[i32]) -> BitValues
     ordered
 }
 
-/// The extrinsic values of one decoder.
+/// Returns one constituent decoder's extrinsic values.
 fn extrinsics_of(
     systematic: &[i32],
     parity: &[i32],
@@ -138,7 +142,7 @@ fn extrinsics_of(
     found
 }
 
-/// The extrinsic values of the first decoder.
+/// Returns the first decoder's extrinsic values.
 fn first_extrinsics_of(
     sums: &[[i32; 1028]; 3],
     row: &Row,
@@ -161,7 +165,7 @@ fn first_extrinsics_of(
     )
 }
 
-/// The extrinsic values of the second decoder in the order of the word, by what the first hands on.
+/// Returns the second decoder's extrinsic values, deinterleaved, from its prior `handed`.
 fn second_extrinsics_of(
     sums: &[[i32; 1028]; 3],
     row: &Row,
@@ -187,7 +191,7 @@ fn second_extrinsics_of(
     in_word_order_of(row, front_of(&found, row))
 }
 
-/// What is handed on of an extrinsic value.
+/// Returns the prior derived from an extrinsic value: the value less its quarter, rounded toward 0.
 fn handed_on_of(e: &i32) -> i32
     requires { IsSmall e.now }
     ensures value { result ≡ handed_on e.now }
@@ -196,7 +200,7 @@ fn handed_on_of(e: &i32) -> i32
     e - e / 4
 }
 
-/// What is handed on of each.
+/// Returns the priors derived from extrinsic values.
 fn hand_on(found: &BitValues) -> BitValues
     requires small { All IsSmall found.now }
     ensures values { result ≡ map handed_on found.now }
@@ -209,7 +213,7 @@ fn hand_on(found: &BitValues) -> BitValues
     handed
 }
 
-/// Whether a bit is told as 1, by its value and its two extrinsic values.
+/// Returns whether a bit is decided as 1, from its soft value and its two extrinsic values.
 fn is_one(value: &i32, first: &i32, second: &i32) -> bool
     requires value { IsSmall value.now }
     requires first { IsSmall first.now }
@@ -219,7 +223,7 @@ fn is_one(value: &i32, first: &i32, second: &i32) -> bool
     value + first + second < 0
 }
 
-/// The word that an iteration tells.
+/// Returns an iteration's hard decisions.
 fn bits_told(systematic: &[i32], first: &[i32], second: &[i32]) -> [bool; 1024]
     requires count { length systematic.now ≤ 1024 }
     requires firsts { length first.now ≡ length systematic.now }
@@ -238,7 +242,7 @@ fn bits_told(systematic: &[i32], first: &[i32], second: &[i32]) -> [bool; 1024]
     word
 }
 
-/// The word of one iteration; `prior` becomes what the second decoder hands on.
+/// Runs one iteration and returns its hard decisions; `prior` becomes the next iteration's prior.
 fn iterate(
     sums: &[[i32; 1028]; 3],
     row: &Row,
@@ -264,7 +268,7 @@ fn iterate(
     )
 }
 
-/// The bits before the check.
+/// Returns the bits in front of the CRC.
 fn payload_of(word: &[bool]) -> Block
     requires low { 24 ≤ length word.now }
     requires high { length word.now ≤ 1024 }
@@ -277,12 +281,8 @@ fn payload_of(word: &[bool]) -> Block
     }
 }
 
-/// Decodes the sums of received values into the first of eight iterates whose CRC passes (CRC24A, TS 36.212 section
-/// 5.1.1), without the CRC; `None` exactly if none passes. The iteration is own: one pass of the first decoder, then
-/// one of the second, which reads the word in the interleaver's order. The prior of each is the other's last extrinsic
-/// values, each less its quarter rounded toward 0; the first prior is 0. A bit is decided as 1 if its value and both
-/// extrinsic values, without the reduction, sum to less than 0. `row` is a row of either table, and the sums are those
-/// of its K, at most 4,096 in magnitude.
+/// Decodes combined soft values into the first of eight iterates whose CRC24A passes (TS 36.212 section 5.1.1), without
+/// the CRC; `None` if none passes. `row` is from either table, and the values have magnitude at most 4,096.
 pub fn decode(values: &Combined, row: Row, work: &mut Work) -> Option<Block>
     requires row { IsAnyRow row }
     requires sizes { All (All IsSmall) values.now.d }

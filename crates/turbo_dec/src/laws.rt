@@ -1,14 +1,13 @@
-//! Laws of the greatest scores and of the two decoders' orders.
+//! Laws of maximum scores and of the interleaver's two orders.
 
 ghost use Rattle.turbo_dec.specs.Laws.{GreatestScoresAreGreatest, OrdersUndoEachOther};
 
-/// The greatest score of a word with a bit is the score of such a word, and no such word has a greater
-/// one.
+/// A law: `greatest_score` is the score of some word with the given bit, and no such word scores more.
 pub fn greatest_scores()
     ensures { GreatestScoresAreGreatest }
 {}
 
-/// Values in the order of the second decoder, put back in the order of the word, are the values.
+/// A law: deinterleaving undoes interleaving.
 pub fn orders_undo_each_other()
     ensures { OrdersUndoEachOther }
 {}

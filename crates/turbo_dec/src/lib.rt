@@ -1,6 +1,6 @@
-//! The turbo decoder (TS 36.212 section 5.1.3.2 has the code; the decoder is own): extrinsic values of
-//! one decoder, which are differences of maxima over all words, and the iterations between the two
-//! decoders up to the first block whose check passes.
+//! The turbo decoder for the code of TS 36.212 section 5.1.3.2 (own): max-log-MAP constituent decoders, whose extrinsic
+//! values are differences of maximum scores, and the iterations between them, up to the first block whose CRC passes.
+//! Tests: the crate `code_tests`.
 #![tactic(auto)]
 
 mod constituent;

@@ -4,8 +4,8 @@ ghost use Rattle.std.specs.Prelude.{◌≡◌, vec_len};
 
 use std::alloc::{AllocError, Global};
 
-/// The working memory of a decoder: for each index of a word of up to 1,024 bits, and for its end, the
-/// least costs to the 8 states. What it holds between two calls means nothing.
+/// A decoder's working memory: the minimum costs to the 8 states, for each index of a word of up to 1,024 bits and for
+/// its end. Its contents between two calls have no meaning.
 #[derive(Drop)]
 pub struct Work {
     pub(crate) rows: Vec<[u32; 8]>,
@@ -13,7 +13,7 @@ pub struct Work {
 }
 
 impl Work {
-    /// Takes the memory.
+    /// Allocates the working memory. Fails only if the allocation fails.
     pub fn new(alloc: Global) -> Result<Work, AllocError> {
         let rows = vec![in alloc; [0; 8]; 1025]?;
         Ok(Work { rows })

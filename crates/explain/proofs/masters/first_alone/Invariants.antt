@@ -4,7 +4,7 @@ use Rattle.explain.specs.Received.{AreReceived}
 use Rattle.explain.specs.Window.{TellNone}
 use Rattle.explain.proofs.masters.first_alone.Given as goal
 
--- no frame so far has a master block, and each was received
+-- no frame so far carries a MIB, and each was received
 abbrev pub invariant-loop-frame : goal.invariant-loop-frame
 invariant-loop-frame g l = record {
   none : (i : ℕ) → i < l.frame → TellNone (IsMasterFor g.F.FrameReader.receiver l.recording) l.cell 1 i;

@@ -5,7 +5,7 @@ use Rattle.explain.specs.Received.{AreReceived}
 use Rattle.explain.specs.Window.{TellNone}
 use Rattle.explain.proofs.masters.first_together.Given as goal
 
--- none from a frame so far on have a master block
+-- no frames that begin earlier carry a MIB
 abbrev pub invariant-loop-frame : goal.invariant-loop-frame
 invariant-loop-frame g l =
     (recording : List Sample) → AreReceived (g.F.FrameReader.receiver.broadcast recording l.cell) 0 l.frames →
