@@ -15,7 +15,10 @@ import sys
 HERE = pathlib.Path(__file__).resolve().parent
 STORED = HERE / "stored"
 COUNT, NEAR = 64, 3
-REFUSALS = {"too short": 4, "ragged": 3}
+REFUSALS = {
+    "too short: the recording has fewer than 57,600 samples; record at least 30 ms": 4,
+    "ragged: the input ends within a sample; check the format, or cut the last bytes": 3,
+}
 
 
 def signature(data):
@@ -51,7 +54,7 @@ def main():
     if arguments[:1] == ["transmit"]:
         return transmitted(name, arguments, data)
     if len(data) % 4 or len(data) < 4 * 57_600:
-        cause = "ragged" if len(data) % 4 else "too short"
+        cause = list(REFUSALS)[len(data) % 4 != 0]
         print(f"{name}: {cause}", file=sys.stderr)
         return REFUSALS[cause]
     path, found = STORED / f"{name}.jsonl", signature(data)

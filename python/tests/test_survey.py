@@ -324,7 +324,7 @@ def test_survey_from_python(recording):
 def test_refusals_from_python(recording, tmp_path):
     with pytest.raises(lte_tools.ProgramRefused) as refused:
         lte_tools.search(b"abc")
-    assert (refused.value.exit_code, refused.value.cause) == (3, "lte_cli: ragged")
+    assert refused.value.exit_code == 3 and refused.value.cause.startswith("lte_cli: ragged: ")
     with pytest.raises(lte_tools.ProgramRefused, match="too short"):
         lte_tools.search(bytes(400))
     for bad in (lambda: lte_tools.search(recording, ports=3), lambda: lte_tools.search(bytes(4), rate=1e6)):

@@ -122,12 +122,28 @@ fn six_arguments_are_words(rt: HostRuntime) -> Result<(), Fail> {
             &line,
             b"\0\0",
             4,
-            "lte_cli: too short\n",
+            "lte_cli: too short: the recording has fewer than 57,600 samples; record at least 30 ms\n",
         )?;
         let line = format!(in alloc; "lte_cli {rule} --json --format")?;
-        ends_with(&rt, alloc, receiver, &line, b"\0\0", 2, "lte_cli: usage\n")?;
+        ends_with(
+            &rt,
+            alloc,
+            receiver,
+            &line,
+            b"\0\0",
+            2,
+            "lte_cli: usage: the arguments match no command; the command help lists all\n",
+        )?;
         let line = format!(in alloc; "lte_cli {rule} --json")?;
-        ends_with(&rt, alloc, receiver, &line, b"\0\0", 3, "lte_cli: ragged\n")?;
+        ends_with(
+            &rt,
+            alloc,
+            receiver,
+            &line,
+            b"\0\0",
+            3,
+            "lte_cli: ragged: the input ends within a sample; check the format, or cut the last bytes\n",
+        )?;
     }
     Ok(())
 }
@@ -135,7 +151,8 @@ fn six_arguments_are_words(rt: HostRuntime) -> Result<(), Fail> {
 #[test]
 fn a_refusal_ends_with_its_code_and_the_name_of_its_program(rt: HostRuntime) -> Result<(), Fail> {
     let alloc = rt.alloc();
-    let line = "lte_tune: ragged\n";
+    let line =
+        "lte_tune: ragged: the input ends within a sample; check the format, or cut the last bytes\n";
     ends_with(
         &rt,
         alloc,
@@ -145,7 +162,8 @@ fn a_refusal_ends_with_its_code_and_the_name_of_its_program(rt: HostRuntime) -> 
         3,
         line,
     )?;
-    let line = "lte_cli: bad certificate at byte 0\n";
+    let line =
+        "lte_cli: bad certificate at byte 0; the input is damaged, or no file of certificates\n";
     ends_with(
         &rt,
         alloc,
@@ -155,7 +173,7 @@ fn a_refusal_ends_with_its_code_and_the_name_of_its_program(rt: HostRuntime) -> 
         10,
         line,
     )?;
-    let line = "lte_tune: usage\n";
+    let line = "lte_tune: usage: the arguments match no command; the command help lists all\n";
     ends_with(&rt, alloc, Program::Tuner, "lte_tune", b"", 2, line)
 }
 
@@ -186,6 +204,11 @@ fn an_argument_that_is_not_text_is_usage(rt: HostRuntime) -> Result<(), Fail> {
         printed: RefCell::new(String::new(alloc)),
     };
     let exit = run_process(&process, Program::Receiver, Broken, io::sink());
-    assert!(rt; exit == ExitCode::from(2) && process.has_printed("lte_cli: usage\n"));
+    assert!(rt;
+        exit == ExitCode::from(2)
+            && process.has_printed(
+                "lte_cli: usage: the arguments match no command; the command help lists all\n"
+            )
+    );
     Ok(())
 }

@@ -1,5 +1,5 @@
 -- How a run's answer is told: its exit code, and the text of its line on standard error. (own)
-use Rattle.std.specs.Prelude.{ℕ, List, codes}
+use Rattle.std.specs.Prelude.{ℕ, List, codes, ◌++◌}
 use Rattle.cell_plan.specs.Words.{refusal_text}
 use Rattle.tail_cert.specs.Form.{broken_text}
 use Rattle.lte_top.specs.declared.status.Status.{Status}
@@ -20,12 +20,12 @@ code_of (BadCertificate place) = 10
 
 abbrev pub text_of : Status → List ℕ
 text_of Done = codes "done"
-text_of Usage = codes "usage"
-text_of Ragged = codes "ragged"
-text_of TooShort = codes "too short"
-text_of TooLong = codes "too long"
-text_of ReadFault = codes "read fault"
-text_of WriteFault = codes "write fault"
-text_of OutOfMemory = codes "out of memory"
-text_of (BadCell cause) = refusal_text cause
-text_of (BadCertificate place) = broken_text place
+text_of Usage = codes "usage: the arguments match no command; the command help lists all"
+text_of Ragged = codes "ragged: the input ends within a sample; check the format, or cut the last bytes"
+text_of TooShort = codes "too short: the recording has fewer than 57,600 samples; record at least 30 ms"
+text_of TooLong = codes "too long: the input exceeds its limit; cut it, a recording to 1,920,000 samples (1 s)"
+text_of ReadFault = codes "read fault: standard input could not be read; check the file or the pipe"
+text_of WriteFault = codes "write fault: standard output could not be written, and what it has is incomplete"
+text_of OutOfMemory = codes "out of memory: an allocation failed; free memory and try again"
+text_of (BadCell cause) = refusal_text cause ++ codes "; see the descriptions in FORMATS"
+text_of (BadCertificate place) = broken_text place ++ codes "; the input is damaged, or no file of certificates"

@@ -124,15 +124,35 @@ impl fmt::Display for Status {
     fn fmt<W: fmt::Write>(&self, f: &mut fmt::Formatter<W>) -> fmt::Result {
         match self {
             Status::Done => f.write_str("done"),
-            Status::Usage => f.write_str("usage"),
-            Status::Ragged => f.write_str("ragged"),
-            Status::TooShort => f.write_str("too short"),
-            Status::TooLong => f.write_str("too long"),
-            Status::ReadFault => f.write_str("read fault"),
-            Status::WriteFault => f.write_str("write fault"),
-            Status::OutOfMemory => f.write_str("out of memory"),
-            Status::BadCell(cause) => write!(f, "bad cell: {cause}"),
-            Status::BadCertificate(place) => write!(f, "bad certificate at byte {place}"),
+            Status::Usage => f.write_str(
+                "usage: the arguments match no command; the command help lists all",
+            ),
+            Status::Ragged => f.write_str(
+                "ragged: the input ends within a sample; check the format, or cut the last bytes",
+            ),
+            Status::TooShort => f.write_str(
+                "too short: the recording has fewer than 57,600 samples; record at least 30 ms",
+            ),
+            Status::TooLong => f.write_str(
+                "too long: the input exceeds its limit; cut it, a recording to 1,920,000 samples (1 s)",
+            ),
+            Status::ReadFault => f.write_str(
+                "read fault: standard input could not be read; check the file or the pipe",
+            ),
+            Status::WriteFault => f.write_str(
+                "write fault: standard output could not be written, and what it has is incomplete",
+            ),
+            Status::OutOfMemory => f.write_str(
+                "out of memory: an allocation failed; free memory and try again",
+            ),
+            Status::BadCell(cause) => write!(
+                f,
+                "bad cell: {cause}; see the descriptions in FORMATS"
+            ),
+            Status::BadCertificate(place) => write!(
+                f,
+                "bad certificate at byte {place}; the input is damaged, or no file of certificates"
+            ),
         }
     }
 }

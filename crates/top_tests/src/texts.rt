@@ -89,22 +89,50 @@ fn texts_of_other_errors(rt: HostRuntime) -> Result<(), Fail> {
 fn texts_of_answers(rt: HostRuntime) -> Result<(), Fail> {
     let alloc = rt.alloc();
     for (status, code, text) in [
-        (Status::Usage, 2, "usage"),
-        (Status::Ragged, 3, "ragged"),
-        (Status::TooShort, 4, "too short"),
-        (Status::TooLong, 5, "too long"),
-        (Status::ReadFault, 6, "read fault"),
-        (Status::WriteFault, 7, "write fault"),
-        (Status::OutOfMemory, 8, "out of memory"),
+        (
+            Status::Usage,
+            2,
+            "usage: the arguments match no command; the command help lists all",
+        ),
+        (
+            Status::Ragged,
+            3,
+            "ragged: the input ends within a sample; check the format, or cut the last bytes",
+        ),
+        (
+            Status::TooShort,
+            4,
+            "too short: the recording has fewer than 57,600 samples; record at least 30 ms",
+        ),
+        (
+            Status::TooLong,
+            5,
+            "too long: the input exceeds its limit; cut it, a recording to 1,920,000 samples (1 s)",
+        ),
+        (
+            Status::ReadFault,
+            6,
+            "read fault: standard input could not be read; check the file or the pipe",
+        ),
+        (
+            Status::WriteFault,
+            7,
+            "write fault: standard output could not be written, and what it has is incomplete",
+        ),
+        (
+            Status::OutOfMemory,
+            8,
+            "out of memory: an allocation failed; free memory and try again",
+        ),
         (
             Status::BadCell(CellError::Sib1Long),
             9,
-            "bad cell: sib1long",
+            "bad cell: sib1long; see the descriptions in FORMATS",
         ),
         (
             Status::BadCertificate(10_501),
             10,
-            "bad certificate at byte 10501",
+            "bad certificate at byte 10501; the input is damaged, or no file of certificates",
         ),
     ] {
         assert!(rt;
