@@ -1,4 +1,4 @@
-//! Runs a command on the recording that ships with the repository, so that the gate runs it.
+//! The program `lte_cli` on the recording that ships with the repository, so that the gate runs `search` on it.
 #![tactic(auto)]
 
 use lte_args::Program;

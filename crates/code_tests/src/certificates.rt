@@ -9,7 +9,7 @@ use tail_cert::{
 };
 use tailbite::Trellis;
 
-// A value of 120, in no order.
+// Returns a pseudorandom soft value from -6 to 6.
 fn value(k: usize, t: usize) -> i32
     requires place { k < 40 }
     requires stream { t < 3 }
@@ -18,7 +18,7 @@ fn value(k: usize, t: usize) -> i32
     (3 * k * k + 7 * t * k + 1) as i32 % 13 - 6
 }
 
-// 120 values: one, and zeros.
+// Returns 120 soft values: `first`, and zeros.
 fn values_from(first: i8) -> [[i32; 3]; 40]
     ensures { RowsWithin 2032 result }
 {
@@ -29,7 +29,7 @@ fn values_from(first: i8) -> [[i32; 3]; 40]
     values
 }
 
-// 120 values in no order.
+// Returns 120 pseudorandom soft values.
 fn many_values() -> [[i32; 3]; 40]
     ensures { RowsWithin 2032 result }
 {
@@ -40,7 +40,7 @@ fn many_values() -> [[i32; 3]; 40]
     values
 }
 
-// The bytes of the certificate that is filled with these values.
+// Returns the bytes of the certificate for these soft values.
 fn filled(alloc: Global, values: &[[i32; 3]; 40]) -> Result<Vec<u8>, AllocError>
     requires { RowsWithin 2032 values.now }
     ensures { IfOk result (λ bytes. 10501 ≤ length bytes.items) }
@@ -53,18 +53,18 @@ fn filled(alloc: Global, values: &[[i32; 3]; 40]) -> Result<Vec<u8>, AllocError>
     Ok(bytes)
 }
 
-// Reads the certificate that bytes begin, or are.
+// Parses the certificate at the start of `bytes`.
 fn read(bytes: &[u8], into: &mut Certificate) -> Result<(), BadCertificate> {
     let whole = head(&bytes[..bytes.len().min(HEAD_BYTES)])?;
     parse(&bytes[..bytes.len().min(whole)], into)
 }
 
-// Whether the bytes are read, as a certificate that is accepted or as one that is not.
+// Returns whether `bytes` is a well-formed certificate, and its check gives `accepted`.
 fn is_read(bytes: &[u8], into: &mut Certificate, accepted: bool) -> bool {
     read(bytes, into).is_ok() && check(into) == accepted
 }
 
-// Whether the bytes are refused at this place.
+// Returns whether `bytes` is refused at byte offset `place`.
 fn is_refused_at(bytes: &[u8], into: &mut Certificate, place: u64) -> bool {
     match read(bytes, into) {
         Ok(()) => false,
@@ -72,7 +72,7 @@ fn is_refused_at(bytes: &[u8], into: &mut Certificate, place: u64) -> bool {
     }
 }
 
-// The bytes of the certificate of zeros with some of them changed.
+// Returns the bytes of the all-zero certificate with `piece` written over them at `at`.
 fn changed(alloc: Global, at: usize, piece: &[u8]) -> Result<Vec<u8>, AllocError>
     requires { at + length piece.now ≤ 10501 }
 {
@@ -81,7 +81,7 @@ fn changed(alloc: Global, at: usize, piece: &[u8]) -> Result<Vec<u8>, AllocError
     Ok(bytes)
 }
 
-// Whether it has the least length, and none has more than the greatest.
+// Returns whether a certificate has the minimum length; `MOST_BYTES` is the maximum.
 fn has_least_length(certificate: &Certificate) -> bool {
     length(certificate) == 10_501 && MOST_BYTES == 665_861
 }
@@ -102,13 +102,13 @@ fn the_zero_certificate_is_accepted_and_its_changes_are_not(rt: HostRuntime) -> 
     assert!(rt; is_read(&bytes, &mut certificate, true));
     let cost = changed(rt.alloc(), 249, &[1])?;
     assert!(rt; is_read(&cost, &mut certificate, false));
-    // The bound G(40, 0), which rises too much, lies behind 39 rows of 64 entries.
+    // The bound G(40, 0), after 39 rows of 64 entries, rises too much.
     let bound = changed(rt.alloc(), 10_237, &[255, 255, 255, 255])?;
     assert!(rt; is_read(&bound, &mut certificate, false));
     Ok(())
 }
 
-// Whether the piece stands in the bytes at this place.
+// Returns whether `bytes` has `piece` at this offset.
 fn has_at(bytes: &[u8], place: usize, piece: &[u8]) -> bool {
     match bytes.get(place..) {
         Some(rest) => rest.starts_with(piece),
@@ -116,7 +116,7 @@ fn has_at(bytes: &[u8], place: usize, piece: &[u8]) -> bool {
     }
 }
 
-// Whether the bytes have the first value -1, and as word bit 38 alone, with cost 0.
+// Returns whether the first soft value is -1, and the codeword has only bit 38, with cost 0.
 fn has_value_and_word(bytes: &[u8]) -> bool {
     has_at(bytes, 0, b"LTC2\xff\xff") && has_at(bytes, 244, b"\x00\x00\x00\x00\x02\x00\x00\x00\x00")
 }
@@ -128,7 +128,7 @@ fn the_bytes_hold_values_and_word(rt: HostRuntime) -> Result<(), Fail> {
     Ok(())
 }
 
-// Whether the bytes have the cost, G(40, 0), G(40, 6), and tables of the states 6, 11, 14, 27, 30, 31 and 35.
+// Returns whether the bytes have the cost, G(40, 0), G(40, 6), and tables for states 6, 11, 14, 27, 30, 31 and 35.
 fn has_tables(bytes: &[u8]) -> bool {
     bytes.len() == 82_181
         && has_at(bytes, 249, &[69])
@@ -155,7 +155,7 @@ fn a_table_that_is_missing_is_not_accepted_and_a_further_one_is(
 ) -> Result<(), Fail> {
     let mut certificate = Certificate::new(rt.alloc())?;
     let mut bytes = filled(rt.alloc(), &many_values())?;
-    // The last one, of the state 35.
+    // The last table, for state 35.
     bytes[10_497] = 0;
     assert!(rt; is_read(&bytes, &mut certificate, false));
     assert!(rt; length(&certificate) == 71_941);
@@ -173,7 +173,7 @@ fn what_breaks_the_form_is_refused_at_its_place(rt: HostRuntime) -> Result<(), F
     assert!(rt; is_refused_at(&[0], &mut certificate, 0));
     assert!(rt; is_refused_at(b"LTD1", &mut certificate, 2));
     assert!(rt; is_refused_at(b"LTC1", &mut certificate, 3));
-    // A value that is too large is refused at its first byte, and an early end at the end.
+    // A soft value that is too large is refused at its first byte, and a truncated certificate at its end.
     let bytes = changed(rt.alloc(), 4, &[0xf1, 0x07])?;
     assert!(rt; is_refused_at(&bytes, &mut certificate, 4));
     let mut bytes = filled(rt.alloc(), &values_from(0))?;

@@ -6,7 +6,7 @@ use cs_bits::Bits;
 use std::test::Fail;
 use test_support::bits_of;
 
-// One stream of a coded word as a number, bit 0 the highest.
+// Returns a stream of a coded block as a number, most significant bit first.
 fn stream_of<const N: usize>(coded: &[[bool; 3]; N], stream: usize) -> u64 {
     let mut number = 0;
     for bits in coded {
@@ -15,7 +15,7 @@ fn stream_of<const N: usize>(coded: &[[bool; 3]; N], stream: usize) -> u64 {
     number
 }
 
-// The 64 bits of the endless reading from `from` on as a number.
+// Returns the 64 rate-matched bits from index `from` as a number.
 fn sent_from<const N: usize>(coded: &[[bool; 3]; N], from: u32) -> u64
     requires low { 6 ≤ N }
     requires high { N ≤ 64 }
@@ -27,7 +27,7 @@ fn sent_from<const N: usize>(coded: &[[bool; 3]; N], from: u32) -> u64
     number
 }
 
-// The coded word with the bit at index k of stream 0 alone.
+// Returns a coded block with only bit `k` of stream 0 set.
 fn alone<const N: usize>(k: usize) -> [[bool; 3]; N] {
     let mut coded = [[false; 3]; N];
     for j in 0..N {
@@ -36,7 +36,7 @@ fn alone<const N: usize>(k: usize) -> [[bool; 3]; N] {
     coded
 }
 
-// Whether the streams are these numbers.
+// Returns whether the streams equal these numbers.
 fn has_streams<const N: usize>(coded: &[[bool; 3]; N], numbers: [u64; 3]) -> bool {
     stream_of(coded, 0) == numbers[0]
         && stream_of(coded, 1) == numbers[1]
@@ -49,7 +49,7 @@ fn the_last_bit_alone_has_the_taps_of_stream_0(rt: HostRuntime) {
     assert!(rt; stream_of(&coded, 0) == 0x6c_0000_0001);
 }
 
-// Whether the coded word of a number has these streams, and these are its readings from some places on.
+// Returns whether the codeword of `word` has these streams and, from some indices, these rate-matched bits.
 fn is_coded<const N: usize>(word: u64, streams: [u64; 3], readings: [(u32, u64); 3]) -> bool
     requires low { 6 ≤ N }
     requires high { N ≤ 64 }
@@ -80,7 +80,7 @@ fn coded_words_of_37_and_40_bits(rt: HostRuntime) {
     assert!(rt; is_coded::<40>(0x6c_b5f6_5ba0, streams, readings));
 }
 
-// Whether bit i of the reading, and once more after all 120, is that of index k of stream 0, and the next is not.
+// Returns whether rate-matched bits `i` and `i + 120` are bit `k` of stream 0, and bit `i + 1` is not.
 fn is_read_at(i: usize, k: usize) -> bool
     requires { i ≤ 100 }
 {
@@ -95,7 +95,7 @@ fn the_first_bits_that_are_read_of_40(rt: HostRuntime) {
     }
 }
 
-// Whether the values give these sums at indices 0 and 17, and sums of this digest.
+// Returns whether the soft values combine into these sums at indices 0 and 17, and into sums with this digest.
 fn has_sums<const N: usize>(values: &[i16], first: [i32; 3], later: [i32; 3], number: i64) -> bool
     requires low { 18 ≤ N }
     requires high { N ≤ 64 }
@@ -129,7 +129,7 @@ fn the_first_indices_of_a_stream_of_40(rt: HostRuntime) {
     }
 }
 
-// Expected: the columns of TS 36.212 table 5.1.4-2, read one after the other without the nulls.
+// Expected: the columns of TS 36.212 table 5.1.4-2, read in order without the nulls.
 #[test]
 fn indices_of_long_streams(rt: HostRuntime) {
     for (p, index) in [(0, 20), (1, 52), (5, 180), (393, 786), (786, 785)] {

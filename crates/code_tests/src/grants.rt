@@ -3,12 +3,12 @@ use dci::{Grant, assignments_used_once, grants_and_bits, read, riv, size, write}
 use lte_types::Sib1Reason;
 use test_support::bits_of;
 
-// The word of these bits.
+// Returns the 21-bit message with these bits.
 fn word_of(bits: u64) -> Bits<21> {
     Bits::new(bits_of(bits))
 }
 
-// Whether these bits carry no grant, for this reason.
+// Returns whether these bits are refused for this reason.
 fn is_refused(bits: u64, reason: Sib1Reason) -> bool {
     match read(&word_of(bits)) {
         Ok(_) => false,
@@ -16,7 +16,7 @@ fn is_refused(bits: u64, reason: Sib1Reason) -> bool {
     }
 }
 
-// Whether the word is read as this grant, which is written as the other one.
+// Returns whether these bits decode to `grant`, which encodes to `written`.
 fn is_read_as(bits: u64, grant: Grant, written: u64) -> bool {
     match read(&word_of(bits)) {
         Ok(read) => read == grant && write(&read) == word_of(written),
@@ -24,7 +24,7 @@ fn is_read_as(bits: u64, grant: Grant, written: u64) -> bool {
     }
 }
 
-// Whether these blocks have these values.
+// Returns whether these resource blocks have their indication values.
 fn are_values() -> bool {
     riv(0, 4) == 18 && riv(0, 6) == 11 && riv(1, 5) == 16 && riv(5, 1) == 5
 }
@@ -35,7 +35,7 @@ fn values_of_blocks(rt: HostRuntime) {
     assignments_used_once();
 }
 
-// Whether the columns have their first and last sizes, and none after the last.
+// Returns whether the columns have their first and last transport block sizes, and none after the last.
 fn are_ends_of_columns() -> bool {
     size(0, 2) == Some(32)
         && size(21, 2) == Some(1000)

@@ -5,14 +5,14 @@ use crate::shared::{number_of, triple};
 use std::test::Fail;
 use tailbite::{Trellis, least, values_tell_the_word};
 
-// Numbers of a linear congruence.
+// A linear congruential generator.
 #[derive(Drop)]
 struct Numbers {
     state: u32,
 }
 
 impl Numbers {
-    // The next number of size at most `spread`.
+    // Returns the next number, of magnitude at most `spread`.
     fn next(&mut self, spread: u8) -> i32
         ensures { nat_abs result ≤ 255 }
     {
@@ -24,7 +24,7 @@ impl Numbers {
     }
 }
 
-// Values of size at most `spread` by a number that they begin with.
+// Returns generated soft values of magnitude at most `spread`.
 fn values_of<const N: usize>(seed: u32, spread: u8) -> [[i32; 3]; N]
     ensures { RowsWithin (2 ^ 20) result }
 {
@@ -40,7 +40,7 @@ fn values_of<const N: usize>(seed: u32, spread: u8) -> [[i32; 3]; N]
     values
 }
 
-// Whether the least word by the values is this one, as a number, with this cost.
+// Returns whether the Viterbi decoder finds this codeword with this cost.
 fn is_least<const N: usize>(
     values: &[[i32; 3]; N],
     number: u64,
@@ -55,7 +55,7 @@ fn is_least<const N: usize>(
     number_of(word.slice()) == number && found == cost
 }
 
-// Whether that holds of each row: with what the values begin and their spread, the number and the cost.
+// Returns whether the decoder finds the codeword and the cost in each row, for the row's seed and spread.
 fn are_least<const N: usize>(rows: &[(u32, u8, u64, u32)], work: &mut Trellis) -> bool
     requires low { 6 ≤ N }
     requires high { N ≤ 64 }
@@ -76,7 +76,7 @@ fn all_values_0_give_the_zero_word(rt: HostRuntime) -> Result<(), Fail> {
     Ok(())
 }
 
-// The values 0 but for the first, which is -1.
+// Returns soft values with -1 first and then zeros.
 fn one_value<const N: usize>() -> [[i32; 3]; N]
     requires { 1 ≤ N }
     ensures { RowsWithin (2 ^ 20) result }

@@ -1,4 +1,5 @@
-//! Tests of the codes, their decoders, and what is received stage by stage.
+//! Tests of the channel codes and of the receiver's single stages: `conv_code`, `tailbite`, `tail_cert`, `turbo_code`,
+//! `turbo_dec`, `erasure`, `dci`, `sib1`, `grid_map`, `soft_bits`, `sss_detect` and `pss_search`.
 #![tactic(auto)]
 
 #[cfg(test)]

@@ -6,12 +6,12 @@ use std::test::Fail;
 use test_support::{message, plain_block};
 use uper::Writer;
 
-// The plain block as it is sent.
+// The plain cell's SIB1, as sent.
 const BYTES: [u8; 15] = [
     0x40, 0x40, 0x04, 0x03, 0x00, 0x01, 0x00, 0x00, 0x00, 0x18, 0x00, 0x00, 0x00, 0x00, 0x00,
 ];
 
-// Bit `place` of the bytes, the highest first; none is set after them.
+// Returns bit `place`, most significant first, or false after the last byte.
 fn bit_of(bytes: &[u8], place: usize) -> bool {
     match bytes.get(place / 8) {
         Some(byte) => *byte >> (7 - place % 8) & 1 == 1,
@@ -19,7 +19,7 @@ fn bit_of(bytes: &[u8], place: usize) -> bool {
     }
 }
 
-// A block of these bytes.
+// Returns the first `N` bits of `bytes`.
 fn block_of<const N: usize>(bytes: &[u8]) -> [bool; N] {
     let mut bits = [false; N];
     for i in 0..N {
@@ -28,7 +28,7 @@ fn block_of<const N: usize>(bytes: &[u8]) -> [bool; N] {
     bits
 }
 
-// Whether the text of the fields is the first bits of the block, so many.
+// Returns whether the encoded fields are the first `size` bits of `block`.
 fn is_written(fields: &Sib1, block: &[bool], size: usize) -> bool {
     let mut out = Writer::new();
     fields.valid()
@@ -37,7 +37,7 @@ fn is_written(fields: &Sib1, block: &[bool], size: usize) -> bool {
         && block.get(..size) == Some(out.bits())
 }
 
-// The count of bits of the fields' text.
+// Returns the bit length of the encoded fields.
 fn size_of(fields: &Sib1) -> Option<usize> {
     let mut out = Writer::new();
     if fields.valid() && !fields.extended && write(fields, &mut out) {
@@ -61,7 +61,7 @@ fn a_block_of_120_bits_is_read(rt: HostRuntime) -> Result<(), Fail> {
     Ok(())
 }
 
-// Whether the first bits of the plain block, with these first two bytes, are refused for this reason.
+// Returns whether the first `count` bits of the plain SIB1, with these first two bytes, are refused for this reason.
 fn is_refused(count: usize, front: [u8; 2], reason: Sib1Reason) -> bool
     requires { count ≤ 120 }
 {
@@ -82,11 +82,11 @@ fn refusals(rt: HostRuntime) {
         (1, [0x40, 0x40], Sib1Reason::NotSib1),
         (2, [0x40, 0x40], Sib1Reason::BadFields(2)),
         (32, [0x40, 0x40], Sib1Reason::BadFields(32)),
-        // bit 9 is 0
+        // Bit 9 is 0.
         (120, [0x40, 0x00], Sib1Reason::BadFields(9)),
-        // bits 10, 12 and 13 are 1
+        // Bits 10, 12 and 13 are 1.
         (120, [0x40, 0x6c], Sib1Reason::BadFields(10)),
-        // and bit 1 is 0
+        // Bit 1 is 0.
         (120, [0x00, 0x6c], Sib1Reason::NotSib1),
     ] {
         assert!(rt; is_refused(count, front, reason), "the first {count} bits");
@@ -106,7 +106,7 @@ fn five_further_networks_take_11_bits_each(rt: HostRuntime) {
     assert!(rt; size_of(&fields) == Some(168));
 }
 
-// An entry with so many blocks of a code.
+// Returns a scheduling entry with this SIB code `count` times.
 fn repeated(period: u8, code: u8, count: u32) -> SiMessage {
     let mut entry = message(period, &[]);
     for _ in 0..count {
@@ -136,19 +136,19 @@ fn a_text_of_more_than_1000_bits_is_not_written(rt: HostRuntime) {
     assert!(rt; size_of(&fields) == None);
 }
 
-// A text of 205 bits with all that may be there but an extension: two networks, of which the second has no
-// country code, and two entries with short and long codes. Its bits are another program's.
+// A SIB1 of 205 bits with every optional part except an extension: two networks, the second without a country code, and
+// two scheduling entries with short and long codes. The bits are from the reference implementation.
 const FULL: [u8; 26] = [
     0x74, 0xcc, 0x42, 0x82, 0x10, 0x98, 0x34, 0x56, 0x15, 0x79, 0xbd, 0xee, 0xd2, 0xd2, 0xd2, 0xc9,
     0xe0, 0x7e, 0x12, 0x20, 0x5f, 0xe1, 0x3e, 0x03, 0x46, 0xf8,
 ];
 
-// That text in a block of 208 bits.
+// Returns `FULL` as a block of 208 bits.
 fn full_block() -> [bool; 208] {
     block_of(&FULL)
 }
 
-// Whether the fields of areas, cells and groups are those of that text.
+// Returns whether the area, cell and group fields are those of `FULL`.
 fn has_identities_of_full(fields: &Sib1) -> bool {
     fields.tac == 0x1a2b
         && fields.cell == 0x0abcdef
@@ -158,7 +158,7 @@ fn has_identities_of_full(fields: &Sib1) -> bool {
         && fields.csg_identity == Some(0x5a5a5a5)
 }
 
-// Whether the other fields but lists are.
+// Returns whether the levels and the remaining numbers are those of `FULL`.
 fn has_levels_of_full(fields: &Sib1) -> bool {
     fields.q_rx == -61
         && fields.q_offset == Some(8)
@@ -170,7 +170,7 @@ fn has_levels_of_full(fields: &Sib1) -> bool {
         && !fields.extended
 }
 
-// Whether the networks are those of that text.
+// Returns whether the networks are those of `FULL`.
 fn has_networks_of_full(fields: &Sib1) -> bool {
     match fields.plmns.slice() {
         [first, second] => {
@@ -185,7 +185,7 @@ fn has_networks_of_full(fields: &Sib1) -> bool {
     }
 }
 
-// Whether the entries of the schedule are.
+// Returns whether the scheduling entries are those of `FULL`.
 fn has_entries_of_full(fields: &Sib1) -> bool {
     match fields.scheduling.slice() {
         [early, late] => {

@@ -8,7 +8,7 @@ use grid_map::{
 };
 use lte_types::{Assignment, Bandwidth, Carrier, CellId, Cfi, Duration, Mib, Resource};
 
-// Whether this is point i of the broadcast channel of a cell.
+// Returns whether PBCH resource element `i` is at this symbol and subcarrier.
 fn is_point_of_broadcast(identity: u16, i: usize, symbol: u8, k: u8) -> bool {
     match CellId::new(identity) {
         Some(id) => i < 240 && pbch(id, i) == Place { symbol, k },
@@ -47,7 +47,7 @@ fn places_beside_the_reserved_ones_of_identities_1_and_503(rt: HostRuntime) {
     }
 }
 
-// Whether the four groups of the PCFICH have these first subcarriers.
+// Returns whether the four PCFICH resource-element groups begin at these subcarriers.
 fn has_pcfich(identity: u16, firsts: [u8; 4]) -> bool {
     match CellId::new(identity) {
         Some(id) => pcfich(id).map(|group| group.first) == firsts,
@@ -62,7 +62,7 @@ fn groups_of_the_pcfich(rt: HostRuntime) {
     assert!(rt; has_pcfich(77, [30, 48, 66, 12]));
 }
 
-// The groups of the PDCCH.
+// Returns the PDCCH resource-element groups.
 fn pdcch_of(
     identity: u16,
     cfi: u8,
@@ -75,7 +75,7 @@ fn pdcch_of(
     Some(pdcch(id, cfi, mib))
 }
 
-// Whether the groups are these, each as four times its first subcarrier and its symbol.
+// Returns whether the groups are these. A number is four times the first subcarrier plus the symbol.
 fn are_groups(groups: &[Reg], numbers: &[u16]) -> bool {
     let mut same = groups.len() == numbers.len();
     for (i, group) in groups.iter().enumerate() {
@@ -85,7 +85,7 @@ fn are_groups(groups: &[Reg], numbers: &[u16]) -> bool {
     same
 }
 
-// Whether the PDCCH has these groups.
+// Returns whether the PDCCH has these resource-element groups.
 fn has_pdcch(
     identity: u16,
     cfi: u8,
@@ -119,19 +119,19 @@ fn groups_of_the_pdcch_of_identity_503(rt: HostRuntime) {
     assert!(rt; has_pdcch(503, 3, Duration::Extended, Resource::Two, &expected));
 }
 
-// Whether no group of the PDCCH is one of these.
+// Returns whether `groups` has none of `others`.
 fn has_none_of(groups: &[Reg], others: &[Reg; 3]) -> bool {
     groups
         .iter()
         .all(|group| others.iter().all(|other| group != other))
 }
 
-// The group of a symbol with this first subcarrier.
+// Returns a resource-element group.
 fn group_at(symbol: u8, first: u8) -> Reg {
     Reg { symbol, first }
 }
 
-// Whether the groups of the PHICH of identity 0 with resource one are these: the PDCCH has none of them.
+// Returns whether these are the PHICH groups for identity 0 and resource one, which the PDCCH does not use.
 fn has_phich(duration: Duration, groups: &[Reg; 3]) -> bool {
     match pdcch_of(0, 3, duration, Resource::One) {
         Some(others) => has_none_of(others.as_slice(), groups),
@@ -149,12 +149,12 @@ fn groups_of_the_phich_of_identity_0(rt: HostRuntime) {
     assert!(rt; count_of(0, 3, Duration::Extended, Resource::One) == Some(59));
 }
 
-// How many groups of the PDCCH there are.
+// Counts the PDCCH resource-element groups.
 fn count_of(identity: u16, cfi: u8, duration: Duration, resource: Resource) -> Option<usize> {
     Some(pdcch_of(identity, cfi, duration, resource)?.len())
 }
 
-// Whether the PDCCH has so many groups with indicators 1, 2 and 3.
+// Returns whether the PDCCH has these group counts for CFI 1, 2 and 3.
 fn has_counts(identity: u16, duration: Duration, resource: Resource, counts: [usize; 3]) -> bool {
     count_of(identity, 1, duration, resource) == Some(counts[0])
         && count_of(identity, 2, duration, resource) == Some(counts[1])
@@ -177,7 +177,7 @@ fn counts_of_groups(rt: HostRuntime) {
     control_groups();
 }
 
-// Whether the places of a group have these subcarriers.
+// Returns whether the resource elements of a group are on these subcarriers.
 fn has_subcarriers(identity: u16, group: Reg, subcarriers: [u8; 4]) -> bool
     requires { IsTrue (is_group group) }
 {
@@ -211,7 +211,7 @@ fn places_of_a_group(rt: HostRuntime) {
     places_of_groups();
 }
 
-// Whether the first eight of so many groups carry these quadruplets.
+// Returns whether the first eight of `count` groups carry these quadruplets.
 fn has_quadruplets(identity: u16, count: u8, quadruplets: [u8; 8]) -> bool {
     let Some(id) = CellId::new(identity) else {
         return false;
@@ -243,7 +243,7 @@ fn quadruplets_of_the_first_groups(rt: HostRuntime) {
     quadruplets_permute();
 }
 
-// Point i of the shared channel; none for one that it does not have.
+// Returns PDSCH resource element `i`, or `None` if there is none.
 fn point_of(identity: u16, cfi: u8, start: u8, blocks: u8, i: usize) -> Option<Place> {
     let id = CellId::new(identity)?;
     let cfi = Cfi::new(cfi)?;
@@ -280,7 +280,7 @@ fn points_of_the_shared_channel(rt: HostRuntime) {
     shared_order();
 }
 
-// Point i of the shared channel of a carrier; none for one that it does not have.
+// Returns PDSCH resource element `i` under a transmission scheme, or `None` if there is none.
 fn point_by(
     carrier: Carrier,
     identity: u16,
@@ -297,7 +297,7 @@ fn point_by(
     Some(shared_place(carrier, id, &assignment, i))
 }
 
-// Rows of a program that goes through TS 36.211 sections 6.4 and 6.10.1.2 place by place.
+// From a program that walks the resource elements of TS 36.211 sections 6.4 and 6.10.1.2 one by one.
 #[test]
 fn points_of_the_shared_channel_of_other_carriers(rt: HostRuntime) {
     for (carrier, identity, cfi, start, blocks, i, symbol, k) in [

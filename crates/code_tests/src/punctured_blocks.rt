@@ -5,7 +5,7 @@ use erasure::fills;
 use std::test::Fail;
 use turbo_code::row_of;
 
-// Bit i of the block of a kind: kind 0 is all zeros.
+// Returns bit `i` of a test block; kind 0 is all zeros.
 fn block_bit(kind: usize, i: usize) -> bool
     requires kind { kind ≤ 9 }
     requires place { i ≤ 1000 }
@@ -13,8 +13,7 @@ fn block_bit(kind: usize, i: usize) -> bool
     kind > 0 && (i * i * 7 + i * kind + i / 8 + kind) % 5 < 2
 }
 
-// Whether the block of this many bits, with its check, can be resolved; `None` where the size is not in
-// the table.
+// Returns whether `sent` bits determine a block of `size` bits with its CRC; `None` if the size is not in the table.
 fn is_filled(size: u16, kind: usize, sent: u16) -> Option<bool>
     requires size { size ≤ 1000 }
     requires kind { kind ≤ 9 }
@@ -33,7 +32,7 @@ fn is_filled(size: u16, kind: usize, sent: u16) -> Option<bool>
     Some(fills(&word[..n + 24], row, sent))
 }
 
-// Whether the block can be resolved by so many bits, and not by one less; all such counts are those of
+// Returns whether `sent` is the minimum number of bits that determine the block. Expected values:
 // `python/lte_reference/erasure.py`.
 fn is_least(size: u16, kind: usize, sent: u16) -> bool
     requires size { size ≤ 1000 }
@@ -67,7 +66,7 @@ fn block_of_776_bits_fills_from_a_count_on(rt: HostRuntime) {
     assert!(rt; is_least(776, 3, 1217));
 }
 
-// The block of zeros, whose earlier words pass the check too, has to be settled at once.
+// An all-zero hard decision passes the CRC in every iteration, so the all-zero block must be settled in the first one.
 #[test]
 fn block_of_zeros_fills_in_the_first_iteration_or_never(rt: HostRuntime) {
     for (size, sent) in [(32, 98), (176, 348), (392, 744), (584, 1088), (632, 1165)] {

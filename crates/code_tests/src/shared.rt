@@ -1,11 +1,11 @@
-//! What several of these tests are made with.
+//! Fixtures shared by several of these tests.
 
 ghost use Rattle.std.specs.Prelude.{◌^◌, ◌≤◌, nat_abs};
 ghost use Rattle.finite.specs.Sizes.{AllWithin};
 
 use std::alloc::{AllocError, Global};
 
-// Three values.
+// Returns three soft values.
 pub(crate) fn triple(first: i32, second: i32, third: i32) -> [i32; 3]
     requires first { nat_abs first ≤ 2032 }
     requires second { nat_abs second ≤ 2032 }
@@ -16,7 +16,7 @@ pub(crate) fn triple(first: i32, second: i32, third: i32) -> [i32; 3]
     [first, second, third]
 }
 
-// The bits as a number, bit 0 the highest.
+// Returns the bits as a number, most significant first.
 pub(crate) fn number_of(bits: &[bool]) -> u64 {
     let mut number = 0;
     for bit in bits {
@@ -25,7 +25,7 @@ pub(crate) fn number_of(bits: &[bool]) -> u64 {
     number
 }
 
-// The values i^2 mod 255 - 127 of the i below the count.
+// Returns the values i^2 mod 255 - 127 for `i` below `count`.
 pub(crate) fn squares(alloc: Global, count: u16) -> Result<Vec<i16>, AllocError> {
     let mut values = Vec::new(alloc);
     for i in 0..count as u32 {
@@ -34,7 +34,7 @@ pub(crate) fn squares(alloc: Global, count: u16) -> Result<Vec<i16>, AllocError>
     Ok(values)
 }
 
-// The sums, row after row, as a number below 1,000,003 in base 31.
+// Returns the base-31 hash of the sums, row by row, modulo 1,000,003.
 pub(crate) fn digest<const N: usize, const M: usize>(rows: &[[i32; N]; M]) -> i64 {
     let mut number: i64 = 0;
     for row in rows {

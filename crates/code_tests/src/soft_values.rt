@@ -5,8 +5,7 @@ use cs_num::Cpx;
 use lte_types::CellId;
 use soft_bits::{Slot, soft};
 
-// How the channel shows a value that was sent: 64 times as great, or 1,792 times and turned by a
-// quarter.
+// A channel: a gain of 64, or a gain of 1,792 with a phase of a quarter cycle.
 #[derive(Clone, Copy)]
 enum Channel {
     Plain,
@@ -30,7 +29,7 @@ fn seen_of(sent: Cpx, channel: Channel) -> Cpx
     }
 }
 
-// The same value on all subcarriers.
+// Returns `value` on every subcarrier.
 fn level(value: Cpx) -> [Cpx; 72]
     requires { IsWithin (2 ^ 25) value }
     ensures { All (IsWithin (2 ^ 25)) result }
@@ -38,7 +37,7 @@ fn level(value: Cpx) -> [Cpx; 72]
     [value; 72]
 }
 
-// The reference signals alone.
+// Returns a symbol with only reference signals.
 fn references(id: CellId, number: u8, symbol: u8, channel: Channel) -> [Cpx; 72]
     requires number { number < 20 }
     requires symbol { (symbol ≡ 0) ⊎ (symbol ≡ 4) }
@@ -55,8 +54,7 @@ fn references(id: CellId, number: u8, symbol: u8, channel: Channel) -> [Cpx; 72]
     seen
 }
 
-// A slot of reference signals, with the same value at all places of the other symbols; none of a cell that
-// there cannot be.
+// Returns a slot with reference signals, and `value` on the other symbols; `None` for an invalid identity.
 fn slot_of(identity: u16, number: u8, first: Channel, second: Channel, value: Cpx) -> Option<Slot>
     requires number { number < 20 }
     requires small { IsWithin (2 ^ 25) value }
@@ -75,12 +73,12 @@ fn slot_of(identity: u16, number: u8, first: Channel, second: Channel, value: Cp
     Some(Slot::new(seen, number, id))
 }
 
-// Whether the slot has these soft values on a subcarrier of a symbol.
+// Returns whether the slot has these soft values at a resource element.
 fn has_values(slot: &Slot, symbol: u8, k: u8, values: [i16; 2]) -> bool {
     symbol < 7 && k < 72 && soft(slot, symbol, k) == values
 }
 
-// Whether the slot is number 19 of cell 503.
+// Returns whether the slot is number 19 of cell 503.
 fn is_last_of_503(slot: &Slot) -> bool {
     slot.id().value() == 503 && slot.number() == 19
 }
@@ -100,7 +98,7 @@ fn values_are_rounded_toward_zero_and_stop_at_127(rt: HostRuntime) {
     assert!(rt; has_values(&slot, 2, 35, [127, 0]));
 }
 
-// Whether all values of the slot are 0.
+// Returns whether all soft values of the slot are 0.
 fn is_silent(slot: &Slot) -> bool {
     for symbol in 0..7_u8 {
         for k in 0..72_u8 {

@@ -7,8 +7,7 @@ use std::alloc::Global;
 use std::test::Fail;
 use test_support::{primary_grid, put_symbol, silent, silent_recording};
 
-// The recording that is silent but for the signal of root 0 from sample `t` on, with its hits in
-// the list.
+// Returns the PSS detections in a recording that is silent except for the PSS of root 0 from sample `t`.
 fn hits_with_signal_at(alloc: Global, t: usize) -> Result<HitList, Fail>
     requires { t + 128 ≤ 57600 }
 {
@@ -21,7 +20,7 @@ fn hits_with_signal_at(alloc: Global, t: usize) -> Result<HitList, Fail>
     Ok(list)
 }
 
-// Whether the hit of that signal is the one of the list; its peak and energy are by a second program.
+// Returns whether the list has exactly that detection. Its peak and energy are from the reference implementation.
 fn has_lone_hit(list: &HitList, t: u32) -> bool {
     let lone = Hit {
         t,
@@ -61,7 +60,7 @@ fn a_list_is_emptied_before_it_is_filled(rt: HostRuntime) -> Result<(), Fail> {
     Ok(())
 }
 
-// Whether the sweep shows silence at 19,218 places, and then ends for good.
+// Returns whether the sweep returns zero metrics at 19,218 samples and then ends for good.
 fn is_silent(recording: &Recording) -> bool {
     let mut sweep = Sweep::new(recording);
     let silent = [Metric { peak: 0, energy: 0 }; 3];

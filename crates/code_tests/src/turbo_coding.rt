@@ -8,7 +8,7 @@ use std::test::Fail;
 use test_support::bits_of;
 use turbo_code::{Coded, Row, combine, encode, further_row_of, interleaver, match_out, row_of};
 
-// Whether the row of the size is this one.
+// Returns whether a transport block size has this table row.
 fn has_row(size: u16, k: u16, f1: u16, f2: u16) -> bool {
     row_of(size) == Some(Row { k, f1, f2 })
 }
@@ -22,7 +22,7 @@ fn rows_of_sizes(rt: HostRuntime) {
     }
 }
 
-// K, f1 and f2 of the sizes of format 1C that the first table has not (TS 36.212 table 5.1.3-3).
+// K, f1 and f2 for the DCI format 1C sizes that are not in the first table (TS 36.212 table 5.1.3-3).
 const FURTHER_ROWS: [(u16, u16, u16); 4] = [
     (64, 7, 16),
     (160, 21, 120),
@@ -30,7 +30,7 @@ const FURTHER_ROWS: [(u16, u16, u16); 4] = [
     (360, 133, 90),
 ];
 
-// Whether the further row of the size is this one, permutes, and is none of the first table.
+// Returns whether this is the further row for the size, permutes, and is not in the first table.
 fn is_further(size: u16, k: u16, f1: u16, f2: u16) -> bool {
     match further_row_of(size) {
         Some(row) => row == Row { k, f1, f2 } && permutes(&row) && row_of(size) == None,
@@ -48,7 +48,7 @@ fn further_rows_of_sizes(rt: HostRuntime) {
     }
 }
 
-// Whether the interleaver reads each bit once.
+// Returns whether the interleaver is a permutation.
 fn permutes(row: &Row) -> bool
     requires { IsAnyRow row.now }
 {
@@ -62,7 +62,7 @@ fn permutes(row: &Row) -> bool
     true
 }
 
-// Whether the row of K is this one, and permutes.
+// Returns whether this is the row for K, and permutes.
 fn is_sound(k: u16, f1: u16, f2: u16) -> bool {
     match row_of(k.saturating_sub(24)) {
         Some(row) => row == Row { k, f1, f2 } && permutes(&row),
@@ -70,7 +70,7 @@ fn is_sound(k: u16, f1: u16, f2: u16) -> bool {
     }
 }
 
-// K, f1 and f2 of the sizes in use (TS 36.212 table 5.1.3-3).
+// K, f1 and f2 for the sizes in use (TS 36.212 table 5.1.3-3).
 const ROWS: [(u16, u16, u16); 31] = [
     (56, 19, 42),
     (80, 11, 20),
@@ -112,7 +112,7 @@ fn each_row_permutes(rt: HostRuntime) {
     }
 }
 
-// The 64 bits of the reading from `from` on as a number.
+// Returns the 64 rate-matched bits from index `from` as a number.
 fn sent_from(coded: &Coded, rv: u8, from: u16) -> u64
     requires size { IsAnySize coded.now.k }
     requires version { rv < 4 }
@@ -125,12 +125,12 @@ fn sent_from(coded: &Coded, rv: u8, from: u16) -> u64
     number
 }
 
-// The first 60 bits of a stream as a number.
+// Returns the first 60 bits of a stream as a number.
 fn front_of(stream: &[bool; 1028]) -> u64 {
     number_of(&stream[..60])
 }
 
-// Whether K is 56 and the first 60 bits of the streams are these.
+// Returns whether K is 56 and the streams begin with these 60 bits.
 fn has_streams(coded: &Coded, numbers: [u64; 3]) -> bool {
     coded.k == 56
         && front_of(&coded.d[0]) == numbers[0]
@@ -165,8 +165,8 @@ fn coded_word_of_56_bits(rt: HostRuntime) {
     }
 }
 
-// The streams of the word 0123456789abcdef of 64 bits and what is sent of it, by the encoder of
-// python/lte_reference/turbo.py and the matrix of TS 36.212 section 5.1.4.1.1.
+// The streams and rate-matched bits for the 64-bit block 0123456789abcdef, from the encoder in
+// python/lte_reference/turbo.py and the matrix in TS 36.212 section 5.1.4.1.1.
 #[test]
 fn coded_word_of_64_bits(rt: HostRuntime) {
     let Some(row) = further_row_of(40) else {
@@ -191,7 +191,7 @@ fn coded_word_of_64_bits(rt: HostRuntime) {
     }
 }
 
-// The bits that the second encoder reads first.
+// Returns the first four bits that the second constituent encoder reads.
 fn first_read(row: &Row) -> Option<[usize; 4]>
     requires { IsRow row.now }
 {
@@ -214,12 +214,12 @@ fn the_first_bits_of_the_second_encoder_of_144(rt: HostRuntime) {
     assert!(rt; row.k == 144 && first_read(&row) == Some([0, 125, 34, 15]));
 }
 
-// Where the reading of 148 coded bits a stream starts, by redundancy version.
+// A law: the start index in the circular buffer for K = 144, by redundancy version.
 fn starts_of_144()
     ensures { (start 144 0 ≡ 10) × (start 144 1 ≡ 130) × (start 144 2 ≡ 250) × (start 144 3 ≡ 370) }
 {}
 
-// The coded word of a row's K with one bit.
+// Returns a coded block with only one bit set.
 fn alone(row: Row, stream: usize, index: usize) -> Coded
     requires { IsRow row }
     ensures k { result.k ≡ row.k }
@@ -234,8 +234,8 @@ fn alone(row: Row, stream: usize, index: usize) -> Coded
     Coded { k: row.k, d }
 }
 
-// Whether bit i of the reading, and once more after all 444, is the one at this index, and bit i + 1 is not. Bits
-// from the 101st on are not looked at.
+// Returns whether rate-matched bits `i` and `i + 444` are the bit at this index, and bit `i + 1` is not; `i` is at most
+// 100.
 fn is_sent(row: Row, rv: u8, i: usize, stream: usize, index: usize) -> bool
     requires { IsRow row }
 {
@@ -271,7 +271,7 @@ fn first_bits_that_are_sent_of_144(rt: HostRuntime) {
     }
 }
 
-// The digest of the sums of 1,224 values at K = 56.
+// Returns the digest of the combined sums for 1,224 soft values at K = 56.
 fn digest_of(alloc: Global, rv: u8) -> Result<i64, AllocError>
     requires { rv < 4 }
 {
@@ -285,7 +285,7 @@ fn digest_of(alloc: Global, rv: u8) -> Result<i64, AllocError>
     Ok(digest(&combine(&values, row, rv).d))
 }
 
-// The digest of the sums of 5,760 values, which are 32 rounds of the reading at K = 56.
+// Returns the digest of the combined sums for 5,760 soft values, 32 rounds of the circular buffer at K = 56.
 fn digest_of_many(alloc: Global, row: Row, rv: u8) -> Result<i64, AllocError>
     requires row { IsAnyRow row }
     requires version { rv < 4 }
@@ -297,7 +297,7 @@ fn digest_of_many(alloc: Global, row: Row, rv: u8) -> Result<i64, AllocError>
     Ok(digest(&combine(&values, row, rv).d))
 }
 
-// The digest for a size of either table, and 0 for any other.
+// Returns the digest for a size in either table, and 0 for any other.
 fn digest_of_size(alloc: Global, size: u16, rv: u8) -> Result<i64, AllocError>
     requires version { rv < 4 }
 {

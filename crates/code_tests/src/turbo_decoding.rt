@@ -9,14 +9,14 @@ use std::test::Fail;
 use turbo_code::{Combined, Row, encode, row_of};
 use turbo_dec::{Work, decode, greatest_scores, half, orders_undo_each_other};
 
-// Whether each value is at most 4,096 in size.
+// Returns whether each value has a magnitude of at most 4,096.
 fn are_small(values: &[i32]) -> bool
     ensures { IsTrue result → All IsSmall values.now }
 {
     values.iter().all(|value| value.unsigned_abs() <= 4096)
 }
 
-// Whether one decoder finds these extrinsic values; not where the values do not fit it.
+// Returns whether one constituent decoder finds these extrinsic values; false if the inputs do not fit it.
 fn has_extrinsics(
     alloc: Global,
     systematic: &[i32],
@@ -156,7 +156,7 @@ fn extrinsic_values_of_eleven_bits(rt: HostRuntime) -> Result<(), Fail> {
     Ok(())
 }
 
-// What a decoder told of a reception.
+// The decoder's result for a reception.
 #[derive(PartialEq, Eq, Drop)]
 enum Answer {
     Unfit,
@@ -165,8 +165,8 @@ enum Answer {
     Other,
 }
 
-// A block of so many bits, whose coded bits are received with a gain and with noise up to a spread. The sum
-// of the sizes of what is received shows that it is what a second program received.
+// A block of `size` bits, received with a gain and with noise up to `spread`. `sizes`, the sum of the received
+// magnitudes, shows that it equals the reference implementation's reception.
 #[derive(Drop)]
 struct Reception {
     size: u16,
@@ -177,7 +177,7 @@ struct Reception {
     sizes: u32,
 }
 
-// A block of 32 bits.
+// Returns a reception of a 32-bit block.
 fn short(block: u32, gain: i32, spread: u32, seed: u32, sizes: u32) -> Reception {
     Reception {
         size: 32,
@@ -189,7 +189,7 @@ fn short(block: u32, gain: i32, spread: u32, seed: u32, sizes: u32) -> Reception
     }
 }
 
-// Bit i of the block.
+// Returns bit `i` of the block.
 fn sent_bit(reception: &Reception, i: usize) -> bool {
     match reception.block.get(i / 32) {
         Some(number) => *number >> (31 - i % 32) & 1 == 1,
@@ -197,7 +197,7 @@ fn sent_bit(reception: &Reception, i: usize) -> bool {
     }
 }
 
-// The block and its check.
+// Returns the block and its CRC.
 fn sent_word(alloc: Global, reception: &Reception) -> Result<Vec<bool>, AllocError> {
     let mut word = Vec::new(alloc);
     for i in 0..reception.size as usize {
@@ -210,12 +210,12 @@ fn sent_word(alloc: Global, reception: &Reception) -> Result<Vec<bool>, AllocErr
     Ok(word)
 }
 
-// The next number of a linear congruence modulo 2^31.
+// Returns the next number of a linear congruential generator modulo 2^31.
 fn next_number(x: u32) -> u32 {
     x.wrapping_mul(1_103_515_245).wrapping_add(12_345) & 0x7fff_ffff
 }
 
-// What is received of a coded bit.
+// Returns the received soft value of a coded bit.
 fn received_bit(reception: &Reception, bit: bool, x: u32) -> i32 {
     let spread = reception.spread.min(10_000);
     let gain = reception.gain.clamp(-10_000, 10_000);
@@ -224,7 +224,7 @@ fn received_bit(reception: &Reception, bit: bool, x: u32) -> i32 {
     value.clamp(-2047, 2047)
 }
 
-// What is received of all.
+// Returns the received soft values of all coded bits.
 fn received(reception: &Reception, row: Row, word: &[bool]) -> Combined
     requires row { IsRow row }
     requires count { length word.now ≡ row.k }
@@ -243,14 +243,14 @@ fn received(reception: &Reception, row: Row, word: &[bool]) -> Combined
     Combined { k: row.k, d }
 }
 
-// Whether all sums are at most 4,096 in size.
+// Returns whether all sums have a magnitude of at most 4,096.
 fn are_all_small(sums: &[[i32; 1028]; 3]) -> bool
     ensures { IsTrue result → All (All IsSmall) sums.now }
 {
     sums.iter().all(|stream| are_small(stream))
 }
 
-// The sum of the sizes of all sums.
+// Returns the sum of the magnitudes of all sums.
 fn sizes_of(sums: &[[i32; 1028]; 3]) -> u32 {
     let mut sizes: u32 = 0;
     for stream in sums {
@@ -261,7 +261,7 @@ fn sizes_of(sums: &[[i32; 1028]; 3]) -> u32 {
     sizes
 }
 
-// Whether the block is the one that was sent.
+// Returns whether the block is the one that was sent.
 fn is_sent(reception: &Reception, block: &[bool]) -> bool {
     let mut same = block.len() == reception.size as usize;
     for (i, bit) in block.iter().enumerate() {
@@ -270,7 +270,7 @@ fn is_sent(reception: &Reception, block: &[bool]) -> bool {
     same
 }
 
-// What the decoder tells of a reception.
+// Decodes a reception.
 fn told(alloc: Global, reception: &Reception) -> Result<Answer, AllocError> {
     let mut work = Work::new(alloc)?;
     let word = sent_word(alloc, reception)?;
@@ -295,14 +295,14 @@ fn told(alloc: Global, reception: &Reception) -> Result<Answer, AllocError> {
 fn short_blocks(rt: HostRuntime) -> Result<(), Fail> {
     let alloc = rt.alloc();
     for (block, gain, spread, seed, sizes, answer) in [
-        // A later iterate tells the block.
+        // A later iteration decodes the block.
         (0x9a3b_5d71, 8, 17, 30_415, 2059, Answer::Sent),
         (0xc0ff_ee42, 8, 16, 4996, 1734, Answer::Sent),
         (0x5eed_f00d, 3, 6, 7408, 719, Answer::Sent),
-        // No iterate up to the eighth tells it.
+        // No iteration up to the eighth decodes it.
         (0x9a3b_5d71, 8, 17, 12_371, 1798, Answer::Nothing),
         (0x8000_0001, 100, 205, 21_512, 23_747, Answer::Nothing),
-        // A quarter or the clamp decides.
+        // The scaling by 3/4 or the clamp decides.
         (0x1b2c_3d4e, 2, 4, 21_055, 497, Answer::Sent),
         (0x5eed_f00d, 3, 6, 29_008, 745, Answer::Nothing),
         (0x7e57_ab1e, 1000, 2000, 29_537, 215_739, Answer::Sent),
@@ -352,7 +352,7 @@ fn longer_blocks(rt: HostRuntime) -> Result<(), Fail> {
     Ok(())
 }
 
-// What the decoder tells of sums that are all this value, but for the first, where zeros were sent.
+// Decodes sums that all have one value, except for the first; zeros were sent.
 fn told_of(alloc: Global, first: i32, value: i32) -> Result<Answer, AllocError> {
     let mut work = Work::new(alloc)?;
     let Some(row) = row_of(32) else {

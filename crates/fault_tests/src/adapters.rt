@@ -1,4 +1,4 @@
-//! The reader and the writer of std as a source and a sink: each call makes one call of theirs, with the same bytes.
+//! `StdSource` and `StdSink`: each call makes one call of the reader or writer, with the same bytes.
 
 use cs_outside::{Failed, Sink, Source, StdSink, StdSource};
 use std::alloc::{AllocError, Global};
@@ -6,10 +6,10 @@ use std::io;
 use std::io::{ErrorKind, Read, Write};
 use std::test::Fail;
 
-// How many bytes are asked for or given in a call.
+// The byte counts of a call.
 const SIZES: [usize; 8] = [1, 2, 15, 16, 17, 4_095, 4_096, 20_000];
 
-// A reader and a writer that keeps how many bytes each call is about, and answers each as it says.
+// A reader and writer that records each call's byte count, and answers as configured.
 #[derive(Drop)]
 struct Recorder {
     sizes: Vec<usize>,
@@ -17,7 +17,7 @@ struct Recorder {
 }
 
 impl Recorder {
-    // A recorder that fails, or takes so many bytes of a call at most.
+    // Returns a recorder that accepts at most `taken` bytes a call, or fails if that is `None`.
     fn new(alloc: Global, taken: Option<usize>) -> Recorder {
         Recorder {
             sizes: Vec::new(alloc),
@@ -25,7 +25,7 @@ impl Recorder {
         }
     }
 
-    // Whether one call was made, about so many bytes.
+    // Returns whether exactly one call was made, with this byte count.
     fn was_called_once(&self, size: usize) -> bool {
         self.sizes.as_slice() == [size].as_slice()
     }
@@ -55,7 +55,7 @@ impl Write for Recorder {
     }
 }
 
-// What a call of a source over the recorder returns for a buffer of so many bytes.
+// Calls `read` once on a source over the recorder, with a buffer of `size` bytes.
 fn read_into(
     alloc: Global,
     recorder: &mut Recorder,
@@ -69,7 +69,7 @@ fn read_into(
     Ok(source.read(&mut buffer))
 }
 
-// What a call of a sink over the recorder returns for a piece of so many bytes.
+// Calls `write` once on a sink over the recorder, with a piece of `size` bytes.
 fn write_of(
     alloc: Global,
     recorder: &mut Recorder,

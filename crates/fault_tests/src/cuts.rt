@@ -1,4 +1,4 @@
-//! Inputs that are cut.
+//! Truncated inputs.
 
 use crate::inputs::plain_description;
 use cell_tx::CellError;
@@ -8,7 +8,7 @@ use std::test::Fail;
 use test_support::certificate_of_zeros;
 use top_tests::{Output, output_of};
 
-// What `check` comes to over the first bytes of the certificate of zeros.
+// Runs `check` on the first `len` bytes of the all-zero certificate.
 fn check_of_front(alloc: Global, len: usize) -> Result<Output, AllocError> {
     let mut bytes = certificate_of_zeros(alloc)?;
     bytes.truncate(len);

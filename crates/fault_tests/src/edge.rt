@@ -1,4 +1,4 @@
-//! The edge of a process: arguments, the exit code and the line on standard error.
+//! The process entry point: arguments, exit code, and the line on standard error.
 
 use lte_process::run_process;
 use lte_top::Program;
@@ -11,8 +11,8 @@ use std::io::{Eprint, Read};
 use std::process::{Abort, ExitCode};
 use std::test::Fail;
 
-// A runtime with arguments of its own, which keeps the text that is printed on standard error. The arguments are those
-// of a line, with one space between them; a question mark stands for a byte of no text.
+// A runtime with its own arguments, which records what is printed on standard error. The arguments are a line, split at
+// single spaces; a question mark is a byte that is not UTF-8.
 #[derive(Drop)]
 struct Process<'a> {
     alloc: Global,
@@ -66,7 +66,7 @@ impl<'a> Eprint for Process<'a> {
 }
 
 impl<'a> Process<'a> {
-    // Appends a text to what is printed.
+    // Appends to the printed text.
     fn keep(&self, text: &str) -> io::Result<()> {
         match self.printed.try_borrow_mut() {
             Ok(mut printed) => Ok(printed.push_str(text)?),
@@ -74,7 +74,7 @@ impl<'a> Process<'a> {
         }
     }
 
-    // Whether this text was printed and no other.
+    // Returns whether exactly this text was printed.
     fn has_printed(&self, text: &str) -> bool {
         match self.printed.try_borrow() {
             Ok(printed) => printed.as_str() == text,
@@ -83,7 +83,7 @@ impl<'a> Process<'a> {
     }
 }
 
-// Runs a program over a line of arguments and these bytes. It ends with this exit code and this text on standard error.
+// Checks that a program with these arguments and this input exits with `code`, and prints `text` on standard error.
 fn ends_with(
     rt: &impl Abort,
     alloc: Global,
@@ -104,7 +104,7 @@ fn ends_with(
     Ok(())
 }
 
-// A sample of 8-bit numbers is half a sample of 16-bit numbers, so the last two words change the answer.
+// An 8-bit sample is half as long as a 16-bit sample, so the last two arguments change the answer.
 #[test]
 fn six_arguments_are_words(rt: HostRuntime) -> Result<(), Fail> {
     let alloc = rt.alloc();

@@ -1,4 +1,4 @@
-//! Each call of a source and of a sink fails once, and pieces of one byte.
+//! Each call to a source or a sink fails once; and one-byte pieces.
 
 use crate::forms::{
     APPLYING, AS_JSON, BY_OTHER_RULES, BY_OTHER_RULES_AND_WORDS, CANCELLING, Form, OF_8_BITS,
@@ -15,10 +15,10 @@ use std::test::Fail;
 use test_support::silence;
 use top_tests::{Output, ROOM, command_line, output_by, output_from, output_into, output_of};
 
-// The most bytes of a call.
+// The maximum byte count of a call.
 const MOST: usize = 65_536;
 
-// More calls than a run makes.
+// More calls than any run makes.
 const CALLS: u64 = 1_000;
 
 // Where a call fails.
@@ -28,7 +28,7 @@ enum Fault {
     Write,
 }
 
-// Words of a program, what they read, and what they come to where no call fails.
+// A program's arguments and input, and its output if no call fails.
 #[derive(Drop)]
 struct Case {
     program: Program,
@@ -38,7 +38,7 @@ struct Case {
 }
 
 impl Case {
-    // The case of a form.
+    // Runs a form without failing calls.
     fn new(alloc: Global, program: Program, form: Form) -> Result<Case, AllocError> {
         let (line, input) = form;
         let words = command_line(alloc, line)?;
@@ -52,7 +52,7 @@ impl Case {
         })
     }
 
-    // What it comes to where this call fails. The sink has room for the whole output and no more.
+    // Runs the case with one failing call. The sink has room for exactly the whole output.
     fn output_at(&self, alloc: Global, fault: Fault, call: u64) -> Result<Output, AllocError> {
         let (program, words) = (self.program, &self.words);
         let fails = vec![in alloc; call; 1]?;
@@ -69,7 +69,7 @@ impl Case {
         }
     }
 
-    // Whether the answer to a fault is right: nothing is written where a read fails, and a front where a write fails.
+    // Returns whether nothing is written after a failed read, and a prefix after a failed write.
     fn is_answered(&self, fault: Fault, output: &Output) -> bool {
         match fault {
             Fault::Read => output.is(Status::ReadFault, b""),
@@ -81,7 +81,7 @@ impl Case {
         }
     }
 
-    // Whether so many calls can fail, where this is read.
+    // Returns whether this count of failing calls is plausible for an input.
     fn has_faults(&self, fault: Fault, input: Input, faults: u64) -> bool {
         match fault {
             Fault::Read => {
@@ -96,7 +96,7 @@ impl Case {
     }
 }
 
-// An input of so many bytes is read by this many calls at least, of which the last tells the end.
+// Returns the minimum number of reads for an input of `len` bytes; the last one returns the end.
 fn least_reads(input: Input, len: usize) -> u64 {
     match input {
         Input::Nothing => 0,
@@ -104,12 +104,12 @@ fn least_reads(input: Input, len: usize) -> u64 {
     }
 }
 
-// So many bytes are written by this many calls at least.
+// Returns the minimum number of writes for `len` bytes.
 fn least_writes(len: usize) -> u64 {
     len.div_ceil(MOST) as u64
 }
 
-// How many calls of a form's case can fail: each in turn does, and the run after the last is whole.
+// Counts the calls of a form that can fail. Each fails in turn, and the run after the last one is complete.
 fn faults_of(
     rt: &impl Abort,
     alloc: Global,
@@ -131,7 +131,7 @@ fn faults_of(
     Ok(CALLS)
 }
 
-// Each run of these forms of which a call fails is answered as a fault of that call.
+// Checks that each run of these forms with one failing call reports a fault of that call.
 fn fail_each(rt: &impl Abort, alloc: Global, program: Program, forms: &[Form]) -> Result<(), Fail> {
     for &(line, input) in forms {
         let case = Case::new(alloc, program, (line, input))?;
@@ -231,7 +231,7 @@ fn each_call_of_pages_of_the_tuner_that_fails_is_a_fault(rt: HostRuntime) -> Res
     fail_each(&rt, rt.alloc(), Program::Tuner, &PAGES)
 }
 
-// Whether `search` tells the cell of the recording, and nothing else.
+// Returns whether `search` lists exactly the recording's cell.
 fn tells_the_cell(output: &Output, whole: &Output) -> bool {
     output.written.starts_with(b"cells 1\ncell 0 at 0 sfn 0 ")
         && output.is(Status::Done, &whole.written)
@@ -260,7 +260,7 @@ fn writes_of_one_byte_change_nothing(rt: HostRuntime) -> Result<(), Fail> {
     Ok(())
 }
 
-// A writer that takes nothing of each piece, and counts the pieces.
+// A writer that accepts nothing, and counts the pieces.
 #[derive(Drop)]
 struct Stuck {
     pieces: u64,

@@ -1,11 +1,11 @@
-//! The forms of command lines, each with a valid input.
+//! The command forms, each with a valid input.
 
 use crate::inputs::Input;
 
-/// The command line of a form, and what it is run over.
+/// A form's command line, and its input.
 pub type Form = (&'static str, Input);
 
-/// The reports, one a line.
+/// The reports as text.
 pub const REPORTS: [Form; 4] = [
     ("hits", Input::Cell16),
     ("ids", Input::Cell16),
@@ -13,7 +13,7 @@ pub const REPORTS: [Form; 4] = [
     ("evidence", Input::Cell16),
 ];
 
-/// The same as JSON.
+/// The reports as JSON.
 pub const AS_JSON: [Form; 4] = [
     ("hits --json", Input::Cell16),
     ("ids --json", Input::Cell16),
@@ -21,7 +21,7 @@ pub const AS_JSON: [Form; 4] = [
     ("evidence --json", Input::Cell16),
 ];
 
-/// The forms that read samples of 8 bits.
+/// The forms that read 8-bit samples.
 pub const OF_8_BITS: [Form; 5] = [
     ("hits --format cu8", Input::Cell8),
     ("ids --format cu8", Input::Cell8),
@@ -30,7 +30,7 @@ pub const OF_8_BITS: [Form; 5] = [
     ("certify --format cu8", Input::Cell8),
 ];
 
-/// Those of them that write JSON.
+/// The forms that read 8-bit samples and write JSON.
 pub const OF_8_BITS_AS_JSON: [Form; 4] = [
     ("hits --json --format cu8", Input::Cell8),
     ("ids --json --format cu8", Input::Cell8),
@@ -38,7 +38,7 @@ pub const OF_8_BITS_AS_JSON: [Form; 4] = [
     ("evidence --json --format cu8", Input::Cell8),
 ];
 
-/// The forms that read recordings by other rules, or make them.
+/// The forms that use other rules, and the form that makes a recording.
 pub const BY_OTHER_RULES: [Form; 6] = [
     ("search --ports 2", Input::Cell16),
     ("search --ports 4", Input::Cell16),
@@ -48,7 +48,7 @@ pub const BY_OTHER_RULES: [Form; 6] = [
     ("make 0 --prefix long", Input::Nothing),
 ];
 
-/// The lists by other rules, as JSON and of samples of 8 bits.
+/// The cell lists under other rules, as JSON and from 8-bit samples.
 pub const BY_OTHER_RULES_AND_WORDS: [Form; 8] = [
     ("search --ports 2 --json", Input::Cell16),
     ("search --ports 4 --json", Input::Cell16),
@@ -60,7 +60,7 @@ pub const BY_OTHER_RULES_AND_WORDS: [Form; 8] = [
     ("search --prefix long --json --format cu8", Input::Cell8),
 ];
 
-/// What supports the entries of lists by other rules, and their certificates.
+/// The evidence and the certificates under other rules.
 pub const OF_LISTS_BY_OTHER_RULES: [Form; 9] = [
     ("evidence --ports 2", Input::Cell16),
     ("evidence --ports 4", Input::Cell16),
@@ -73,7 +73,7 @@ pub const OF_LISTS_BY_OTHER_RULES: [Form; 9] = [
     ("certify --prefix long", Input::LongPrefix),
 ];
 
-/// The lists of what is left where a cell is taken off.
+/// The lists of residuals after cancellation.
 pub const CANCELLING: [Form; 4] = [
     ("search --cancel", Input::Cell16),
     ("search --cancel --json", Input::Cell16),
@@ -81,7 +81,7 @@ pub const CANCELLING: [Form; 4] = [
     ("search --cancel --json --format cu8", Input::Cell8),
 ];
 
-/// The lists of every carrier.
+/// The lists of every transmission scheme.
 pub const OF_ALL: [Form; 4] = [
     ("search --all", Input::Cell16),
     ("search --all --json", Input::Cell16),
@@ -89,7 +89,7 @@ pub const OF_ALL: [Form; 4] = [
     ("search --all --json --format cu8", Input::Cell8),
 ];
 
-/// The forms of the second program that tell.
+/// The forms of `lte_tune` that report.
 pub const TELLING: [Form; 4] = [
     ("tell", Input::Cell16),
     ("tell --json", Input::Cell16),
@@ -97,7 +97,7 @@ pub const TELLING: [Form; 4] = [
     ("tell --json --format cu8", Input::Cell8),
 ];
 
-/// Those that write samples.
+/// The forms of `lte_tune` that write samples.
 pub const APPLYING: [Form; 4] = [
     ("apply", Input::Cell16),
     ("apply -5", Input::Cell16),
@@ -108,7 +108,7 @@ pub const APPLYING: [Form; 4] = [
 /// The pages of each program.
 pub const PAGES: [Form; 2] = [("help", Input::Nothing), ("version", Input::Nothing)];
 
-/// The descriptions that are sent.
+/// The forms that transmit.
 pub const SENDING: [Form; 8] = [
     ("transmit", Input::Description),
     ("transmit --load 7", Input::Description),

@@ -5,37 +5,37 @@ use std::alloc::{AllocError, Global};
 use test_support::{certificate_of_zeros, description, silence};
 use top_tests::{output_of, sent_by, with_four_ports, with_long_prefix, with_two_ports};
 
-// The gains of ports 1 to 3 of four.
+// The gains of antenna ports 1 to 3, for four ports.
 const OTHER_GAINS: &str = ", \"gain2\": [0, 1], \"gain3\": [1, 0], \"gain4\": [0, -1]";
 
-/// What a form reads.
+/// The input of a form.
 #[derive(Clone, Copy, Debug, PartialEq, Eq)]
 pub enum Input {
     /// Nothing.
     Nothing,
-    /// The recording of a cell, of samples of 16 bits.
+    /// The plain cell's recording in 16-bit samples.
     Cell16,
-    /// The same of 8 bits.
+    /// The plain cell's recording in 8-bit samples.
     Cell8,
-    /// Recording 90 with two antenna ports, of samples of 16 bits.
+    /// Synthetic recording 90 with two antenna ports, in 16-bit samples.
     TwoPorts,
-    /// The same with four antenna ports.
+    /// Synthetic recording 90 with four antenna ports, in 16-bit samples.
     FourPorts,
-    /// Recording 90 with the extended prefix.
+    /// Synthetic recording 90 with the extended cyclic prefix.
     LongPrefix,
-    /// The description of that cell.
+    /// The plain cell's description.
     Description,
-    /// The same for two antenna ports.
+    /// The plain cell's description with two antenna ports.
     TwoPortsDescription,
-    /// The same for four.
+    /// The plain cell's description with four antenna ports.
     FourPortsDescription,
-    /// The certificate of 120 zeros.
+    /// The certificate for 120 zero soft values.
     ZeroCertificate,
-    /// The certificates of the recording.
+    /// The certificates for the plain cell's recording.
     Certificates,
 }
 
-/// The bytes of an input.
+/// Returns the bytes of an input.
 pub fn bytes_of(alloc: Global, input: Input) -> Result<Vec<u8>, AllocError> {
     match input {
         Input::Nothing => Ok(Vec::new(alloc)),
@@ -52,12 +52,12 @@ pub fn bytes_of(alloc: Global, input: Input) -> Result<Vec<u8>, AllocError> {
     }
 }
 
-/// The description of the plain cell.
+/// Returns the plain cell's description.
 pub fn plain_description(alloc: Global) -> Result<Vec<u8>, AllocError> {
     description_with(alloc, Input::Description, "")
 }
 
-/// The description that is this input, with this change, which begins with a comma.
+/// Returns the description `input` with `change`, which begins with a comma.
 pub fn description_with(alloc: Global, input: Input, change: &str) -> Result<Vec<u8>, AllocError> {
     let gains = match input {
         Input::TwoPortsDescription => ", \"gain2\": [0, 1]",
@@ -68,8 +68,8 @@ pub fn description_with(alloc: Global, input: Input, change: &str) -> Result<Vec
     description(alloc, &changes, "")?.as_bytes().to_vec(alloc)
 }
 
-/// A recording of 16 cells, of 76,800 samples: each is what the plain cell sends of its signals and of its master
-/// block, 1,200 samples after the one before.
+/// Returns a recording with 16 cells in 76,800 samples. Each has the plain cell's synchronisation signals and MIB,
+/// 1,200 samples after the previous one.
 pub fn sixteen_cells(alloc: Global) -> Result<Vec<u8>, AllocError> {
     let one = recording(alloc)?;
     let mut bytes = silence(alloc, 2_240)?;
@@ -85,7 +85,7 @@ pub fn sixteen_cells(alloc: Global) -> Result<Vec<u8>, AllocError> {
     Ok(bytes)
 }
 
-/// The recording of the cell.
+/// Returns the plain cell's recording.
 pub fn recording(alloc: Global) -> Result<Vec<u8>, AllocError> {
     let sent = sent_by(alloc, "")?;
     match sent.status {
@@ -94,7 +94,7 @@ pub fn recording(alloc: Global) -> Result<Vec<u8>, AllocError> {
     }
 }
 
-// The same with each component as a byte, an eighth of it about 128.
+// Returns the plain cell's recording with one byte per component, an eighth of it plus 128.
 fn recording_of_8_bits(alloc: Global) -> Result<Vec<u8>, AllocError> {
     let bytes = recording(alloc)?;
     let mut small = Vec::new(alloc);
@@ -105,7 +105,7 @@ fn recording_of_8_bits(alloc: Global) -> Result<Vec<u8>, AllocError> {
     Ok(small)
 }
 
-// An eighth of a component, about 128, as a byte.
+// Returns an eighth of a component, plus 128, as a byte.
 fn eighth(component: i16) -> u8 {
     let [low, high] = (component.saturating_add(1_024).max(0) / 8).to_le_bytes();
     if high == 0 { low } else { 255 }

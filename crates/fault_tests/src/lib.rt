@@ -1,6 +1,6 @@
-//! Tests of the top call in hostile use: each call of a source or of a sink fails once, pieces are of one byte, a
-//! writer takes nothing, inputs are cut, and recordings are as large as they can be. And what each call of a sink is
-//! offered, and that no call follows one that failed.
+//! Robustness tests of `lte_top`, `lte_process` and `cs_outside`: each call of a source or sink fails once, pieces have
+//! one byte, a writer accepts nothing, inputs are truncated, and samples have the largest magnitudes. They also check
+//! which bytes each call of a sink is offered, and that no call follows one that failed.
 #![tactic(auto)]
 
 #[cfg(test)]

@@ -1,4 +1,5 @@
-//! What each call of a sink is offered: pieces of 4,096 bytes or more, the last excepted, and all that is left of each.
+//! What each call of a sink is offered: pieces of at least 4,096 bytes, except for the last, and always the rest of the
+//! piece.
 
 use crate::forms::{APPLYING, Form, OTHERS, PAGES, REPORTS, SENDING, TELLING};
 use crate::inputs::{bytes_of, description_with, recording, sixteen_cells};
@@ -11,20 +12,20 @@ use std::process::Abort;
 use std::test::Fail;
 use top_tests::command_line;
 
-// The fewest bytes of a piece that is not the last.
+// The minimum length of a piece, except for the last.
 const LEAST: usize = 4_096;
 
-// More calls than a run makes.
+// More calls than any run makes.
 const CALLS: usize = 1_000_000;
 
-// How many bytes a call takes at most: so few that a piece needs several calls.
+// The maximum byte count of a call, so low that a piece needs several calls.
 const MOST: usize = 3_000;
 
-// The bytes of the plain cell's recording.
+// The length of the plain cell's recording.
 const PLAIN: usize = 230_400;
 
-// A writer that takes at most `most` bytes of a call, and none in the calls from number `fails` on. It keeps how many
-// bytes each call is offered.
+// A writer that accepts at most `most` bytes a call, and none from call `fails`. It records how many bytes each call is
+// offered.
 #[derive(Drop)]
 struct Recorder {
     offered: Vec<usize>,
@@ -46,7 +47,7 @@ impl Write for Recorder {
     }
 }
 
-// The pieces of an output, as calls tell them that take at most `most` bytes each.
+// An output's pieces, reconstructed from calls that accept at most `most` bytes each.
 #[derive(Drop)]
 struct Pieces {
     most: usize,
@@ -58,7 +59,7 @@ struct Pieces {
 }
 
 impl Pieces {
-    // Those of calls that are offered so many bytes each.
+    // Returns the pieces for calls that are offered these byte counts.
     fn of(offered: &[usize], most: usize) -> Pieces {
         let mut pieces = Pieces {
             most,
@@ -74,7 +75,7 @@ impl Pieces {
         pieces
     }
 
-    // After one more call: it begins a piece, or is offered what is left of one.
+    // Adds a call, which begins a piece or is offered the rest of one.
     fn add(&mut self, offered: usize) {
         if self.left == 0 {
             self.are_right = self.are_right && !self.is_short;
@@ -87,13 +88,14 @@ impl Pieces {
         self.left = offered.saturating_sub(self.most);
     }
 
-    // Whether they are whole, each call is offered all that is left of its piece, and no piece but the last is short.
+    // Returns whether every piece is complete, each call is offered the rest of its piece, and only the last piece may
+    // be short.
     fn are_whole(&self) -> bool {
         self.are_right && self.left == 0
     }
 }
 
-// How a run ends, and how many bytes each call of its sink is offered.
+// How a run ended, and how many bytes each call of its sink was offered.
 #[derive(Drop)]
 struct Run {
     status: Status,
@@ -102,7 +104,7 @@ struct Run {
 }
 
 impl Run {
-    // That of a command line over bytes, into a recorder.
+    // Runs a command on `bytes`, into a recorder.
     fn new(
         alloc: Global,
         program: Program,
@@ -127,19 +129,19 @@ impl Run {
         })
     }
 
-    // Whether it is done, in whole pieces of so many bytes together.
+    // Returns whether the run is done, and wrote this many bytes in complete pieces.
     fn is_written(&self, bytes: usize) -> bool {
         let pieces = Pieces::of(&self.offered, self.most);
         self.status == Status::Done && pieces.are_whole() && pieces.bytes == bytes
     }
 
-    // Whether it is done, and its output is one piece.
+    // Returns whether the run is done, and its output is one piece.
     fn is_one_piece(&self) -> bool {
         let pieces = Pieces::of(&self.offered, self.most);
         self.status == Status::Done && pieces.are_whole() && pieces.count == 1
     }
 
-    // Whether it is done, in so many pieces, none of which is short.
+    // Returns whether the run is done, in `count` pieces of full length.
     fn is_long_pieces(&self, count: usize) -> bool {
         let pieces = Pieces::of(&self.offered, self.most);
         self.status == Status::Done
@@ -148,13 +150,13 @@ impl Run {
             && pieces.count == count
     }
 
-    // Whether it ends with call number `call`, which failed.
+    // Returns whether the run ended at call `call`, which failed.
     fn ends_with(&self, call: usize) -> bool {
         self.status == Status::WriteFault && self.offered.len() == call.saturating_add(1)
     }
 }
 
-// What is sent from these changes of the offset on is written in whole pieces.
+// Checks that the samples sent from this offset are written in complete pieces.
 fn sends_from(rt: &impl Abort, alloc: Global, change: &str) -> Result<(), Fail> {
     for (line, input) in SENDING {
         let bytes = description_with(alloc, input, change)?;
@@ -175,7 +177,7 @@ fn what_is_sent_from_within_a_frame_is_in_whole_pieces(rt: HostRuntime) -> Resul
     sends_from(&rt, rt.alloc(), ", \"offset\": 5115")
 }
 
-// The first frame has 1,023 samples, one too few for a piece, or one.
+// The first frame has 1,023 samples, one too few for a piece, or 1.
 #[test]
 fn what_is_sent_from_the_last_samples_is_in_whole_pieces(rt: HostRuntime) -> Result<(), Fail> {
     sends_from(&rt, rt.alloc(), ", \"offset\": 18177")?;
@@ -205,7 +207,7 @@ fn a_certificate_is_a_piece(rt: HostRuntime) -> Result<(), Fail> {
     Ok(())
 }
 
-// The output of each of these forms is one piece.
+// Checks that the output of each of these forms is one piece.
 fn are_one_piece(
     rt: &impl Abort,
     alloc: Global,
@@ -232,7 +234,7 @@ fn each_other_output_of_the_tuner_is_one_piece(rt: HostRuntime) -> Result<(), Fa
     are_one_piece(&rt, rt.alloc(), Program::Tuner, &PAGES)
 }
 
-// No call follows one of these where that one fails, and each takes all that it is offered.
+// Checks that no call follows one that fails, if each accepts everything it is offered.
 fn end_with_calls(
     rt: &impl Abort,
     alloc: Global,

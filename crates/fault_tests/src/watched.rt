@@ -1,4 +1,4 @@
-//! No call of a source follows one that tells the end or that fails, and each is asked for many bytes.
+//! No read follows one that returned the end or failed, and each read asks for many bytes.
 
 use crate::forms::{APPLYING, Form, OTHERS, REPORTS, SENDING};
 use crate::inputs::{Input, bytes_of};
@@ -11,10 +11,10 @@ use std::process::Abort;
 use std::test::Fail;
 use top_tests::{ROOM, command_line};
 
-// More calls than a run makes.
+// More calls than any run makes.
 const CALLS: usize = 1_000_000;
 
-// The fewest bytes that a call of a source is asked for: of certificates as many as the one that is read still has.
+// Returns the minimum byte count of a read; for certificates, a read asks for the rest of the current one.
 fn least_asked(input: Input) -> usize {
     match input {
         Input::ZeroCertificate | Input::Certificates => 1,
@@ -22,8 +22,8 @@ fn least_asked(input: Input) -> usize {
     }
 }
 
-// A reader of bytes, at most `most` a call, of which call number `fails` fails. It counts its calls, and those that
-// come after the end was told or after a call failed, and keeps the fewest bytes that a call was asked for.
+// A reader of at most `most` bytes a call that fails at call `fails`. It counts its calls and the calls after the end
+// or a failure, and keeps the minimum byte count asked for.
 #[derive(Drop)]
 struct Watched<'a> {
     bytes: &'a [u8],
@@ -55,7 +55,7 @@ impl<'a> Read for Watched<'a> {
     }
 }
 
-// What a command line comes to over a reader.
+// Runs a command on a reader.
 fn status_over(
     alloc: Global,
     program: Program,
@@ -68,7 +68,7 @@ fn status_over(
     Ok(run_program(alloc, program, &words, &mut source, &mut sink))
 }
 
-// How a run ends over a reader, and what this counts.
+// How a run on a reader ended, and the reader's counts.
 #[derive(Clone, Copy)]
 struct Reads {
     status: Status,
@@ -79,7 +79,7 @@ struct Reads {
 }
 
 impl Reads {
-    // Those of a command line over bytes, of which a call gives at most `most`, and call number `fails` fails.
+    // Runs a command on `bytes`, with at most `most` bytes a call and a failure at call `fails`.
     fn new(
         alloc: Global,
         program: Program,
@@ -107,13 +107,13 @@ impl Reads {
         })
     }
 
-    // Whether the run ends so, and the last call told the end or failed.
+    // Returns whether the run ended with `status`, and its last read returned the end or failed.
     fn end_so(&self, status: Status) -> bool {
         self.status == status && self.is_over && self.late == 0
     }
 }
 
-// The last call over the input of each of these forms tells its end or fails.
+// Checks that the last read of each of these forms returns the end or fails.
 fn end_each(rt: &impl Abort, alloc: Global, program: Program, forms: &[Form]) -> Result<(), Fail> {
     for &(line, input) in forms {
         if input != Input::Nothing {

@@ -31,7 +31,7 @@ fn silence_has_no_cell(rt: HostRuntime) -> Result<(), Fail> {
     Ok(())
 }
 
-// The plan of a cell of identity 503 with indicator 3, whose system information is in blocks 1 to 5.
+// Returns the plan for identity 503 and CFI 3, with the SIB1 in resource blocks 1 to 5.
 fn plan() -> CellPlan {
     CellPlan {
         identity: 503,
@@ -55,7 +55,7 @@ fn plan() -> CellPlan {
     }
 }
 
-// A component moved by ten against its sign.
+// Moves a component by ten against its sign.
 fn opposed(component: i64) -> i16
     requires { IsWithin (2 ^ 20) (record { re = component; im = component }) }
 {
@@ -67,7 +67,7 @@ fn opposed(component: i64) -> i16
     clamp_div(moved, 1, 32_767)
 }
 
-// A sample times 3 + 4j, whose size is 5, with an error of twice this size against each component.
+// Returns a sample times 3 + 4j (magnitude 5), with each component moved by ten against its sign.
 fn received(sent: Sample) -> Sample {
     let (re, im) = (sent.re as i64, sent.im as i64);
     Sample {
@@ -76,7 +76,7 @@ fn received(sent: Sample) -> Sample {
     }
 }
 
-// Writes a frame, as it is received, to the front of the samples.
+// Writes a frame at the start of the samples, as received.
 fn receive(cell: &Cell, sfn: Sfn, samples: &mut [Sample])
     requires { length samples.old ≡ 57600 }
 {
@@ -86,7 +86,7 @@ fn receive(cell: &Cell, sfn: Sfn, samples: &mut [Sample])
     }
 }
 
-// What is seen of a symbol of a slot of the first frame.
+// Returns a received symbol in the first frame.
 fn symbol_of(recording: &Recording, number: u8, l: usize) -> [Cpx; 72]
     requires number { number < 20 }
     requires l { l < 7 }
@@ -98,7 +98,7 @@ fn symbol_of(recording: &Recording, number: u8, l: usize) -> [Cpx; 72]
     symbol(recording, start)
 }
 
-// A slot of the first frame.
+// Returns a received slot in the first frame.
 fn slot_of(recording: &Recording, number: u8, id: CellId) -> Slot
     requires { number < 20 }
     ensures number { result.number ≡ number }
@@ -116,12 +116,12 @@ fn slot_of(recording: &Recording, number: u8, id: CellId) -> Slot
     Slot::new(seen, number, id)
 }
 
-// Each value has size 8 at least.
+// Returns whether the magnitude is at least 8 for each soft value.
 fn are_large(values: &[i16]) -> bool {
     values.iter().all(|value| value.unsigned_abs() >= 8)
 }
 
-// How many values the blocks have that an attempt was granted, where each has size 8 at least.
+// Returns how many soft values were granted, if the magnitude is at least 8 for each.
 fn large_values(first: &Slot, second: &Slot, attempt: &Attempt) -> Option<usize>
     requires first { first.now.number ≡ 10 }
     requires second { second.now.number ≡ 11 }
@@ -147,7 +147,7 @@ fn large_values(first: &Slot, second: &Slot, attempt: &Attempt) -> Option<usize>
     }
 }
 
-// A frame of the cell as it is received, and silence after it.
+// Returns one received frame, followed by silence.
 fn received_recording(alloc: Global) -> Result<Recording, Fail> {
     let cell = cell_of(plan()).ok_or("a plan that is sent")?;
     let mut samples = silent(alloc, 57_600)?;
@@ -156,7 +156,7 @@ fn received_recording(alloc: Global) -> Result<Recording, Fail> {
     Ok(recording)
 }
 
-// Whether indicator 3 and the grant that was sent are read.
+// Returns whether CFI 3 and the sent grant were decoded.
 fn has_grant(attempt: &Attempt) -> bool {
     let granted = Grant {
         start: 1,
@@ -169,7 +169,7 @@ fn has_grant(attempt: &Attempt) -> bool {
     attempt.cfi.value() == 3 && attempt.grant == Some(granted)
 }
 
-// Whether each value of the control information has size 8 at least.
+// Returns whether the magnitude is at least 8 for each soft value in the PDCCH candidate.
 fn has_large_control(slot: &Slot, cfi: Cfi, mib: Mib) -> bool
     requires { slot.now.number ≡ 10 }
 {
@@ -179,7 +179,7 @@ fn has_large_control(slot: &Slot, cfi: Cfi, mib: Mib) -> bool
     }
 }
 
-// Whether fields that were sent are read.
+// Returns whether the SIB1 was decoded with some sent fields.
 fn has_fields(attempt: &Attempt) -> bool {
     match &attempt.answer {
         Ok(fields) => fields.tac == 0x1a2b && fields.cell == 0x0abcdef && fields.q_rx == -61,

@@ -1,6 +1,6 @@
 use cell_tx::{Cell, CellPlan};
 
-// The cell of a plan.
+// Builds a plan's cell.
 pub fn cell_of(plan: CellPlan) -> Option<Cell> {
     if plan.sib1.valid() {
         Cell::new(plan).ok()

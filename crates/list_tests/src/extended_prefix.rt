@@ -1,4 +1,4 @@
-// The numbers are those of a second program, `python/lte_reference/long_prefix.py`.
+// The numbers are from the reference implementation, `python/lte_reference/long_prefix.py`.
 use cs_num::{Sample, clamp_div};
 use explain::EntryList;
 use long_prefix::{LongMade, LongPlan, Workspace3, explain_clean, made_is_clean, make, sample};
@@ -8,7 +8,7 @@ use std::alloc::{AllocError, Global};
 use std::test::Fail;
 use test_support::{Summary, are_samples, is_summed_up, silent_recording};
 
-// Samples of the cell of number 7 from frame 7 on.
+// Samples from cell 7, starting at frame 7.
 const SENT: [(u32, i16, i16); 27] = [
     (0, 0, -67),
     (31, -78, 17),
@@ -39,7 +39,7 @@ const SENT: [(u32, i16, i16); 27] = [
     (28_800, 45, 45),
 ];
 
-// The plan of number 7, with a bandwidth and upper bits of the frame number in its block.
+// Returns cell 7's plan, with another bandwidth and other upper frame number bits in its MIB.
 fn plan_7(bandwidth: Bandwidth, upper: u8) -> Option<LongPlan> {
     let mib = Mib::new(bandwidth, Duration::Extended, Resource::Two, upper, 7)?;
     Some(LongPlan {
@@ -48,7 +48,7 @@ fn plan_7(bandwidth: Bandwidth, upper: u8) -> Option<LongPlan> {
     })
 }
 
-// A bandwidth and upper bits in the block change nothing that is sent.
+// The bandwidth and the upper bits in the plan's MIB do not change the samples.
 #[test]
 fn samples_of_a_plan(rt: HostRuntime) -> Result<(), Fail> {
     for (bandwidth, upper) in [(Bandwidth::N6, 1), (Bandwidth::N100, 255)] {
@@ -59,12 +59,12 @@ fn samples_of_a_plan(rt: HostRuntime) -> Result<(), Fail> {
     Ok(())
 }
 
-// Whether a recording by number has this gain, this bound of its errors and this summary.
+// Returns whether a synthetic recording has this gain, this noise bound and this summary.
 fn is_made(made: &LongMade, gain: (i16, i16), bound: i16, summary: &Summary) -> bool {
     made.gain == gain && made.bound == bound && is_summed_up(&made.recording, summary)
 }
 
-// Recordings by number: the gain, the bound of its errors, and what it holds.
+// Synthetic recordings: number, gain, noise bound and summary.
 const MADE: [(u32, (i16, i16), i16, Summary); 3] = [
     (
         0,
@@ -110,7 +110,7 @@ fn recordings_by_number(rt: HostRuntime) -> Result<(), Fail> {
     Ok(())
 }
 
-// The list of a recording.
+// Returns a recording's cell list.
 fn list_of(alloc: Global, recording: &Recording) -> Result<EntryList, AllocError> {
     let mut work = Workspace3::new(alloc)?;
     let mut list = EntryList::new(alloc)?;
@@ -118,7 +118,7 @@ fn list_of(alloc: Global, recording: &Recording) -> Result<EntryList, AllocError
     Ok(list)
 }
 
-// What is told of a cell of one antenna port, besides that it has the extended prefix.
+// The expected entry for a cell with one antenna port and the extended cyclic prefix.
 #[derive(Clone, Copy)]
 struct Told {
     identity: u16,
@@ -140,7 +140,7 @@ fn is_told(entry: &Entry, told: &Told) -> bool {
         && matches!(&entry.sib1, Err(Sib1Reason::LongPrefix))
 }
 
-// Whether the list of a recording by number is one cell, of which this is told.
+// Returns whether synthetic recording `n` lists exactly this entry.
 fn is_list(alloc: Global, n: u32, told: &Told) -> Result<bool, AllocError> {
     let made = make(alloc, n)?;
     let list = list_of(alloc, &made.recording)?;
@@ -150,9 +150,9 @@ fn is_list(alloc: Global, n: u32, told: &Told) -> Result<bool, AllocError> {
     })
 }
 
-// What is told of the cell of recordings by number.
+// The entries expected for synthetic recordings.
 const TOLD: [(u32, Told); 3] = [
-    // Frame 8 begins at sample 19,193, since sample 7 of frame 7 is the first.
+    // Recording 7 starts at sample 7 of frame 7, so its frame 8 begins at sample 19,193.
     (
         7,
         Told {
@@ -164,8 +164,8 @@ const TOLD: [(u32, Told); 3] = [
             spare: 7,
         },
     ),
-    // The first primary signal, of subframe 5, stands at sample 142, where there is no room for the secondary one
-    // before it: the frame begins 8,768 samples later.
+    // The first PSS, in subframe 5, is at sample 142, which leaves no room for the SSS in front of it. The frame begins
+    // 8,768 samples later.
     (
         10_290,
         Told {
@@ -177,7 +177,7 @@ const TOLD: [(u32, Told); 3] = [
             spare: 50,
         },
     ),
-    // Here at sample 152.
+    // The first PSS, in subframe 5, is at sample 152.
     (
         10_280,
         Told {
@@ -199,14 +199,14 @@ fn the_cells_of_recordings(rt: HostRuntime) -> Result<(), Fail> {
     Ok(())
 }
 
-// The noise of a trial: a generator of 32 bits.
+// A 32-bit noise generator.
 #[derive(Drop)]
 struct Noise {
     state: u32,
 }
 
 impl Noise {
-    // A number from -most to most.
+    // Returns a number from -`most` to `most`.
     fn next(&mut self, most: u16) -> i16 {
         self.state = self
             .state
@@ -217,14 +217,14 @@ impl Noise {
     }
 }
 
-// A sample with noise of at most so much.
+// Adds noise, at most `most`, to each component.
 fn noisy(sample: Sample, noise: &mut Noise, most: u16) -> Sample {
     let re = sample.re.saturating_add(noise.next(most));
     let im = sample.im.saturating_add(noise.next(most));
     Sample { re, im }
 }
 
-// Recording number 1 with such noise in slot 1 of each frame, the first of which begins at sample 19,199.
+// Returns synthetic recording 1 with noise in slot 1 of each frame; the first frame begins at sample 19,199.
 fn spoiled(alloc: Global, most: u16) -> Result<Recording, Fail> {
     let made = make(alloc, 1)?;
     let mut samples = Vec::with_capacity(alloc, made.recording.len())?;
@@ -242,7 +242,7 @@ fn spoiled(alloc: Global, most: u16) -> Result<Recording, Fail> {
     Ok(recording)
 }
 
-// Whether the list of that recording is its cell, of which this frame alone tells the master block.
+// Returns whether the spoiled recording lists its cell, with a MIB decoded from this frame alone.
 fn is_told_alone(alloc: Global, most: u16, frame: u8) -> Result<bool, Fail> {
     let told = Told {
         identity: 1,
@@ -260,15 +260,16 @@ fn is_told_alone(alloc: Global, most: u16, frame: u8) -> Result<bool, Fail> {
     })
 }
 
-// By `lte_reference/long_prefix.py --spoiled 700 1` and `lte_reference/search.py --prefix long why`: frame 0 has no MIB.
+// From `lte_reference/long_prefix.py --spoiled 700 1` and `lte_reference/search.py --prefix long why`: frame 0 has no
+// MIB.
 #[test]
 fn the_second_frame_tells_alone(rt: HostRuntime) -> Result<(), Fail> {
     assert!(rt; is_told_alone(rt.alloc(), 700, 1)?);
     Ok(())
 }
 
-// By `lte_reference/long_prefix.py --spoiled 1000 1` and `900 1`: no frame alone has a MIB, though two frames, or four,
-// would together.
+// From `lte_reference/long_prefix.py --spoiled 1000 1` and `900 1`: no single frame has a MIB, although two or four
+// frames together would.
 #[test]
 fn no_frames_are_added(rt: HostRuntime) -> Result<(), Fail> {
     let alloc = rt.alloc();

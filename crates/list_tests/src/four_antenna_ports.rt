@@ -1,5 +1,5 @@
-// The values of pairs are those of a second program, `python/lte_reference/pairs.py --ports 4`, and the recordings by
-// number those whose samples `python/lte_reference/four_ports.py` gives too.
+// The soft values for pairs are from the reference implementation, `python/lte_reference/pairs.py --ports 4`. The
+// synthetic recordings have the samples of `python/lte_reference/four_ports.py`.
 ghost use Rattle.std.specs.Prelude.{◌≡◌, IfOk, length};
 
 use crate::ports::{is_of, is_pair, of_port, opposed, symbols, values_of, with_port};
@@ -37,7 +37,7 @@ fn values_of_pairs(rt: HostRuntime) -> Result<(), Fail> {
     Ok(())
 }
 
-// The list of a recording.
+// Returns a recording's cell list.
 fn list_of(alloc: Global, recording: &Recording) -> Result<EntryList, AllocError> {
     let mut work = Workspace4::new(alloc)?;
     let mut list = EntryList::new(alloc)?;
@@ -52,7 +52,7 @@ fn silence_has_no_cell(rt: HostRuntime) -> Result<(), Fail> {
     Ok(())
 }
 
-// Whether the only entry is that of recording number 7.
+// Returns whether the only entry is synthetic recording 7's cell.
 fn is_list_of_7(list: &EntryList, start: u32, sfn: u16) -> bool {
     match list.slice() {
         [entry] => {
@@ -62,7 +62,7 @@ fn is_list_of_7(list: &EntryList, start: u32, sfn: u16) -> bool {
     }
 }
 
-// Frame 8 begins at sample 19,193, since sample 7 of frame 7 is the first.
+// Recording 7 starts at sample 7 of frame 7, so its frame 8 begins at sample 19,193.
 #[test]
 fn recording_7_has_its_cell(rt: HostRuntime) -> Result<(), Fail> {
     let made = make_by(rt.alloc(), Carrier::FourPorts, 7)?;
@@ -71,11 +71,10 @@ fn recording_7_has_its_cell(rt: HostRuntime) -> Result<(), Fail> {
     Ok(())
 }
 
-// The gains of ports 0 to 3. The first is as small as any may be, and each pair of ports has three eighths of the
-// power.
+// The gains for ports 0 to 3. The first is the minimum, and each pair has at least three eighths of the power.
 const GAINS: [(i64, i64); 4] = [(1, 0), (5, -5), (-6, 6), (0, 7)];
 
-// What is received of all ports, each component off by 1 against its sign.
+// Returns the received sum over all ports, with each component moved by 1 against its sign.
 fn received(zero: Sample, one: Sample, two: Sample, three: Sample) -> Sample {
     let sum = with_port((0, 0), zero, GAINS[0]);
     let sum = with_port(sum, one, GAINS[1]);
@@ -83,7 +82,7 @@ fn received(zero: Sample, one: Sample, two: Sample, three: Sample) -> Sample {
     opposed(with_port(sum, three, GAINS[3]), 1)
 }
 
-// Writes over the samples of port 0 what is received of all.
+// Replaces port 0's samples by the received sum over all ports.
 fn receive(samples: &mut [Sample], one: &[Sample], two: &[Sample], three: &[Sample])
     requires one { length one.now ≡ length samples.old }
     requires two { length two.now ≡ length samples.old }
@@ -94,7 +93,7 @@ fn receive(samples: &mut [Sample], one: &[Sample], two: &[Sample], three: &[Samp
     }
 }
 
-// 30 ms of all ports of a cell, as they are received.
+// Returns 30 ms from all antenna ports, as received.
 fn all_ports(alloc: Global, cell: &Cell) -> Result<Vec<Sample>, AllocError>
     ensures { IfOk result (λ samples. length samples.items ≡ 57600) }
 {

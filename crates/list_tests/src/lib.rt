@@ -1,4 +1,5 @@
-//! Tests of the lists of recordings, of cells that are taken off, and of recordings turned.
+//! Tests of cell search over whole recordings, cancellation, and frequency correction: `explain`, `clean_air`,
+//! `two_ports`, `four_ports`, `long_prefix`, `cancel`, `successive_cancel` and `frequency_offset`.
 #![tactic(auto)]
 
 #[cfg(test)]

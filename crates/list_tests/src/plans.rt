@@ -1,4 +1,4 @@
-//! What is read again of a listed cell: its grant, and the plan by which it can be sent.
+//! A listed cell's grant, and the plan with which it can be sent again.
 
 ghost use Rattle.std.specs.Prelude.{IfOk};
 ghost use Rattle.explain.specs.Entries.{IsExplained};
@@ -14,7 +14,7 @@ use std::alloc::{AllocError, Global};
 use std::test::Fail;
 use test_support::{description, silent, wide_cell};
 
-// 30 ms of the plain cell, whose control format indicator is 2, and whose block stands in six resource blocks.
+// Returns 30 ms of the plain cell, with CFI 2 and its SIB1 in six resource blocks.
 fn plain_recording(alloc: Global) -> Result<Recording, Fail> {
     let text = description(alloc, "", "")?;
     let transmission = read(alloc, text.as_bytes())?;
@@ -27,7 +27,7 @@ fn plain_recording(alloc: Global) -> Result<Recording, Fail> {
     Ok(recording)
 }
 
-// The list of a recording.
+// Returns a recording's cell list.
 pub(crate) fn list_of(
     alloc: Global,
     recording: &Recording,
@@ -40,12 +40,12 @@ pub(crate) fn list_of(
     Ok(list)
 }
 
-// Whether the first frame alone tells an entry's master block, as the first of its period.
+// Returns whether an entry's MIB was decoded from the first frame alone, at phase 0.
 fn is_of_the_first_frame(entry: &Entry) -> bool {
     entry.frames == 1 && entry.frame == 0 && entry.phase == 0
 }
 
-// Whether a grant is that of the plain cell.
+// Returns whether this is the plain cell's grant.
 fn is_granted(grant: &Grant) -> bool {
     let sent = Grant {
         start: 0,
@@ -58,7 +58,7 @@ fn is_granted(grant: &Grant) -> bool {
     *grant == sent
 }
 
-// Whether a plan is that of the plain cell, but for its system information.
+// Returns whether this is the plain cell's plan, apart from the SIB1.
 fn is_plain(plan: &CellPlan) -> bool {
     plan.identity == 0
         && plan.duration == Duration::Normal

@@ -1,5 +1,5 @@
-//! What the tests of two and of four antenna ports share: a slot in no order, the cells of recordings by number, and
-//! what a cell sends by port.
+//! Fixtures for two and four antenna ports: a pseudorandom slot, the cells of synthetic recordings, and a cell's
+//! samples by port.
 
 ghost use Rattle.std.specs.Prelude.{◌≡◌, ◌*◌, ◌^◌, ◌<◌, All, IfOk, length};
 ghost use Rattle.cs_num.specs.Complex.{IsWithin};
@@ -13,7 +13,7 @@ use soft_bits::{ReadSlot, fill_slot};
 use std::alloc::{AllocError, Global};
 use test_support::silent;
 
-// What is seen at subcarrier k of symbol l.
+// Returns the received value on subcarrier `k` in symbol `l`.
 fn seen_at(l: u8, k: u8) -> Cpx
     requires l { l < 7 }
     requires k { k < 72 }
@@ -25,7 +25,7 @@ fn seen_at(l: u8, k: u8) -> Cpx
     }
 }
 
-// All subcarriers of symbol l.
+// Returns symbol `l` on all subcarriers.
 fn symbol(l: u8) -> [Cpx; 72]
     requires { l < 7 }
     ensures { All (IsWithin (2 ^ 25)) result }
@@ -37,7 +37,7 @@ fn symbol(l: u8) -> [Cpx; 72]
     values
 }
 
-// The symbols of the slot.
+// Returns the slot's symbols.
 pub(crate) fn symbols() -> [[Cpx; 72]; 7]
     ensures { All (All (IsWithin (2 ^ 25))) result }
 {
@@ -52,8 +52,7 @@ pub(crate) fn symbols() -> [[Cpx; 72]; 7]
     ]
 }
 
-// The pairs of places by number, each at a subcarrier of a symbol and the next subcarrier, after 71 the first: symbol
-// and subcarrier.
+// Each pair's first resource element, as symbol and subcarrier. The second is on the next subcarrier, modulo 72.
 const PAIRS: [(u8, u8); 12] = [
     (1, 0),
     (2, 1),
@@ -69,7 +68,7 @@ const PAIRS: [(u8, u8); 12] = [
     (6, 68),
 ];
 
-// A place of the slot.
+// Returns a resource element in the slot.
 fn place(symbol: u8, k: u8) -> Place
     ensures symbol { result.symbol < 14 }
     ensures k { result.k < 72 }
@@ -80,7 +79,7 @@ fn place(symbol: u8, k: u8) -> Place
     }
 }
 
-// The places of all pairs.
+// Returns all pairs' resource elements.
 fn places() -> [Place; 24]
     ensures { All (λ p. (p.symbol < 14) × (p.k < 72)) result }
 {
@@ -93,19 +92,19 @@ fn places() -> [Place; 24]
     places
 }
 
-// The values of all pairs.
+// Returns all pairs' soft values.
 pub(crate) fn values_of<S: ReadSlot>(slot: &S) -> [i16; 48] {
     let mut values = [0; 48];
     fill_slot(slot, &places(), &mut values);
     values
 }
 
-// Whether these are the values of pair i.
+// Returns whether pair `i` has these soft values.
 pub(crate) fn is_pair(values: &[i16; 48], i: usize, expected: [i16; 4]) -> bool {
     i < 12 && &values[4 * i..4 * i + 4] == expected.as_slice()
 }
 
-// Whether an entry is of the cell of recording number n, but for its system information.
+// Returns whether an entry is synthetic recording `n`'s cell, apart from the SIB1.
 pub(crate) fn is_of(entry: &Entry, n: u32, start: u32, sfn: u16, ports: u8) -> bool {
     let sent = plan(n);
     (entry.id.value(), entry.start, entry.sfn.value()) == (sent.identity, start, sfn)
@@ -116,7 +115,7 @@ pub(crate) fn is_of(entry: &Entry, n: u32, start: u32, sfn: u16, ports: u8) -> b
         && entry.mib.spare == sent.spare
 }
 
-// 30 ms of a port of a cell, from frame 512 on.
+// Returns 30 ms of one antenna port, from frame 512.
 pub(crate) fn of_port(
     alloc: Global,
     cell: &Cell,
@@ -139,7 +138,7 @@ pub(crate) fn of_port(
     Ok(samples)
 }
 
-// What is received of a port's sample by its gain, added to what is received of others.
+// Adds a port's sample times its gain to `sum`.
 pub(crate) fn with_port(sum: (i64, i64), sample: Sample, gain: (i64, i64)) -> (i64, i64) {
     let ((re, im), (a, b)) = (sum, gain);
     let (x, y) = (sample.re as i64, sample.im as i64);
@@ -151,7 +150,7 @@ pub(crate) fn with_port(sum: (i64, i64), sample: Sample, gain: (i64, i64)) -> (i
     )
 }
 
-// A component with an error against its sign.
+// Moves a component by `error` against its sign.
 fn off(component: i64, error: i16) -> i16 {
     let component = component.clamp(-32_000, 32_000) as i16;
     if component > 0 {
@@ -161,7 +160,7 @@ fn off(component: i64, error: i16) -> i16 {
     }
 }
 
-// A sample with this error against the sign of each component.
+// Returns a sample with each component moved by `error` against its sign.
 pub(crate) fn opposed(sum: (i64, i64), error: i16) -> Sample {
     Sample {
         re: off(sum.0, error),

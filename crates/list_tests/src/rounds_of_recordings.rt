@@ -11,17 +11,17 @@ use std::test::Fail;
 use successive_cancel::{Round, cancel_rounds, clean_cell_is_taken_first, rounds_in_plain_words};
 use test_support::{description, silent, wide_cell};
 
-// Expected texts are those of `python/lte_reference/cancel.py`.
+// The expected texts are from `python/lte_reference/cancel.py`.
 
-// A gain of the plain cell.
+// A high gain for the plain cell.
 const LOUD: &str = ", \"gain\": [20, 9]";
 
-// Another cell, 20 dB below it.
+// A second cell, 20 dB below the plain cell.
 const OTHER: &str =
     ", \"identity\": 150, \"sfn\": 514, \"offset\": 5000, \"gain\": [2, -1], \"duration\": \"extended\", \
     \"resource\": \"two\", \"spare\": 5, \"cfi\": 3, \"mcs\": 5, \"column\": 3";
 
-// The samples that the plain cell sends with a change of its description.
+// Returns the samples that the plain cell sends with `change`.
 fn sent(alloc: Global, change: &str) -> Result<Vec<Sample>, Fail>
     ensures { IfOk result (λ samples. length samples.items ≡ 57600) }
 {
@@ -48,7 +48,7 @@ fn add(samples: &mut [Sample], others: &[Sample])
     }
 }
 
-// Whether the text of samples is this one.
+// Returns whether the text for some samples is `wanted`.
 fn has_text(alloc: Global, samples: Vec<Sample>, wanted: &str) -> Result<bool, Fail> {
     let recording = Recording::new(samples).ok_or("30 ms")?;
     let text = cancel_text(alloc, &recording)?;
@@ -96,7 +96,7 @@ fn a_wider_cell_has_no_plan(rt: HostRuntime) -> Result<(), Fail> {
     Ok(())
 }
 
-// Whether a round took off the plain cell with this gain, with these powers before and after.
+// Returns whether a round cancelled the plain cell with this gain and these powers before and after.
 fn is_round(round: &Round, gain: (i16, i16), before: u128, after: u128) -> bool {
     round.id.value() == 0
         && round.taken.gain == gain
@@ -105,7 +105,7 @@ fn is_round(round: &Round, gain: (i16, i16), before: u128, after: u128) -> bool 
         && round.taken.after == after
 }
 
-// Whether the list of a round is two cells, the second of them the other one.
+// Returns whether a round lists two cells, and the other one is second.
 fn lists_the_other(round: &Round) -> bool {
     match round.list.slice() {
         [_, other] => other.id.value() == 150,
@@ -113,7 +113,7 @@ fn lists_the_other(round: &Round) -> bool {
     }
 }
 
-// Whether the rounds take the plain cell off, then the rest of it, and go on with what that leaves.
+// Returns whether the rounds cancel the plain cell, then what remains from it, and then go on with the residuals.
 fn are_four(rounds: &[Round]) -> bool {
     let (all, less, more) = (82_530_174_415, 1_168_250_863, 1_515_079_615);
     match rounds {

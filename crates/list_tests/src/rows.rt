@@ -1,11 +1,10 @@
-//! Symbols that a second program made.
+//! Symbols from the reference implementation.
 
 use test_support::Rows;
 
-/// Symbols 0 to 4 of slot 1 of frames 0 to 3 of a period, made by `python/lte_reference/frames.py`: identity 0,
-/// width n6, PHICH extended and two, upper bits 181, spare bits 1000, two ports. The frame of phase m keeps only
-/// every tenth place of the broadcast channel, from place m on: 12 of the 120 coded bits, and no fewer than
-/// all four frames tell the block.
+/// Symbols 0 to 4 of slot 1 in frames 0 to 3 of a period, from `python/lte_reference/frames.py`: identity 0, width n6,
+/// PHICH extended and two, upper bits 181, spare bits 1000, two ports. The frame of phase m keeps only every tenth PBCH
+/// resource element, from element m: 12 of the 120 coded bits. It takes all four frames to decode the MIB.
 pub const SPARSE: [Rows; 4] = [
     [
         b"30....2.....3...1.2.....0.....33....1.....2...2.0.....1.....21....1.....",

@@ -1,4 +1,4 @@
-// Expected values are those of `python/lte_reference/cancel.py`.
+// The expected values are from `python/lte_reference/cancel.py`.
 ghost use Rattle.std.specs.Prelude.{◌≡◌, length};
 
 use crate::examples::cell_of;
@@ -14,7 +14,7 @@ use std::alloc::Global;
 use std::test::Fail;
 use test_support::{plain_block, silent};
 
-// The plan of `scripts/examples/plain_cell.json`, with an identity.
+// Returns the plan in `scripts/examples/plain_cell.json`, with another identity.
 fn plain_plan(identity: u16) -> CellPlan {
     CellPlan {
         identity,
@@ -30,7 +30,7 @@ fn plain_plan(identity: u16) -> CellPlan {
     }
 }
 
-// The plan of another cell.
+// Returns another cell's plan.
 fn other_plan() -> CellPlan {
     CellPlan {
         duration: Duration::Extended,
@@ -43,12 +43,12 @@ fn other_plan() -> CellPlan {
     }
 }
 
-// A component of 16 bits.
+// Clamps a component to 16 bits.
 fn part(z: i64) -> i16 {
     clamp_div(z, 1, 32_767)
 }
 
-// A sample times a gain, and another one.
+// Returns a sample plus a sent sample times a gain.
 fn added(sample: Sample, sent: Sample, gain: Sample) -> Sample {
     let product = Cpx::from(gain).mul(Cpx::from(sent));
     Sample {
@@ -57,7 +57,7 @@ fn added(sample: Sample, sent: Sample, gain: Sample) -> Sample {
     }
 }
 
-// Adds what a cell sends from a sample of a frame on, with a gain.
+// Adds a cell's emission times a gain, starting at a sample in a frame.
 fn add(
     alloc: Global,
     samples: &mut [Sample],
@@ -92,7 +92,7 @@ fn add(
     Ok(())
 }
 
-// The cell of a plan, from a sample of a frame on, taken off samples.
+// Subtracts a plan's cell, starting at a sample in a frame.
 fn taken(
     alloc: Global,
     samples: Vec<Sample>,
@@ -109,7 +109,7 @@ fn taken(
     Ok(subtract(alloc, &recording, &cell, start, sfn)?)
 }
 
-// What is told of a subtraction, and samples 0, 1000 and 57,599 of its residue.
+// The expected gain and powers, and samples 0, 1000 and 57,599 of the residual.
 #[derive(Clone, Copy)]
 struct Told {
     gain: (i16, i16),
@@ -119,7 +119,7 @@ struct Told {
     samples: [(i16, i16); 3],
 }
 
-// Some samples of a residue.
+// Returns samples 0, 1000 and 57,599 from a residual.
 fn samples_of(taken: &Subtracted) -> [(i16, i16); 3] {
     let residue = &taken.residue;
     let count = residue.len();
@@ -140,7 +140,7 @@ fn is_told(taken: &Subtracted, told: &Told) -> bool {
         && samples_of(taken) == told.samples
 }
 
-// Whether the cell of a plan is taken off as told.
+// Returns whether subtracting a plan's cell gives the expected result.
 fn is_taken_off(
     alloc: Global,
     samples: Vec<Sample>,
@@ -154,7 +154,7 @@ fn is_taken_off(
     })
 }
 
-// The frame before frame 0 is 1023.
+// Frame 1023 precedes frame 0.
 #[test]
 fn a_lone_cell_leaves_nothing(rt: HostRuntime) -> Result<(), Fail> {
     for (sent, gain, heard, before) in [
@@ -176,7 +176,7 @@ fn a_lone_cell_leaves_nothing(rt: HostRuntime) -> Result<(), Fail> {
     Ok(())
 }
 
-// Adds 56 and -56 in turn to the components of samples.
+// Adds 56 and -56, alternately, to the components of samples.
 fn disturb(samples: &mut [Sample]) {
     for i in 0..samples.len() {
         let error = if i % 2 == 0 { 56 } else { -56 };
@@ -205,7 +205,7 @@ fn errors_at_the_bound_are_left(rt: HostRuntime) -> Result<(), Fail> {
     Ok(())
 }
 
-// In silence 1, j, -1 and -j leave the same.
+// In silence, the gains 1, j, -1 and -j leave the same residual power.
 #[test]
 fn of_equal_gains_the_lowest_is_taken(rt: HostRuntime) -> Result<(), Fail> {
     let samples = silent(rt.alloc(), 57_600)?;
@@ -223,7 +223,7 @@ fn of_equal_gains_the_lowest_is_taken(rt: HostRuntime) -> Result<(), Fail> {
     Ok(())
 }
 
-// The estimate is 20 + 9j.
+// The estimated gain is 20 + 9j.
 #[test]
 fn another_gain_than_the_estimate_is_taken(rt: HostRuntime) -> Result<(), Fail> {
     let mut samples = silent(rt.alloc(), 57_600)?;

@@ -1,4 +1,4 @@
-//! What is told of recordings by number that were turned. The texts are those of two other programs,
+//! The estimated frequency offset of shifted synthetic recordings. The texts are from two reference implementations,
 //! `python/lte_reference/make.py` and `python/lte_reference/tune.py`.
 
 use capture_make::make;
@@ -10,13 +10,13 @@ use std::alloc::{AllocError, Global};
 use std::test::Fail;
 use test_support::{has_sums, silent_recording};
 
-// Recording number n, turned.
+// Returns synthetic recording `n`, shifted by `m` phase steps.
 fn made_and_turned(alloc: Global, n: u32, m: i16) -> Result<Recording, AllocError> {
     let made = make(alloc, n)?;
     turned(alloc, &made.recording, m)
 }
 
-// The first 1,000 samples of a recording, and silence up to 30 ms.
+// Returns the first 1,000 samples of a recording, followed by silence up to 30 ms.
 fn front_and_silence(alloc: Global, recording: &Recording) -> Result<Vec<Sample>, AllocError> {
     let end = recording.len();
     let mut samples = Vec::with_capacity(alloc, 57_600)?;
@@ -30,7 +30,7 @@ fn front_and_silence(alloc: Global, recording: &Recording) -> Result<Vec<Sample>
     Ok(samples)
 }
 
-// Whether this text is told of a recording.
+// Returns whether a recording has this report.
 fn is_told(alloc: Global, recording: &Recording, text: &str) -> Result<bool, AllocError> {
     Ok(tell_text(alloc, recording)?.as_str() == text)
 }

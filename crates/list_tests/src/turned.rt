@@ -1,4 +1,4 @@
-//! Recordings turned. The sums are those of another program, `python/lte_reference/tune.py`.
+//! Frequency-shifted recordings. The sums are from the reference implementation, `python/lte_reference/tune.py`.
 
 use cs_num::Sample;
 use frequency_offset::turned;
@@ -7,7 +7,7 @@ use std::alloc::{AllocError, Global};
 use std::test::Fail;
 use test_support::has_sums;
 
-// 57,600 samples of all sizes.
+// Returns 57,600 samples with small and large components.
 fn samples(alloc: Global) -> Result<Vec<Sample>, AllocError> {
     let mut samples = Vec::with_capacity(alloc, 57_600)?;
     for i in 0..57_600_usize {

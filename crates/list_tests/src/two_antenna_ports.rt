@@ -1,5 +1,5 @@
-// The values of pairs are those of a second program, `python/lte_reference/pairs.py`, and the recordings by number
-// those of `two_tx`, whose samples `python/lte_reference/two_ports.py` gives too.
+// The soft values for pairs are from the reference implementation, `python/lte_reference/pairs.py`. The synthetic
+// recordings are from `two_tx`, with the samples of `python/lte_reference/two_ports.py`.
 ghost use Rattle.std.specs.Prelude.{◌≡◌, IfOk, length};
 
 use crate::ports::{is_of, is_pair, of_port, opposed, symbols, values_of, with_port};
@@ -32,7 +32,7 @@ fn values_of_pairs(rt: HostRuntime) -> Result<(), Fail> {
     Ok(())
 }
 
-// The list of a recording.
+// Returns a recording's cell list.
 fn list_of(alloc: Global, recording: &Recording) -> Result<EntryList, AllocError> {
     let mut work = Workspace2::new(alloc)?;
     let mut list = EntryList::new(alloc)?;
@@ -47,7 +47,7 @@ fn silence_has_no_cell(rt: HostRuntime) -> Result<(), Fail> {
     Ok(())
 }
 
-// Whether an entry has these fields, by a few of them.
+// Returns whether an entry has this SIB1, judged by a few fields.
 fn has_fields(entry: &Entry, sib1: &Sib1) -> bool {
     match &entry.sib1 {
         Ok(fields) => {
@@ -60,7 +60,7 @@ fn has_fields(entry: &Entry, sib1: &Sib1) -> bool {
     }
 }
 
-// Whether the only entry is that of recording number 7.
+// Returns whether the only entry is synthetic recording 7's cell.
 fn is_list_of_7(list: &EntryList, start: u32, sfn: u16) -> bool {
     match list.slice() {
         [entry] => is_of(entry, 7, start, sfn, 2) && has_fields(entry, &plan(7).sib1),
@@ -77,13 +77,13 @@ fn recording_7_has_its_cell(rt: HostRuntime) -> Result<(), Fail> {
     Ok(())
 }
 
-// What is received of both samples with the gains (1, 0) and (19, 5), each component off by 2 against its sign.
+// Returns the sum with the gains (1, 0) and (19, 5), with each component moved by 2 against its sign.
 fn received(first: Sample, second: Sample) -> Sample {
     let sum = with_port((0, 0), first, (1, 0));
     opposed(with_port(sum, second, (19, 5)), 2)
 }
 
-// Writes over the samples of the first port what is received of both.
+// Replaces the first port's samples by the received sum over both.
 fn receive(samples: &mut [Sample], second: &[Sample])
     requires { length second.now ≡ length samples.old }
 {
@@ -92,7 +92,7 @@ fn receive(samples: &mut [Sample], second: &[Sample])
     }
 }
 
-// 30 ms of both ports of a cell, as they are received.
+// Returns 30 ms from both antenna ports, as received.
 fn both_ports(alloc: Global, cell: &Cell) -> Result<Vec<Sample>, AllocError>
     ensures { IfOk result (λ samples. length samples.items ≡ 57600) }
 {

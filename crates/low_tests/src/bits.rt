@@ -2,7 +2,7 @@ use cs_bits::{Bits, crc16, crc24a, disagreement_of, number_of, put_number};
 use std::alloc::{AllocError, Global};
 use std::test::Fail;
 
-// A word of the bits 1, 0 and 0.
+// Returns whether a word has the bits 1, 0, 0.
 fn is_100(word: &Bits<3>) -> bool {
     word.get(0)
         && !word.get(2)
@@ -16,7 +16,7 @@ fn a_word_keeps_its_bits(rt: HostRuntime) {
     assert!(rt; is_100(&Bits::new([true, false, false])));
 }
 
-// The word of six bits of the number 38.
+// Returns whether a word has the six bits of 38.
 fn is_38(word: &Bits<6>) -> bool {
     *word == Bits::new([true, false, false, true, true, false])
         && word.field(0, 6) == 38
@@ -28,7 +28,7 @@ fn a_word_and_its_number(rt: HostRuntime) {
     assert!(rt; is_38(&Bits::of_number(38)));
 }
 
-// A word whose last bit is 1, and not the one before.
+// Returns whether a 37-bit word ends in 0, 1.
 fn ends_in_01(word: &Bits<37>) -> bool {
     word.get(36) && !word.get(35) && word.slice().len() == 37
 }
@@ -81,7 +81,7 @@ fn high_bits_first(alloc: Global, bytes: &[u8]) -> Result<Vec<bool>, AllocError>
     Ok(bits)
 }
 
-// Whether these are both remainders of the bits.
+// Returns whether these are the CRC-16 and the CRC-24A of `bits`.
 fn has_remainders(bits: &[bool], of_16: u16, of_24: u32) -> bool {
     crc16(bits) == of_16 && crc24a(bits) == of_24
 }

@@ -1,6 +1,6 @@
 use lte_types::{CellId, CellPlace, Frames};
 
-// Whether a cell can stand at this sample; its place is then what it was made of.
+// Returns whether `CellPlace` accepts this start sample, and keeps its parts.
 fn can_stand_at(start: u32) -> bool {
     let id = CellId::of(2, 1);
     match CellPlace::new(id, start) {
@@ -16,7 +16,7 @@ fn first_frames_start_within_one_frame(rt: HostRuntime) {
     assert!(rt; !can_stand_at(19_200));
 }
 
-// Whether frames can be looked at together; their parts are then what they were made of.
+// Returns whether `Frames` accepts these values, and keeps them.
 fn can_be_looked_at(count: u8, first: u8, phase: u8) -> bool {
     match Frames::new(count, first, phase) {
         Some(frames) => {
@@ -43,7 +43,7 @@ fn frames_are_of_one_period_and_of_the_first_eight(rt: HostRuntime) {
     }
 }
 
-// Whether a block with these upper bits, told by one frame, gives the first frame this number.
+// Returns whether a MIB with these upper bits, decoded from one frame, gives the first frame this number.
 fn is_numbered(first: u8, phase: u8, upper: u8, number: u16) -> bool {
     match Frames::new(1, first, phase) {
         Some(frames) => frames.first_number(upper).value() == number,
@@ -51,7 +51,7 @@ fn is_numbered(first: u8, phase: u8, upper: u8, number: u16) -> bool {
     }
 }
 
-// 4 * 2 + 1 = 9, three frames before it 6; 4 * 255 + 3 = 1,023; and before frame 0 comes frame 1,023.
+// 4 * 2 + 1 = 9; three frames earlier 6; 4 * 255 + 3 = 1,023; frame 1,023 precedes frame 0.
 #[test]
 fn the_first_frame_is_numbered_by_the_block(rt: HostRuntime) {
     assert!(rt; is_numbered(0, 1, 2, 9));

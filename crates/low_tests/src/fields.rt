@@ -1,6 +1,6 @@
 use uper::{Reader, Sheet, Writer};
 
-// Eight bits are read to their end, and no further.
+// Returns whether a reader over eight bits reads all of them and none past the end.
 fn ends_after_eight(reader: &mut Reader) -> bool {
     reader.take(9) == None
         && reader.place() == 0
@@ -17,7 +17,7 @@ fn nothing_is_read_past_the_end(rt: HostRuntime) {
     assert!(rt; ends_after_eight(&mut reader));
 }
 
-// Of five bits those from place 4 on are no field of the range, and none is at place 5.
+// Returns whether the field at bit 4 is out of range, and the one at bit 5 is past the end.
 fn has_bad_fields_at_4_and_5(reader: &mut Reader) -> bool {
     reader.flag() == Ok(true)
         && reader.number(3, 0, 3) == Ok(3)
@@ -33,12 +33,12 @@ fn a_bad_field_is_told_by_its_place(rt: HostRuntime) {
     assert!(rt; has_bad_fields_at_4_and_5(&mut reader));
 }
 
-// After 992 bits eight more are taken, and then only nothing.
+// Returns whether a writer with 992 bits accepts eight more and then no bit.
 fn takes_eight_more(writer: &mut Writer) -> bool {
     writer.put(0b1000_0001, 8) && !writer.put(0, 1) && writer.put(0, 0)
 }
 
-// A thousand bits, of which the last eight are 1, six times 0, and 1.
+// Returns whether there are 1,000 bits, which end in 10000001.
 fn ends_as_put(bits: &[bool]) -> bool {
     bits.len() == 1000 && bits[992] && !bits[993] && bits[999]
 }
@@ -53,7 +53,7 @@ fn no_bit_is_put_after_the_thousandth(rt: HostRuntime) {
     assert!(rt; ends_as_put(writer.bits()));
 }
 
-// A sheet of 992 bits.
+// Returns a sheet with 992 bits.
 fn nearly_full() -> Sheet {
     let mut sheet = Sheet::new();
     for _ in 0..31_u32 {

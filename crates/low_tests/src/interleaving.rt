@@ -1,6 +1,6 @@
 use sub_block::{Code, cell_at};
 
-// Whether the columns that begin a code's reading of one row are these.
+// Returns whether the column permutation of `code` begins with these columns, for one row.
 fn begins(code: Code, columns: [usize; 6]) -> bool {
     for m in 0..6_usize {
         if cell_at(code, 1, m) != columns[m] {
@@ -10,7 +10,7 @@ fn begins(code: Code, columns: [usize; 6]) -> bool {
     true
 }
 
-// Whether the middle and the end of a code's reading of one row are these.
+// Returns whether the column permutation of `code` has these columns at index 16 and at the end, for one row.
 fn goes_on(code: Code, middle: usize, end: usize) -> bool {
     cell_at(code, 1, 16) == middle && cell_at(code, 1, 31) == end
 }
@@ -23,7 +23,7 @@ fn columns_of_both_codes(rt: HostRuntime) {
     assert!(rt; goes_on(Code::Convolutional, 0, 30));
 }
 
-// Whether a code's reading of three rows has this cell at the foot of a column, and then this one.
+// Returns whether three rows are read with `foot` at the bottom of the first column, and `head` at the top of the next.
 fn turns_to_a_column(code: Code, foot: usize, head: usize) -> bool {
     cell_at(code, 3, 2) == foot && cell_at(code, 3, 3) == head
 }

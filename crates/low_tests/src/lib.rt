@@ -1,4 +1,6 @@
-//! Tests of the crates of numbers, bits, the outside, plain values and what is sent first.
+//! Tests of the crates for numbers, bits, sources and sinks, plain values, and the signals that a cell sends first:
+//! `cs_num`, `cs_bits`, `cs_outside`, `lte_types`, `sample_file`, `uper`, `sub_block`, `fold128`, `gold`, `crs`,
+//! `sync_seq` and `observe`.
 #![tactic(auto)]
 
 #[cfg(test)]

@@ -39,7 +39,7 @@ fn carriers_have_ports_and_a_prefix(rt: HostRuntime) {
     assert!(rt; is_sent_by(Carrier::LongPrefix, 1, Prefix::EXTENDED));
 }
 
-// Whether these resource blocks can be assigned; their parts are then what they were made of.
+// Returns whether `Assignment` accepts these resource blocks, and keeps its parts.
 fn can_be_assigned(cfi: u8, start: u8, blocks: u8) -> bool {
     let Some(indicator) = Cfi::new(cfi) else {
         return false;
@@ -141,7 +141,7 @@ fn information(rt: &impl Abort, mcc: Option<[u8; 3]>, digit: u8, code: u8) -> Si
 #[test]
 fn fields_reach_to_the_ends_of_their_ranges(rt: HostRuntime) {
     let mcc = Some([2, 6, 2]);
-    // At last no country code, no digit and no code of a block.
+    // Every row but the first is invalid: it has no country code, a bad digit, or a bad SIB code.
     for (mcc, digit, code, valid) in [
         (mcc, 9, 79, true),
         (None, 9, 79, false),
@@ -164,14 +164,14 @@ fn fields_reach_to_the_ends_of_their_ranges(rt: HostRuntime) {
     assert!(rt; !rare.valid());
 }
 
-// Whether the window with this code has these milliseconds and this name, and they have this code.
+// Returns whether a window has this code, this length in milliseconds and this name.
 fn is_window(code: u8, milliseconds: u8, name: &str) -> bool {
     window::milliseconds(code) == milliseconds
         && window::name(code) == name
         && window::code_of(milliseconds) == Some(code)
 }
 
-// Whether the period with this code has these frames and this name, and they have this code.
+// Returns whether a period has this code, this length in frames and this name.
 fn is_period(code: u8, frames: u16, name: &str) -> bool {
     period::frames(code) == frames
         && period::name(code) == name

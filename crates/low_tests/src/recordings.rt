@@ -1,4 +1,4 @@
-// Recordings at the bounds of their length, samples by their bytes, and sources that end or fail.
+// Recordings at their length limits, the byte format of samples, and sources that end or fail.
 use cs_num::Sample;
 use cs_outside::{FailSource, MemSource};
 use sample_file::{
@@ -8,13 +8,13 @@ use std::alloc::{AllocError, Global};
 use std::test::Fail;
 use test_support::silent;
 
-// What reading so many bytes in a form is refused by.
+// Returns why `count` bytes in a sample format are refused.
 fn refusal(alloc: Global, form: SampleForm, count: usize) -> Result<Option<FileError>, AllocError> {
     let mut source = MemSource::new(vec![in alloc; 127u8; count]?);
     Ok(read_as(alloc, &mut source, form).err())
 }
 
-// The same where the bytes come a thousand at a time and the listed calls fail.
+// Returns why `count` bytes are refused if the source returns 1,000 bytes a call and the listed calls fail.
 fn refusal_with_faults(
     alloc: Global,
     count: usize,
@@ -24,7 +24,7 @@ fn refusal_with_faults(
     Ok(read_recording(alloc, &mut source).err())
 }
 
-// Whether a recording of which these are the first bytes, and zeros the others, has this sample first.
+// Returns whether a recording that begins with these bytes, followed by zeros, has this first sample.
 fn begins_with(
     alloc: Global,
     form: SampleForm,
@@ -40,8 +40,7 @@ fn begins_with(
     })
 }
 
-// Whether of this many bytes, which count up from 0 in steps of one, the first 57,600 samples are kept: their number,
-// and the last of them.
+// Returns whether exactly the first 57,600 samples are kept from `count` bytes, which count up from 0.
 fn keeps_the_first(alloc: Global, count: usize) -> Result<bool, AllocError> {
     let mut input = vec![in alloc; 0u8; count]?;
     for i in 0..input.len() {
@@ -56,7 +55,7 @@ fn keeps_the_first(alloc: Global, count: usize) -> Result<bool, AllocError> {
     )
 }
 
-// What keeping the first 57,600 samples of so many zeros is refused by.
+// Returns why `count` zero bytes are refused if the first 57,600 samples are kept.
 fn refusal_of_front(alloc: Global, count: usize) -> Result<Option<FileError>, AllocError> {
     let mut source = MemSource::new(vec![in alloc; 0u8; count]?);
     Ok(read_front(alloc, &mut source, SampleForm::Ci16, 57_600).err())
@@ -110,7 +109,7 @@ fn bytes_stand_for_odd_numbers_from_minus_255_to_255(rt: HostRuntime) -> Result<
     Ok(())
 }
 
-// Samples of 1 + 1j, of which one has a greater imaginary component.
+// Returns whether a recording of samples 1 + 1j has a larger imaginary part at sample 1,000.
 fn has_a_greater_sample_at_1000(recording: &Recording) -> bool {
     recording.len() == 57_600
         && recording.get(999) == Sample { re: 1, im: 1 }

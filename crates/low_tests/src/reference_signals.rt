@@ -6,7 +6,7 @@ use lte_types::{Carrier, CellId};
 use std::process::Abort;
 use test_support::point_of;
 
-// Whether the pilots stand on each sixth subcarrier from `first` on, and have the points of these digits.
+// Returns whether the reference signals are on every sixth subcarrier from `first`, with the points of these digits.
 fn are_points(pilots: &[(u8, Cpx); 12], first: usize, digits: &[u8; 12]) -> bool
     requires { first < 6 }
 {
@@ -31,8 +31,8 @@ fn pilots_of_port_0(rt: HostRuntime) {
     assert!(rt; are_points(&pilots(id_of(&rt, 503), 19, 4), 2, b"020111000113"));
 }
 
-// Whether port 2 or 3 has its first pilot of a slot at `first`, and the sequence of symbol 1 has the points of these
-// digits.
+// Returns whether the first reference signal of port 2 or 3 is at subcarrier `first`, and symbol 1 has the points of
+// these digits.
 fn are_upper(port: u8, id: CellId, slot: u8, first: u8, digits: &[u8; 12]) -> bool
     requires { slot < 20 }
 {
@@ -51,8 +51,8 @@ fn pilots_of_ports_2_and_3_change_places(rt: HostRuntime) {
     assert!(rt; are_upper(three, last, 19, 5, b"132230211310"));
 }
 
-// Whether the first twelve values from value `from` on of symbol 4 of slot 11 of cell 77 have the points of these
-// digits, with so many resource blocks.
+// Returns whether twelve values from index `from`, in symbol 4 of slot 11 for cell 77 with this many resource blocks,
+// have the points of these digits.
 fn are_wide(rt: &impl Abort, blocks: u8, from: u8, digits: &[u8; 12]) -> bool
     requires blocks { blocks ≤ 110 }
     requires from { from + 12 ≤ 2 * blocks }
@@ -66,7 +66,7 @@ fn are_wide(rt: &impl Abort, blocks: u8, from: u8, digits: &[u8; 12]) -> bool
     all
 }
 
-// Expected: TS 36.211 sections 6.10.1.1 and 7.2, computed apart from the crate.
+// Expected values: TS 36.211 sections 6.10.1.1 and 7.2, computed independently.
 #[test]
 fn values_of_wide_carriers(rt: HostRuntime) {
     assert!(rt; are_wide(&rt, 15, 0, b"030031233332"));
@@ -97,7 +97,7 @@ fn ports_of_carriers_have_patterns(rt: HostRuntime) {
     assert!(rt; Pattern::of(Carrier::LongPrefix, 0) == Pattern::LONG_PREFIX);
     assert!(rt; Pattern::of(Carrier::FourPorts, 0) == Pattern::FIRST_PORT);
     assert!(rt; Pattern::of(Carrier::FourPorts, 1) == second);
-    // With the extended prefix l is 3, and N_CP is 0.
+    // TS 36.211 section 6.10.1, extended cyclic prefix: l is 3, and N_CP is 0.
     let second_extended = Pattern {
         later: 3,
         shift: 3,

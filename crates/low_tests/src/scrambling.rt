@@ -2,7 +2,7 @@ ghost use Rattle.std.specs.Prelude.{◌^◌, ◌<◌};
 
 use gold::fill;
 
-// Whether the sequence begins with the bits of this text of zeros and ones.
+// Returns whether the scrambling sequence begins with these 40 bits.
 fn begins(c_init: u32, text: &[u8; 40]) -> bool
     requires { c_init < 2 ^ 31 }
 {

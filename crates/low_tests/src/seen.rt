@@ -5,8 +5,8 @@ use std::alloc::{AllocError, Global};
 use std::test::Fail;
 use test_support::silent;
 
-// What is seen of the symbol at 1,000 of a recording of 30 ms that is this sample from there on, `count` times, and
-// else silence.
+// Returns the OFDM symbol at sample 1,000, in a recording with `count` copies of `sample` from there and silence
+// elsewhere.
 fn seen_of(alloc: Global, sample: Sample, count: usize) -> Result<Option<[Cpx; 72]>, AllocError> {
     let mut samples = silent(alloc, 57_600)?;
     for place in samples.iter_mut().skip(1000).take(count) {

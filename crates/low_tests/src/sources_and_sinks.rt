@@ -1,4 +1,4 @@
-// What the sources and sinks do in a few calls, and a source read and a piece written to the end.
+// Single calls of the sources and sinks, and reading and writing to the end.
 ghost use Rattle.std.specs.Prelude.{◌<◌};
 
 use cs_outside::{
@@ -10,14 +10,14 @@ use std::io;
 use std::io::{ErrorKind, Read, Write};
 use std::test::Fail;
 
-// A source of these bytes of which a listed call fails, and each gives at most so many.
+// Returns a source of these bytes that returns at most `most` a call and fails at one call.
 fn failing(alloc: Global, bytes: &[u8], call: u64, most: usize) -> Result<FailSource, AllocError>
     requires { 0 < most }
 {
     Ok(FailSource::new(bytes.to_vec(alloc)?, [call].to_vec(alloc)?, most))
 }
 
-// The bytes of "hello" come two a call, but for the second call, which fails.
+// Returns whether a source returns "hello" two bytes at a time, except that the second call fails.
 fn gives_hello_but_at_the_second_call(source: &mut FailSource) -> bool {
     let mut into = [0u8; 4];
     source.read(&mut into) == Ok(2)
@@ -36,7 +36,7 @@ fn listed_calls_of_a_source_fail(rt: HostRuntime) -> Result<(), Fail> {
     Ok(())
 }
 
-// Three bytes are taken, none at the second call, two, and no more.
+// Returns whether a sink accepts three bytes, fails at the second call, and then accepts two bytes and no more.
 fn takes_hello_but_at_the_second_call(sink: &mut FailSink) -> bool {
     sink.write(b"hello") == Ok(3)
         && sink.write(b"lo") == Err(Failed)
@@ -62,7 +62,7 @@ fn a_source_is_read_to_its_end(rt: HostRuntime) -> Result<(), Fail> {
     Ok(())
 }
 
-// Whether so many bytes are read whole.
+// Returns whether an input of `count` bytes is read to its end.
 fn is_read_whole(alloc: Global, count: usize) -> Result<bool, AllocError>
     requires { count < 100000 }
 {
@@ -98,7 +98,7 @@ fn a_fault_ends_the_reading(rt: HostRuntime) -> Result<(), Fail> {
     Ok(())
 }
 
-// Eight bytes are taken of eleven.
+// Returns whether a sink accepts eight bytes out of eleven.
 fn takes_eight_bytes(sink: &mut MemSink) -> bool {
     write_whole(sink, b"hello") == Ok(())
         && write_whole(sink, b" world") == Err(Failed)
@@ -112,7 +112,7 @@ fn a_piece_is_written_as_far_as_there_is_room(rt: HostRuntime) -> Result<(), Fai
     Ok(())
 }
 
-// Whether eleven bytes are written where one call fails, and each takes at most so many.
+// Returns whether eleven bytes are written if call `fails` fails and each call accepts at most `most` bytes.
 fn are_written(alloc: Global, fails: u64, most: usize) -> Result<bool, AllocError>
     requires { 0 < most }
 {
@@ -124,14 +124,14 @@ fn are_written(alloc: Global, fails: u64, most: usize) -> Result<bool, AllocErro
 #[test]
 fn each_write_is_given_all_that_is_left_of_its_piece(rt: HostRuntime) -> Result<(), Fail> {
     let alloc = rt.alloc();
-    // The second call fails, so the first has to be given the whole piece.
+    // The second call fails, so the first must get the whole piece.
     assert!(rt; are_written(alloc, 1, 16)?);
-    // Of eleven bytes each call takes five at most, so the fourth is not made.
+    // A call accepts at most five bytes, so three calls write all eleven, and the fourth is not made.
     assert!(rt; are_written(alloc, 3, 5)?);
     Ok(())
 }
 
-// A reader and a writer of which each call fails, and a writer that takes nothing.
+// A reader and a writer whose calls all fail.
 #[derive(Drop)]
 struct Broken;
 
@@ -164,7 +164,7 @@ impl Write for Stuck {
     }
 }
 
-// A reader and a writer whose first call fails, and the later ones do not.
+// A reader and a writer whose first call fails.
 #[derive(Drop)]
 struct FailsOnce {
     failed: bool,
@@ -194,13 +194,13 @@ impl Write for FailsOnce {
     }
 }
 
-// The first read fails, and the next one tells the end.
+// Returns whether the first read fails, and the next one returns the end.
 fn fails_at_the_first_read(source: &mut StdSource<FailsOnce>) -> bool {
     let mut into = [0u8; 4];
     source.read(&mut into) == Err(Failed) && source.read(&mut into) == Ok(0)
 }
 
-// The first write fails, and the next one takes all.
+// Returns whether the first write fails, and the next one accepts everything.
 fn fails_at_the_first_write(sink: &mut StdSink<FailsOnce>) -> bool {
     sink.write(b"hello") == Err(Failed) && sink.write(b"hello") == Ok(5)
 }
@@ -211,7 +211,7 @@ fn a_call_of_std_that_fails_is_not_made_again(rt: HostRuntime) {
     assert!(rt; fails_at_the_first_write(&mut StdSink::new(FailsOnce { failed: false })));
 }
 
-// The bytes of "hello" come, four at the first call.
+// Returns whether a source returns "hello", with four bytes in the first call.
 fn gives_hello(source: &mut StdSource<&[u8]>) -> bool {
     let mut into = [0u8; 4];
     source.read(&mut into) == Ok(4)

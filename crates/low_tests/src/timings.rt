@@ -1,7 +1,7 @@
 use lte_types::{Sfn, Timing, timings_come_back};
 
-// A frame number and an offset, and from there the first start and the number of its frame: 19,200 less the
-// offset where that is not 0, and then one more, modulo 1,024.
+// The frame number and offset of the first sample, then the first frame start and its frame number. A start is 19,200
+// minus the offset if that is not 0; the number is then one more, modulo 1,024.
 const ROWS: [(u16, u32, u32, u16); 5] = [
     (5, 0, 0, 5),
     (5, 1, 19_199, 6),
@@ -10,7 +10,7 @@ const ROWS: [(u16, u32, u32, u16); 5] = [
     (0, 9_600, 9_600, 1),
 ];
 
-// Whether the first frame of a recording that begins there starts at this sample.
+// Returns whether a recording with this timing has its first frame start at sample `start`.
 fn starts_at(sfn: u16, offset: u32, start: u32) -> bool {
     match Timing::new(Sfn::modulo(sfn as u64), offset) {
         Some(timing) => timing.start() == start,
@@ -18,7 +18,7 @@ fn starts_at(sfn: u16, offset: u32, start: u32) -> bool {
     }
 }
 
-// Whether that frame has this number.
+// Returns whether the frame at the first frame start has this number.
 fn is_numbered(sfn: u16, offset: u32, number: u16) -> bool {
     match Timing::new(Sfn::modulo(sfn as u64), offset) {
         Some(timing) => timing.number_at_start().value() == number,
@@ -26,13 +26,13 @@ fn is_numbered(sfn: u16, offset: u32, number: u16) -> bool {
     }
 }
 
-// Whether a recording that begins there has this start and this number.
+// Returns whether a recording with a row's timing has its first frame start and number.
 fn starts(row: (u16, u32, u32, u16)) -> bool {
     let (sfn, offset, start, number) = row;
     starts_at(sfn, offset, start) && is_numbered(sfn, offset, number)
 }
 
-// Whether from this start and this number one comes back there.
+// Returns whether a row's first frame start and number give its timing.
 fn comes_back(row: (u16, u32, u32, u16)) -> bool {
     let (sfn, offset, start, number) = row;
     if start >= 19_200 {
@@ -42,7 +42,7 @@ fn comes_back(row: (u16, u32, u32, u16)) -> bool {
     timing.sfn.value() == sfn && timing.offset == offset
 }
 
-// The number of the frame that a sample is in, where sample 19,199 of frame 1,023 is the first.
+// Returns the frame number at a sample, if the first sample is sample 19,199 of frame 1,023.
 fn number_at(i: u32) -> u16 {
     let timing = Timing {
         sfn: Sfn::modulo(1023),

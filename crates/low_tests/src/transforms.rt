@@ -4,7 +4,7 @@ ghost use Rattle.cs_num.specs.Complex.{IsWithin};
 use cs_num::{Cpx, Sample};
 use fold128::{synth, transform, w, z63};
 
-// A grid with one value that is not 0.
+// Returns a grid with one nonzero value.
 fn one_value(k: usize, value: Cpx) -> [Cpx; 72]
     requires k { k < 72 }
     requires small { IsWithin 127 value }
@@ -41,7 +41,7 @@ fn tables_at_the_ends_of_their_parts(rt: HostRuntime) {
     assert!(rt; z63(32) == Cpx { re: -127, im: -6 });
 }
 
-// Of its samples each 32nd is turned by a quarter from the one before.
+// Returns whether the phase advances by a quarter cycle every 32 samples.
 fn turns_once(samples: &[Cpx; 128]) -> bool {
     samples[0] == Cpx { re: 11, im: 11 }
         && samples[32] == Cpx { re: -11, im: 11 }
@@ -53,7 +53,7 @@ fn one_subcarrier_turns_once(rt: HostRuntime) {
     assert!(rt; turns_once(&synth(&one_value(36, Cpx { re: 90, im: 90 }))));
 }
 
-// Six samples that are not 0, four of them 32 apart.
+// Returns six nonzero samples, four of them 32 apart.
 fn six_samples() -> [Sample; 128] {
     let mut samples = [Sample { re: 0, im: 0 }; 128];
     samples[0] = Sample { re: 1, im: 0 };
@@ -68,7 +68,7 @@ fn six_samples() -> [Sample; 128] {
     samples
 }
 
-// One subcarrier of each residue modulo 4, and those at both ends.
+// Returns whether one subcarrier for each residue modulo 4, and both outer ones, have the expected sums.
 fn has_sums_of_six_samples(seen: &[Cpx; 72]) -> bool {
     seen[0]
         == Cpx {

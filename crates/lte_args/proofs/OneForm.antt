@@ -1,4 +1,4 @@
--- Words are of one form.
+-- An argument list has at most one command form.
 use Rattle.std.proofs.Common.{◌≡◌, inl, inr, ℕ, suc, ◌<◌, ◌^◌, ℤ, pos, negsuc, List, [], ◌∷◌, drop, ◌++◌, Option, Some, None, Bool, true, false, nat_eq, refl, ap, sym, subst, ◌∙◌, append-nil, append_assoc, arith}
 use Rattle.std.specs.Prelude.{if◌then◌else◌, neg_ℤ, codes}
 use Rattle.std.specs.Cmp.Lexicographic.{pointwise}
@@ -26,7 +26,7 @@ use Rattle.lte_args.specs.declared.form.Page.{Page}
 use Rattle.lte_args.specs.declared.form.Page.TheVariants.{Help, Version}
 use Rattle.lte_args.specs.Words.{samples_words, output_words, rule_words, carrier_words, load_words, turn_words, ArePageWords, AreWordsOf, IsAskedLoad, IsTurn, IsAskedTurn, IsInRange, program_of, IsWordsOf}
 
--- the word is this one
+-- whether the argument is this word
 abbrev is_word : List ℕ → List ℕ → Bool
 is_word = pointwise nat_eq
 
@@ -45,8 +45,8 @@ load_back : (load : Option ℕ) → IsAskedLoad load → load_in (load_words loa
 load_back None asked = refl
 load_back (Some n) small = ap (λ k. Some k) (decimal_is_IsNumeral n (omega (arith, small))).1
 
--- ---- parts before others: `of` tells the form by the part and the words after it. Words that follow a part begin with
--- none of its own, so that they tell the form by its usual value
+-- ---- parts before others: `of` builds the form from the part and the arguments after it. Arguments that follow a part
+-- begin with none of its words, so they yield its default value
 
 abbrev output_in : (Output → List (List ℕ) → Form) → List (List ℕ) → Form
 output_in of [] = of Text []
@@ -61,7 +61,7 @@ report_back of Text Cu8 = refl
 report_back of Json Ci16 = refl
 report_back of Json Cu8 = refl
 
--- the carrier, by the word after "--ports"
+-- the transmission scheme selected by the argument after "--ports"
 abbrev ports_in : List (List ℕ) → Carrier
 ports_in [] = TwoPorts
 ports_in (word ∷ words) = if is_word word (codes "4") then FourPorts else TwoPorts
@@ -150,12 +150,12 @@ make_back carrier n small =
     ap (λ words. make_in (decimal n ∷ words)) (sym (append-nil (carrier_words carrier)))
     ∙ carrier_back (λ c rest. Make c (digits_value 10 (decimal n))) carrier [] refl ∙ ap (Make carrier) (decimal_is_IsNumeral n (omega (arith, small))).1
 
--- the number that is written so
+-- the number with this decimal text
 abbrev turn_in : List ℕ → ℤ
 turn_in [] = pos 0
 turn_in (c ∷ cs) = if nat_eq c 45 then neg_ℤ (pos (digits_value 10 cs)) else pos (digits_value 10 (c ∷ cs))
 
--- digits tell their number
+-- decimal digits yield their number
 of_digits : (ds : List ℕ) → IsNumeral 10 ds → turn_in ds ≡ pos (digits_value 10 ds)
 of_digits [] is = absurd (omega (arith, is.0))
 of_digits (c ∷ cs) is = by (nat_eq c 45) refl
@@ -164,7 +164,7 @@ of_digits (c ∷ cs) is = by (nat_eq c 45) refl
     by true e = let digit = digit_from_value c is.1.0 in let minus = eqb-true c 45 e in absurd (omega (arith, minus, digit.0))
     by false e = rw e refl
 
--- what is written for a turn tells it
+-- a phase step's decimal text yields the step
 turn_back : (m : ℤ) → IsTurn m → turn_in (signed_decimal m) ≡ m
 turn_back (pos n) small =
     let high = small.1 in
@@ -173,7 +173,7 @@ turn_back (negsuc n) small =
     let low = small.0 in
     let numeral = decimal_is_IsNumeral (suc n) (omega (arith, ints, low)) in ap (λ k. neg_ℤ (pos k)) numeral.1
 
--- the words of a turn and a form of samples are told by how many they are
+-- the argument count decides whether a phase step and a sample format are given
 abbrev apply_in : List (List ℕ) → Form
 apply_in [] = Apply AsTold Ci16
 apply_in (m ∷ []) = Apply (Steps (turn_in m)) Ci16
@@ -186,7 +186,7 @@ apply_back AsTold Cu8 within = refl
 apply_back (Steps m) Ci16 within = ap (λ k. Apply (Steps k) Ci16) (turn_back m within)
 apply_back (Steps m) Cu8 within = ap (λ k. Apply (Steps k) Cu8) (turn_back m within)
 
--- ---- the form of words: a new form adds a line here, and one below
+-- ---- the form that arguments select: a new form adds a line here, and one below
 
 abbrev form_of : Program → List (List ℕ) → Form
 form_of program [] = Check

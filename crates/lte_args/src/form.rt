@@ -1,4 +1,4 @@
-//! The forms of words that are run.
+//! The programs' command forms.
 
 ghost use Rattle.std.specs.Prelude.{◌≡◌, IfSome, IsNone, map, string_bytes};
 ghost use Rattle.lte_args.specs.Words.{name_of, IsWordsOf, IsNoForm};
@@ -12,17 +12,17 @@ use crate::words::Words;
 use lte_types::Carrier;
 use sample_file::SampleForm;
 
-/// A program: each has words of its own.
+/// A program. Each has its own command forms.
 #[derive(Clone, Copy, Debug, PartialEq, Eq)]
 pub enum Program {
-    /// `lte_cli`: what a recording holds, and recordings of cells.
+    /// `lte_cli`: searches a recording for cells, and makes recordings.
     Receiver,
-    /// `lte_tune`: the frequency offset of a recording.
+    /// `lte_tune`: estimates and corrects the frequency offset of a recording.
     Tuner,
 }
 
 impl Program {
-    /// The name of the program.
+    /// Returns the program's name.
     pub fn name(self) -> &'static str
         ensures { result.now ≡ name_of self }
     {
@@ -33,21 +33,21 @@ impl Program {
     }
 }
 
-/// A form of words: a command, the rule of its list, the output, and the form of samples that is read, each named by
-/// words after those before it. The words `--format cu8` name 8-bit numbers, and without them they are of 16 bits.
+/// A command form: a command followed by its options in a fixed order. The option `--format cu8` selects 8-bit samples;
+/// the default is 16-bit samples.
 #[derive(Clone, Copy, Debug, PartialEq, Eq)]
 pub enum Form {
-    /// A report about a recording of samples in a form.
+    /// A report about a recording in this sample format.
     Report(Report, Output, SampleForm),
-    /// `certify`: a certificate for each master block of the list of a carrier in a recording.
+    /// `certify`: a certificate for each listed cell's MIB.
     Certify(Carrier, SampleForm),
-    /// `check`: an answer to each of the certificates that are read.
+    /// `check`: an answer to each certificate on the input.
     Check,
-    /// `transmit`: the samples of a cell that is described for this carrier, with the load of a number by `--load N`.
+    /// `transmit`: the described cell's samples, with load number N if `--load N` is given.
     Transmit(Carrier, Option<u32>),
-    /// `make N`: the list of recording number N, made of a cell of this carrier.
+    /// `make N`: the cell list of synthetic recording number N under this transmission scheme.
     Make(Carrier, u32),
-    /// `apply`: a turned recording, as 16-bit numbers.
+    /// `apply`: a frequency-corrected recording, in 16-bit samples.
     Apply(Turn, SampleForm),
     /// A page about a program.
     Print(Program, Page),
@@ -56,31 +56,31 @@ pub enum Form {
 /// A report about a recording.
 #[derive(Clone, Copy, Debug, PartialEq, Eq)]
 pub enum Report {
-    /// `hits`: the places of primary synchronisation signals.
+    /// `hits`: the PSS detections.
     Hits,
-    /// `ids`: the same with the identity and the frame start that each tells.
+    /// `ids`: the PSS detections, each with its cell identity and frame start.
     Ids,
-    /// `search`: the list of cells by a rule.
+    /// `search`: the cell list under a rule.
     Search(Rule),
-    /// `evidence`: what supports each cell of the list of a carrier.
+    /// `evidence`: the evidence for each listed cell.
     Evidence(Carrier),
     /// `tell`: the frequency offset.
     Tell,
 }
 
-/// The rule of a list of cells.
+/// Which cell list `search` writes.
 #[derive(Clone, Copy, Debug, PartialEq, Eq)]
 pub enum Rule {
-    /// The cells of a carrier: those with one antenna port, with two or four by `--ports 2` and `--ports 4`, or with
-    /// the extended cyclic prefix by `--prefix long`.
+    /// The cells with one transmission scheme. The default is one antenna port; `--ports 2`, `--ports 4` and `--prefix
+    /// long` (the extended cyclic prefix) select the others.
     Of(Carrier),
-    /// `--cancel`: the list, and those of what is left where a cell of it is taken off.
+    /// `--cancel`: the cell list, and the list of the residual after each listed cell is cancelled.
     Cancel,
-    /// `--all`: the lists of every carrier.
+    /// `--all`: one list per transmission scheme.
     All,
 }
 
-/// What a report is written as.
+/// A report's output format.
 #[derive(Clone, Copy, Debug, PartialEq, Eq)]
 pub enum Output {
     /// Lines of text.
@@ -89,26 +89,26 @@ pub enum Output {
     Json,
 }
 
-/// How a recording is turned.
+/// How `apply` corrects a recording.
 #[derive(Clone, Copy, Debug, PartialEq, Eq)]
 pub enum Turn {
-    /// `apply`: the recording is turned by what is told of it, so that its frequency offset is taken off.
+    /// `apply`: the recording's estimated frequency offset is corrected.
     AsTold,
-    /// `apply M`: the recording's mean is taken off, and it is turned by M steps of 117.1875 Hz, -2,048 to 2,047.
+    /// `apply M`: the mean is subtracted, and the frequency is shifted by M steps of 117.1875 Hz, -2,048 to 2,047.
     Steps(i16),
 }
 
 /// A page about a program.
 #[derive(Clone, Copy, Debug, PartialEq, Eq)]
 pub enum Page {
-    /// `help`, also `--help` and `-h`: its forms of words.
+    /// `help`, also `--help` and `-h`: the program's command forms.
     Help,
-    /// `version`, also `--version`: its version, and that of the definition of a list.
+    /// `version`, also `--version`: the program's version, and the list definition's.
     Version,
 }
 
 impl Form {
-    /// The form of a program that the words are of; `None` exactly where they are those of no form of it.
+    /// Returns the form of `program` that `words` select, or `None` if they select none.
     pub fn of(program: Program, words: &Words) -> Option<Form>
         ensures some { IfSome result (IsWordsOf program words.now) }
         ensures none { IsNone result → IsNoForm program words.now }
@@ -120,7 +120,7 @@ impl Form {
     }
 }
 
-// The form of the receiver.
+// Returns the form of `lte_cli` that `words` select.
 fn of_receiver(words: &[String]) -> Option<Form>
     ensures some { IfSome result (IsWordsOf Receiver (map string_bytes words.now)) }
     ensures none { IsNone result → IsNoForm Receiver (map string_bytes words.now) }
@@ -147,7 +147,7 @@ fn of_receiver(words: &[String]) -> Option<Form>
     }
 }
 
-// The form of the tuner.
+// Returns the form of `lte_tune` that `words` select.
 fn of_tuner(words: &[String]) -> Option<Form>
     ensures some { IfSome result (IsWordsOf Tuner (map string_bytes words.now)) }
     ensures none { IsNone result → IsNoForm Tuner (map string_bytes words.now) }

@@ -1,4 +1,6 @@
-//! The words of a command line, and the forms of words that are run.
+//! Command-line parsing for `lte_cli` and `lte_tune`: from arguments to a command form.
+//!
+//! Tests: `top_tests/src/usage.rt` and the other commands in the crate `top_tests`.
 #![tactic(auto)]
 
 mod form;

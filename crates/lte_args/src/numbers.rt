@@ -1,4 +1,4 @@
-//! Numbers that are written without leading zero.
+//! Decimal numbers without leading zeros.
 
 ghost use Rattle.std.specs.Prelude.{◌≡◌, ◌≢◌, ◌<◌, ◌^◌, ℕ, ℤ, IfSome, IsNone};
 ghost use Rattle.std.specs.Fmt.{decimal, signed_decimal};
@@ -6,7 +6,7 @@ ghost use Rattle.lte_args.specs.Words.{IsTurn};
 
 use itoa::Buffer;
 
-// The number of 32 bits that is written so, without leading zero.
+// Parses a 32-bit number without leading zeros.
 pub(crate) fn number_of(text: &str) -> Option<u32>
     ensures some { IfSome result (λ n. text.now ≡ decimal n) }
     ensures none { IsNone result → (n : ℕ) → n < 2 ^ 32 → text.now ≡ decimal n → ⊥ }
@@ -17,7 +17,7 @@ pub(crate) fn number_of(text: &str) -> Option<u32>
     }
 }
 
-// The number, where it is written so.
+// Returns `n` if `text` is its decimal form.
 fn exactly(n: u32, text: &str) -> Option<u32>
     ensures some { IfSome result (λ same. (same ≡ n) × (text.now ≡ decimal n)) }
     ensures none { IsNone result → text.now ≢ decimal n }
@@ -30,7 +30,7 @@ fn exactly(n: u32, text: &str) -> Option<u32>
     }
 }
 
-// The steps of a turn that are written so, without leading zero.
+// Parses a phase step from -2,048 to 2,047 without leading zeros.
 pub(crate) fn steps_of(text: &str) -> Option<i16>
     ensures some { IfSome result (λ m. IsTurn m × (text.now ≡ signed_decimal m)) }
     ensures none { IsNone result → (m : ℤ) → IsTurn m → text.now ≡ signed_decimal m → ⊥ }
@@ -41,7 +41,7 @@ pub(crate) fn steps_of(text: &str) -> Option<i16>
     }
 }
 
-// The steps, where they are written so and in their range.
+// Returns `m` if it is in range and `text` is its decimal form.
 fn exact_steps(m: i16, text: &str) -> Option<i16>
     ensures some { IfSome result (λ same. (same ≡ m) × IsTurn m × (text.now ≡ signed_decimal m)) }
     ensures none { IsNone result → IsTurn m → text.now ≢ signed_decimal m }

@@ -1,5 +1,5 @@
-//! The parts of a form that words name: each is read from the words that those before it leave, and the last leaves
-//! none.
+//! Parsers for the parts of a command form. Each part is parsed from the arguments that the parts before it leave, and
+//! the last part leaves none.
 
 ghost use Rattle.std.specs.Prelude.{◌≡◌, ◌↔◌, ◌<◌, ◌^◌, ℕ, Option, Some, List, [], ◌∷◌, ◌++◌, map, IfSome};
 ghost use Rattle.std.specs.Prelude.{IsNone, IsTrue, codes, string_bytes};
@@ -18,9 +18,9 @@ use crate::numbers::{number_of, steps_of};
 use lte_types::Carrier;
 use sample_file::SampleForm;
 
-// ---- parts that others follow: the value, and the words after those that name it
+// ---- parts that others follow: the value, and the remaining arguments
 
-// The rule of a list: where no words name one, that of one antenna port.
+// Parses a list rule; the default is the list for one antenna port.
 fn rule_in(words: &[String]) -> (Rule, &[String])
     ensures named { map string_bytes words.now ≡ rule_words result.0 ++ map string_bytes result.1.now }
     ensures unnamed { rule_words result.0 ≡ [] → BeginsWithNo rule_words (map string_bytes words.now) }
@@ -35,7 +35,7 @@ fn rule_in(words: &[String]) -> (Rule, &[String])
     }
 }
 
-// A carrier: where no words name one, that of one antenna port.
+// Parses a transmission scheme; the default is one antenna port.
 fn carrier_in(words: &[String]) -> (Carrier, &[String])
     ensures named { map string_bytes words.now ≡ carrier_words result.0 ++ map string_bytes result.1.now }
     ensures unnamed { carrier_words result.0 ≡ [] → BeginsWithNo carrier_words (map string_bytes words.now) }
@@ -51,7 +51,7 @@ fn carrier_in(words: &[String]) -> (Carrier, &[String])
     }
 }
 
-// An output: where no words name one, text.
+// Parses an output format; the default is text.
 fn output_in(words: &[String]) -> (Output, &[String])
     ensures named { map string_bytes words.now ≡ output_words result.0 ++ map string_bytes result.1.now }
     ensures unnamed { output_words result.0 ≡ [] → BeginsWithNo output_words (map string_bytes words.now) }
@@ -62,9 +62,9 @@ fn output_in(words: &[String]) -> (Output, &[String])
     }
 }
 
-// ---- last parts: no words are left
+// ---- last parts: no arguments remain
 
-// The form of samples.
+// Parses a sample format.
 fn samples_of(words: &[String]) -> Option<SampleForm>
     ensures some { IfSome result (λ form. map string_bytes words.now ≡ samples_words form) }
     ensures none { IsNone result → (form : SampleFormValue) → map string_bytes words.now ≡ samples_words form → ⊥ }
@@ -80,7 +80,7 @@ fn samples_of(words: &[String]) -> Option<SampleForm>
     }
 }
 
-// The output, and the form of samples.
+// Parses an output format and a sample format.
 fn output_of(words: &[String]) -> Option<(Output, SampleForm)>
     ensures some { IfSome result (λ parts. map string_bytes words.now ≡ output_words parts.0 ++ samples_words parts.1) }
     ensures none { IsNone result → (output : OutputValue) (form : SampleFormValue) →
@@ -91,7 +91,7 @@ fn output_of(words: &[String]) -> Option<(Output, SampleForm)>
     Some((output, samples))
 }
 
-// A carrier.
+// Parses a transmission scheme.
 fn carrier_of(words: &[String]) -> Option<Carrier>
     ensures some { IfSome result (λ carrier. map string_bytes words.now ≡ carrier_words carrier) }
     ensures none { IsNone result → (carrier : CarrierValue) → map string_bytes words.now ≡ carrier_words carrier → ⊥ }
@@ -100,7 +100,7 @@ fn carrier_of(words: &[String]) -> Option<Carrier>
     if are_none(words) { Some(carrier) } else { None }
 }
 
-// The load, by a number of 32 bits without leading zero; no words name none.
+// Parses an optional 32-bit load number without leading zeros.
 fn load_of(words: &[String]) -> Option<Option<u32>>
     ensures some { IfSome result (λ load. IsAskedLoad load × (map string_bytes words.now ≡ load_words load)) }
     ensures none { IsNone result → (load : Option ℕ) → IsAskedLoad load →
@@ -115,9 +115,9 @@ fn load_of(words: &[String]) -> Option<Option<u32>>
     if are_none(left) { Some(Some(n)) } else { None }
 }
 
-// ---- the parts of a command
+// ---- a command's parts
 
-// A report with this command: its output and form of samples.
+// Parses a report with this command: its output format and sample format.
 pub(crate) fn report_parts(words: &[String], command: &str) -> Option<(Output, SampleForm)>
     ensures some { IfSome result (λ parts.
         map string_bytes words.now ≡ command.now ∷ output_words parts.0 ++ samples_words parts.1) }
@@ -128,7 +128,7 @@ pub(crate) fn report_parts(words: &[String], command: &str) -> Option<(Output, S
     output_of(words)
 }
 
-// `search`: its rule, output and form of samples.
+// Parses `search`: its rule, output format and sample format.
 pub(crate) fn search_parts(words: &[String]) -> Option<(Rule, Output, SampleForm)>
     ensures some { IfSome result (λ parts. map string_bytes words.now ≡
         codes "search" ∷ rule_words parts.0 ++ output_words parts.1 ++ samples_words parts.2) }
@@ -141,7 +141,7 @@ pub(crate) fn search_parts(words: &[String]) -> Option<(Rule, Output, SampleForm
     Some((rule, output, samples))
 }
 
-// `evidence`: its carrier, output and form of samples.
+// Parses `evidence`: its transmission scheme, output format and sample format.
 pub(crate) fn evidence_parts(words: &[String]) -> Option<(Carrier, Output, SampleForm)>
     ensures some { IfSome result (λ parts. map string_bytes words.now ≡
         codes "evidence" ∷ carrier_words parts.0 ++ output_words parts.1 ++ samples_words parts.2) }
@@ -155,7 +155,7 @@ pub(crate) fn evidence_parts(words: &[String]) -> Option<(Carrier, Output, Sampl
     Some((carrier, output, samples))
 }
 
-// `certify`: its carrier and form of samples.
+// Parses `certify`: its transmission scheme and sample format.
 pub(crate) fn certify_parts(words: &[String]) -> Option<(Carrier, SampleForm)>
     ensures some { IfSome result (λ parts.
         map string_bytes words.now ≡ codes "certify" ∷ carrier_words parts.0 ++ samples_words parts.1) }
@@ -168,7 +168,7 @@ pub(crate) fn certify_parts(words: &[String]) -> Option<(Carrier, SampleForm)>
     Some((carrier, samples))
 }
 
-// `transmit`: its carrier and load.
+// Parses `transmit`: its transmission scheme and load.
 pub(crate) fn transmit_parts(words: &[String]) -> Option<(Carrier, Option<u32>)>
     ensures some { IfSome result (λ parts. IsAskedLoad parts.1
         × (map string_bytes words.now ≡ codes "transmit" ∷ carrier_words parts.0 ++ load_words parts.1)) }
@@ -181,7 +181,7 @@ pub(crate) fn transmit_parts(words: &[String]) -> Option<(Carrier, Option<u32>)>
     Some((carrier, load))
 }
 
-// `make`: its carrier, and its number of 32 bits without leading zero.
+// Parses `make`: its transmission scheme and 32-bit number.
 pub(crate) fn make_parts(words: &[String]) -> Option<(Carrier, u32)>
     ensures some { IfSome result (λ parts.
         map string_bytes words.now ≡ codes "make" ∷ decimal parts.1 ∷ carrier_words parts.0) }
@@ -195,7 +195,7 @@ pub(crate) fn make_parts(words: &[String]) -> Option<(Carrier, u32)>
     Some((carrier, n))
 }
 
-// `apply`: its turn, by a number from -2,048 to 2,047 without leading zero, and its form of samples.
+// Parses `apply`: its optional phase step and its sample format.
 pub(crate) fn apply_parts(words: &[String]) -> Option<(Turn, SampleForm)>
     ensures some { IfSome result (λ parts. IsAskedTurn parts.0
         × (map string_bytes words.now ≡ codes "apply" ∷ turn_words parts.0 ++ samples_words parts.1)) }
@@ -213,7 +213,7 @@ pub(crate) fn apply_parts(words: &[String]) -> Option<(Turn, SampleForm)>
     }
 }
 
-// A page.
+// Parses a page.
 pub(crate) fn page_of(words: &[String]) -> Option<Page>
     ensures some { IfSome result (λ page. ArePageWords page (map string_bytes words.now)) }
     ensures none { IsNone result → (page : PageValue) → ArePageWords page (map string_bytes words.now) → ⊥ }
@@ -227,16 +227,16 @@ pub(crate) fn page_of(words: &[String]) -> Option<Page>
     }
 }
 
-// ---- single words
+// ---- single arguments
 
-// Whether there are no words.
+// Returns whether no arguments remain.
 fn are_none(words: &[String]) -> bool
     ensures { IsTrue result ↔ (map string_bytes words.now ≡ []) }
 {
     words.is_empty()
 }
 
-// The words after this one, where it is the first.
+// Returns the arguments after `word` if it is the first.
 fn after<'a>(words: &'a [String], word: &str) -> Option<&'a [String]>
     ensures some { IfSome result (λ rest. map string_bytes words.now ≡ word.now ∷ map string_bytes rest.now) }
     ensures none { IsNone result → (rest : List (List ℕ)) → map string_bytes words.now ≡ word.now ∷ rest → ⊥ }
@@ -249,7 +249,7 @@ fn after<'a>(words: &'a [String], word: &str) -> Option<&'a [String]>
     }
 }
 
-// The words after these two, where they are the first.
+// Returns the arguments after `first` and `second` if these come first.
 fn after_two<'a>(words: &'a [String], first: &str, second: &str) -> Option<&'a [String]>
     ensures some { IfSome result (λ rest.
         map string_bytes words.now ≡ first.now ∷ second.now ∷ map string_bytes rest.now) }
@@ -260,7 +260,7 @@ fn after_two<'a>(words: &'a [String], first: &str, second: &str) -> Option<&'a [
     after(words, second)
 }
 
-// Whether there is one word, and it is this one.
+// Returns whether `word` is the only argument.
 pub(crate) fn is_only(words: &[String], word: &str) -> bool
     ensures { IsTrue result ↔ (map string_bytes words.now ≡ word.now ∷ []) }
 {

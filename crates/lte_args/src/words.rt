@@ -1,12 +1,12 @@
-//! The words of a command line.
+//! Command-line arguments.
 
 ghost use Rattle.std.specs.Prelude.{◌≡◌, ℕ, List, [], ◌∷◌, ◌++◌, map, OnOk, OnErr, string_bytes};
 
 use std::alloc::{AllocError, Global};
 use std::marker::Model;
 
-/// The words of a command line, as texts of its own. Contracts see it as the list of the words,
-/// each as the list of its bytes.
+/// Command-line arguments, as owned strings. Contracts see a list of arguments, each as a list of
+/// bytes.
 #[derive(Drop)]
 pub struct Words {
     alloc: Global,
@@ -20,7 +20,7 @@ impl Model for Words {
 }
 
 impl Words {
-    /// No words. It takes no memory.
+    /// Returns an empty list. Does not allocate.
     pub fn new(alloc: Global) -> Self
         ensures { result ≡ [] }
     {
@@ -30,7 +30,7 @@ impl Words {
         }
     }
 
-    /// Appends a word. Only memory can be wanting, and the list is then as it was.
+    /// Appends an argument. Fails only if an allocation fails, and then leaves the list unchanged.
     pub fn push(&mut self, word: &str) -> Result<(), AllocError>
         ensures ok { OnOk result (self.new ≡ self.old ++ word.now ∷ []) }
         ensures err { OnErr result (self.new ≡ self.old) }
@@ -40,7 +40,7 @@ impl Words {
         Ok(())
     }
 
-    // The words as texts.
+    // Returns the arguments.
     pub(crate) fn texts(&self) -> &[String]
         ensures { map string_bytes result.now ≡ self.now }
     {

@@ -15,33 +15,34 @@ use Rattle.lte_top.specs.Answers.{code_of, text_of}
 use Rattle.lte_top.specs.Run.{Runs}
 use Rattle.lte_process.specs.declared.Line.{Line}
 
--- the answer where there are no arguments: memory was refused for them, or one is no text and so a word of no form
+-- the answer if the arguments are unavailable: their allocation failed, or one of them is not UTF-8 text and so selects
+-- no form
 abbrev pub refusal_of : ErrorKind → Status
 refusal_of NoMemory = OutOfMemory
 refusal_of kind = Usage
 
--- the outside of a process at its start: nothing is told of its input and its output, and no call failed
+-- a process at its start: nothing is known about its input and output, and no call has failed
 abbrev pub at_start : Outside
 at_start = (record { left = None; faults = 0 }, record { taken = None; room = None; faults = 0 })
 
--- the answer to arguments, of which the first is the program's name: the program ran the others as its words, or
--- memory for them was refused
+-- the answer to arguments, the first of which is the program's name: the program ran with the others, or their
+-- allocation failed
 abbrev pub IsRun : Program → List (List ℕ) → Status → Type 0
 IsRun program arguments status = ((now : Outside) × Runs program (drop 1 arguments) at_start now status) ⊎ (status ≡ OutOfMemory)
 
--- the answer to what a process asked for its arguments gets: the arguments, or the kind of an error
+-- the answer to the result of reading the process's arguments
 abbrev pub IsAnswerTo : Program → Result (List (List ℕ)) ErrorKind → Status → Type 0
 IsAnswerTo program (Ok arguments) status = IsRun program arguments status
 IsAnswerTo program (Err kind) status = status ≡ refusal_of kind
 
--- the exit code is that of the answer to a process's arguments
+-- the exit code belongs to the answer to the process's arguments
 pub record IsExit (program : Program) (exit : ExitCode) : Type 0 where
   pub arguments : Result (List (List ℕ)) ErrorKind
   pub answer : Status
   pub answered : IsAnswerTo program arguments answer
   pub code : exit_status exit ≡ code_of answer
 
--- the line of an answer: none for Done
+-- the line for an answer: none for Done
 abbrev pub line_of : Program → Status → Option Line
 line_of program Done = None
 line_of program status = Some (record { program = program; status = status })

@@ -1,5 +1,8 @@
-//! The edge between a process and the top call: its arguments become words, its standard input a source, its standard
-//! output a sink, and the answer its exit code and a line on standard error.
+//! Process entry point: turns a process's arguments and standard streams into a call of `lte_top`, and its status into
+//! an exit code and a line on standard error.
+//!
+//! If an argument is not UTF-8 text, the answer is `Usage`; if memory for the arguments is refused, it is
+//! `OutOfMemory`. In both cases nothing is read or written.
 //!
 //! Tests: `fault_tests/src/edge.rt`.
 #![tactic(auto)]
@@ -20,12 +23,8 @@ use std::fmt;
 use std::io::{self, Eprint, Read, Write};
 use std::process::ExitCode;
 
-/// Runs a program over the process's arguments, `input` and `output`, and returns the exit code of its answer. The
-/// arguments after the first are the words. For every answer except `Done` a line on standard error has the program's
-/// name and the answer's text. If that line cannot be written, nothing else changes.
-///
-/// If an argument is not UTF-8 text, the answer is `Usage`; if memory for the arguments is refused, it is
-/// `OutOfMemory`. In both cases nothing is read or written.
+/// Runs `program` on the process's arguments, and returns its exit code. Every answer except `Done` also prints the
+/// program's name and the answer's text on standard error.
 pub fn run_process<R, I, O>(rt: &R, program: Program, input: I, output: O) -> ExitCode
 where
     R: Env + Alloc<A = Global> + Eprint,
@@ -43,7 +42,7 @@ where
     ExitCode::from(status.code())
 }
 
-// The answer to these arguments.
+// Returns the answer to these arguments.
 fn answer<I, O>(alloc: Global, program: Program, arguments: Args, input: I, output: O) -> Status
 where
     I: Read + Drop,
@@ -62,7 +61,7 @@ where
     }
 }
 
-// The arguments after the first, as words.
+// Copies the arguments after the first.
 fn words_of(alloc: Global, arguments: Args) -> Result<Words, AllocError>
     ensures { IfOk result (λ words. words ≡ drop 1 (map string_bytes (into_iter_items arguments))) }
 {
@@ -75,7 +74,7 @@ fn words_of(alloc: Global, arguments: Args) -> Result<Words, AllocError>
     Ok(words)
 }
 
-// The answer where there are no arguments.
+// Returns the answer if the arguments are unavailable.
 fn refusal(kind: io::ErrorKind) -> Status
     ensures { result ≡ refusal_of kind }
 {
@@ -85,7 +84,7 @@ fn refusal(kind: io::ErrorKind) -> Status
     }
 }
 
-// The line of an answer on standard error.
+// The line on standard error.
 #[derive(Clone, Copy)]
 struct Line {
     program: Program,
@@ -101,7 +100,7 @@ impl fmt::Display for Line {
     }
 }
 
-// The line of this answer, if it has one.
+// Returns the line for this answer, or `None` for `Done`.
 fn answer_line(program: Program, status: Status) -> Option<Line>
     ensures { result ≡ line_of program status }
 {

@@ -1,4 +1,4 @@
--- What `apply` writes has the cells that `tell` tells.
+-- The output of `apply` has the cells that `tell` reports.
 use Rattle.std.proofs.Common.{◌≡◌, ℕ, suc, ◌+◌, ◌-◌, ◌*◌, ◌/◌, ◌%◌, ◌++◌, [], ◌∷◌, arith, refl, ap, sym, subst, ◌∙◌, List, length, Option, Some, None, ℤ, pos, negsuc, FitsSigned}
 use Rattle.std.specs.Prelude.{All, IfSome}
 use Rattle.std.specs.Int.{w16, cast_unsigned}
@@ -28,7 +28,7 @@ turned_at_fits recording m i = nearest_fits _
 turned_fits : (recording : List Sample) (m : ℤ) → All Has16Bits (turned recording m)
 turned_fits recording m = values_below-All Has16Bits (length recording) (turned_at recording m) silence (λ k below. turned_at_fits recording m k)
 
--- ---- bytes that are read back
+-- ---- bytes parsed back into samples
 
 component_back : (z : ℤ) → FitsSigned w16 z → component_of (cast_unsigned w16 z % 256) (cast_unsigned w16 z / 256 % 256) ≡ z
 component_back (pos n) fits =
@@ -51,7 +51,7 @@ read_back (s ∷ rest) fits =
     ap (λ (first : List Sample). first ++ samples_of (bytes_of rest)) (sample_back s (All-head Has16Bits s rest fits)) ∙
     ap (λ more. s ∷ more) (read_back rest (All-tail Has16Bits s rest fits))
 
--- ---- what is applied
+-- ---- corrected recordings
 
 pub applied_is_told : TurnedIsRecording → ToldCellsAreThere → WhatIsAppliedIsTold
 applied_is_told is_recording are_there form bytes text applied valid a b =

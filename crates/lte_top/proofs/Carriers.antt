@@ -1,4 +1,4 @@
--- The receiver for a carrier, and what its list holds.
+-- The receiver for each transmission scheme, and the cells that its list holds.
 use Rattle.std.proofs.Common.{◌≡◌, ℕ, Option, List, refl, sym, subst}
 use Rattle.cs_num.specs.declared.Cpx.{Cpx}
 use Rattle.cs_num.specs.declared.Sample.{Sample}
@@ -20,7 +20,7 @@ use Rattle.four_ports.proofs.HeldCells.{holds_cells as holds_of_four}
 use Rattle.evidence.specs.Receivers.{receiver_of}
 use Rattle.lte_top.specs.Searching.{IsListOf}
 
--- its receiver is one for it
+-- the receiver's transmission scheme is the one it was chosen for
 pub of_carrier : (carrier : Carrier) → carrier ≡ (receiver_of carrier).carrier
 of_carrier OnePort = refl
 of_carrier TwoPorts = refl
@@ -33,11 +33,11 @@ holds_cells TwoPorts = holds_of_two
 holds_cells LongPrefix = holds_of_long
 holds_cells FourPorts = holds_of_four
 
--- the list by it holds what the recording is faithful to, and what it is clean of
+-- the receiver's list holds every cell that the recording carries faithfully or clean
 pub list_holds : (carrier : Carrier) (samples : List Sample) (list : List Entry) → IsRecording samples → IsListFor (receiver_of carrier) samples list → IsListOf carrier samples list
 list_holds carrier samples list valid explained = is_list_by (receiver_of carrier) (holds_cells carrier) samples list valid.least explained
 
--- so it holds a cell that can be sent by the carrier
+-- the list holds a clean cell that the transmission scheme can send
 pub held : (carrier : Carrier) (load : Option ℕ) (plan : CellPlan) (sfn offset : ℕ) (gains : List Cpx) (eps : ℕ) (samples : List Sample) (list : List Entry) → IsSendableBy carrier plan →
     IsCleanBy carrier load samples plan sfn offset gains eps → IsListOf carrier samples list → HoldsCellBy carrier list plan (start_of offset) (number_at_start sfn offset)
 held carrier load plan sfn offset gains eps samples list sendable clean l =

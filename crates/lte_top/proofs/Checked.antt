@@ -1,4 +1,4 @@
--- Certificates that are checked, and those that are written.
+-- Certificates that are checked, and certificates that are written.
 use Rattle.std.proofs.Common.{◌≡◌, ℕ, ◌+◌, ◌≤◌, inl, inr, Bool, List, ◌++◌, length, ap, sym, subst, ◌∙◌, arith, length-append}
 use Rattle.std.specs.List.{AllZip}
 use Rattle.cs_num.specs.declared.Sample.{Sample}
@@ -27,13 +27,13 @@ use Rattle.lte_top.specs.Run.{Cause, HasOutput}
 pub one_check : (input first second : List ℕ) → IsChecked input first → IsChecked input second → first ≡ second
 one_check input first second a b = a.text ∙ ap check_text (one_answers input a.answers b.answers a.are_answers b.are_answers) ∙ sym b.text
 
--- all certificates of a recording's list have one length in all
+-- a recording's certificates have one total length
 pub one_certified_length : (carrier : Carrier) (samples : List Sample) (first second : List ℕ) → IsCertified carrier samples first → IsCertified carrier samples second → length first ≡ length second
 one_certified_length carrier samples first second a b =
     let same = one_list carrier samples a.entries b.entries a.is_list b.is_list in
     ap length a.bytes ∙ certified_length (receiver_of carrier) samples b.entries a.certificates b.certificates (subst (λ l. AllZip (Certifies (receiver_of carrier) samples) l a.certificates) same a.each) b.each ∙ sym (ap length b.bytes)
 
--- nothing refuses certificates that were answered
+-- certificates that were answered are not refused
 answered_unrefused : (answers : List Bool) (before now : SourceTold) (h : HasReadAnswers answers before now) (status : Status) → RefusesCertificates h.bytes status → ⊥
 answered_unrefused answers before now h (BadCertificate place) r =
     none_broken h.are_answers.certificates (all_whole h.are_answers.certificates answers h.are_answers.each) place (subst (λ l. IsFirstBroken l place) h.are_answers.read r.first)
@@ -58,7 +58,7 @@ output_of_answers answers output before now h e = record {
 
 -- ---- why certificates were not answered
 
--- where no byte within the limit breaks the form, and there is one past it, nothing is refused
+-- an input past the limit is not refused if no byte within the limit breaks the format
 past_unrefused : (front rest : List ℕ) → length front ≡ most_bytes + 1 → ((place : ℕ) → IsFirstBroken (front ++ rest) place → most_bytes ≤ place) → (status : Status) →
     RefusesCertificates (front ++ rest) status → ⊥
 past_unrefused front rest past unbroken (BadCertificate place) r =
@@ -77,7 +77,7 @@ past_unrefused front rest past unbroken WriteFault r = r
 past_unrefused front rest past unbroken OutOfMemory r = r
 past_unrefused front rest past unbroken (BadCell cause) r = r
 
--- the cause of an error is that of its status
+-- the cause of an error is the cause of its status
 pub stream_cause : (error : StreamError) (before now : SourceTold) → IsCause before now error → Cause certificates before now (of_stream error)
 stream_cause (Broken place) before now h = record { bytes = h.bytes; read = h.read; few = h.few; refused = h.broken; settled = h.settled }
 stream_cause PastBytes before now h = record {

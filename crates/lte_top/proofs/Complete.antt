@@ -1,4 +1,4 @@
--- From how an answer comes to which answers an input may have.
+-- From the condition of each answer to the answers that an input may get.
 use Rattle.std.proofs.Common.{◌≡◌, ◌⊎◌, inl, inr, ℕ, ◌<◌, ◌≤◌, List, length, Some, arith, refl, ap, sym, subst, ◌∙◌, length-append}
 use Rattle.std.specs.Prelude.{IfSome}
 use Rattle.cs_outside.specs.Counts.{Rose}
@@ -26,7 +26,7 @@ use Rattle.lte_args.proofs.OneForm.{one_form}
 
 -- ---- outputs: a new form adds a line
 
--- all outputs of an input have one length
+-- all outputs for an input have one length
 one_length : (form : Form) (bytes first second : List ℕ) → IsOutput form bytes first → IsOutput form bytes second → length first ≡ length second
 one_length (Reports report output form) bytes first second a b = ap length (one_report report output (samples_in form bytes) first second a b)
 one_length (Certify carrier form) bytes first second a b = one_certified_length carrier _ first second a b
@@ -38,7 +38,7 @@ one_length (Print program page) bytes first second a b = ap length (a ∙ sym b)
 
 -- ---- inputs: a new one adds a line
 
--- a refusal of certificates tells the first place that breaks their form
+-- a refusal of certificates has the first byte offset that breaks their format
 first_place : (bytes : List ℕ) (status : Status) → RefusesCertificates bytes status → (place : ℕ) × (status ≡ BadCertificate place) × IsBrokenAt bytes place
 first_place bytes (BadCertificate place) r = (place, refl, r)
 first_place bytes Done r = absurd r
@@ -51,7 +51,7 @@ first_place bytes WriteFault r = absurd r
 first_place bytes OutOfMemory r = absurd r
 first_place bytes (BadCell cause) r = absurd r
 
--- a refusal of a description tells its first condition that fails
+-- a refusal of a description has its first failed condition
 first_condition : (carrier : Carrier) (bytes : List ℕ) (status : Status) → RefusesDescription carrier bytes status → (cause : CellError) × (status ≡ BadCell cause) × (refusal_by carrier bytes ≡ Some cause)
 first_condition carrier bytes (BadCell cause) r = (cause, refl, r.1)
 first_condition carrier bytes Done r = absurd r
@@ -64,7 +64,7 @@ first_condition carrier bytes WriteFault r = absurd r
 first_condition carrier bytes OutOfMemory r = absurd r
 first_condition carrier bytes (BadCertificate place) r = absurd r
 
--- bytes have one refusal
+-- an input has at most one refusal
 one_refusal : (input : Input) (bytes : List ℕ) (first second : Status) → Refuses input bytes first → Refuses input bytes second → first ≡ second
 one_refusal nothing bytes first second a b = absurd a
 one_refusal (recording form) bytes first second a b = cc (sym a.1 ∙ b.1)
@@ -80,7 +80,7 @@ one_refusal (description carrier) bytes first second a b =
 
 -- ---- the answer to an input
 
--- an answer is Done to valid bytes, TooLong to too many, or their refusal
+-- an answer is Done for a valid input, TooLong past the limit, or a refusal
 kind_of : (input : Input) (bytes : List ℕ) (status : Status) → IsAnswerTo input bytes status →
     ((status ≡ Done) × IsValid input bytes) ⊎ ((status ≡ TooLong) × IsTooLong input bytes) ⊎ Refuses input bytes status
 kind_of input bytes Done a = inl (refl, a)
@@ -113,30 +113,30 @@ one_answer input bytes first second a b = elim (kind_of input bytes first a) [
   ]
 ]
 
--- ---- what was read is what the source told
+-- ---- the bytes read are the bytes that the source reported
 
--- the whole input is what was told
+-- the whole input equals the reported bytes
 told_bytes : (input : Input) (bytes told : List ℕ) (before now : SourceTold) → IsTold input told before → HasReadInput input bytes before now → told ≡ bytes
 told_bytes nothing bytes told before now e r = e ∙ sym r.0
 told_bytes (recording form) bytes told before now e r = read_whole bytes told before now e r.read r.ended
 told_bytes certificates bytes told before now e r = read_whole bytes told before now e r.read r.ended
 told_bytes (description carrier) bytes told before now e r = read_whole bytes told before now e r.read r.ended
 
--- and within the limit
+-- the whole input is within the limit
 told_within : (input : Input) (bytes : List ℕ) (before now : SourceTold) → HasReadInput input bytes before now → length bytes ≤ limit_of input
 told_within nothing bytes before now r = omega (arith, ap length r.0)
 told_within (recording form) bytes before now r = r.within
 told_within certificates bytes before now r = r.within
 told_within (description carrier) bytes before now r = r.within
 
--- of what is read the source tells what is left
+-- for a form with input, the source reports the remaining bytes
 told_left : (input : Input) (told : List ℕ) (before : SourceTold) → IsRead input → IsTold input told before → before.left ≡ Some told
 told_left nothing told before r e = absurd r
 told_left (recording form) told before r e = e
 told_left certificates told before r e = e
 told_left (description carrier) told before r e = e
 
--- only what is read is refused
+-- only an input that is read can be refused
 refused_read : (input : Input) (bytes : List ℕ) (status : Status) → Refuses input bytes status → IsRead input
 refused_read nothing bytes status r = r
 refused_read (recording form) bytes status r = tt
@@ -181,7 +181,7 @@ form_answers form told before now e TooShort o = refusal_is_answer (input_of for
 form_answers form told before now e (BadCell cause) o = refusal_is_answer (input_of form) told (BadCell cause) before.0 now.0 e o.cause
 form_answers form told before now e (BadCertificate place) o = refusal_is_answer (input_of form) told (BadCertificate place) before.0 now.0 e o.cause
 
--- the run of these words is that of their form
+-- a run with these arguments is a run of their form
 ends_of : (program : Program) (form : Form) (words : List (List ℕ)) (before now : Outside) → IsWordsOf program words form → (status : Status) → Outcome program words before now status → Ends form before now status
 ends_of program form words before now is_of status o = by_status status o
   where

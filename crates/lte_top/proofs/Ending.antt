@@ -1,4 +1,4 @@
--- How the run of a form ends.
+-- How a form's run ends.
 use Rattle.std.proofs.Common.{◌≡◌, ◌%◌, List, length, None, Bool, true, false, ℕ, nat_lt, nat_eq, refl, ap, sym, subst, ◌∙◌, arith}
 use Rattle.std.proofs.lemmas.Bool.{ltb-true, eq-eqb}
 use Rattle.cs_num.specs.declared.Sample.{Sample}
@@ -23,7 +23,7 @@ use Rattle.lte_top.specs.Forms.{recording_refusal, RefusesRecording}
 use Rattle.lte_top.specs.Tuning.{IsTurned, IsTurnedAsBytes}
 use Rattle.lte_top.specs.Run.{HasOutput, IsDone, IsWriteFault}
 
--- nothing refuses the bytes of a recording
+-- a recording that was read is not refused
 pub recording_unrefused : (form : SampleForm) (samples : List Sample) (before now : SourceTold) (h : HasReadRecording form samples before now) (status : Status) →
     RefusesRecording form h.input status → ⊥
 recording_unrefused form samples before now h status (within, refused) =
@@ -36,7 +36,7 @@ recording_unrefused form samples before now h status (within, refused) =
     settle true e = absurd (omega (arith, ltb-true (length h.input) (least_bytes form) e, h.enough))
     settle false e = e
 
--- certificates of all entries are the output
+-- certificates for all entries are the output
 pub certified_output : (carrier : Carrier) (form : SampleForm) (samples : List Sample) (before now : SourceTold) (output : List ℕ) → HasReadRecording form samples before now →
     IsCertified carrier samples output → HasOutput (Certify carrier form) output before now
 certified_output carrier form samples before now output h certified = record {
@@ -66,9 +66,9 @@ certified_fault carrier form samples entries before now h is_list some rose = re
   full = some.full;
 }
 
--- ---- a recording turned
+-- ---- corrected recordings
 
--- its bytes are the output
+-- the bytes of the corrected recording are the output
 turned_output : (turn : Turn) (form : SampleForm) (samples turned : List Sample) (before now : SourceTold) → HasReadRecording form samples before now →
     IsTurned turn samples turned → HasOutput (Apply turn form) (bytes_of turned) before now
 turned_output turn form samples turned before now h is = record {

@@ -1,4 +1,4 @@
--- What is sent is found.
+-- `search` finds every cell that `transmit` sends.
 use Rattle.std.proofs.Common.{◌≡◌, ℕ, ◌≤◌, Option, arith, refl, ap, sym, subst, ◌∙◌, List}
 use Rattle.std.specs.Prelude.{All}
 use Rattle.finite.specs.Lists.{values_below}
@@ -31,12 +31,12 @@ use Rattle.lte_top.specs.Found.{sent_lines, WhatIsSentIsFound}
 
 -- ---- the bytes
 
--- what an emission sends
+-- the samples of an emission
 samples_by : Carrier → Option ℕ → Emission → List Sample
 samples_by carrier load e =
     values_below e.samples (λ i. sample_of (received_by carrier load e.cell e.timing.sfn e.timing.offset e.gains i))
 
--- fits the bytes of samples
+-- the samples of an emission fit in 16 bits
 sent_fits : (carrier : Carrier) (load : Option ℕ) (e : Emission) → AreGainsOf carrier e.gains → All (λ s. IsWithin 32767 (value_of s)) (samples_by carrier load e)
 unfolding samples_by
 sent_fits carrier load e gains =
@@ -45,19 +45,19 @@ sent_fits carrier load e gains =
     within_more (received_by carrier load e.cell e.timing.sfn e.timing.offset e.gains k) 32284 32767
     (received_by-small carrier load e.cell e.timing.sfn e.timing.offset e.gains k gains) (omega arith))
 
--- so it is read back as it was
+-- the bytes of an emission are parsed back into its samples
 sent_back : (carrier : Carrier) (load : Option ℕ) (e : Emission) (bytes : List ℕ) → e.carrier ≡ carrier → AreGainsOf carrier e.gains → bytes ≡ bytes_of (sent_samples load e)
     → samples_of bytes ≡ samples_by carrier load e
 unfolding sent_samples samples_by
 sent_back carrier load e bytes by_carrier gains is =
     ap samples_of (is ∙ ap (λ (c : Carrier). bytes_of (samples_by c load e)) by_carrier) ∙ samples_back (samples_by carrier load e) (sent_fits carrier load e gains)
 
--- ---- it is clean
+-- ---- the described cell is clean
 
 no_error : IsWithin 0 nothing
 no_error = record { re = omega arith; im = omega arith }
 
--- any gains, with four ports such that no pair is weak, allow no error
+-- paired gains allow an error of 0
 none_allowed : (carrier : Carrier) (gains : List Cpx) → ArePairedBy carrier gains → IsAllowedBy carrier gains 0
 none_allowed OnePort gains paired = omega arith
 none_allowed TwoPorts gains paired = record { both = omega arith; one = omega arith }
@@ -73,9 +73,9 @@ sent_cleanly law carrier load e number within gains paired =
     (values_below_same e.samples (λ i. sample_of (plus (z i) nothing)) (λ i. sample_of (z i)) (λ k below. ap sample_of (plus-nothing_right (z k))))
     (law carrier load e.cell e.timing.sfn e.timing.offset e.samples e.gains 0 (λ i. nothing) number within gains (none_allowed carrier e.gains paired) (λ i below. no_error))
 
--- ---- and found
+-- ---- the described cell is listed
 
--- the lines of a held cell stand in the text of the list
+-- the lines of a listed cell appear in the list's text
 held_lines : (carrier : Carrier) (list : List Entry) (plan : CellPlan) (first number : ℕ) → HoldsCellBy carrier list plan first number → IsPiece (sent_lines carrier plan first number) (report_text list)
 held_lines carrier list plan first number held =
     let is : entry_lines held.entry ≡ sent_lines carrier plan first number =

@@ -1,4 +1,4 @@
--- What a report needs of a recording stands in the samples that are kept for it.
+-- A report depends only on the samples that are kept for it.
 use Rattle.std.proofs.Common.{◌≡◌, ℕ, suc, ◌≤◌, Bool, true, false, nat_le, List, [], ◌∷◌, None, Some, length, map, take, refl, ap, ap₂, subst, ◌∙◌, arith}
 use Rattle.std.specs.Prelude.{All}
 use Rattle.std.proofs.lemmas.Bool.Decides.{nat_tests}
@@ -42,7 +42,7 @@ use Rattle.lte_top.proofs.Ending.{recording_unrefused}
 
 -- ---- lists
 
--- the receiver of a carrier looks at the first frames alone
+-- the receiver for a transmission scheme depends on the first frames only
 looks : (carrier : Carrier) → LooksAtFirstFrames (receiver_of carrier)
 looks OnePort = slots_look OnePort None placed_values
 looks TwoPorts = slots_look TwoPorts (Some 2) (paired_by over_two)
@@ -55,7 +55,7 @@ looks FourPorts = record {
 pub each_is_decided : FirstFramesDecideEach
 each_is_decided carrier = decided (receiver_of carrier) (looks carrier)
 
--- the first samples agree with all
+-- the kept samples agree with the recording
 front_agrees : (most : ℕ) (samples : List Sample) → AgreeBefore most (take most samples) samples
 front_agrees most samples = take-take most most samples (omega arith)
 
@@ -65,7 +65,7 @@ is_above most n e = grind (arith, nat_tests)
 is_below : (most n : ℕ) → nat_le most n ≡ false → n ≤ most
 is_below most n e = grind (arith, nat_tests)
 
--- the list of the first 17 frames is that of the recording
+-- the cell list of the first 17 frames is the recording's cell list
 list_decides : (carrier : Carrier) (samples : List Sample) (list : List Entry) → IsRecording samples → IsListOf carrier (take deciding_length samples) list → IsListOf carrier samples list
 list_decides carrier samples list valid is = by_length (nat_le deciding_length (length samples)) refl
   where
@@ -80,7 +80,7 @@ list_decides carrier samples list valid is = by_length (nat_le deciding_length (
 
 -- ---- hits
 
--- what is made of each hit is the same
+-- equal results for each PSS detection give equal lists of results
 each_same : {X : Type 0} (f g : Hit → X) (hits : List Hit) → All IsInSpan hits → ((hit : Hit) → IsInSpan hit → f hit ≡ g hit) → map f hits ≡ map g hits
 each_same f g [] span same = refl
 each_same f g (hit ∷ hits) span same =
@@ -108,7 +108,7 @@ kept_measured samples =
 
 -- ---- reports
 
--- a report of the samples that are kept for it is one of the recording
+-- a report about the kept samples is a report about the recording
 kept_report : (report : Report) (output : Output) (samples : List Sample) (text : List ℕ) → IsRecording samples → IsReport report output (take (kept_for report) samples) text →
     IsReport report output samples text
 kept_report Hits Text samples text valid is = is ∙ ap hits_text (kept_hits samples)
@@ -123,7 +123,7 @@ kept_report (Search Cancel) output samples text valid is = subst (λ (kept : Lis
 kept_report (Evidence carrier) output samples text valid is = subst (λ (kept : List Sample). IsReport (Evidence carrier) output kept text) (take_all most_samples samples valid.most) is
 kept_report Tell output samples text valid is = subst (λ (kept : List Sample). IsReport Tell output kept text) (take_all most_samples samples valid.most) is
 
--- it is the output
+-- a report about the kept samples is the output
 pub kept_output : (report : Report) (output : Output) (form : SampleForm) (front : List Sample) (before now : SourceTold) (text : List ℕ) → HasReadFront form (kept_for report) front before now →
     IsReport report output front text → HasOutput (Reports report output form) text before now
 kept_output report output form front before now text f is =

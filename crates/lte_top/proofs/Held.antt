@@ -1,11 +1,11 @@
--- How many entries of a list are a sent cell.
+-- The count of list entries that match a sent cell.
 use Rattle.std.proofs.Common.{◌≡◌, ◌⊎◌, inl, inr, ℕ, ◌+◌, ◌<◌, List, [], ◌∷◌, ◌++◌, length, take, get_or, refl, ap, sym, subst, ◌∙◌, arith, add-one}
 use Rattle.std.proofs.Math.Seq.{take-suc}
 use Rattle.std.specs.List.{AllPairs, Contains}
 use Rattle.explain.proofs.Sorted.{in_none, in_cons, Contains-here, Contains-later, AllPairs-head, AllPairs-tail}
 use Rattle.lte_top.specs.Making.{Counts}
 
--- ---- a count is one number
+-- ---- a count is unique
 
 pub one_count : {A : Type 0} (P : A → Type 0) (xs : List A) (m n : ℕ) → Counts P xs m → Counts P xs n → m ≡ n
 unfolding Counts
@@ -15,7 +15,7 @@ one_count P (x ∷ xs) m n (inl (p, (k, e, a))) (inr (q, b)) = absurd (q p)
 one_count P (x ∷ xs) m n (inr (p, a)) (inl (q, (j, f, b))) = absurd (p q)
 one_count P (x ∷ xs) m n (inr (p, a)) (inr (q, b)) = one_count P xs m n a b
 
--- ---- with one member more
+-- ---- one member more
 
 pub counts_more : {A : Type 0} (P : A → Type 0) (xs : List A) (x : A) (n : ℕ) → Counts P xs n → P x → Counts P (xs ++ x ∷ []) (n + 1)
 unfolding Counts
@@ -33,7 +33,7 @@ pub counts_nothing : {A : Type 0} (P : A → Type 0) → Counts P [] 0
 unfolding Counts
 counts_nothing P = refl
 
--- ---- one member of a list in order
+-- ---- one member of a strictly ordered list
 
 none_counted : {A : Type 0} (P : A → Type 0) (xs : List A) (n : ℕ) → ((x : A) → Contains xs x → P x → ⊥) → Counts P xs n → n ≡ 0
 unfolding Counts
@@ -41,7 +41,7 @@ none_counted P [] n none a = a
 none_counted P (x ∷ xs) n none (inl (p, (k, e, a))) = absurd (none x (Contains-here x xs) p)
 none_counted P (x ∷ xs) n none (inr (p, a)) = none_counted P xs n (λ y inside q. none y (Contains-later x xs y inside) q) a
 
--- a list in order has a member once, so where only one has the property, it is counted once
+-- if only one member of a strictly ordered list has the property, the count is 1
 pub one_counted : {A : Type 0} (R : A → A → Type 0) (P : A → Type 0) → ((x : A) → R x x → ⊥) → (xs : List A) (e : A) (n : ℕ) → AllPairs R xs → Contains xs e → P e
     → ((x : A) → Contains xs x → P x → x ≡ e) → Counts P xs n → n ≡ 1
 unfolding Counts
@@ -57,7 +57,7 @@ one_counted R P apart (y ∷ ys) e n order inside p only (inr (q, a)) =
     by again (inl here) = absurd (q (subst P (sym here) p))
     by again (inr later) = again later
 
--- ---- one place more of a list
+-- ---- a prefix with one member more
 
 front_more : {A : Type 0} (xs : List A) (i : ℕ) (x d : A) → i < length xs → x ≡ get_or xs i d → take i xs ++ x ∷ [] ≡ take (i + 1) xs
 front_more xs i x d inside is = ap (λ y. take i xs ++ y ∷ []) is ∙ sym (take-suc xs i d inside) ∙ ap (λ k. take k xs) (sym (add-one i))

@@ -1,4 +1,4 @@
--- A recording has one list by each rule, and one text of it.
+-- A recording has one cell list under each rule, and one text for it.
 use Rattle.std.proofs.Common.{◌≡◌, ℕ, zero, suc, ◌<◌, List, [], ◌∷◌, length, map, get_or, slice_index_or, refl, ap, sym, subst, ◌∙◌, arith, string_bytes}
 use Rattle.std.proofs.Math.Path.{fun_ext}
 use Rattle.std.proofs.lemmas.Result.{IfOk-weaker}
@@ -28,9 +28,9 @@ use Rattle.lte_top.specs.Searching.{IsListOf, list_text, lists_text, IsListText,
 pub one_list : (carrier : Carrier) (samples : List Sample) (first second : List Entry) → IsListOf carrier samples first → IsListOf carrier samples second → first ≡ second
 one_list carrier samples first second a b = is_one_list (receiver_of carrier) samples first second a.explained b.explained
 
--- ---- their texts
+-- ---- texts
 
--- where a recording has one text, it has one line of it
+-- if a recording has one text, it has one line
 pub one_line : (Is : List ℕ → Type 0) → ((a b : List ℕ) → Is a → Is b → a ≡ b) → (first second : List ℕ) → IsLine Is first → IsLine Is second → first ≡ second
 one_line Is one first second a b = a.line_is ∙ ap as_line (one a.text b.text a.is b.is) ∙ sym b.line_is
 
@@ -38,23 +38,23 @@ one_list_text : (carrier : Carrier) (output : Output) (samples : List Sample) (f
 one_list_text carrier output samples first second a b =
     a.text_is ∙ ap (list_text output) (one_list carrier samples a.entries b.entries a.is_list b.is_list) ∙ sym b.text_is
 
--- ---- the lists of all carriers, by their order
+-- ---- all transmission schemes, in order
 
--- what holds place by place holds of an item and what stands at its place
+-- a relation that holds at each index holds between an item and the value at its index
 beside : {A B : Type 0} (R : A → B → Type 0) (xs : List A) (ys : List B) (d : B) (k : ℕ) (x : A) → AllZip R xs ys → k < length xs → slice_index_or xs k x ≡ x → R x (get_or ys k d)
 beside R [] ys d k x all inside is = absurd (omega (arith, inside))
 beside R (a ∷ xs) [] d k x all inside is = absurd all
 beside R (a ∷ xs) (b ∷ ys) d zero x all inside is = subst (λ z. R z b) is all.0
 beside R (a ∷ xs) (b ∷ ys) d (suc k) x all inside is = beside R xs ys d k x all.1 (omega (arith, inside)) is
 
--- what is one for each item is made of it
+-- a relation that is a function of the item makes the second list its image
 made_of : {A B : Type 0} (R : A → B → Type 0) (of : A → B) → ((x : A) (y : B) → R x y → y ≡ of x) → (xs : List A) (ys : List B) → AllZip R xs ys → ys ≡ map of xs
 made_of R of one [] [] all = refl
 made_of R of one [] (y ∷ ys) all = absurd all
 made_of R of one (x ∷ xs) [] all = absurd all
 made_of R of one (x ∷ xs) (y ∷ ys) all = ap (λ z. z ∷ ys) (one x y all.0) ∙ ap (λ l. of x ∷ l) (made_of R of one xs ys all.1)
 
--- they are one for each carrier, and the text of these is theirs
+-- one list per transmission scheme has the text of all lists
 pub all_text_is : (output : Output) (samples : List Sample) (lists : List (List Entry)) (r : Result (String Global) AllocError) →
     AllZip (λ carrier. IsListOf carrier samples) carriers lists →
     ((of : Carrier → List Entry) → lists ≡ map of carriers → IfOk r (λ text. string_bytes text ≡ lists_text output of)) → IfOk r (λ text. IsTextOfAll output samples (string_bytes text))

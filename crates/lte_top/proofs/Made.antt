@@ -1,4 +1,4 @@
--- What is made is held once.
+-- A sent cell is listed exactly once.
 use Rattle.std.proofs.Common.{◌≡◌, ℕ, List, ◌++◌, Result, Ok, Err, None, ap, sym, subst, ◌∙◌}
 use Rattle.std.specs.Prelude.{nat_abs, IfOk}
 use Rattle.std.specs.List.{Contains}
@@ -19,13 +19,13 @@ use Rattle.lte_top.proofs.Held.{one_count, one_counted}
 use Rattle.lte_top.proofs.Carriers.{held}
 use Rattle.lte_top.proofs.Lists.{one_list}
 
--- ---- a number has one text
+-- ---- one text per number
 
 same_samples : (carrier : Carrier) (n : ℕ) (a b : List Sample) → AreSamplesOf carrier n a → AreSamplesOf carrier n b → a ≡ b
 same_samples carrier n a b p q =
     p.are ∙ one_of_number carrier n p.made.bound q.made.bound p.made.recording q.made.recording p.is.bound q.is.bound p.is.samples_are q.is.samples_are ∙ sym q.are
 
--- the text with a count
+-- the text with this count
 abbrev text_with : SentCell → List Entry → ℕ → List ℕ
 text_with cell entries held = made_line cell.identity cell.first cell.number held ++ report_text entries
 
@@ -39,9 +39,9 @@ one_made carrier n first second a b =
     let held : a.tells.held ≡ b.tells.held = one_count P b.entries a.tells.held b.tells.held (subst (λ (l : List Entry). Counts P l a.tells.held) same a.tells.counts) b.tells.counts in
     a.tells.text ∙ ap (λ l. text_with (cell_of carrier n) l a.tells.held) same ∙ ap (text_with (cell_of carrier n) b.entries) held ∙ sym b.tells.text
 
--- ---- the sent cell is held
+-- ---- the sent cell is listed
 
--- the list has it, and of it one entry alone
+-- exactly one entry of the list matches the cell
 record Holds (cell : SentCell) (entries : List Entry) : Type 0 where
   entry : Entry
   inside : Contains entries entry
@@ -60,7 +60,7 @@ holds law carrier n samples entries m l =
       only = λ other inside p. h.only other inside p.id p.start p.sfn;
     }
 
--- the list is in order, so it is counted once
+-- the list is strictly ordered, so the count is 1
 held_once : (carrier : Carrier) (n : ℕ) (output : List ℕ) (m : IsMadeText carrier n output) → Holds (cell_of carrier n) m.entries → IsHeldOnce n output
 held_once carrier n output m h =
     let one : m.tells.held ≡ 1 =
@@ -71,9 +71,9 @@ held_once carrier n output m h =
 pub made_is_held : NumbersAreClean → WhatIsMadeIsHeld
 made_is_held law carrier n output small m = held_once carrier n output m (holds law carrier n m.listed.samples m.entries m.listed.made m.listed.is_list)
 
--- ---- the list of what is made
+-- ---- the cell list of a synthetic recording
 
--- a list of made samples is one
+-- a cell list of the recording's samples is the recording's cell list
 pub made_list_is : {E : Type 0} (carrier : Carrier) (n : ℕ) (samples : List Sample) (r : Result (List Entry) E) → AreSamplesOf carrier n samples →
     IfOk r (IsListOf carrier samples) → IfOk r (IsMadeList carrier n)
 made_list_is carrier n samples (Ok entries) made is_list = record { samples = samples; made = made; is_list = is_list }

@@ -1,4 +1,4 @@
--- A recording has one text of each report, and is turned in one way.
+-- A recording has one text per report, and one corrected recording.
 use Rattle.std.proofs.Common.{◌≡◌, ℕ, List, ap, sym, subst, ◌∙◌}
 use Rattle.std.specs.List.{AllZip}
 use Rattle.cs_num.specs.declared.Sample.{Sample}

@@ -1,4 +1,4 @@
--- The values of the receivers have room in certificates.
+-- The receivers' soft values fit in certificates.
 use Rattle.std.proofs.Common.{◌≡◌, List, length, sym, subst, arith}
 use Rattle.std.specs.List.{AllZip}
 use Rattle.finite.proofs.Lists.{values_below-length}
@@ -49,7 +49,7 @@ small_values FourPorts = record {
   small = λ recording place j. let slot = broadcast_slot recording place.id place.start j in paired_by-small over_four (λ p. slot) (pbch_places slot.identity);
 }
 
--- a list of a carrier, and how its entries were read, can be certified by the receiver for it
+-- a receiver can certify the cell list that it made, from how each entry was decoded
 pub certifiable : (receiver : Receiver) (carrier : Carrier) → receiver ≡ receiver_of carrier → (recording : List Sample) (list : List Entry) (readings : List Reading) →
     IsListOf carrier recording list → AllZip (IsReadingFor (receiver_of carrier) recording) list readings →
     HasSmallValues receiver × (IsListFor receiver recording list × AllZip (IsReadingFor receiver recording) list readings)

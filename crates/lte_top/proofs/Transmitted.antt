@@ -20,7 +20,7 @@ use Rattle.lte_top.specs.Forms.{RefusesDescription}
 use Rattle.lte_top.specs.Run.{HasOutput, IsDone, IsWriteFault}
 use Rattle.lte_top.specs.Transmitting.{sent_samples, IsTransmitted, HasDescription}
 
--- four bytes a sample
+-- four bytes per sample
 bytes_length : (samples : List Sample) → length (bytes_of samples) ≡ 4 * length samples
 bytes_length [] = refl
 bytes_length (s ∷ samples) =
@@ -33,7 +33,7 @@ sent_length : (load : Option ℕ) (e : Emission) → length (sent_samples load e
 unfolding sent_samples
 sent_length load e = values_below-length e.samples (λ i. sample_of (received_by e.carrier load e.cell e.timing.sfn e.timing.offset e.gains i))
 
--- the emissions that the same bytes describe have as many samples
+-- all emissions that an input describes have the same number of samples
 same_count : (carrier : Carrier) (bytes : List ℕ) (s t : Emission) → DescribesBy carrier bytes s → DescribesBy carrier bytes t → s.samples ≡ t.samples
 same_count carrier bytes s t a b =
     let value : a.value ≡ b.value = cc (sym a.json ∙ b.json) in
@@ -49,7 +49,7 @@ one_transmitted_length carrier load bytes first second a b =
     let n = sent_length load b.emission in
     omega (arith, ap length a.sent, ap length b.sent, p, q, same, m, n)
 
--- nothing refuses a description of an emission
+-- a description of an emission is not refused
 unrefused : (carrier : Carrier) (bytes : List ℕ) (e : Emission) → DescribesBy carrier bytes e → (status : Status) → RefusesDescription carrier bytes status → ⊥
 unrefused carrier bytes e d (BadCell cause) (within, failed) = cc (sym d.valid ∙ failed)
 unrefused carrier bytes e d Done r = r
@@ -71,7 +71,7 @@ transmitted_output carrier load e output before now h is = record {
   is_output = record { emission = e; describes = h.describes; sent = is };
 }
 
--- its samples are all written
+-- if all samples are written, the run is Done
 pub transmitted_done : (carrier : Carrier) (load : Option ℕ) (e : Emission) (samples : List Sample) (before now : Outside) → HasDescription carrier e before.0 now.0 →
     samples ≡ sent_samples load e → HasWritten (bytes_of samples) before.1 now.1 → IsDone (Transmit carrier load) before now
 transmitted_done carrier load e samples before now h is written = record {
@@ -80,7 +80,7 @@ transmitted_done carrier load e samples before now h is written = record {
   written = written;
 }
 
--- or a front of them
+-- if a prefix is written, the run ends with WriteFault
 pub transmitted_fault : (carrier : Carrier) (load : Option ℕ) (e : Emission) (samples : List Sample) (before now : Outside) → HasDescription carrier e before.0 now.0 →
     samples ≡ sent_samples load e → HasWrittenFront (bytes_of samples) before.1 now.1 → Rose before.1.faults now.1.faults → IsShortOf (length (bytes_of samples)) before.1 →
     IsWriteFault (Transmit carrier load) before now

@@ -1,4 +1,4 @@
--- How the run of a form ends that reads nothing.
+-- The end of a run of a form without input.
 use Rattle.std.proofs.Common.{◌≡◌, ℕ, List, [], length, Result, Ok, Err, refl, sym, subst}
 use Rattle.std.specs.Prelude.{OnOk, OnErr, IfErr}
 use Rattle.cs_outside.specs.Counts.{Rose}

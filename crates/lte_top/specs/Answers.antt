@@ -1,4 +1,4 @@
--- How a run's answer is told: its exit code, and the text of its line on standard error. (own)
+-- A status's exit code, and its text on standard error. (own)
 use Rattle.std.specs.Prelude.{ℕ, List, codes, ◌++◌}
 use Rattle.cell_plan.specs.Words.{refusal_text}
 use Rattle.tail_cert.specs.Form.{broken_text}

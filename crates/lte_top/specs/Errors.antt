@@ -1,4 +1,4 @@
--- The status of an error, as which it ends the run. (own)
+-- The status that each error ends the run with. (own)
 use Rattle.cs_outside.specs.declared.streams.ReadError.{ReadError}
 use Rattle.cs_outside.specs.declared.streams.ReadError.TheVariants.{TooLong as PastLimit, ReadFault as Failed}
 use Rattle.cs_outside.specs.declared.streams.ReadError.TheVariants.{OutOfMemory as NoMemory}
@@ -15,13 +15,13 @@ use Rattle.lte_top.specs.declared.status.Status.{Status}
 use Rattle.lte_top.specs.declared.status.Status.TheVariants.{Ragged, TooShort, TooLong, ReadFault, OutOfMemory}
 use Rattle.lte_top.specs.declared.status.Status.TheVariants.{BadCell, BadCertificate}
 
--- the status of an input that was not read whole
+-- the status for an input that was not read to its end
 abbrev pub of_read : ReadError → Status
 of_read PastLimit = TooLong
 of_read Failed = ReadFault
 of_read NoMemory = OutOfMemory
 
--- the status of a recording that was not read
+-- the status for a recording that was not accepted
 abbrev pub of_file : FileError → Status
 of_file WithinSample = Ragged
 of_file TooFew = TooShort
@@ -29,12 +29,12 @@ of_file PastMost = TooLong
 of_file Fault = ReadFault
 of_file Memory = OutOfMemory
 
--- the status of a description that was not read
+-- the status for a description that was not accepted
 abbrev pub of_json : JsonError → Status
 of_json (Cell cause) = BadCell cause
 of_json Wanting = OutOfMemory
 
--- the status of certificates that were not answered
+-- the status for certificates that were not answered
 abbrev pub of_stream : StreamError → Status
 of_stream (Broken place) = BadCertificate place
 of_stream PastBytes = TooLong

@@ -1,4 +1,4 @@
--- What a form of words reads, which inputs it refuses, and what it writes. (own)
+-- What a command form reads, which inputs it refuses, and what it writes. (own)
 use Rattle.std.specs.Prelude.{◌≡◌, ℕ, ◌%◌, ◌<◌, ◌≤◌, Option, Some, None, List, length, nat_lt, not, ◌==◌, if◌then◌else◌}
 use Rattle.sample_file.specs.declared.form.SampleForm.{SampleForm}
 use Rattle.sample_file.specs.Recording.{width, samples_in}
@@ -18,10 +18,10 @@ use Rattle.lte_top.specs.Making.{IsMadeText}
 use Rattle.lte_top.specs.Tuning.{IsTurnedAsBytes}
 use Rattle.lte_top.specs.Pages.{page_text}
 
--- ---- what is read
+-- ---- inputs
 
--- what a form reads: nothing, a recording of samples in a form, certificates one after the other, or a description by a
--- carrier
+-- a form's input: nothing, a recording in a sample format, a sequence of certificates, or a description under a
+-- transmission scheme
 pub data Input : Type 0 where
   nothing : Input
   recording : SampleForm → Input
@@ -37,14 +37,14 @@ input_of (Make carrier n) = nothing
 input_of (Apply turn form) = recording form
 input_of (Print program page) = nothing
 
--- the most bytes that are read
+-- the maximum input length in bytes
 abbrev pub limit_of : Input → ℕ
 limit_of nothing = 0
 limit_of (recording form) = most_bytes form
 limit_of certificates = most_certificate_bytes
 limit_of (description carrier) = most_description_bytes
 
--- the refusal of a recording's bytes, where there is one: they must be of whole samples, and of enough of them
+-- the refusal of a recording, if any: it must consist of whole samples, and be long enough
 abbrev pub recording_refusal : SampleForm → List ℕ → Option Status
 recording_refusal form bytes =
     if not (length bytes % width form == 0) then Some Ragged
@@ -55,38 +55,38 @@ recording_refusal form bytes =
 abbrev pub RefusesRecording : SampleForm → List ℕ → Status → Type 0
 RefusesRecording form bytes status = (length bytes ≤ most_bytes form) × (recording_refusal form bytes ≡ Some status)
 
--- certificates are refused at the first place that breaks their form: a byte within the limit, or the end of an input
--- within it
+-- certificates are refused at the first byte within the limit that breaks their format, or at the end of an input that
+-- ends within a certificate
 abbrev pub RefusesCertificates : List ℕ → Status → Type 0
 RefusesCertificates bytes (BadCertificate place) = IsBrokenAt bytes place
 RefusesCertificates bytes status = ⊥
 
--- a description within the limit is refused for its first condition that fails
+-- a description within the limit is refused for its first failed condition
 abbrev pub RefusesDescription : Carrier → List ℕ → Status → Type 0
 RefusesDescription carrier bytes (BadCell cause) =
     (length bytes ≤ most_description_bytes) × (refusal_by carrier bytes ≡ Some cause)
 RefusesDescription carrier bytes status = ⊥
 
--- the bytes of an input have this refusal
+-- the input has this refusal
 abbrev pub Refuses : Input → List ℕ → Status → Type 0
 Refuses nothing bytes status = ⊥
 Refuses (recording form) bytes status = RefusesRecording form bytes status
 Refuses certificates bytes status = RefusesCertificates bytes status
 Refuses (description carrier) bytes status = RefusesDescription carrier bytes status
 
--- there are more bytes than the limit, and nothing in them was refused before
+-- the input is longer than the limit, and nothing within the limit was refused
 pub record IsTooLong (input : Input) (bytes : List ℕ) : Type 0 where
   pub past : limit_of input < length bytes
   pub unrefused : (status : Status) → Refuses input bytes status → ⊥
 
--- the bytes are within the limit, and nothing refuses them
+-- the input is within the limit, and is not refused
 pub record IsValid (input : Input) (bytes : List ℕ) : Type 0 where
   pub within : length bytes ≤ limit_of input
   pub unrefused : (status : Status) → Refuses input bytes status → ⊥
 
--- ---- what is written
+-- ---- outputs
 
--- what a form writes for valid bytes
+-- the output of a form for a valid input
 abbrev pub IsOutput : Form → List ℕ → List ℕ → Type 0
 IsOutput (Reports report output form) bytes written = IsReport report output (samples_in form bytes) written
 IsOutput (Certify carrier form) bytes written = IsCertified carrier (samples_in form bytes) written

@@ -1,4 +1,4 @@
--- What `transmit` writes is found by `search` of the same carrier. (own)
+-- `search` finds what `transmit` writes, under the same transmission scheme. (own)
 use Rattle.std.specs.Prelude.{ℕ, ◌/◌, ◌%◌, Option, List, ◌++◌, codes}
 use Rattle.cs_num.specs.declared.Sample.{Sample}
 use Rattle.sample_file.specs.declared.form.SampleForm.TheVariants.{Ci16}
@@ -21,21 +21,20 @@ use Rattle.lte_args.specs.declared.form.Rule.TheVariants.{Of}
 use Rattle.lte_args.specs.declared.form.Output.TheVariants.{Text}
 use Rattle.lte_top.specs.Forms.{IsOutput}
 
--- the line of a sent cell: its identity, where its first frame begins, that frame's number, its antenna ports, and its
--- block
+-- a sent cell's line: its identity, its first frame's start and number, its antenna port count, and its MIB
 abbrev pub sent_line : Carrier → CellPlan → ℕ → ℕ → List ℕ
 sent_line carrier plan first number =
     place_part plan.identity first number (ports_of carrier)
     ++ block_part (codes "n6") (duration_word plan.duration) (resource_word plan.resource)
     (plan.spare / 32) (plan.spare % 32)
 
--- the line of a sent cell, and those of its system information, which is not sent with the extended prefix or four
+-- a sent cell's line, followed by its system information, which is not sent with the extended cyclic prefix or four
 -- antenna ports
 abbrev pub sent_lines : Carrier → CellPlan → ℕ → ℕ → List ℕ
 sent_lines carrier plan first number =
     sent_line carrier plan first number ++ system_lines (system_of_carrier carrier plan.sib1)
 
--- the described cell is in the samples without an error, and its lines stand together in the text
+-- the described cell is clean in the samples, and its lines appear consecutively in the text
 pub record IsFoundIn (carrier : Carrier) (load : Option ℕ) (description : List ℕ) (samples : List Sample)
     (text : List ℕ) : Type 0 where
   pub e : Emission
@@ -44,12 +43,12 @@ pub record IsFoundIn (carrier : Carrier) (load : Option ℕ) (description : List
   pub lines :
       IsPiece (sent_lines carrier e.cell (start_of e.timing.offset) (number_at_start e.timing.sfn e.timing.offset)) text
 
--- the gains that are described are such that no pair is weak: with four antenna ports each has its three eighths
+-- no pair of antenna ports is weak: with four ports each pair has at least three eighths of the power
 abbrev pub DescribesPaired : Carrier → List ℕ → Type 0
 DescribesPaired carrier description = (e : Emission) → DescribesBy carrier description e → ArePairedBy carrier e.gains
 
--- a law: what `transmit` writes for a description, by each carrier and with each load or none, read as a recording, is
--- clean, and what `search` of this carrier writes for it has the cell's lines
+-- a law: `transmit` under any transmission scheme, with or without a load, writes a recording in which the described
+-- cell is clean, and `search` under that scheme lists its lines
 abbrev pub WhatIsSentIsFound : Type 0
 WhatIsSentIsFound =
     (carrier : Carrier) (load : Option ℕ) (description sent text : List ℕ) →

@@ -1,4 +1,4 @@
--- What `make N` writes: a line on recording number N and its cell, and the text of its list. (own)
+-- The output of `make N`: a line about synthetic recording N and its cell, and its cell list. (own)
 use Rattle.std.specs.Prelude.{◌≡◌, ◌⊎◌, ℕ, ◌+◌, ◌/◌, ◌<◌, ◌^◌, List, [], ◌∷◌, ◌++◌}
 use Rattle.cs_num.specs.declared.Sample.{Sample}
 use Rattle.lte_types.specs.declared.bandwidth.Bandwidth.TheVariants.{N6}
@@ -15,14 +15,14 @@ use Rattle.lte_types.specs.declared.carrier.Carrier.{Carrier}
 use Rattle.lte_types.specs.Carrier.{ports_of}
 use Rattle.lte_top.specs.Searching.{IsListOf}
 
--- a count of members of a list have a property
+-- the count of list members with a property
 unfoldable pub Counts : {A : Type 0} → (A → Type 0) → List A → ℕ → Type 0
 Counts P [] n = n ≡ 0
 Counts P (x ∷ xs) n = (P x × ((m : ℕ) × (n ≡ m + 1) × Counts P xs m)) ⊎ ((P x → ⊥) × Counts P xs n)
 
--- ---- the cell that is sent
+-- ---- the sent cell
 
--- the entry is this cell
+-- the entry matches this cell
 pub record IsSentCell (cell : SentCell) (entry : Entry) : Type 0 where
   pub id : entry.id ≡ cell.identity
   pub start : entry.start ≡ cell.first
@@ -31,22 +31,22 @@ pub record IsSentCell (cell : SentCell) (entry : Entry) : Type 0 where
   pub block : HasFields entry.mib N6 cell.duration cell.resource (cell.number / 4) cell.spare
   pub sib1 : entry.sib1 ≡ cell.sib1
 
--- the output is the line of a sent cell, with the count of entries that are this cell, and then the text of the list
+-- the output is a sent cell's line with the count of entries that match it, and the text of the list
 pub record TellsHeld (cell : SentCell) (entries : List Entry) (output : List ℕ) : Type 0 where
   pub held : ℕ
   pub counts : Counts (IsSentCell cell) entries held
   pub text : output ≡ made_line cell.identity cell.first cell.number held ++ report_text entries
 
--- ---- recording number n of a carrier
+-- ---- synthetic recording n
 
--- where the first frame of the cell of recording number n begins, and that frame's number
+-- the start and the number of the cell's first frame in synthetic recording n
 abbrev pub first_start : ℕ → ℕ
 first_start n = start_of (offset n)
 
 abbrev pub first_number : ℕ → ℕ
 first_number n = number_at_start (number n) (offset n)
 
--- the cell of recording number n, as it is listed
+-- the cell of synthetic recording n, as it should be listed
 abbrev pub cell_of : Carrier → ℕ → SentCell
 cell_of carrier n = record {
   identity = (plan n).identity;
@@ -59,32 +59,32 @@ cell_of carrier n = record {
   sib1 = system_of_carrier carrier (plan n).sib1;
 }
 
--- the samples are those of recording number n of the carrier
+-- the samples are synthetic recording n under this transmission scheme
 pub record AreSamplesOf (carrier : Carrier) (n : ℕ) (samples : List Sample) : Type 0 where
   pub made : MadeBy
   pub is : IsMadeBy carrier n made
   pub are : samples ≡ made.recording
 
--- the list of recording number n
+-- the cell list of synthetic recording n
 pub record IsMadeList (carrier : Carrier) (n : ℕ) (entries : List Entry) : Type 0 where
   pub samples : List Sample
   pub made : AreSamplesOf carrier n samples
   pub is_list : IsListOf carrier samples entries
 
--- the output is the line of recording number n, and then the text of its list
+-- the output is the line of synthetic recording n, and the text of its cell list
 pub record IsMadeText (carrier : Carrier) (n : ℕ) (output : List ℕ) : Type 0 where
   pub entries : List Entry
   pub listed : IsMadeList carrier n entries
   pub tells : TellsHeld (cell_of carrier n) entries output
 
--- ---- the cell of a recording by number is held
+-- ---- the sent cell is listed
 
--- the line of recording number n ends in `held 1`, and the text of a list follows
+-- the line of synthetic recording n ends in `held 1`, and the text of a list follows
 pub record IsHeldOnce (n : ℕ) (output : List ℕ) : Type 0 where
   pub entries : List Entry
   pub once : output ≡ made_line (plan n).identity (first_start n) (first_number n) 1 ++ report_text entries
 
--- a law: what `make N` writes ends its line in `held 1`, for each carrier and every number of 32 bits
+-- a law: the line of `make N` ends in `held 1`, for each transmission scheme and every 32-bit number
 abbrev pub WhatIsMadeIsHeld : Type 0
 WhatIsMadeIsHeld = (carrier : Carrier) (n : ℕ) (output : List ℕ) → n < 2 ^ 32 → IsMadeText carrier n output →
     IsHeldOnce n output

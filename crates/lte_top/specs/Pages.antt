@@ -1,4 +1,4 @@
--- The pages about a program. (own)
+-- The help and version pages. (own)
 use Rattle.std.specs.Prelude.{ℕ, List, ◌++◌, codes}
 use Rattle.lte_args.specs.declared.form.Program.{Program}
 use Rattle.lte_args.specs.declared.form.Program.TheVariants.{Receiver, Tuner}
@@ -6,18 +6,18 @@ use Rattle.lte_args.specs.declared.form.Page.{Page}
 use Rattle.lte_args.specs.declared.form.Page.TheVariants.{Help, Version}
 use Rattle.lte_args.specs.Words.{name_of}
 
--- the versions of the programs, and of the definition of a list
+-- the version of the programs, and of the cell list's definition
 abbrev pub version : List ℕ
 version = codes "0.9.0"
 
 abbrev pub definition : List ℕ
 definition = codes "2"
 
--- the program's version after its name, and that of the definition
+-- the program's name and version, and the definition's version
 abbrev pub version_after : List ℕ → List ℕ
 version_after name = name ++ codes " " ++ version ++ codes "\ndefinition " ++ definition ++ codes "\n"
 
--- each form of words with what it gives
+-- each command form, and what it writes
 abbrev pub help_text : Program → List ℕ
 help_text Receiver =
     codes "usage: lte_cli COMMAND [RULE] [--json] [--format cu8] < INPUT > OUTPUT\n"

@@ -37,7 +37,7 @@ abbrev pub IsIds : Output → List Sample → List ℕ → Type 0
 IsIds Text samples text = text ≡ ids_text (map (identified samples) (hits_of samples))
 IsIds Json samples text = text ≡ as_line (ids_json (map (measured_id samples) (hits_of samples)))
 
--- what supports each entry of the list of a carrier in the recording, in its order, as text
+-- the evidence for each listed cell, in order, as text
 pub record IsEvidenceText (carrier : Carrier) (samples : List Sample) (text : List ℕ) : Type 0 where
   pub entries : List Entry
   pub is_list : IsListOf carrier samples entries
@@ -45,7 +45,7 @@ pub record IsEvidenceText (carrier : Carrier) (samples : List Sample) (text : Li
   pub each : AllZip (IsEvidenceFor (receiver_of carrier) samples) entries told
   pub text_is : text ≡ evidence_text told
 
--- what supports each entry of the list of a carrier in the recording, with what its slot shows, as JSON
+-- the evidence for each listed cell, with the contents of its slot, as JSON
 pub record IsEvidenceJson (carrier : Carrier) (samples : List Sample) (text : List ℕ) : Type 0 where
   pub entries : List Entry
   pub is_list : IsListOf carrier samples entries
@@ -57,7 +57,7 @@ abbrev pub IsEvidence : Carrier → Output → List Sample → List ℕ → Type
 IsEvidence carrier Text samples text = IsEvidenceText carrier samples text
 IsEvidence carrier Json samples text = IsLine (IsEvidenceJson carrier samples) text
 
--- what is told of the frequency offset
+-- the report on the frequency offset
 abbrev pub IsTelling : Output → List Sample → List ℕ → Type 0
 IsTelling Text samples text = IsTellText samples text
 IsTelling Json samples text = IsLine (IsTellJson samples) text
@@ -70,14 +70,13 @@ IsReport (Search rule) output samples text = IsSearch rule output samples text
 IsReport (Evidence carrier) output samples text = IsEvidence carrier output samples text
 IsReport Tell output samples text = IsTelling output samples text
 
--- how many samples of a recording are kept for a list, from the first on: of the others it needs none, since lists
--- look at 17 frames
+-- how many samples from the start a cell list needs: a list depends on the first 17 frames only
 abbrev pub kept_for_list : Rule → ℕ
 kept_for_list (Of carrier) = deciding_length
 kept_for_list Cancel = most_samples
 kept_for_list All = deciding_length
 
--- how many are kept for a report: hits stand in the first frame or shortly after it
+-- how many samples from the start a report needs: PSS detections start in the first frame or just after it
 abbrev pub kept_for : Report → ℕ
 kept_for Hits = least_samples
 kept_for Ids = least_samples

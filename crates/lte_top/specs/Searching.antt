@@ -1,4 +1,4 @@
--- The lists of a recording by every rule, and their texts. (own)
+-- A recording's cell lists under every rule, and their texts. (own)
 use Rattle.std.specs.Prelude.{◌≡◌, ℕ, List}
 use Rattle.cs_num.specs.declared.Sample.{Sample}
 use Rattle.lte_types.specs.declared.entry.Entry.{Entry}
@@ -18,46 +18,45 @@ use Rattle.lte_args.specs.declared.form.Output.{Output}
 use Rattle.lte_args.specs.declared.form.Output.TheVariants.{Text, Json}
 use Rattle.lte_top.specs.Line.{as_line, IsLine}
 
--- ---- the list of a carrier
+-- ---- one transmission scheme
 
--- the list of the cells of a carrier, which holds each to which the recording is faithful, with one port each that is
--- seen through channels, and each of which it is clean, whatever else its ports send
+-- the list of cells with one transmission scheme: it holds every cell that the recording carries faithfully, or clean
+-- whatever else the antenna ports send, and, for one antenna port, through a varying channel
 abbrev pub IsListOf : Carrier → List Sample → List Entry → Type 0
 IsListOf carrier = IsListBy (receiver_of carrier)
 
--- a law: two recordings of at least 326,400 samples that agree in these have one list of each carrier
+-- a law: two recordings that agree in their first 326,400 samples have the same list under each transmission scheme
 abbrev pub FirstFramesDecideEach : Type 0
 FirstFramesDecideEach = (carrier : Carrier) → AreDecidedFor (receiver_of carrier)
 
--- ---- the text of a list
+-- ---- a cell list's text
 
 abbrev pub list_text : Output → List Entry → List ℕ
 list_text Text entries = report_text entries
 list_text Json entries = as_line (json_text entries)
 
--- the list of a carrier in the recording, as this text
+-- the text of the cell list for one transmission scheme
 pub record IsListText (carrier : Carrier) (output : Output) (samples : List Sample) (text : List ℕ) : Type 0 where
   pub entries : List Entry
   pub is_list : IsListOf carrier samples entries
   pub text_is : text ≡ list_text output entries
 
--- ---- the lists of all carriers
+-- ---- all transmission schemes
 
--- the text of the list of each carrier
+-- the text of one cell list per transmission scheme
 abbrev pub lists_text : Output → (Carrier → List Entry) → List ℕ
 lists_text Text lists = all_text lists
 lists_text Json lists = as_line (all_json lists)
 
--- the list of each carrier in the recording, each with its promise that no cell with clean reception is missing
--- (`IsListOf`), as this text
+-- the text of one cell list per transmission scheme; no clean cell is missing from its list (`IsListOf`)
 pub record IsTextOfAll (output : Output) (samples : List Sample) (text : List ℕ) : Type 0 where
   pub lists : Carrier → List Entry
   pub are_lists : (carrier : Carrier) → IsListOf carrier samples (lists carrier)
   pub text_is : text ≡ lists_text output lists
 
--- ---- the lists by each rule
+-- ---- every rule
 
--- the list of a recording, and those of what is left where a cell of it is taken off
+-- the cell list, and the lists of the residuals after each of its cells is cancelled
 abbrev pub IsCancelled : Output → List Sample → List ℕ → Type 0
 IsCancelled Text samples text = IsCancelText samples text
 IsCancelled Json samples text = IsLine (IsCancelJson samples) text

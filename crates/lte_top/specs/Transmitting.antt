@@ -1,4 +1,4 @@
--- The samples of a described cell as bytes. (own)
+-- A described cell's samples as bytes. (own)
 use Rattle.std.specs.Prelude.{◌≡◌, ℕ, Option, List}
 use Rattle.finite.specs.Lists.{values_below}
 use Rattle.cs_num.specs.declared.Sample.{Sample}
@@ -11,23 +11,23 @@ use Rattle.cell_plan.specs.declared.emission.Emission.{Emission}
 use Rattle.cell_tx.specs.Emission.{received_by}
 use Rattle.cell_json.specs.Reading.{DescribesBy}
 
--- the most bytes of a description that are read
+-- the maximum length of a description in bytes
 abbrev pub most_description_bytes : ℕ
 most_description_bytes = 65536
 
--- the samples of an emission, with a load or without
+-- an emission's samples, with or without a load
 unfoldable pub sent_samples : Option ℕ → Emission → List Sample
 sent_samples load e =
     values_below e.samples
     (λ i. sample_of (received_by e.carrier load e.cell e.timing.sfn e.timing.offset e.gains i))
 
--- the output is the samples, with a load or without, of the emission that the bytes describe by a carrier
+-- the output is the samples, with or without a load, of the emission that the bytes describe
 pub record IsTransmitted (carrier : Carrier) (load : Option ℕ) (bytes output : List ℕ) : Type 0 where
   pub emission : Emission
   pub describes : DescribesBy carrier bytes emission
   pub sent : output ≡ bytes_of (sent_samples load emission)
 
--- a description by a carrier was read to the end of the input, and this is the emission
+-- a description of this emission was read to the end of the input
 pub record HasDescription (carrier : Carrier) (e : Emission) (before now : SourceTold) : Type 0 where
   pub bytes : List ℕ
   pub whole : HasReadAll most_description_bytes bytes before now

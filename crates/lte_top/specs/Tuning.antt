@@ -1,4 +1,4 @@
--- A turned recording, and its bytes. (own)
+-- A corrected recording, and its bytes. (own)
 use Rattle.std.specs.Prelude.{◌≡◌, ℕ, List}
 use Rattle.cs_num.specs.declared.Sample.{Sample}
 use Rattle.sample_file.specs.Recording.{bytes_of}
@@ -7,17 +7,17 @@ use Rattle.frequency_offset.specs.Turned.{turned}
 use Rattle.lte_args.specs.declared.form.Turn.{Turn}
 use Rattle.lte_args.specs.declared.form.Turn.TheVariants.{AsTold, Steps}
 
--- these samples are the recording as it is turned
+-- these samples are the corrected recording
 abbrev pub IsTurned : Turn → List Sample → List Sample → Type 0
 IsTurned AsTold samples now = IsApplied samples now
 IsTurned (Steps m) samples now = now ≡ turned samples m
 
--- the samples as bytes, of 16-bit numbers
+-- the samples as bytes, 16 bits per component
 pub record IsBytesOf (Are : List Sample → Type 0) (output : List ℕ) : Type 0 where
   pub samples : List Sample
   pub are : Are samples
   pub bytes : output ≡ bytes_of samples
 
--- the recording as it is turned, as bytes
+-- the corrected recording as bytes
 abbrev pub IsTurnedAsBytes : Turn → List Sample → List ℕ → Type 0
 IsTurnedAsBytes turn samples output = IsBytesOf (IsTurned turn samples) output

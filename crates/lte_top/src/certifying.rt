@@ -1,4 +1,4 @@
-//! The certificates of a recording, and the answers to certificates.
+//! Certifies a recording's MIBs, and answers certificates.
 
 ghost use Rattle.std.specs.Prelude.{◌≡◌, ◌≤◌, IfOk, IfErr, OnOk, OnErr, string_bytes};
 ghost use Rattle.cs_outside.specs.Counts.{Rose};
@@ -22,7 +22,7 @@ use report_text::text_of_answers;
 use sample_file::{Recording, SampleForm};
 use std::alloc::{AllocError, Global};
 
-// The memory in which a list is certified: those of the list, of the search for it, and of certificates.
+// The memory for certifying a list: the search, its list, and the certificates.
 #[derive(Drop)]
 struct Rooms {
     search: Workspace,
@@ -30,8 +30,7 @@ struct Rooms {
     work: CertificateWork,
 }
 
-// Writes the certificates of a source's recording: one for each entry of the list of a carrier, in order. All
-// memory is taken before the first is written.
+// Writes one certificate per entry of a recording's list, in order. All memory is allocated before the first write.
 #[inline(never)]
 pub(crate) fn certify_recording<S: Source, K: Sink>(
     alloc: Global,
@@ -55,14 +54,14 @@ pub(crate) fn certify_recording<S: Source, K: Sink>(
     }
 }
 
-// Takes all memory that a list and its certificates need.
+// Allocates everything that a list and its certificates need.
 fn rooms_of(alloc: Global) -> Result<Rooms, AllocError> {
     let (search, list) = room_for_list(alloc)?;
     let work = CertificateWork::new(alloc)?;
     Ok(Rooms { search, list, work })
 }
 
-// Makes the list of a carrier, and writes its certificates.
+// Searches for the cells of a transmission scheme, and writes their certificates.
 fn certify_list<K: Sink>(
     recording: &Recording,
     carrier: Carrier,
@@ -89,7 +88,7 @@ fn certify_list<K: Sink>(
     )
 }
 
-// The text of the answers to the certificates of a source, which are read to the end of the input.
+// Reads certificates to the end of the input, and returns the text of the answers.
 #[inline(never)]
 pub(crate) fn answers_text<S: Source>(alloc: Global, source: &mut S) -> Result<String, Status>
     ensures ok { IfOk result (λ text.

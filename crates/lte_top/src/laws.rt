@@ -1,4 +1,4 @@
-//! Laws of what is answered and written.
+//! Laws about the commands' answers and outputs.
 
 ghost use Rattle.lte_top.specs.Applied.{WhatIsAppliedIsTold};
 ghost use Rattle.lte_top.specs.Found.{WhatIsSentIsFound};
@@ -9,37 +9,35 @@ ghost use Rattle.lte_top.specs.Run.{HasOneAnswer};
 use capture_make::numbers_are_clean;
 use cell_tx::sum_is_clean;
 
-/// A law of the answers: the bytes of an input have one answer, so that each is given exactly where
-/// it is theirs, but for want of memory and counted faults.
+/// A law: an input has at most one answer, so the answer of a run is determined, except for failed allocations and
+/// counted faults.
 pub fn an_input_has_one_answer()
     ensures { HasOneAnswer }
 {}
 
-/// What `transmit` writes for a description, by each carrier and with each load or none, is, read as a recording, free
-/// of errors, and what `search` of this carrier writes for that recording has the lines of the described cell, with its
-/// system information where the carrier sends it. With four antenna ports the described gains have to be such that the
-/// squares of those of ports 0 and 2 together, and of ports 1 and 3, are at least three eighths of all.
+/// A law: `search` lists every cell that `transmit` sends, with its system information if the scheme carries it. With
+/// four gains, ports 0 and 2, and 1 and 3, must each have at least three eighths of the power.
 pub fn what_is_sent_is_found()
     ensures { WhatIsSentIsFound }
 {
     sum_is_clean();
 }
 
-/// The line of `make N` ends in `held 1`, for each carrier and every N: the list of the recording holds the cell that
-/// was sent once.
+/// A law: the line of `make N` ends in `held 1` for each transmission scheme and every 32-bit N, so the sent cell is
+/// listed exactly once.
 pub fn what_is_made_is_held()
     ensures { WhatIsMadeIsHeld }
 {
     numbers_are_clean();
 }
 
-/// Two recordings of at least 326,400 samples, 17 frames, that agree in these have one list of each carrier, so that
-/// `search` keeps no more of a longer one.
+/// A law: two recordings that agree in their first 326,400 samples (17 frames) have the same lists, so `search` keeps
+/// no later sample.
 pub fn the_first_frames_decide_each_list()
     ensures { FirstFramesDecideEach }
 {}
 
-/// What `apply` writes for a recording is, read as one, a recording, and has as many cells as `tell` writes.
+/// A law: the output of `apply` is a valid recording, and has as many cells as `tell` reports.
 pub fn what_is_applied_is_told()
     ensures { WhatIsAppliedIsTold }
 {

@@ -1,4 +1,7 @@
-//! The top call: the words of a command line, a source and a sink in, a status out.
+//! The top-level call of `lte_cli` and `lte_tune`: runs a command from its arguments, a source and a sink, and returns
+//! a status.
+//!
+//! Tests: the crate `top_tests`, and `fault_tests` for sources and sinks that fail.
 #![tactic(auto)]
 
 mod certifying;

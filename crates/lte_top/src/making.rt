@@ -1,4 +1,4 @@
-//! The lists of recordings by number.
+//! The cell lists of synthetic recordings.
 
 ghost use Rattle.std.specs.Prelude.{◌≡◌, ◌↔◌, ◌≤◌, IfOk, IsTrue, length, string_bytes};
 ghost use Rattle.clean_air.specs.Clean.{system_of_carrier};
@@ -13,7 +13,7 @@ use lte_types::{
 use report_text::{line_of_made, text};
 use std::alloc::{AllocError, Global};
 
-// What is sent of a cell: where its first frame begins, that frame's number, and what its entry tells.
+// A sent cell: the start and the number of its first frame, and the values that its list entry must have.
 #[derive(Drop)]
 pub(crate) struct SentCell {
     pub identity: u16,
@@ -26,7 +26,7 @@ pub(crate) struct SentCell {
     pub sib1: Result<Sib1, Sib1Reason>,
 }
 
-// The line of recording number n of a carrier, and the text of its list. Nothing is read.
+// Returns the line of synthetic recording `n`, and the text of its cell list.
 #[inline(never)]
 pub(crate) fn made_text(alloc: Global, carrier: Carrier, n: u32) -> Result<String, AllocError>
     ensures { IfOk result (λ text. IsMadeText carrier n (string_bytes text)) }
@@ -35,7 +35,7 @@ pub(crate) fn made_text(alloc: Global, carrier: Carrier, n: u32) -> Result<Strin
     text_of_sent(alloc, &sent_cell(carrier, n), list.slice())
 }
 
-// The list of recording number n of a carrier.
+// Returns the cell list of synthetic recording `n`.
 fn made_list(alloc: Global, carrier: Carrier, n: u32) -> Result<EntryList, AllocError>
     ensures { IfOk result (IsMadeList carrier n) }
 {
@@ -43,7 +43,7 @@ fn made_list(alloc: Global, carrier: Carrier, n: u32) -> Result<EntryList, Alloc
     list_of(alloc, carrier, &made.recording)
 }
 
-// The cell of recording number n of a carrier.
+// Returns the cell that synthetic recording `n` sends.
 fn sent_cell(carrier: Carrier, n: u32) -> SentCell
     ensures { result ≡ cell_of carrier n }
 {
@@ -60,7 +60,7 @@ fn sent_cell(carrier: Carrier, n: u32) -> SentCell
     }
 }
 
-// What is told of the system information of a carrier's cell.
+// Returns what a listed cell reports as its system information.
 fn told_by(carrier: Carrier, sib1: Sib1) -> Result<Sib1, Sib1Reason>
     ensures { result ≡ system_of_carrier carrier sib1 }
 {
@@ -73,7 +73,7 @@ fn told_by(carrier: Carrier, sib1: Sib1) -> Result<Sib1, Sib1Reason>
     }
 }
 
-// The line of a sent cell, and the text of a list.
+// Returns a sent cell's line, and the text of a cell list.
 fn text_of_sent(alloc: Global, cell: &SentCell, list: &[Entry]) -> Result<String, AllocError>
     ensures { IfOk result (λ text. TellsHeld cell.now list.now (string_bytes text)) }
 {
@@ -84,7 +84,7 @@ fn text_of_sent(alloc: Global, cell: &SentCell, list: &[Entry]) -> Result<String
     Ok(output)
 }
 
-// How many entries of a list are this sent cell.
+// Counts the entries that match a sent cell.
 fn count_held(list: &[Entry], cell: &SentCell) -> usize
     ensures counts { Counts (IsSentCell cell.now) list.now result }
     ensures bound { result ≤ length list.now }
@@ -98,7 +98,7 @@ fn count_held(list: &[Entry], cell: &SentCell) -> usize
     held
 }
 
-// Whether an entry is this sent cell.
+// Returns whether an entry matches a sent cell.
 fn is_sent_cell(entry: &Entry, cell: &SentCell) -> bool
     ensures { IsTrue result ↔ IsSentCell cell.now entry.now }
 {

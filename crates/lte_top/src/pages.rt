@@ -1,4 +1,4 @@
-//! The pages about a program.
+//! The help and version pages.
 
 ghost use Rattle.std.specs.Prelude.{◌≡◌, IfOk, string_bytes};
 ghost use Rattle.lte_top.specs.Pages.{help_text, version_after, page_text as page_of};
@@ -8,7 +8,7 @@ use lte_args::{Page, Program};
 use std::alloc::{AllocError, Global};
 use std::fmt::Write;
 
-// The forms of words of `lte_cli`.
+// The command forms of `lte_cli`.
 const RECEIVER_HELP: &str = "\
 usage: lte_cli COMMAND [RULE] [--json] [--format cu8] < INPUT > OUTPUT
 hits [--json] [--format cu8]: the places of primary synchronisation signals in a recording
@@ -29,7 +29,7 @@ help, --help, -h: this page
 version, --version: the versions of the program and of its definition
 ";
 
-// The forms of words of `lte_tune`.
+// The command forms of `lte_tune`.
 const TUNER_HELP: &str = "\
 usage: lte_tune COMMAND [--json] [--format cu8] < INPUT > OUTPUT
 tell [--json] [--format cu8]: the frequency offset of a recording
@@ -39,7 +39,7 @@ help, --help, -h: this page
 version, --version: the versions of the program and of its definition
 ";
 
-// The text of a page.
+// Returns a page's text.
 pub(crate) fn page_text(alloc: Global, program: Program, page: Page) -> Result<String, AllocError>
     ensures { IfOk result (λ text. string_bytes text ≡ page_of program page) }
 {
@@ -49,7 +49,7 @@ pub(crate) fn page_text(alloc: Global, program: Program, page: Page) -> Result<S
     }
 }
 
-// The help of a program.
+// Returns a program's help page.
 fn help(program: Program) -> &'static str
     ensures { result.now ≡ help_text program }
 {
@@ -59,7 +59,7 @@ fn help(program: Program) -> &'static str
     }
 }
 
-// The versions, after the name of a program.
+// Returns the versions, after the program's name.
 fn version_text(alloc: Global, name: &str) -> Result<String, AllocError>
     ensures { IfOk result (λ text. string_bytes text ≡ version_after name.now) }
 {

@@ -28,7 +28,7 @@ use report_text::{tell_text, text_of_evidence, text_of_hits, text_of_ids};
 use sample_file::{Recording, SampleForm, read_as, read_front};
 use std::alloc::{AllocError, Global};
 
-// The text of a report about the recording of a source, which is read to its end.
+// Reads a recording to the end of its source, and returns the text of a report about it.
 #[inline(never)]
 pub(crate) fn report_text<S: Source>(
     alloc: Global,
@@ -47,7 +47,7 @@ pub(crate) fn report_text<S: Source>(
     Ok(text)
 }
 
-// How many samples of a recording are kept for a report: of the others it needs none.
+// Returns how many samples from the start a report needs.
 fn kept_for(report: Report) -> usize
     ensures value { result ≡ kept_in report }
     ensures some { least_samples ≤ result }
@@ -62,7 +62,7 @@ fn kept_for(report: Report) -> usize
     }
 }
 
-// How many are kept for a list by a rule.
+// Returns how many samples from the start a cell list needs.
 fn kept_for_list(rule: Rule) -> usize
     ensures value { result ≡ kept_in_list rule }
     ensures some { least_samples ≤ result }
@@ -75,7 +75,7 @@ fn kept_for_list(rule: Rule) -> usize
     }
 }
 
-// The first samples of the recording of a source, which is read to its end.
+// Reads a recording to the end of its source, and keeps its first samples.
 fn front_of<S: Source>(
     alloc: Global,
     form: SampleForm,
@@ -93,7 +93,7 @@ fn front_of<S: Source>(
     Ok(front)
 }
 
-// The recording of a source, which is read to its end.
+// Reads a recording to the end of its source.
 pub(crate) fn recording_of<S: Source>(
     alloc: Global,
     form: SampleForm,
@@ -108,7 +108,7 @@ pub(crate) fn recording_of<S: Source>(
     Ok(recording)
 }
 
-// The text of a report about a recording.
+// Returns the text of a report about a recording.
 fn text_of_report(
     alloc: Global,
     report: Report,
@@ -129,7 +129,7 @@ fn text_of_report(
 
 // ---- hits
 
-// The text of the hits of a recording.
+// Returns the text of a recording's PSS detections.
 fn hits_text(alloc: Global, output: Output, recording: &Recording) -> Result<String, AllocError>
     requires { IsRecording recording.now }
     ensures { IfOk result (λ text. IsHits output recording.now (string_bytes text)) }
@@ -144,7 +144,7 @@ fn hits_text(alloc: Global, output: Output, recording: &Recording) -> Result<Str
     }
 }
 
-// The text of the hits of a recording with their identities.
+// Returns the text of a recording's PSS detections with their cell identities.
 fn ids_text(alloc: Global, output: Output, recording: &Recording) -> Result<String, AllocError>
     requires { IsRecording recording.now }
     ensures { IfOk result (λ text. IsIds output recording.now (string_bytes text)) }
@@ -162,7 +162,7 @@ fn ids_text(alloc: Global, output: Output, recording: &Recording) -> Result<Stri
     }
 }
 
-// The hits of a recording.
+// Returns a recording's PSS detections.
 pub(crate) fn hits_of(alloc: Global, recording: &Recording) -> Result<HitList, AllocError>
     requires { IsRecording recording.now }
     ensures list { IfOk result (λ list. list ≡ all_hits recording.now) }
@@ -176,7 +176,7 @@ pub(crate) fn hits_of(alloc: Global, recording: &Recording) -> Result<HitList, A
 
 // ---- evidence
 
-// The text of what supports each entry of the list of a carrier in a recording.
+// Returns the evidence for each listed cell.
 fn evidence_report(
     alloc: Global,
     carrier: Carrier,
@@ -191,7 +191,7 @@ fn evidence_report(
     }
 }
 
-// What supports each entry of the list of a carrier in a recording, as lines.
+// Returns the evidence for each listed cell as lines of text.
 fn evidence_text(
     alloc: Global,
     carrier: Carrier,
@@ -205,7 +205,7 @@ fn evidence_text(
     text_of_evidence(alloc, &told)
 }
 
-// What supports each entry of the list of a carrier in a recording, as JSON, which has what the slots show too.
+// Returns the evidence for each listed cell as JSON, which also has the slot's contents.
 fn evidence_json(
     alloc: Global,
     carrier: Carrier,
@@ -221,7 +221,7 @@ fn evidence_json(
 
 // ---- the frequency offset
 
-// The text of what is told of the frequency offset of a recording.
+// Returns the text of a recording's frequency offset.
 fn told_text(alloc: Global, output: Output, recording: &Recording) -> Result<String, AllocError>
     ensures { IfOk result (λ text. IsTelling output recording.now (string_bytes text)) }
 {
@@ -233,7 +233,7 @@ fn told_text(alloc: Global, output: Output, recording: &Recording) -> Result<Str
 
 // ---- lines
 
-// A text as a line.
+// Appends a line feed.
 pub(crate) fn line_of(text: String) -> Result<String, AllocError>
     ensures { IfOk result (λ line. string_bytes line ≡ as_line (string_bytes text)) }
 {

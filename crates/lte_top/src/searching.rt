@@ -1,4 +1,4 @@
-//! The lists of a recording by every rule.
+//! A recording's cell lists under every rule.
 
 ghost use Rattle.std.specs.Prelude.{◌≡◌, IfOk, IfSome, List, length, map, string_bytes};
 ghost use Rattle.std.specs.List.{AllZip};
@@ -23,7 +23,7 @@ use sample_file::Recording;
 use std::alloc::{AllocError, Global};
 use two_ports::TwoPorts;
 
-// The text of the list of a recording by a rule.
+// Returns the text of the cell list under a rule.
 pub(crate) fn search_text(
     alloc: Global,
     rule: Rule,
@@ -40,9 +40,9 @@ pub(crate) fn search_text(
     }
 }
 
-// ---- the list of a carrier
+// ---- one transmission scheme
 
-// The text of the list of a carrier.
+// Returns the text of the cell list for one transmission scheme.
 fn text_of_carrier(
     alloc: Global,
     carrier: Carrier,
@@ -55,7 +55,7 @@ fn text_of_carrier(
     list_text(alloc, output, list.slice())
 }
 
-// The text of a list.
+// Returns a cell list's text.
 fn list_text(alloc: Global, output: Output, list: &[Entry]) -> Result<String, AllocError>
     ensures { IfOk result (λ text. string_bytes text ≡ text_of output list.now) }
 {
@@ -65,7 +65,7 @@ fn list_text(alloc: Global, output: Output, list: &[Entry]) -> Result<String, Al
     }
 }
 
-// The list of the cells of a carrier in a recording.
+// Returns the cell list for one transmission scheme.
 pub(crate) fn list_of(
     alloc: Global,
     carrier: Carrier,
@@ -78,14 +78,14 @@ pub(crate) fn list_of(
     Ok(list)
 }
 
-// The memory of a list and of the search for it.
+// Allocates a cell list and the memory to search for it.
 pub(crate) fn room_for_list(alloc: Global) -> Result<(Workspace, EntryList), AllocError> {
     let work = Workspace::new(alloc)?;
     let list = EntryList::new(alloc)?;
     Ok((work, list))
 }
 
-// Makes the list of the cells of a carrier in a recording, and keeps how each entry was read.
+// Searches for the cells with one transmission scheme, and keeps how each entry was decoded.
 pub(crate) fn read_list(
     recording: &Recording,
     carrier: Carrier,
@@ -98,8 +98,8 @@ pub(crate) fn read_list(
     read_list_by(recording, carrier, None, work, list);
 }
 
-// The one place where the receiver for a carrier's list is chosen. `hits` are those of the recording, if they are at
-// hand.
+// Searches with the receiver for `carrier`. This is the only place that chooses a receiver. `hits` are the recording's
+// PSS detections, if already computed.
 fn read_list_by(
     recording: &Recording,
     carrier: Carrier,
@@ -121,7 +121,7 @@ fn read_list_by(
 
 // ---- further rules
 
-// The text of the lists of every carrier.
+// Returns the text of the cell lists for every transmission scheme.
 fn text_of_each(alloc: Global, output: Output, recording: &Recording) -> Result<String, AllocError>
     requires { IsRecording recording.now }
     ensures { IfOk result (λ text. IsTextOfAll output recording.now (string_bytes text)) }
@@ -130,7 +130,7 @@ fn text_of_each(alloc: Global, output: Output, recording: &Recording) -> Result<
     lists_text(alloc, output, &lists)
 }
 
-// The list of each carrier in a recording, in the order of `Carrier::ALL`.
+// Returns the cell lists for every transmission scheme, in the order of `Carrier::ALL`.
 fn lists_of(alloc: Global, recording: &Recording) -> Result<Vec<EntryList>, AllocError>
     requires { IsRecording recording.now }
     ensures { IfOk result (λ lists. AllZip (λ carrier. IsListOf carrier recording.now) carriers lists.items) }
@@ -145,7 +145,7 @@ fn lists_of(alloc: Global, recording: &Recording) -> Result<Vec<EntryList>, Allo
     Ok(lists)
 }
 
-// The list of a carrier in a recording, of whose hits each list is made.
+// Returns the cell list for one transmission scheme, from PSS detections already computed.
 fn list_among(
     alloc: Global,
     carrier: Carrier,
@@ -161,7 +161,7 @@ fn list_among(
     Ok(list)
 }
 
-// The text of the lists of all carriers, in the order of `Carrier::ALL`.
+// Returns the text of the cell lists for every transmission scheme, in the order of `Carrier::ALL`.
 fn lists_text(alloc: Global, output: Output, lists: &[EntryList]) -> Result<String, AllocError>
     requires { length lists.now ≡ length carriers }
     ensures { (of : Carrier → List Entry) → lists.now ≡ map of carriers →
@@ -173,7 +173,7 @@ fn lists_text(alloc: Global, output: Output, lists: &[EntryList]) -> Result<Stri
     }
 }
 
-// The text of the list, and of those of what is left where a cell of it is taken off.
+// Returns the text of the cell list, and of the lists of the residuals after each cell is cancelled.
 fn text_of_rounds(
     alloc: Global,
     output: Output,

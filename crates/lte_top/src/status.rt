@@ -13,34 +13,33 @@ use sample_file::FileError;
 use std::alloc::AllocError;
 use std::fmt;
 
-/// How a run ended. Every answer but `Done` is a refusal, a fault or want of memory.
+/// How a run ended. Every status except `Done` is a refusal, a fault or a failed allocation.
 #[derive(Clone, Copy, Debug, PartialEq, Eq)]
 pub enum Status {
-    /// The input was read to its end, and the whole output was taken.
+    /// The input was read to its end, and the whole output was written.
     Done,
-    /// The words are of no form.
+    /// The arguments select no command form.
     Usage,
-    /// The recording ended within a sample.
+    /// The recording ends within a sample.
     Ragged,
     /// The recording has fewer than 57,600 samples.
     TooShort,
-    /// The input is longer than its form's limit, and no byte within it was refused before.
+    /// The input is longer than its limit, and no byte within the limit was refused.
     TooLong,
     /// The source counted a fault.
     ReadFault,
     /// The sink counted a fault.
     WriteFault,
-    /// Memory was wanting.
+    /// An allocation failed.
     OutOfMemory,
-    /// The first failed condition of a description.
+    /// The description's first failed condition.
     BadCell(CellError),
-    /// The place of the first byte of the input that breaks the form of certificates; where the input
-    /// ends within one, its length.
+    /// The byte offset at which the input breaks the certificate format; its length if it ends within a certificate.
     BadCertificate(u64),
 }
 
 impl Status {
-    /// The exit code: 0 for `Done`, and 2 to 10 for the others in their order.
+    /// Returns the exit code: 0 for `Done`, and 2 to 10 for the others in their order.
     pub fn code(&self) -> u8
         ensures { result ≡ code_of self.now }
     {
@@ -117,7 +116,7 @@ impl From<AllocError> for Status {
     }
 }
 
-/// The text of the line on standard error, after the program's name.
+/// The text on standard error, after the program's name.
 impl fmt::Display for Status {
     ghost output = { λ status. Some (text_of status) };
 

@@ -1,4 +1,7 @@
-//! The top call.
+//! The top-level calls.
+//!
+//! A run reads at most one byte past the input's limit. If the source reports its bytes, they alone decide the answer,
+//! except for failed allocations and counted faults.
 
 ghost use Rattle.std.specs.Prelude.{◌≡◌, ◌≤◌, length, IfErr, OnOk, OnErr};
 ghost use Rattle.cs_outside.specs.Counts.{Rose};
@@ -20,15 +23,8 @@ use cs_outside::{Failed, MemSink, MemSource, Sink, Source, write_whole};
 use lte_args::{Form, Program, Words};
 use std::alloc::Global;
 
-/// Runs the words' form of a program: reads its input from the source, makes its output and writes it to the
-/// sink.
-///
-/// `Done` means that the input was read to its end and the whole output was taken. Every other answer
-/// but `OutOfMemory` has its cause, and after each but `WriteFault` nothing was written; after
-/// `WriteFault` the sink took a front of the output. Want of memory is never answered after a write.
-/// Each other answer comes after no more than one byte past the form's limit was read.
-/// Where the source tells its bytes, the answer is the one that they have, but for want of memory and
-/// counted faults.
+/// Runs the command that `words` select. After `Done` the sink has the whole output, after `WriteFault` a prefix of it,
+/// and after any other answer nothing.
 pub fn run_program<S: Source, K: Sink>(
     alloc: Global,
     program: Program,
@@ -42,7 +38,7 @@ pub fn run_program<S: Source, K: Sink>(
     run_words(alloc, program, words, source, sink)
 }
 
-/// Runs the words' form of the receiver, `lte_cli`, as `run_program` does.
+/// Runs a command of `lte_cli`, as `run_program` does.
 pub fn run<S: Source, K: Sink>(alloc: Global, words: &Words, source: &mut S, sink: &mut K) -> Status
     ensures { Runs Receiver words.now
         (S.told source.old, K.told sink.old) (S.told source.new, K.told sink.new) result }
@@ -50,8 +46,8 @@ pub fn run<S: Source, K: Sink>(alloc: Global, words: &Words, source: &mut S, sin
     run_program(alloc, Program::Receiver, words, source, sink)
 }
 
-/// `run` over a source and a sink in memory, which tell all: the bytes that are left, those that
-/// were taken, the room, and the counts of faults.
+/// Runs a command of `lte_cli` on a source and a sink in memory, whose remaining bytes, room and fault counts are
+/// visible in the contract.
 pub fn run_in_memory(
     alloc: Global,
     words: &Words,
@@ -64,7 +60,7 @@ pub fn run_in_memory(
     run(alloc, words, source, sink)
 }
 
-// The one body of all forms of words, for either program; that it runs the program follows from these clauses.
+// Runs either program. The contracts of the published calls follow from these clauses.
 fn run_words<S: Source, K: Sink>(
     alloc: Global,
     program: Program,
@@ -86,8 +82,7 @@ fn run_words<S: Source, K: Sink>(
     }
 }
 
-// Runs a form: reads its input, makes its output, and writes it. The calls are not inlined, so that a run takes no stack
-// for other forms than its own.
+// Runs a command form. The calls are not inlined, so a run needs no stack for other forms.
 fn run_form<S: Source, K: Sink>(
     alloc: Global,
     form: Form,
@@ -124,7 +119,7 @@ fn run_form<S: Source, K: Sink>(
     }
 }
 
-// Writes a whole output.
+// Writes the whole output.
 fn write_output<K: Sink>(sink: &mut K, output: &[u8]) -> Result<(), Status>
     ensures ok { OnOk result (HasWritten output.now (K.told sink.old) (K.told sink.new)) }
     ensures status { IfErr result (λ status. status ≡ WriteFault) }

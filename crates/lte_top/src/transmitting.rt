@@ -1,4 +1,4 @@
-//! The samples of a described cell.
+//! Transmission of a described cell.
 
 ghost use Rattle.std.specs.Prelude.{◌≡◌, ◌≤◌, length, IfOk, IfErr, OnOk, OnErr};
 ghost use Rattle.cs_outside.specs.Counts.{Rose};
@@ -20,11 +20,11 @@ use lte_types::Carrier;
 use sample_file::PieceWriter;
 use std::alloc::Global;
 
-// The most bytes of a description.
+// The maximum length of a description in bytes.
 const MOST_BYTES: usize = 65_536;
 
-// Writes the samples, with this load or without, of the cell that a source describes by a carrier. The source is read
-// to its end before the first is written, and no memory is taken after it.
+// Reads a description to the end of its source, and writes the cell's samples with load number `load`, if any. Nothing
+// is allocated after the first write.
 #[inline(never)]
 pub(crate) fn transmit<S: Source, K: Sink>(
     alloc: Global,
@@ -47,7 +47,7 @@ pub(crate) fn transmit<S: Source, K: Sink>(
     }
 }
 
-// The emission that a source describes by a carrier, which is read to its end.
+// Reads a description to the end of its source.
 fn emission_of<S: Source>(
     alloc: Global,
     carrier: Carrier,
@@ -62,7 +62,7 @@ fn emission_of<S: Source>(
     Ok(emission)
 }
 
-// The emission with this load, or without.
+// Sets the load number.
 fn with_load(mut emission: Emission, load: Option<u32>) -> Emission
     ensures { emitted_samples result ≡ sent_samples load emission }
 {
@@ -70,7 +70,7 @@ fn with_load(mut emission: Emission, load: Option<u32>) -> Emission
     emission
 }
 
-// Writes the samples of an emission as bytes. They are made a frame at a time, and written in pieces of one length.
+// Writes an emission's samples, generated frame by frame, in pieces of one length.
 fn write_emission<K: Sink>(emission: &Emission, sink: &mut K) -> Result<(), Failed>
     ensures ok { OnOk result (HasWritten (bytes_of (emitted_samples emission.now))
         (K.told sink.old) (K.told sink.new)) }

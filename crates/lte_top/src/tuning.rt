@@ -1,4 +1,4 @@
-//! Recordings turned.
+//! Frequency correction of recordings.
 
 ghost use Rattle.std.specs.Prelude.{◌≤◌, IfOk, IfErr, OnOk};
 ghost use Rattle.cs_outside.specs.Outside.{SourceTold, SinkTold};
@@ -14,8 +14,8 @@ use lte_args::Turn;
 use sample_file::{Recording, SampleForm, write_samples};
 use std::alloc::{AllocError, Global};
 
-// Writes the recording of a source, which is read to its end, as it is turned, as bytes of 16-bit numbers. All memory
-// is taken before the first is written.
+// Reads a recording to the end of its source, and writes it corrected, in 16-bit samples. All memory is allocated
+// before the first write.
 #[inline(never)]
 pub(crate) fn apply_turn<S: Source, K: Sink>(
     alloc: Global,
@@ -39,7 +39,7 @@ pub(crate) fn apply_turn<S: Source, K: Sink>(
     }
 }
 
-// A recording as it is turned.
+// Returns the corrected recording.
 fn turned_by(alloc: Global, turn: Turn, recording: &Recording) -> Result<Recording, AllocError>
     ensures { IfOk result (IsTurned turn recording.now) }
 {

@@ -1,7 +1,7 @@
-//! The versions.
+//! The version numbers.
 
-/// The version of the programs.
+/// The programs' version.
 pub const VERSION: &str = "0.9.0";
 
-/// The version of the definition of a list.
+/// The version of the cell list's definition.
 pub const DEFINITION: &str = "2";

@@ -1,4 +1,4 @@
-//! The program `lte_tune`: the frequency offset of a recording on standard input.
+//! The program `lte_tune`: estimates and corrects a recording's frequency offset.
 #![tactic(auto)]
 
 use lte_args::Program;

@@ -1,4 +1,4 @@
-// Calls on values in any state, each under its own condition alone.
+// Calls on values in any state, each under its own precondition alone.
 ghost use Rattle.std.specs.Prelude.{◌≡◌, ◌+◌, ◌*◌, ◌^◌, ◌<◌, ◌≤◌, All, length, nat_abs, pos, ◌<ℤ◌, ◌≤ℤ◌};
 ghost use Rattle.cs_num.specs.Complex.{size};
 ghost use Rattle.finite.specs.Sizes.{RowsWithin};
@@ -109,7 +109,7 @@ fn refill(certificate: &mut Certificate, values: &[[i32; 3]; 40], work: &mut Tre
     tail_cert::fill(certificate, values, work);
 }
 
-// Whether numbers have the values that these calls give.
+// Returns whether these calls give the expected numbers.
 fn have_values(a: Cpx) -> bool
     requires { size a ≤ 2 ^ 30 }
 {

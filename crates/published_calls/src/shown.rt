@@ -1,4 +1,4 @@
-// Published values can be compared and shown, so that callers write `assert_eq!`.
+// Published values can be compared and printed, so callers can write `assert_eq!`.
 use cell_tx::CellError;
 use cs_bits::Bits;
 use cs_num::{Cpx, Sample};
@@ -16,7 +16,7 @@ use std::fmt::Debug;
 use tail_cert::BadCertificate;
 use turbo_code::Row;
 
-// Whether a value is as another: both can be shown.
+// Returns whether two values are equal; both can be printed.
 fn is<T: Debug + PartialEq>(value: &T, other: &T) -> bool {
     value == other
 }

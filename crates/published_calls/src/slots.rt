@@ -1,4 +1,4 @@
-// The calls of `soft_bits`, `pbch`, `pcfich`, `pdcch` and `pdsch`.
+// Calls into `soft_bits`, `pbch`, `pcfich`, `pdcch` and `pdsch`.
 ghost use Rattle.std.specs.Prelude.{◌≡◌, ◌+◌, ◌^◌, ◌<◌, ◌≤◌, All, length};
 ghost use Rattle.cs_num.specs.Complex.{IsWithin};
 ghost use Rattle.soft_bits.specs.Soft.{AreSmall};
@@ -17,7 +17,7 @@ use std::test::Fail;
 use tailbite::Trellis;
 use test_support::silent_recording;
 
-// The soft values of a place of a slot, where it keeps its number and its cell.
+// Returns the soft values at a resource element of a slot, if the slot keeps its number and cell identity.
 fn values_at(seen: [[Cpx; 72]; 7], number: u8, id: CellId, symbol: u8, k: u8) -> Option<[i16; 2]>
     requires number { number < 20 }
     requires small { AreSmall seen }
@@ -35,7 +35,7 @@ fn values_at(seen: [[Cpx; 72]; 7], number: u8, id: CellId, symbol: u8, k: u8) ->
     }
 }
 
-// The master block of slots, and the first sum that it is read from.
+// Returns the MIB in some slots, and the first sum that it is decoded from.
 fn master_of(slots: &[Slot], phase: u8, work: &mut Trellis) -> (Option<Master>, i32)
     requires some { 0 < length slots.now }
     requires period { phase + length slots.now ≤ 4 }
@@ -47,7 +47,7 @@ fn master_of(slots: &[Slot], phase: u8, work: &mut Trellis) -> (Option<Master>, 
     (master, sums[0][0])
 }
 
-// A master block, by all its fields.
+// Builds a decoded MIB from all its fields.
 fn master_with(mib: Mib) -> Master {
     Master {
         ports: 1u8,
@@ -56,7 +56,7 @@ fn master_with(mib: Mib) -> Master {
     }
 }
 
-// The indicator of a slot, how many control elements there are, and whether there is a candidate.
+// Returns the CFI, the count of control channel elements, and whether there is a PDCCH candidate.
 fn control_of(slot: &Slot, cfi: Cfi, mib: Mib) -> (u8, u8, bool)
     requires { slot.now.number ≡ 10 }
 {
@@ -66,7 +66,7 @@ fn control_of(slot: &Slot, cfi: Cfi, mib: Mib) -> (u8, u8, bool)
     (indicator.value(), count, candidate.is_some())
 }
 
-// How many values a grant has.
+// Counts the soft values of a grant.
 fn count_of(first: &Slot, second: &Slot, cfi: Cfi, grant: &Grant, out: &mut [i16; 1224]) -> usize
     requires first { first.now.number ≡ 10 }
     requires second { second.now.number ≡ 11 }
@@ -78,7 +78,7 @@ fn count_of(first: &Slot, second: &Slot, cfi: Cfi, grant: &Grant, out: &mut [i16
     count
 }
 
-// The slot whose symbols are all this one.
+// Builds a slot whose symbols are all `seen`.
 pub(crate) fn slot_of(seen: [Cpx; 72], number: u8, id: CellId) -> Slot
     requires number { number < 20 }
     requires small { All (IsWithin (2 ^ 25)) seen }

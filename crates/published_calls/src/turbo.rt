@@ -1,4 +1,4 @@
-// The calls of `turbo_code` and `turbo_dec`.
+// Calls into `turbo_code` and `turbo_dec`.
 ghost use Rattle.std.specs.Prelude.{◌≡◌, ◌<◌, ◌≤◌, All, length};
 ghost use Rattle.turbo_code.specs.Table.{IsRow};
 ghost use Rattle.turbo_dec.specs.Decoder.{IsSmall};
@@ -8,27 +8,27 @@ use std::alloc::{AllocError, Global};
 use turbo_code::{Coded, Combined, Row, combine, encode, match_out, row_of};
 use turbo_dec::{Block, Work, decode, half};
 
-// Whether a size has this row.
+// Returns whether a transport block size has this table row.
 fn has_row(size: u16, row: Row) -> bool {
     let found: Option<Row> = row_of(size);
     found == Some(row)
 }
 
-// The first bit of a coded word, where its size is not 0.
+// Returns the first bit of a coded block, or false if its size is 0.
 fn first_bit(coded: &Coded) -> bool {
     let Coded { k, d } = coded;
     let (k, streams): (&u16, &[[bool; 1028]; 3]) = (k, d);
     *k != 0 && streams[0][0]
 }
 
-// The first sum of values, or 0 where there is no size.
+// Returns the first combined sum, or 0 if the size is 0.
 fn first_sum(sums: &Combined) -> i32 {
     let Combined { k, d } = sums;
     let (k, streams): (&u16, &[[i32; 1028]; 3]) = (k, d);
     if *k == 0 { 0 } else { streams[0][0] }
 }
 
-// Bit i of what is sent of a word, and the first sum of values.
+// Returns rate-matched bit `i`, and the first combined soft value.
 fn sent_and_summed(bits: &[bool], values: &[i16], row: Row, rv: u8, i: usize) -> (bool, i32)
     requires row { IsRow row }
     requires bits { length bits.now ≡ row.k }
@@ -42,7 +42,7 @@ fn sent_and_summed(bits: &[bool], values: &[i16], row: Row, rv: u8, i: usize) ->
     (bit || first_bit(&coded), first_sum(&sums))
 }
 
-// One decoder's values.
+// Runs one constituent decoder.
 fn halve(
     systematic: &[i32],
     parity: &[i32],
@@ -64,7 +64,7 @@ fn halve(
     let _made: () = half(systematic, parity, tail, prior, out, work);
 }
 
-// The block of sums.
+// Decodes combined soft values.
 fn block_of(values: &Combined, row: Row, work: &mut Work) -> Option<ArrayVec<bool, 1000>>
     requires row { IsRow row }
     requires k { values.now.k ≡ row.k }
@@ -74,7 +74,7 @@ fn block_of(values: &Combined, row: Row, work: &mut Work) -> Option<ArrayVec<boo
     block
 }
 
-// Whether its memory can be had.
+// Returns whether the decoder's memory can be allocated.
 fn has_memory(alloc: Global) -> bool {
     let work: Result<Work, AllocError> = Work::new(alloc);
     work.is_ok()

@@ -1,4 +1,4 @@
--- The numbers of published conditions, written again beside the definitions that the called crates use.
+-- The numbers in published preconditions, stated again, independently of the called crates.
 use Rattle.std.specs.Prelude.{ℕ, ◌≤◌, nat_abs, nat_eq, if◌then◌else◌, List, [], ◌∷◌, All, IfSome}
 use Rattle.cs_num.specs.declared.Cpx.{Cpx}
 use Rattle.lte_types.specs.declared.mnc.Mnc.{Mnc}
@@ -6,7 +6,7 @@ use Rattle.lte_types.specs.declared.mnc.Mnc.TheVariants.{Two, Three}
 use Rattle.lte_types.specs.declared.plmn.Plmn.{Plmn}
 use Rattle.lte_types.specs.declared.si_message.SiMessage.{SiMessage}
 
--- transport block sizes by MCS index, of the columns for two and three resource blocks (own; the sizes of TS 36.213
+-- transport block sizes by MCS index, in the columns for two and three resource blocks (own; the sizes in TS 36.213
 -- table 7.1.7.2.1-1 up to 1,000 bits)
 unfoldable pub sizes_of_two : List ℕ
 sizes_of_two =
@@ -17,7 +17,7 @@ unfoldable pub sizes_of_three : List ℕ
 sizes_of_three =
     56 ∷ 88 ∷ 144 ∷ 176 ∷ 208 ∷ 224 ∷ 256 ∷ 328 ∷ 392 ∷ 456 ∷ 504 ∷ 584 ∷ 680 ∷ 744 ∷ 840 ∷ 904 ∷ 968 ∷ []
 
--- the sizes of a column
+-- the sizes in a column
 abbrev pub sizes_of : ℕ → List ℕ
 sizes_of column = if nat_eq column 2 then sizes_of_two else sizes_of_three
 
@@ -30,7 +30,7 @@ abbrev pub digits_of : Mnc → List ℕ
 digits_of (Two digits) = digits
 digits_of (Three digits) = digits
 
--- the digits of a network's identity are 0 to 9
+-- the digits of a PLMN identity are 0 to 9
 abbrev pub HasDecimalDigits : Plmn → Type 0
 HasDecimalDigits plmn = IfSome plmn.mcc (All (λ digit. digit ≤ 9)) × All (λ digit. digit ≤ 9) (digits_of plmn.mnc)
 

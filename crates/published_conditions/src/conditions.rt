@@ -1,5 +1,5 @@
-//! Published conditions in numbers: each function makes one call under numbers of its own, so a call that asks for more
-//! is not proved, even where its condition is a definition that its crate has changed.
+//! Published calls under numeric preconditions. Each function makes one call, so the proof fails if the call's
+//! precondition becomes stronger, even where that precondition is a definition of its crate.
 
 ghost use Rattle.std.specs.Prelude.{◌≡◌, ◌⊎◌, ◌+◌, ◌*◌, ◌^◌, ◌<◌, ◌≤◌, false, All, IfSome, IsSome, length, slice_get};
 ghost use Rattle.std.specs.Prelude.{negsuc, pos, ◌≤ℤ◌, Some};
@@ -15,7 +15,7 @@ use soft_bits::Slot;
 use turbo_code::{Coded, Combined, Row};
 use uper::Writer;
 
-/// Calls `grid_map::pdsch` with CFI 2, where a resource block has 102 resource elements.
+/// Calls `grid_map::pdsch` with CFI 2, which leaves 102 resource elements per resource block.
 pub fn shared_point_of_two(id: CellId, cfi: Cfi, start: u8, blocks: u8, i: usize) -> Place
     requires cfi { cfi ≡ 2 }
     requires some { 1 ≤ blocks }
@@ -25,7 +25,7 @@ pub fn shared_point_of_two(id: CellId, cfi: Cfi, start: u8, blocks: u8, i: usize
     grid_map::pdsch(id, cfi, start, blocks, i)
 }
 
-/// Calls `grid_map::pdsch` with CFI 3, where a resource block has 90 resource elements.
+/// Calls `grid_map::pdsch` with CFI 3, which leaves 90 resource elements per resource block.
 pub fn shared_point_of_three(id: CellId, cfi: Cfi, start: u8, blocks: u8, i: usize) -> Place
     requires cfi { cfi ≡ 3 }
     requires some { 1 ≤ blocks }
@@ -35,7 +35,8 @@ pub fn shared_point_of_three(id: CellId, cfi: Cfi, start: u8, blocks: u8, i: usi
     grid_map::pdsch(id, cfi, start, blocks, i)
 }
 
-/// Calls `grid_map::reg_places` with a group of symbol 0, six subcarriers wide (TS 36.211 section 6.2.4).
+/// Calls `grid_map::reg_places` with a resource-element group in symbol 0, six subcarriers wide (TS 36.211 section
+/// 6.2.4).
 pub fn first_group(id: CellId, n: u8) -> [Place; 4]
     requires { n < 12 }
 {
@@ -43,7 +44,7 @@ pub fn first_group(id: CellId, n: u8) -> [Place; 4]
     grid_map::reg_places(id, Reg { symbol: 0, first })
 }
 
-/// Calls `grid_map::reg_places` with a group of symbol 1, 2 or 3, four subcarriers wide.
+/// Calls `grid_map::reg_places` with a resource-element group in symbol 1, 2 or 3, four subcarriers wide.
 pub fn later_group(id: CellId, symbol: u8, n: u8) -> [Place; 4]
     requires later { 1 ≤ symbol }
     requires control { symbol ≤ 3 }
@@ -53,7 +54,7 @@ pub fn later_group(id: CellId, symbol: u8, n: u8) -> [Place; 4]
     grid_map::reg_places(id, Reg { symbol, first })
 }
 
-/// Calls `grid_map::quadruplet` with up to 66 groups.
+/// Calls `grid_map::quadruplet` with up to 66 resource-element groups.
 pub fn carried(id: CellId, count: u8, r: u8) -> u8
     requires inside { r < count }
     requires most { count ≤ 66 }
@@ -77,7 +78,7 @@ pub fn indication(start: u8, blocks: u8) -> u8
     dci::riv(start, blocks)
 }
 
-/// Calls `dci::write` with a grant of each size in the two columns.
+/// Calls `dci::write` with any grant whose transport block size is in the two columns.
 pub fn written(grant: &Grant) -> Bits<21>
     requires some { 1 ≤ grant.now.blocks }
     requires inside { grant.now.start + grant.now.blocks ≤ 6 }
@@ -128,7 +129,7 @@ const ROWS: [Row; 31] = rows![
     (1024, 31, 64)
 ];
 
-/// Returns row `n` of the 31 of TS 36.212 table 5.1.3-3 that are in use.
+/// Returns row `n` of the 31 rows that are used in TS 36.212 table 5.1.3-3.
 pub fn row_at(n: usize) -> Row
     requires { n < 31 }
     ensures { IsRow result }
@@ -136,7 +137,7 @@ pub fn row_at(n: usize) -> Row
     ROWS[n]
 }
 
-/// Calls `turbo_code::encode` with as many bits as the row has.
+/// Calls `turbo_code::encode` with a block of row `n`'s size, or returns `None` for another size.
 pub fn coded(bits: &[bool], n: usize) -> Option<Coded>
     requires { n < 31 }
 {
@@ -148,7 +149,7 @@ pub fn coded(bits: &[bool], n: usize) -> Option<Coded>
     }
 }
 
-/// Calls `turbo_code::match_out` with a block of a row's size, up to bit 4,096.
+/// Calls `turbo_code::match_out` with a code block of row `n`'s size, up to bit 4,096.
 pub fn sent_bit(coded: &Coded, n: usize, rv: u8, i: usize) -> Option<bool>
     requires row { n < 31 }
     requires version { rv ≤ 3 }
@@ -161,7 +162,7 @@ pub fn sent_bit(coded: &Coded, n: usize, rv: u8, i: usize) -> Option<bool>
     }
 }
 
-/// Calls `turbo_code::combine` with up to 1,224 values.
+/// Calls `turbo_code::combine` with up to 1,224 soft values.
 pub fn combined(values: &[i16], n: usize, rv: u8) -> Combined
     requires values { length values.now ≤ 1224 }
     requires row { n < 31 }

@@ -1,6 +1,8 @@
-//! Published conditions in numbers, and the published order of variants. Some published calls state their condition by a
-//! definition of their crate; the calls here are made under numbers of their own, so one that asks for more is not
-//! proved, even where its definition has changed.
+//! Checks that published preconditions and the order of published variants do not change. Some published calls state
+//! their precondition through a definition of their crate. Here they are called under plain numbers, so the proof fails
+//! if such a precondition becomes stronger.
+//!
+//! Tests: none of its own; its proofs are the test.
 #![tactic(auto)]
 
 mod conditions;

@@ -1,11 +1,11 @@
-//! Calls that ask for an entry of a recording's list, each with an entry that `explain` has just listed.
+//! Calls that need an entry in a recording's cell list, each with an entry that `explain` has just listed.
 
 use dci::Grant;
 use explain::{EntryList, Workspace, explain, grant_of, values_of};
 use lte_types::Cfi;
 use sample_file::Recording;
 
-/// Calls `explain::values_of` with entry `i` of the list.
+/// Calls `explain::values_of` with list entry `i`.
 pub fn values_at(
     recording: &Recording,
     work: &mut Workspace,
@@ -19,7 +19,7 @@ pub fn values_at(
     }
 }
 
-/// Calls `explain::grant_of` with entry `i` of the list.
+/// Calls `explain::grant_of` with list entry `i`.
 pub fn grant_at(
     recording: &Recording,
     work: &mut Workspace,

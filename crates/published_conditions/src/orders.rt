@@ -1,5 +1,5 @@
-//! The published order of variants, which a caller sees by `as`. An enum with data (`Status`, `Sib1Reason`, `Mnc`,
-//! `JsonError`) shows none.
+//! The published order of variants, which callers see through `as`. Enums with data (`Status`, `Sib1Reason`, `Mnc`,
+//! `JsonError`) have no visible order.
 
 ghost use Rattle.std.specs.Prelude.{◌≡◌, [], ◌∷◌};
 
@@ -7,14 +7,14 @@ use cell_plan::CellError;
 use lte_types::{Bandwidth, Duration, Half, Resource};
 use sample_file::FileError;
 
-/// Returns the numbers of the halves of a frame, in their published order.
+/// Returns `Half`'s discriminants in published order.
 pub fn halves() -> [u8; 2]
     ensures { result ≡ 0 ∷ 1 ∷ [] }
 {
     [Half::Zero as u8, Half::Five as u8]
 }
 
-/// Returns the numbers of the bandwidths, in their published order.
+/// Returns `Bandwidth`'s discriminants in published order.
 pub fn bandwidths() -> [u8; 6]
     ensures { result ≡ 0 ∷ 1 ∷ 2 ∷ 3 ∷ 4 ∷ 5 ∷ [] }
 {
@@ -28,14 +28,14 @@ pub fn bandwidths() -> [u8; 6]
     ]
 }
 
-/// Returns the numbers of the PHICH durations, in their published order.
+/// Returns `Duration`'s discriminants in published order.
 pub fn durations() -> [u8; 2]
     ensures { result ≡ 0 ∷ 1 ∷ [] }
 {
     [Duration::Normal as u8, Duration::Extended as u8]
 }
 
-/// Returns the numbers of the PHICH resources, in their published order.
+/// Returns `Resource`'s discriminants in published order.
 pub fn resources() -> [u8; 4]
     ensures { result ≡ 0 ∷ 1 ∷ 2 ∷ 3 ∷ [] }
 {
@@ -47,7 +47,7 @@ pub fn resources() -> [u8; 4]
     ]
 }
 
-/// Returns the numbers of the causes for which a recording is refused, in their published order.
+/// Returns `FileError`'s discriminants in published order.
 pub fn file_errors() -> [u8; 5]
     ensures { result ≡ 0 ∷ 1 ∷ 2 ∷ 3 ∷ 4 ∷ [] }
 {
@@ -60,8 +60,8 @@ pub fn file_errors() -> [u8; 5]
     ]
 }
 
-/// Returns the numbers of the causes for which a description is refused, in their published order, which is the order
-/// of the conditions.
+/// Returns `CellError`'s discriminants in published order, which is the order in which the conditions are
+/// checked.
 pub fn cell_errors() -> [u8; 15]
     ensures { result ≡ 0 ∷ 1 ∷ 2 ∷ 3 ∷ 4 ∷ 5 ∷ 6 ∷ 7 ∷ 8 ∷ 9 ∷ 10 ∷ 11 ∷ 12 ∷ 13 ∷ 14 ∷ [] }
 {

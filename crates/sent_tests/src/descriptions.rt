@@ -5,7 +5,7 @@ use std::alloc::{AllocError, Global};
 use std::test::Fail;
 use test_support::{PLAIN_KEYS, description, plain_block};
 
-// What is read where the plain description has this change, and its block this one.
+// Parses the plain description with `change`, and its SIB1 with `block`.
 fn answer(
     alloc: Global,
     change: &str,
@@ -15,7 +15,7 @@ fn answer(
     Ok(read(alloc, text.as_bytes()))
 }
 
-// Whether that is refused for this cause.
+// Returns whether the changed description is refused for this cause.
 fn is_refused(
     alloc: Global,
     change: &str,
@@ -26,7 +26,7 @@ fn is_refused(
     Ok(found.err() == Some(JsonError::Cell(cause)))
 }
 
-// Changes of the description that leave it another form.
+// Changes that break the description's format.
 const OTHER_FORMS: [&str; 22] = [
     ", \"identity\": 7.0, \"sfn\": 1024",
     ", \"sfn\": 1e2",
@@ -60,7 +60,7 @@ fn another_kind_of_value_or_key_has_not_the_form(rt: HostRuntime) -> Result<(), 
     Ok(())
 }
 
-// Changes of the block that leave it another form.
+// Changes that break the format of the SIB1.
 const OTHER_FORMS_OF_THE_BLOCK: [&str; 21] = [
     ", \"tac\": null",
     ", \"barred\": 0",
@@ -93,7 +93,7 @@ fn a_block_of_another_form_has_not_the_form(rt: HostRuntime) -> Result<(), Fail>
     Ok(())
 }
 
-// Changes of the description for which what is sent is out of range, and the cause.
+// Changes that put a value of the transmission out of range, and the cause.
 const OUT_OF_RANGE: [(&str, CellError); 12] = [
     (", \"sfn\": 1024, \"identity\": 504", CellError::Sfn),
     (", \"sfn\": -1, \"offset\": 19200", CellError::Sfn),
@@ -120,7 +120,7 @@ fn what_is_sent_is_in_its_ranges(rt: HostRuntime) -> Result<(), Fail> {
     Ok(())
 }
 
-// Changes of the block for which a value of it is out of its range.
+// Changes that put a value of the SIB1 out of range.
 const BLOCK_OUT_OF_RANGE: [&str; 31] = [
     ", \"tac\": 65536",
     ", \"tac\": -1",
@@ -164,7 +164,7 @@ fn each_value_of_the_block_is_in_its_range(rt: HostRuntime) -> Result<(), Fail> 
     Ok(())
 }
 
-// Changes of the description for which its plan is none of a cell, and the cause.
+// Changes whose plan is not a valid cell, and the cause.
 const NOT_OF_A_CELL: [(&str, CellError); 19] = [
     (", \"identity\": 504, \"spare\": 1024", CellError::Identity),
     (", \"identity\": -1", CellError::Identity),
@@ -210,7 +210,7 @@ fn the_block_is_looked_at_before_the_plan(rt: HostRuntime) -> Result<(), Fail> {
     Ok(())
 }
 
-// Whether bytes are refused since they are no description at all.
+// Returns whether bytes are refused because they are not a description.
 fn has_not_the_form(alloc: Global, bytes: &[u8]) -> bool {
     read(alloc, bytes).err() == Some(JsonError::Cell(CellError::Form))
 }
@@ -229,12 +229,12 @@ fn no_description_at_all_has_not_the_form(rt: HostRuntime) {
     }
 }
 
-// Whether the resource blocks and the scheme are those of the plain description.
+// Returns whether the resource blocks and the MCS are those of the plain description.
 fn has_plain_assignment(plan: &CellPlan) -> bool {
     plan.cfi == 2 && plan.start == 0 && plan.blocks == 6 && plan.mcs == 4 && plan.column == 2
 }
 
-// Whether an entry of the schedule has this period, and so many blocks.
+// Returns whether a scheduling entry has this period and this many SIBs.
 fn is_message(entry: &SiMessage, period: u8, count: usize) -> bool {
     entry.period == period && entry.sibs.slice().len() == count
 }
@@ -254,7 +254,7 @@ fn the_plain_description_is_read(rt: HostRuntime) -> Result<(), Fail> {
     Ok(())
 }
 
-// Another value of each key but the column.
+// Other values for every key except the column.
 const OTHER: &str = ", \"identity\": 503, \"sfn\": 1023, \"offset\": 19199, \"samples\": 1920000, \
     \"gain\": [-27, 7], \"duration\": \"extended\", \"resource\": \"oneSixth\", \"spare\": 1023, \"cfi\": 3, \
     \"start\": 1, \"blocks\": 5, \"mcs\": 5";
@@ -286,7 +286,7 @@ fn another_description_is_read(rt: HostRuntime) -> Result<(), Fail> {
     Ok(())
 }
 
-// Of a block with every value at an end of its range.
+// A SIB1 with every value at an end of its range.
 const ENDS: &str =
     ", \"tac\": 65535, \"cell\": 268435455, \"barred\": true, \"intra\": false, \"csg\": true, \
     \"csg_identity\": 134217727, \"q_rx\": -22, \"q_offset\": 8, \"p_max\": 33, \"band\": 64, \
@@ -329,7 +329,7 @@ fn the_ends_of_the_ranges_are_read(rt: HostRuntime) -> Result<(), Fail> {
     Ok(())
 }
 
-// Six networks, of which one alone has a country code.
+// Six networks; only one has a country code.
 const NETWORKS: &str = ", \"plmns\": [{\"mcc\": \"262\", \"mnc\": \"012\", \"reserved\": true}, \
     {\"mcc\": null, \"mnc\": \"02\", \"reserved\": false}, {\"mcc\": null, \"mnc\": \"03\", \"reserved\": false}, \
     {\"mcc\": null, \"mnc\": \"04\", \"reserved\": false}, {\"mcc\": null, \"mnc\": \"05\", \"reserved\": false}, \
@@ -365,7 +365,7 @@ fn six_networks_are_read_and_not_seven(rt: HostRuntime) -> Result<(), Fail> {
     Ok(())
 }
 
-// How many entries are read of a schedule of one and so many more.
+// Returns how many entries are read from a schedule with `more` + 1 entries.
 fn entries(alloc: Global, more: usize) -> Result<Result<usize, JsonError>, AllocError> {
     let mut list = String::new(alloc);
     list.push_str(", \"scheduling\": [{\"period\": 64, \"sibs\": []}")?;

@@ -1,4 +1,4 @@
-// The samples are those of a second program, `python/lte_reference/cell.py`, and so are the sums.
+// The samples and sums are from the reference implementation, `python/lte_reference/cell.py`.
 use cell_json::{JsonError, read_by};
 use cell_tx::{Cell, CellError, CellPlan, Emission, emit, sum_is_clean};
 use lte_types::Carrier;
@@ -7,7 +7,7 @@ use std::alloc::{AllocError, Global};
 use std::test::Fail;
 use test_support::{are_samples, description, has_sums, plain_block, silent};
 
-// What the tables send, beside the plain cell's keys.
+// The cells behind the tables, as changes of the plain cell's keys.
 const TURNED_KEYS: &str =
     ", \"identity\": 503, \"sfn\": 1023, \"offset\": 19199, \"gain\": [-11, 23], \
     \"duration\": \"extended\", \"spare\": 677, \"resource\": \"oneSixth\", \"cfi\": 3, \"start\": 1, \"blocks\": 5, \
@@ -26,7 +26,7 @@ const LONG_PREFIX_KEYS: &str =
     ", \"identity\": 167, \"sfn\": 511, \"offset\": 18000, \"gain\": [5, -27], \
     \"duration\": \"extended\", \"spare\": 1023, \"resource\": \"half\"";
 
-// `transmit --load 4294967295`, from sample 19,199 of frame 1023 on.
+// Samples from `transmit --load 4294967295`, from sample 19,199 of frame 1023.
 const LOADED: [(u32, i16, i16); 48] = [
     (0, -880, 5740),
     (1, -108, 3594),
@@ -80,7 +80,7 @@ const LOADED: [(u32, i16, i16); 48] = [
 
 const LOADED_SUMS: (i64, i64) = (-16_643_093, 301_783_149);
 
-// `transmit --ports 2`.
+// Samples from `transmit --ports 2`.
 const TWO_PORTS: [(u32, i16, i16); 49] = [
     (0, 0, 0),
     (5, -408, -994),
@@ -135,7 +135,7 @@ const TWO_PORTS: [(u32, i16, i16); 49] = [
 
 const TWO_PORTS_SUMS: (i64, i64) = (-58_589_345, -45_713_193);
 
-// `transmit --ports 2 --load 7`.
+// Samples from `transmit --ports 2 --load 7`.
 const LOADED_TWO_PORTS: [(u32, i16, i16); 49] = [
     (0, 462, -488),
     (5, -684, -616),
@@ -190,7 +190,7 @@ const LOADED_TWO_PORTS: [(u32, i16, i16); 49] = [
 
 const LOADED_TWO_PORTS_SUMS: (i64, i64) = (-68_603_635, -126_521_268);
 
-// `transmit --ports 4`.
+// Samples from `transmit --ports 4`.
 const FOUR_PORTS: [(u32, i16, i16); 54] = [
     (0, 0, 0),
     (1, 0, 0),
@@ -250,7 +250,7 @@ const FOUR_PORTS: [(u32, i16, i16); 54] = [
 
 const FOUR_PORTS_SUMS: (i64, i64) = (-7_178_227, 15_066_153);
 
-// `transmit --ports 4 --load 3735928559`.
+// Samples from `transmit --ports 4 --load 3735928559`.
 const LOADED_FOUR_PORTS: [(u32, i16, i16); 58] = [
     (0, 1051, -69),
     (1, -1755, 102),
@@ -314,7 +314,7 @@ const LOADED_FOUR_PORTS: [(u32, i16, i16); 58] = [
 
 const LOADED_FOUR_PORTS_SUMS: (i64, i64) = (67_027_000, -28_913_513);
 
-// `transmit --prefix long`.
+// Samples from `transmit --prefix long`.
 const LONG_PREFIX: [(u32, i16, i16); 45] = [
     (0, 0, 0),
     (1199, 0, 0),
@@ -365,7 +365,7 @@ const LONG_PREFIX: [(u32, i16, i16); 45] = [
 
 const LONG_PREFIX_SUMS: (i64, i64) = (-62_057_946, 84_992_560);
 
-// `transmit --prefix long --load 2863311530`.
+// Samples from `transmit --prefix long --load 2863311530`.
 const LOADED_LONG_PREFIX: [(u32, i16, i16); 45] = [
     (0, -3407, -4373),
     (1199, -2725, 3405),
@@ -416,22 +416,22 @@ const LOADED_LONG_PREFIX: [(u32, i16, i16); 45] = [
 
 const LOADED_LONG_PREFIX_SUMS: (i64, i64) = (-164_475_309, 64_888_093);
 
-// A description that is read, or why it is refused.
+// A parsed description, or why it is refused.
 type Answer = Result<Emission, JsonError>;
 
-// What is read, by a carrier, where the plain description has this change.
+// Parses the plain description with `change`, under a transmission scheme.
 fn answer(alloc: Global, carrier: Carrier, change: &str) -> Result<Answer, AllocError> {
     let text = description(alloc, change, "")?;
     Ok(read_by(alloc, carrier, text.as_bytes()))
 }
 
-// Whether that is refused for this cause.
+// Returns whether the changed description is refused for this cause.
 fn is_refused(alloc: Global, row: (Carrier, &str, CellError)) -> Result<bool, AllocError> {
     let (carrier, change, cause) = row;
     Ok(answer(alloc, carrier, change)?.err() == Some(JsonError::Cell(cause)))
 }
 
-// What a described cell sends by a carrier, with this load or without.
+// Returns the samples of a described cell under a transmission scheme, with or without a load.
 fn sent(
     alloc: Global,
     carrier: Carrier,
@@ -446,7 +446,7 @@ fn sent(
     Ok(recording)
 }
 
-// Whether a recording has these samples and these sums.
+// Returns whether a recording has these samples and these sums.
 fn holds(recording: &Recording, rows: &[(u32, i16, i16)], sums: (i64, i64)) -> bool {
     let samples = recording.as_slice();
     are_samples(rows, |i| samples.get(i as usize).copied()) && has_sums(recording, sums)
@@ -499,11 +499,11 @@ fn the_extended_prefix_without_and_with_load(rt: HostRuntime) -> Result<(), Fail
     Ok(())
 }
 
-// Gains of the further ports of four.
+// Gains for the second to fourth antenna port.
 const THREE_GAINS: &str = ", \"gain2\": [0, 1], \"gain3\": [-1, 0], \"gain4\": [0, -1]";
 
-// What a description by a carrier is refused for: a further port's gain is a key of the carriers that have the port,
-// and no gain of them may be greater than a clean recording allows.
+// Descriptions that a transmission scheme refuses. The gain of a further port is a key only if the scheme has that
+// port, and no gain may exceed what a clean recording allows.
 const REFUSALS: [(Carrier, &str, CellError); 19] = [
     (Carrier::OnePort, ", \"gain2\": [1, 0]", CellError::Form),
     (Carrier::LongPrefix, ", \"gain2\": [1, 0]", CellError::Form),
@@ -598,7 +598,7 @@ fn gains_of_both_ports_at_their_greatest(rt: HostRuntime) -> Result<(), Fail> {
     Ok(())
 }
 
-// Why a carrier refuses a plan of the plain block.
+// Returns why a transmission scheme refuses a plan with the plain SIB1.
 fn refusal(carrier: Carrier, mcs: u8, blocks: u8) -> Option<CellError> {
     let plan = CellPlan {
         identity: 0,
@@ -621,7 +621,7 @@ fn refusal(carrier: Carrier, mcs: u8, blocks: u8) -> Option<CellError> {
 
 #[test]
 fn two_ports_leave_less_room(rt: HostRuntime) {
-    // 376 bits have 1,212 coded bits: with one port 1,224 are sent, and with two 1,152.
+    // 376 bits have 1,212 coded bits; one port carries 1,224, two ports carry 1,152.
     assert!(rt; refusal(Carrier::OnePort, 11, 6) == None);
     assert!(rt; refusal(Carrier::LongPrefix, 11, 6) == None);
     assert!(rt; refusal(Carrier::FourPorts, 11, 6) == None);

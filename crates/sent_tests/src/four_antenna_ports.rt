@@ -1,10 +1,10 @@
-// The numbers are those of a second program, `python/lte_reference/four_ports.py`.
+// The numbers are from the reference implementation, `python/lte_reference/four_ports.py`.
 use capture_make::{MadeBy, make_by};
 use lte_types::Carrier;
 use std::test::Fail;
 use test_support::{Summary, is_summed_up};
 
-// Whether a recording has these gains, this bound of its errors and this summary.
+// Returns whether a synthetic recording has these gains, this noise bound and this summary.
 fn is_made(made: &MadeBy, gains: [(i64, i64); 4], bound: i16, summary: &Summary) -> bool {
     let [zero, one, two, three] = made.sent.gains;
     [
@@ -17,7 +17,7 @@ fn is_made(made: &MadeBy, gains: [(i64, i64); 4], bound: i16, summary: &Summary)
         && is_summed_up(&made.recording, summary)
 }
 
-// Recordings by number: the gains, the bound of its errors, and what it holds.
+// Synthetic recordings: number, gains, noise bound and summary.
 const MADE: [(u32, [(i64, i64); 4], i16, Summary); 3] = [
     (
         0,
@@ -51,7 +51,7 @@ const MADE: [(u32, [(i64, i64); 4], i16, Summary); 3] = [
     ),
 ];
 
-// Frame 8 of number 7 begins at sample 19,193, since sample 7 of frame 7 is the first.
+// Recording 7 starts at sample 7 of frame 7, so its frame 8 begins at sample 19,193.
 #[test]
 fn recordings_by_number(rt: HostRuntime) -> Result<(), Fail> {
     for (n, gains, bound, summary) in MADE {

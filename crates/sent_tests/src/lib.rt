@@ -1,4 +1,5 @@
-//! Tests of what is sent, of its descriptions, and of the texts of a list.
+//! Tests of the transmitter and of the report formats: `cell_plan`, `cell_tx`, `cell_json`, `capture_make`, `two_tx`,
+//! `hit_details`, `report_text` and `report_json`.
 #![tactic(auto)]
 
 #[cfg(test)]

@@ -1,5 +1,5 @@
-// The numbers are those of a second program, `python/lte_reference/make.py`; the first words of the generator
-// those of PCG's reference code.
+// The numbers are from the reference implementation, `python/lte_reference/make.py`, and the first generator outputs
+// from PCG's reference code.
 use capture_make::{made_is_clean, make};
 use rand_core::utils::NextWord;
 use rand_pcg::Lcg64Xsh32;
@@ -22,13 +22,13 @@ fn the_generator_gives_the_reference_words(rt: HostRuntime) {
     }
 }
 
-// Whether the recording of a number has this bound of its errors and this summary.
+// Returns whether synthetic recording `n` has this noise bound and this summary.
 fn is_made(alloc: Global, n: u32, bound: i16, summary: &Summary) -> Result<bool, AllocError> {
     let made = make(alloc, n)?;
     Ok(made.bound == bound && is_summed_up(&made.recording, summary))
 }
 
-// Recordings by number: the bound of its errors, and what it holds.
+// Synthetic recordings: number, noise bound and summary.
 const MADE: [(u32, i16, Summary); 3] = [
     (
         0,

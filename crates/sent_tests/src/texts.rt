@@ -8,7 +8,7 @@ use std::alloc::{AllocError, Global};
 use std::test::Fail;
 use test_support::{PLAIN_REPORT, message, plain_block};
 
-// A cell with this identity, start, frame number and system information.
+// Returns a cell with this identity, start, frame number, MIB and system information.
 fn entry_of(
     id: u16,
     start: u32,
@@ -30,19 +30,19 @@ fn entry_of(
     })
 }
 
-// The list of one cell.
+// Returns a cell list with one cell.
 fn list_of(entry: Option<Entry>) -> Result<[Entry; 1], Fail> {
     let entry = entry.ok_or("out of range")?;
     Ok([entry])
 }
 
-// The report of one cell.
+// Returns the text report for one cell.
 fn report_of(alloc: Global, entry: Option<Entry>) -> Result<String, Fail> {
     let list = list_of(entry)?;
     Ok(text(alloc, &list)?)
 }
 
-// The JSON text of one cell.
+// Returns the JSON text for one cell.
 fn json_of(alloc: Global, entry: Option<Entry>) -> Result<String, Fail> {
     let list = list_of(entry)?;
     Ok(json(alloc, &list)?)
@@ -52,13 +52,13 @@ fn is_text(found: String, wanted: &str) -> bool {
     found.as_str() == wanted
 }
 
-// The first cell of all, with the plain block.
+// Returns a cell with the minimum identity, start and frame number, and the plain SIB1.
 fn plain_entry() -> Option<Entry> {
     let mib = Mib::new(Bandwidth::N6, Duration::Normal, Resource::One, 0, 0)?;
     entry_of(0, 0, 0, mib, Ok(plain_block()))
 }
 
-// A cell with two entries of the schedule.
+// Returns a cell with two scheduling entries.
 fn scheduled_entry() -> Option<Entry> {
     let mib = Mib::new(Bandwidth::N6, Duration::Extended, Resource::Two, 2, 7)?;
     let mut sib1 = Sib1 {
@@ -81,7 +81,7 @@ si rf8 -
 si rf8 0,2
 ";
 
-// The last cell of all, with every optional field.
+// Returns a cell with the maximum identity, start and frame number, and every optional field.
 fn full_entry() -> Option<Entry> {
     let mib = Mib::new(Bandwidth::N6, Duration::Normal, Resource::OneSixth, 0, 1023)?;
     let mut sib1 = Sib1 {
@@ -120,7 +120,7 @@ si rf8 -
 si rf512 79
 ";
 
-// The text is that of Python's json, with keys sorted and without spaces.
+// The text is from Python's `json`, with sorted keys and without spaces.
 const FULL_JSON: &str =
     "[{\"at\":19199,\"bandwidth\":\"n6\",\"br\":31,\"duration\":\"normal\",\"identity\":503,\"ports\":1,\
     \"resource\":\"oneSixth\",\"sfn\":1023,\"sib1\":{\"band\":64,\"barred\":true,\"cell\":65535,\"csg\":true,\
@@ -130,7 +130,7 @@ const FULL_JSON: &str =
     \"scheduling\":[{\"period\":8,\"sibs\":[]},{\"period\":512,\"sibs\":[79]}],\"tac\":65535,\"tag\":31,\
     \"tdd\":[6,8],\"window\":40},\"spare\":31}]";
 
-// The first cell of all with two antenna ports, and why it has no system information.
+// Returns a cell with two antenna ports, and the reason why it has no system information.
 fn two_port_entry() -> Option<Entry> {
     let mib = Mib::new(Bandwidth::N6, Duration::Normal, Resource::One, 0, 33)?;
     let entry = entry_of(0, 0, 0, mib, Err(Sib1Reason::NotOnePort(2)))?;
@@ -168,13 +168,13 @@ fn every_optional_field_is_written(rt: HostRuntime) -> Result<(), Fail> {
     Ok(())
 }
 
-// A cell of 50 resource blocks, and why it has no system information.
+// Returns a cell 50 resource blocks wide, and the reason why it has no system information.
 fn wide_entry(reason: Sib1Reason) -> Option<Entry> {
     let mib = Mib::new(Bandwidth::N50, Duration::Normal, Resource::Half, 0, 0)?;
     entry_of(0, 0, 0, mib, Err(reason))
 }
 
-// Whether its report ends with these words.
+// Returns whether the report of a `wide_entry` ends with `words`.
 fn ends_with(report: String, words: &str) -> bool {
     let rest = report.as_str().strip_prefix(
         "cells 1\ncell 0 at 0 sfn 0 ports 1 n50 phich normal half br 0 spare 0\nsib1 none ",
@@ -205,7 +205,7 @@ fn each_reason_has_its_words(rt: HostRuntime) -> Result<(), Fail> {
     Ok(())
 }
 
-// A hit at a place, of an identity within its group.
+// Returns a PSS detection at sample `t`.
 fn hit_at(t: u32, n2: u8) -> Hit {
     Hit {
         t,
@@ -288,7 +288,7 @@ const CODES: [u8; 31] = [
     26, 27, 28, 29, 30,
 ];
 
-// The plain cell with 31 further entries of the schedule, each with 31 codes.
+// Returns the plain cell with 31 further scheduling entries of 31 codes each.
 fn crowded_entry() -> Option<Entry> {
     let mib = Mib::new(Bandwidth::N6, Duration::Normal, Resource::One, 0, 0)?;
     let mut sib1 = plain_block();
@@ -298,7 +298,7 @@ fn crowded_entry() -> Option<Entry> {
     entry_of(0, 0, 0, mib, Ok(sib1))
 }
 
-// Its text, by Python's json too.
+// Returns the JSON text of the crowded cell, in the form of Python's `json`.
 fn crowded_json(alloc: Global) -> Result<String, AllocError> {
     let mut text = String::from_str(
         alloc,

@@ -1,4 +1,4 @@
-// The samples are those of a second program, `python/lte_reference/cell.py`.
+// The samples are from the reference implementation, `python/lte_reference/cell.py`.
 ghost use Rattle.std.specs.Prelude.{◌≡◌, IfOk};
 
 use cell_plan::accepted_are_sendable;
@@ -11,7 +11,7 @@ use lte_types::{Duration, Mnc, Plmn, Plmns, Resource, Schedule, Sfn, Sib1};
 use std::test::Fail;
 use test_support::{are_samples, message, plain_block, silent};
 
-// Samples of the plain cell from frame 0 on.
+// Samples of the plain cell from frame 0.
 const ROW: [(u32, i16, i16); 52] = [
     (0, -99, 131),
     (9, -58, -3),
@@ -67,7 +67,7 @@ const ROW: [(u32, i16, i16); 52] = [
     (49919, 109, -129),
 ];
 
-// Samples of identity 503 from sample 19,199 of frame 1023 on, times -11 + 23j.
+// Samples of identity 503 from sample 19,199 of frame 1023, times -11 + 23j.
 const TURNED: [(u32, i16, i16); 52] = [
     (1, 1349, 843),
     (10, -754, -728),
@@ -123,7 +123,7 @@ const TURNED: [(u32, i16, i16); 52] = [
     (49920, -1353, 4129),
 ];
 
-// Samples of frame 6 of identity 301.
+// Samples of identity 301, frame 6.
 const FRAME: [(u32, i16, i16); 26] = [
     (0, 59, -27),
     (9, 70, -40),
@@ -153,7 +153,7 @@ const FRAME: [(u32, i16, i16); 26] = [
     (11519, 82, 19),
 ];
 
-// A usual block, of 163 bits.
+// Returns a typical SIB1, 163 bits long.
 fn usual_block() -> Sib1 {
     let mut plmns = Plmns::new();
     plmns.push(Plmn {
@@ -180,7 +180,7 @@ fn usual_block() -> Sib1 {
     }
 }
 
-// The plan of a plain cell.
+// Returns a plain cell's plan.
 fn plain_plan() -> CellPlan {
     CellPlan {
         identity: 0,
@@ -196,7 +196,7 @@ fn plain_plan() -> CellPlan {
     }
 }
 
-// The cell of a plan.
+// Builds a plan's cell.
 fn cell_of(plan: CellPlan) -> Result<Cell, CellError> {
     if plan.sib1.valid() {
         Cell::new(plan)
@@ -205,7 +205,7 @@ fn cell_of(plan: CellPlan) -> Result<Cell, CellError> {
     }
 }
 
-// Why a plan is refused.
+// Returns why a plan is refused.
 fn refusal(plan: CellPlan) -> Option<CellError> {
     cell_of(plan).err()
 }
@@ -218,7 +218,7 @@ fn is_accepted(plan: CellPlan) -> bool {
     refusal(plan) == None
 }
 
-// What a transmission of identity 503 sends.
+// Returns identity 503's transmission.
 fn turned() -> Result<Transmission, CellError>
     ensures { IfOk result (λ t. t.samples ≡ 57600) }
 {
@@ -278,7 +278,7 @@ fn refusals_by_numbers(rt: HostRuntime) {
     accepted_are_sendable();
 }
 
-// The plain cell's plan with another size of the block.
+// Returns the plain cell's plan with another transport block size.
 fn sized_plan(mcs: u8, cfi: u8, blocks: u8) -> CellPlan {
     CellPlan {
         mcs,
@@ -288,7 +288,7 @@ fn sized_plan(mcs: u8, cfi: u8, blocks: u8) -> CellPlan {
     }
 }
 
-// The plain cell's plan with K = 416, of whose 1,260 coded bits 1,224 are sent.
+// Returns the plain cell's plan with K = 416, which sends 1,224 of its 1,260 coded bits.
 fn punctured_plan(sib1: Sib1) -> CellPlan {
     CellPlan {
         mcs: 8,
@@ -300,13 +300,13 @@ fn punctured_plan(sib1: Sib1) -> CellPlan {
 
 #[test]
 fn punctured_blocks_have_to_be_resolvable(rt: HostRuntime) {
-    // K = 400 needs 1,212 of 1,224 bits, so that each is sent; K = 416 is resolved without 36 of its bits, and K = 400
-    // in 1,080.
+    // K = 400 has 1,212 coded bits, and 1,224 are sent; K = 416 is resolvable without 36 of its bits, and K = 400 with
+    // 1,080.
     assert!(rt; is_accepted(sized_plan(11, 2, 6)));
     assert!(rt; is_accepted(punctured_plan(plain_block())));
     assert!(rt; is_accepted(sized_plan(11, 3, 6)));
-    // 204 bits do not settle 1,024. Of K = 320 in 540, from version 2 on, the first iteration leaves 38 bits, which are
-    // all 0 here, so that its word passes the check before every bit is settled.
+    // 204 bits cannot determine 1,024. For K = 320 in 540 bits, from redundancy version 2, the first iteration leaves
+    // 38 bits. All of them are 0 here, so the hard decision passes the CRC before every bit is settled.
     assert!(rt; is_refused(sized_plan(21, 2, 1), CellError::Punctured));
     assert!(rt; is_refused(sized_plan(9, 3, 3), CellError::Punctured));
 }
@@ -323,12 +323,12 @@ fn punctured_plans_without_a_block_are_punctured(rt: HostRuntime) {
         ..plain_block()
     });
     assert!(rt; is_refused(extension, CellError::Punctured));
-    // A text of 113 bits in 104, of whose 396 coded bits 360 are sent.
+    // A SIB1 of 113 bits in a block of 104; 360 of its 396 coded bits are sent.
     assert!(rt; is_refused(sized_plan(3, 3, 2), CellError::Punctured));
 }
 
-// Whether a plan with so many resource blocks is answered as a letter of the table says: `w` or `r` where it is
-// accepted, `p` punctured, `l` too long a text.
+// Returns whether a plan has the answer of its letter in the table: `w` or `r` accepted, `p` punctured, `l` a SIB1 that
+// is too long.
 fn is_answer(cfi: u8, blocks: u8, column: u8, mcs: u8, letter: u8) -> bool {
     let plan = CellPlan {
         cfi,
@@ -345,7 +345,7 @@ fn is_answer(cfi: u8, blocks: u8, column: u8, mcs: u8, letter: u8) -> bool {
     }
 }
 
-// Whether the answers for each modulation and coding scheme, from 0 on, are these.
+// Returns whether the answers for each MCS index, from 0, are `letters`.
 fn are_answers(cfi: u8, blocks: u8, column: u8, letters: &str) -> bool {
     let mut all = true;
     let mut mcs = 0_u8;
@@ -356,7 +356,7 @@ fn are_answers(cfi: u8, blocks: u8, column: u8, letters: &str) -> bool {
     all
 }
 
-// What `python/lte_reference/punctured_table.py` prints: control format indicator, resource blocks, column and letters.
+// Output of `python/lte_reference/punctured_table.py`: CFI, resource blocks, column and letters.
 const ANSWERS: [(u8, u8, u8, &str); 24] = [
     (2, 1, 2, "lppppppppppppppppppppp"),
     (2, 2, 2, "llllrrrrpppppppppppppp"),
@@ -416,7 +416,7 @@ fn refusals_by_the_block(rt: HostRuntime) {
     assert!(rt; is_refused(extension, CellError::Extension));
 }
 
-// Whether a plan is accepted, and has this scheme.
+// Returns whether a plan is accepted with this MCS index.
 fn has_scheme(plan: CellPlan, mcs: u8) -> bool {
     match cell_of(plan) {
         Ok(cell) => cell.plan().mcs == mcs,
@@ -424,7 +424,7 @@ fn has_scheme(plan: CellPlan, mcs: u8) -> bool {
     }
 }
 
-// A text of 113 bits in 104 and in 120; one of 163 bits in 144 and in 176.
+// A SIB1 of 113 bits in blocks of 104 and 120; one of 163 bits in blocks of 144 and 176.
 #[test]
 fn a_text_has_to_fit_its_block(rt: HostRuntime) {
     let long = CellPlan {
@@ -456,7 +456,7 @@ fn samples_of_a_sequence(rt: HostRuntime) -> Result<(), Fail> {
     Ok(())
 }
 
-// Sample i of a transmission, if there is one.
+// Returns sample `i` of a transmission, or `None` past its end.
 fn sent_at(transmission: &Transmission, i: u32) -> Option<Sample> {
     if i < transmission.samples {
         Some(send(transmission, i))

@@ -1,4 +1,4 @@
-// The numbers are those of a second program, `python/lte_reference/two_ports.py`.
+// The numbers are from the reference implementation, `python/lte_reference/two_ports.py`.
 use capture_make::plan;
 use cell_tx::{CellError, CellPlan, sum_is_clean};
 use lte_types::{Sfn, Sib1};
@@ -6,7 +6,7 @@ use std::test::Fail;
 use test_support::{Summary, are_samples, is_summed_up};
 use two_tx::{Cell2, TwoMade, made_is_clean, make, sample};
 
-// The cell of a plan.
+// Builds a plan's cell.
 fn cell_of(plan: CellPlan) -> Result<Cell2, CellError> {
     if plan.sib1.valid() {
         Cell2::new(plan)
@@ -15,12 +15,12 @@ fn cell_of(plan: CellPlan) -> Result<Cell2, CellError> {
     }
 }
 
-// Whether a plan is refused for this cause, or accepted where there is none.
+// Returns whether a plan is refused for `cause`, or accepted if that is `None`.
 fn is_answer(plan: CellPlan, cause: Option<CellError>) -> bool {
     cell_of(plan).err() == cause
 }
 
-// A plan whose block of system information has a TDD-Config.
+// Returns a plan whose SIB1 has a TDD-Config.
 fn with_duplex(mcs: u8) -> CellPlan {
     let plan = plan(0);
     CellPlan {
@@ -33,8 +33,8 @@ fn with_duplex(mcs: u8) -> CellPlan {
     }
 }
 
-// Six blocks carry 1,152 bits with indicator 2 and 1,008 with 3. K = 352 needs 1,068 bits, K = 400 needs 1,212, which
-// one port carries, and K = 320 needs 972.
+// Six resource blocks carry 1,152 bits with CFI 2 and 1,008 with CFI 3. K = 352 needs 1,068 bits; K = 400 needs 1,212,
+// which one port carries; K = 320 needs 972.
 #[test]
 fn each_coded_bit_has_to_be_sent(rt: HostRuntime) {
     let punctured = Some(CellError::Punctured);
@@ -48,7 +48,7 @@ fn each_coded_bit_has_to_be_sent(rt: HostRuntime) {
     }
 }
 
-// The other conditions are those of one port, in their order.
+// The other conditions are those for one antenna port, in the same order.
 #[test]
 fn refusals_in_order(rt: HostRuntime) {
     let identity = CellPlan {
@@ -65,7 +65,7 @@ fn refusals_in_order(rt: HostRuntime) {
     }
 }
 
-// Samples of the cell of number 7 from frame 7 on, at each port.
+// Samples of cell 7 from frame 7, at each antenna port.
 const FIRST: [(u32, i16, i16); 22] = [
     (0, -35, -11),
     (9, 87, -14),
@@ -126,17 +126,17 @@ fn samples_of_each_port(rt: HostRuntime) -> Result<(), Fail> {
     Ok(())
 }
 
-// Whether a recording has these gains, this bound of its errors and this summary.
+// Returns whether a synthetic recording has these gains, this noise bound and this summary.
 fn is_made(made: &TwoMade, gains: [(i16, i16); 2], bound: i16, summary: &Summary) -> bool {
     made.gains == gains && made.bound == bound && is_summed_up(&made.recording, summary)
 }
 
-// Whether number 7 is the identity, the first sample and the number of the first frame.
+// Returns whether the identity, the first sample and the first frame number are 7.
 fn begins_with_7(made: &TwoMade) -> bool {
     made.plan.identity == 7 && made.offset == 7 && made.sfn.value() == 7
 }
 
-// Recordings by number: the gains, the bound of its errors, and what it holds.
+// Synthetic recordings: number, gains, noise bound and summary.
 const MADE: [(u32, [(i16, i16); 2], i16, Summary); 3] = [
     (
         0,
@@ -170,7 +170,7 @@ const MADE: [(u32, [(i16, i16); 2], i16, Summary); 3] = [
     ),
 ];
 
-// Frame 8 of number 7 begins at sample 19,193, since sample 7 of frame 7 is the first.
+// Recording 7 starts at sample 7 of frame 7, so its frame 8 begins at sample 19,193.
 #[test]
 fn recordings_by_number(rt: HostRuntime) -> Result<(), Fail> {
     made_is_clean();

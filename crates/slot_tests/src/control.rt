@@ -8,9 +8,9 @@ use soft_bits::Slot;
 use std::process::Abort;
 use test_support::Rows;
 
-// Slots 10, whose first symbols carry the control channel. The control information is the same in both.
+// Instances of slot 10, whose first symbols carry the PDCCH. The control information is the same in both.
 
-// Identity 0, indicator 2, duration normal and resource one.
+// Identity 0, CFI 2, PHICH duration normal and resource one.
 const PLAIN: Rows = [
     b"020.111.....120.31332.003.....213.02211.32021.111.....230.30033.33130.11",
     b"0313131123113130....2210320133112132....01203100101003121102100130013121",
@@ -19,7 +19,7 @@ const PLAIN: Rows = [
     b"...3.....0.....1.....2.....1.....3.....3.....3.....2.....0.....2.....0..",
 ];
 
-// Identity 503, indicator 3, duration extended and resource two.
+// Identity 503, CFI 3, PHICH duration extended and resource two.
 const WIDE: Rows = [
     b".....113.32122.311.....233.33223.020.....311.01303.31133.110.....023.021",
     b"....................13122313001210200111....32233201....0013032321201303",
@@ -28,7 +28,7 @@ const WIDE: Rows = [
     b"..2.....1.....3.....2.....0.....2.....0.....0.....2.....0.....1.....1...",
 ];
 
-// The 288 coded bits of both.
+// The 288 coded bits of both slots.
 const CODED: &[u8; 288] =
     b"111011001110110001100011001110111000001011000101001000111000100000110000\
     001100010111100011001101011000111100000111011001110110001100011001110111\
@@ -45,7 +45,7 @@ pub(crate) fn cfi_of(rt: &impl Abort, value: u8) -> Cfi
     Cfi::new(value).expect(rt, "in range")
 }
 
-// How many control elements there are with indicators 1, 2 and 3.
+// Returns the counts of control channel elements for CFI 1, 2 and 3.
 fn counts_of(rt: &impl Abort, identity: u16, mib: Mib) -> [u8; 3] {
     let id = CellId::new(identity).expect(rt, "in range");
     [1, 2, 3].map(|cfi| elements(id, cfi_of(rt, cfi), mib))
@@ -60,12 +60,12 @@ fn counts_of_control_elements(rt: HostRuntime) {
     quadruplets_carried();
 }
 
-// The values are 67 for each coded bit 0 and -67 for each 1.
+// Returns whether the soft values are 67 for each coded 0 and -67 for each coded 1.
 fn speaks_for(values: &[i16; 288], coded: &[u8; 288]) -> bool {
     values.iter().zip(coded).all(|(value, digit)| *value == if *digit == b'1' { -67 } else { 67 })
 }
 
-// Whether the candidate in a slot speaks for the coded bits, where there is one.
+// Returns whether the PDCCH candidate in a slot has these coded bits; `None` without a candidate.
 fn is_coded(slot: &Slot, cfi: Cfi, mib: Mib) -> Option<bool>
     requires { slot.now.number ≡ 10 }
 {

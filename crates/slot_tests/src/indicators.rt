@@ -2,9 +2,9 @@ use crate::seen::slot_of;
 use pcfich::{cfi, only_one_indicator};
 use test_support::{EMPTY, Rows};
 
-// Slots 10, whose symbol 0 carries the control format indicator.
+// Instances of slot 10, whose symbol 0 carries the PCFICH.
 
-// Indicator 1 of identity 77, with three real parts turned.
+// CFI 1 for identity 77, with three real parts negated.
 const DAMAGED_1: Rows = [
     b".....2.....312.002.....2.....203.300.....0.....300.002.....3.....113.313",
     EMPTY,
@@ -13,7 +13,7 @@ const DAMAGED_1: Rows = [
     b"..3.....0.....2.....0.....3.....3.....2.....2.....1.....2.....1.....0...",
 ];
 
-// Indicator 2 of identity 0.
+// CFI 2 for identity 0.
 const TWO: Rows = [
     b"020.111.....120.31332.003.....213.02211.32021.111.....230.30033.33130.11",
     EMPTY,
@@ -22,7 +22,7 @@ const TWO: Rows = [
     b"...3.....0.....1.....2.....1.....3.....3.....3.....2.....0.....2.....0..",
 ];
 
-// Indicator 3 of identity 503.
+// CFI 3 for identity 503.
 const THREE: Rows = [
     b".....113.32122.311.....233.33223.020.....311.01303.31133.110.....023.021",
     EMPTY,
@@ -31,7 +31,7 @@ const THREE: Rows = [
     b"..2.....1.....3.....2.....0.....2.....0.....0.....2.....0.....1.....1...",
 ];
 
-// Nothing at all.
+// Silence.
 const SILENCE: Rows = [EMPTY; 5];
 
 #[test]

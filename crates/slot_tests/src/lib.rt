@@ -1,5 +1,5 @@
-//! Tests of what slots tell: master blocks, control format indicators, candidates of the
-//! control channel, values of the shared channel and system information.
+//! Tests of channel decoding in single slots, MIB, CFI, PDCCH candidates, PDSCH soft values and SIB1: `pbch`, `pcfich`,
+//! `pdcch`, `pdsch`, `dci` and `sib1_reader`.
 #![tactic(auto)]
 
 #[cfg(test)]

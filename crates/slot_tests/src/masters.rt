@@ -8,9 +8,9 @@ use std::test::Fail;
 use tailbite::Trellis;
 use test_support::{EMPTY, Rows};
 
-// Slots 1, which carry the broadcast channel.
+// Instances of slot 1, which carries the PBCH.
 
-// Bandwidth code 6, of identity 0 at phase 1.
+// The reserved bandwidth code 6, for identity 0 at phase 1.
 const CODE_6: Rows = [
     b"321.00231.00320.11212.03002.23310.20130.00210.31022.33102.00200.01103.00",
     b".22.30.21.31.12.01.33.00.31.01.30.20.03.23.32.23.11.32.20.33.13.00.02.32",
@@ -19,7 +19,7 @@ const CODE_6: Rows = [
     b"...0.....3.....3.....3.....2.....2.....0.....1.....3.....3.....0.....0..",
 ];
 
-// One port, of identity 0 at phase 0.
+// One antenna port, for identity 0 at phase 0.
 const ONE_PORT: Rows = [
     b"321.02230.20323.13213.20012.12330.11100.03212.02021.30103.21212.01121.21",
     b".21.33.13.31.13.01.31.22.32.01.13.32.00.00.13.10.00.22.00.12.01.03.21.11",
@@ -28,7 +28,7 @@ const ONE_PORT: Rows = [
     b"...0.....3.....3.....3.....2.....2.....0.....1.....3.....3.....0.....0..",
 ];
 
-// Two ports, of identity 301 at phase 2.
+// Two antenna ports, for identity 301 at phase 2.
 const TWO_PORTS: Rows = [
     b"0323.30203.00330.03010.23210.00022.00131.23210.21321.01033.32000.21013.2",
     b"3.32.01.20.11.31.03.03.13.02.23.20.02.22.01.03.03.22.02.11.22.21.11.11.0",
@@ -37,7 +37,7 @@ const TWO_PORTS: Rows = [
     b"....1.....0.....0.....3.....0.....0.....1.....1.....1.....3.....1.....2.",
 ];
 
-// Four ports, of identity 503 at phase 3.
+// Four antenna ports, for identity 503 at phase 3.
 const FOUR_PORTS: Rows = [
     b"13.22101.10221.12203.10123.33301.23310.20211.02022.13330.12223.33132.031",
     b"22.22.03.10.21.11.00.00.20.20.12.20.11.00.21.02.01.23.12.23.01.23.21.21.",
@@ -46,7 +46,7 @@ const FOUR_PORTS: Rows = [
     b"..3.....0.....2.....1.....3.....1.....1.....2.....3.....0.....3.....2...",
 ];
 
-// Other fields, of identity 77 at phase 1, with eight real parts turned.
+// Other MIB fields, for identity 77 at phase 1, with eight real parts negated.
 const DAMAGED: Rows = [
     b"13.20022.02101.22322.20221.13103.22020.31113.20222.03001.20103.21031.231",
     b"00.13.33.13.01.23.20.33.01.12.02.00.33.30.32.00.12.33.03.20.30.00.11.33.",
@@ -55,8 +55,8 @@ const DAMAGED: Rows = [
     b"..1.....3.....1.....1.....2.....0.....3.....0.....0.....1.....0.....3...",
 ];
 
-// One port, of identity 0 in frames of phases 0 to 3, made by `python/lte_reference/frames.py`: the frame of
-// phase m keeps only every fourth place of the broadcast channel, from place m on.
+// One antenna port, for identity 0 in frames of phases 0 to 3, from `python/lte_reference/frames.py`. The frame of
+// phase m keeps only every fourth PBCH resource element, from element m.
 const QUARTERS: [Rows; 4] = [
     [
         b"32....23....32....21....01....33....10....21....02....10....21....12....",
@@ -88,11 +88,11 @@ const QUARTERS: [Rows; 4] = [
     ],
 ];
 
-// Nothing at all.
+// Silence.
 const SILENCE: Rows = [EMPTY; 5];
 
-// Whether this is a master block with bandwidth n6, duration normal, resource one and no other bit,
-// with so many ports and at no cost.
+// Returns whether a MIB was decoded at no cost, with this port count, bandwidth n6, PHICH duration normal, resource
+// one, and all other bits 0.
 fn is_plain(found: Option<Master>, ports: u8) -> bool {
     let Some(master) = found else {
         return false;
@@ -136,7 +136,7 @@ fn bandwidth_code_6_is_no_master(rt: HostRuntime) -> Result<(), Fail> {
     Ok(())
 }
 
-// Whether a slot tells so many ports at one phase, and nothing at another.
+// Returns whether a slot gives this port count at `phase`, and no MIB at `other`.
 fn tells_ports(slot: Slot, phase: u8, ports: u8, other: u8, work: &mut Trellis) -> bool
     requires number { slot.number ≡ 1 }
     requires phase { phase < 4 }
@@ -156,7 +156,7 @@ fn the_mask_tells_the_ports(rt: HostRuntime) -> Result<(), Fail> {
     Ok(())
 }
 
-// The block of the damaged slot, at the cost of the eight parts that were turned.
+// Returns whether this is the MIB of `DAMAGED`, at the cost of eight negated parts.
 fn is_damaged(master: &Master) -> bool {
     let mib = master.mib;
     mib.bandwidth == Bandwidth::N100

@@ -1,4 +1,4 @@
-//! Slots as they are seen of a text, one row of digits for each symbol.
+//! Received slots from strings, one row of digits per symbol.
 
 ghost use Rattle.std.specs.Prelude.{◌≡◌, ℕ, ◌^◌, ◌<◌, ◌≤◌, All};
 ghost use Rattle.cs_num.specs.Complex.{IsWithin};
@@ -9,10 +9,10 @@ use soft_bits::Slot;
 use std::process::Abort;
 use test_support::{EMPTY, Rows, level, point_of};
 
-/// All symbols of a slot, by subcarriers.
+/// All symbols of a slot, subcarrier by subcarrier.
 pub(crate) type SlotRows = [&'static [u8; 72]; 7];
 
-// What is seen of a sent value: 64 times as much.
+// Returns the received value for a digit, 64 times the sent one.
 fn seen_of(digit: u8) -> Cpx
     ensures { IsWithin (2 ^ 25) result }
 {
@@ -23,14 +23,14 @@ fn seen_of(digit: u8) -> Cpx
     }
 }
 
-// What is seen of an empty symbol.
+// Returns an empty received symbol.
 fn empty_symbol() -> [Cpx; 72]
     ensures { All (IsWithin (2 ^ 25)) result }
 {
     level(seen_of(b'.'))
 }
 
-// What is seen of a symbol.
+// Returns the received symbol for a row of digits.
 fn symbol_of(row: &[u8; 72]) -> [Cpx; 72]
     ensures { All (IsWithin (2 ^ 25)) result }
 {
@@ -41,7 +41,7 @@ fn symbol_of(row: &[u8; 72]) -> [Cpx; 72]
     seen
 }
 
-// The slot with these symbols.
+// Returns the slot with these symbols.
 fn whole_slot_of(id: CellId, number: u8, rows: SlotRows) -> Slot
     requires { number < 20 }
     ensures number { result.number ≡ number }
@@ -59,12 +59,12 @@ fn whole_slot_of(id: CellId, number: u8, rows: SlotRows) -> Slot
     Slot::new(seen, number, id)
 }
 
-// These symbols and two empty ones.
+// Appends two empty symbols.
 fn with_two_empty(rows: Rows) -> SlotRows {
     [rows[0], rows[1], rows[2], rows[3], rows[4], EMPTY, EMPTY]
 }
 
-/// A slot with these symbols and two empty ones.
+/// Returns a slot with these symbols and two empty ones.
 pub(crate) fn slot_of(rt: &impl Abort, identity: u16, number: u8, rows: Rows) -> Slot
     requires { number < 20 }
     ensures number { result.number ≡ number }
@@ -74,7 +74,7 @@ pub(crate) fn slot_of(rt: &impl Abort, identity: u16, number: u8, rows: Rows) ->
     whole_slot_of(id, number, with_two_empty(rows))
 }
 
-/// Slots 10 and 11 of a cell, of which the first has these symbols and two empty ones.
+/// Returns slots 10 and 11 of a cell; slot 10 has these symbols and two empty ones.
 pub(crate) fn subframe_of(
     rt: &impl Abort,
     identity: u16,

@@ -10,7 +10,7 @@ use std::process::Abort;
 use std::test::Fail;
 use test_support::{EMPTY, Rows};
 
-// Slots 10 and 11 with system information, by `python/lte_reference/subframe.py`.
+// Instances of slots 10 and 11 with system information, from `python/lte_reference/subframe.py`.
 
 // Symbols 0 to 2 of slot 10.
 type ControlRows = [&'static [u8; 72]; 3];
@@ -18,7 +18,7 @@ type ControlRows = [&'static [u8; 72]; 3];
 // Symbols 3 and 4 of slot 10, and all of slot 11.
 type BlockRows = [&'static [u8; 72]; 9];
 
-// Identity 0, indicator 2, duration normal and resource one; all six blocks.
+// Identity 0, CFI 2, PHICH duration normal and resource one; SIB1 in all six resource blocks.
 const PLAIN_CONTROL: ControlRows = [
     b"020.111.....120.31332.003.....213.02211.32021.111.....230.30033.33130.11",
     b"0313131123113130....2210320133112132....01203100101003121102100130013121",
@@ -37,7 +37,7 @@ const PLAIN_BLOCK: BlockRows = [
     b"202033130030302301222120001120300212102233130103011312111031220030133132",
 ];
 
-// Identity 503, indicator 3, duration extended and resource two; redundancy version 2 in blocks 1 to 5.
+// Identity 503, CFI 3, PHICH duration extended and resource two; redundancy version 2 in resource blocks 1 to 5.
 const FULL_10: Rows = [
     b".....123.33122.311.....201.33223.020.....310.13303.31133.000.....023.021",
     b"....................32030303201112212031....33123203....3023203322032132",
@@ -56,56 +56,56 @@ const FULL_11: SlotRows = [
     b"............102230313022022333020013302321100122300130213133213102032330",
 ];
 
-// Indicator 1, and nothing else.
+// CFI 1, and nothing else.
 const ONE_SYMBOL: ControlRows = [
     b"011.321.....1.....320.313.....2.....232.200.....1.....201.130.....1.....",
     EMPTY,
     EMPTY,
 ];
 
-// The check without its mask.
+// The CRC is not masked with the SI-RNTI.
 const NO_CHECK: ControlRows = [
     b"020.111.....112.13332.003.....211.00211.32003.001.....230.30033.13110.31",
     b"0132321001222021....3202222120003030....22113000310023020030310020230020",
     b"313102200033122112311032....323010202033322330012112....003011002000....",
 ];
 
-// The flag of format 0.
+// The flag selects DCI format 0.
 const ANOTHER_FORMAT: ControlRows = [
     b"020.111.....100.13332.003.....212.20211.32023.311.....230.30033.31102.13",
     b"0332132021232021....3210321323002030....20003110321023130132300121011130",
     b"301103000030102132010032....123110202322302130120332....000200003011....",
 ];
 
-// Distributed blocks.
+// The assignment is distributed.
 const DISTRIBUTED: ControlRows = [
     b"020.111.....132.31332.003.....201.22211.32003.201.....230.30033.33112.13",
     b"1133100123221131....2202332330111032....20303100330003120120102121230021",
     b"200300222233100130020132....033002022122312130022110....002311113211....",
 ];
 
-// Resource indication value 21.
+// The resource indication value is 21.
 const VALUE_21: ControlRows = [
     b"020.111.....112.13332.003.....200.23211.32031.111.....230.30003.13102.03",
     b"0130102101202000....3311133320003020....23101000101011020010323110012101",
     b"201102202010122130011033....222130300320210023012211....323103121313....",
 ];
 
-// Scheme 27.
+// MCS index 27.
 const SCHEME_27: ControlRows = [
     b"020.111.....100.32332.003.....203.02211.32031.131.....230.30032.30130.03",
     b"0323311113310230....1001030103102013....03233313103103333003223110113313",
     b"030113023132230001233331....201001221020010020011220....203122311312....",
 ];
 
-// Scheme 22, which has no size in column 2.
+// MCS index 22, which has no size in column 2.
 const SCHEME_22: ControlRows = [
     b"020.111.....102.01332.003.....201.00211.32000.011.....230.30023.02111.01",
     b"1222101011201100....2312332102030211....02321022011121003021123332212000",
     b"100313210211332122021233....332122100001211130032013....002013031331....",
 ];
 
-// The last bit of the block's check turned.
+// The last bit of the block's CRC is inverted.
 const BAD_CHECK: BlockRows = [
     b"133203023213122031212230032112000000302113322213111211022203020210212313",
     b"030301103030101133100213123133110302303323230311103220112020201230332030",
@@ -144,7 +144,7 @@ const DIGIT_11: BlockRows = [
     b"200011330030322323220300023020323232302033130123031312131011122200110330",
 ];
 
-// The slots with these symbols, of identity 0.
+// Returns slots 10 and 11 with these symbols, for identity 0.
 fn slots_of(rt: &impl Abort, control: ControlRows, block: BlockRows) -> (Slot, Slot)
     ensures first { result.0.number ≡ 10 }
     ensures second { result.1.number ≡ 11 }
@@ -157,7 +157,7 @@ fn slots_of(rt: &impl Abort, control: ControlRows, block: BlockRows) -> (Slot, S
     subframe_of(rt, 0, first, second)
 }
 
-// Why these slots have no system information.
+// Returns why these slots have no system information.
 fn reason_of(
     rt: &impl Abort,
     work: &mut Decoders,
@@ -169,12 +169,12 @@ fn reason_of(
     read(&first, &second, mib, work).err()
 }
 
-// Whether an attempt comes to this indicator and this grant.
+// Returns whether an attempt decoded this CFI and this grant.
 fn has_grant(attempt: &Attempt, cfi: u8, granted: Grant) -> bool {
     attempt.cfi.value() == cfi && attempt.grant == Some(granted)
 }
 
-// Whether an attempt reads the fields of the plain block.
+// Returns whether an attempt decoded the plain SIB1.
 fn reads_plain_block(attempt: &Attempt) -> bool {
     match &attempt.answer {
         Ok(fields) => {
@@ -190,7 +190,7 @@ fn reads_plain_block(attempt: &Attempt) -> bool {
     }
 }
 
-// Whether an attempt reads the fields of the full block.
+// Returns whether an attempt decoded the full SIB1.
 fn reads_full_block(attempt: &Attempt) -> bool {
     match &attempt.answer {
         Ok(fields) => {
@@ -206,7 +206,7 @@ fn reads_full_block(attempt: &Attempt) -> bool {
     }
 }
 
-// What is granted of the plain block, and of a later version of the full one in some resource blocks.
+// The grants of the plain SIB1 and, with redundancy version 2 in resource blocks 1 to 5, of the full SIB1.
 const PLAIN_GRANT: Grant = Grant {
     start: 0,
     blocks: 6,

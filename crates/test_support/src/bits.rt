@@ -1,8 +1,8 @@
-//! Bits of numbers.
+//! The bits of a number.
 
 ghost use Rattle.std.specs.Prelude.{◌≤◌};
 
-/// The bits of the number, the highest first.
+/// Returns the low `N` bits of `number`, most significant first.
 pub fn bits_of<const N: usize>(number: u64) -> [bool; N]
     requires { N ≤ 64 }
 {

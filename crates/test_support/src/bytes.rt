@@ -1,24 +1,24 @@
-//! Recordings as bytes: of each sample two components, of 16 bits and with the low byte first.
+//! Recordings as bytes: two little-endian 16-bit components per sample.
 
 ghost use Rattle.std.specs.Prelude.{◌≡◌, ◌+◌, ◌*◌, ◌≤◌, length, IfOk};
 
 use std::alloc::{AllocError, Global};
 
-/// A number of bytes of zeros.
+/// Returns `len` zero bytes.
 pub fn silence(alloc: Global, len: usize) -> Result<Vec<u8>, AllocError>
     ensures { IfOk result (λ bytes. length bytes.items ≡ len) }
 {
     vec![in alloc; 0u8; len]
 }
 
-/// Writes some bytes from a place on.
+/// Writes `piece` from byte offset `at`.
 pub fn put(bytes: &mut [u8], at: usize, piece: &[u8])
     requires { at + length piece.now ≤ length bytes.old }
 {
     bytes[at..at + piece.len()].copy_from_slice(piece);
 }
 
-/// The certificate of 120 zeros, which has the word of zeros and no table of a start state: the mark, and zeros.
+/// Returns the certificate for 120 zero soft values, with the all-zero codeword and no start-state table.
 pub fn certificate_of_zeros(alloc: Global) -> Result<Vec<u8>, AllocError>
     ensures { IfOk result (λ bytes. length bytes.items ≡ 10501) }
 {
@@ -27,7 +27,7 @@ pub fn certificate_of_zeros(alloc: Global) -> Result<Vec<u8>, AllocError>
     Ok(bytes)
 }
 
-/// Writes a sample at its place, counted in samples.
+/// Writes a sample at index `at`.
 pub fn put_sample(bytes: &mut [u8], at: usize, re: i16, im: i16)
     requires { 4 * at + 4 ≤ length bytes.old }
 {
@@ -35,7 +35,7 @@ pub fn put_sample(bytes: &mut [u8], at: usize, re: i16, im: i16)
     bytes[4 * at + 2..4 * at + 4].copy_from_slice(&im.to_le_bytes());
 }
 
-/// Adds an error to each component: this number at even samples, and its negative at odd ones.
+/// Adds `error` to each component at even samples, and subtracts it at odd samples.
 pub fn add_errors(bytes: &mut [u8], error: i16) {
     for i in 0..bytes.len() / 2 {
         let signed = if i / 2 % 2 == 0 {
@@ -48,7 +48,7 @@ pub fn add_errors(bytes: &mut [u8], error: i16) {
     }
 }
 
-/// Moves each component by this number against its sign.
+/// Subtracts `error` from each positive component, and adds it to the others.
 pub fn oppose(bytes: &mut [u8], error: i16) {
     for i in 0..bytes.len() / 2 {
         let sent = i16::from_le_bytes([bytes[2 * i], bytes[2 * i + 1]]);

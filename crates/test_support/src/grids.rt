@@ -1,5 +1,5 @@
-//! Grids of 72 subcarriers. A text of digits gives a symbol: a digit is 2 where the real part of a
-//! point is negative, and 1 more where the imaginary part is; any other character is an empty place.
+//! Grids of 72 subcarriers. A string of digits gives a symbol: a digit is 2 for a negative real part, plus 1 for a
+//! negative imaginary part. Any other character is an empty resource element.
 
 ghost use Rattle.std.specs.Prelude.{ℕ, ◌≤◌, ◌≡◌, All};
 ghost use Rattle.cs_num.specs.Complex.{IsWithin};
@@ -8,15 +8,15 @@ use cs_num::{Cpx, clamp_div};
 use lte_types::Half;
 use sync_seq::{pss, sss};
 
-/// Symbols 0 to 4 of a slot, by subcarriers.
+/// Symbols 0 to 4 of a slot, subcarrier by subcarrier.
 pub type Rows = [&'static [u8; 72]; 5];
 
 /// An empty symbol.
 pub const EMPTY: &[u8; 72] =
     b"........................................................................";
 
-/// Symbols 0 to 4 of slot 1 of identity 0, made by a second program: width n50, PHICH normal and one, upper bits 0,
-/// spare bits 0, one port, phase 0.
+/// Symbols 0 to 4 of slot 1 for identity 0, from the reference implementation: width n50, PHICH normal and one, upper
+/// bits 0, spare bits 0, one port, phase 0.
 pub const WIDE: Rows = [
     b"321.22230.20323.23211.31000.11321.11110.03230.33021.11103.21202.21130.33",
     b".02.03.31.20.13.22.31.02.32.01.13.02.02.11.01.13.11.22.10.12.23.32.21.30",
@@ -25,7 +25,7 @@ pub const WIDE: Rows = [
     b"...0.....3.....3.....3.....2.....2.....0.....1.....3.....3.....0.....0..",
 ];
 
-/// The point of a digit.
+/// Returns the constellation point for `digit`.
 pub fn point_of(digit: u8) -> Cpx
     ensures { IsWithin 90 result }
 {
@@ -38,14 +38,14 @@ pub fn point_of(digit: u8) -> Cpx
     }
 }
 
-/// One value on all subcarriers.
+/// Returns `value` on every subcarrier.
 pub fn level(value: Cpx) -> [Cpx; 72]
     ensures { (n : ℕ) → IsWithin n value → All (IsWithin n) result }
 {
     [value; 72]
 }
 
-/// The grid of a row of digits.
+/// Returns the grid for a string of digits.
 pub fn grid_of(row: &[u8; 72]) -> [Cpx; 72]
     ensures { All (IsWithin 127) result }
 {
@@ -56,7 +56,7 @@ pub fn grid_of(row: &[u8; 72]) -> [Cpx; 72]
     grid
 }
 
-/// The grid of the primary sequence of an identity within the group.
+/// Returns the PSS grid for N_ID(2) = `n2`.
 pub fn primary_grid(n2: u8) -> [Cpx; 72]
     requires { n2 ≤ 2 }
     ensures { All (IsWithin 127) result }
@@ -64,7 +64,7 @@ pub fn primary_grid(n2: u8) -> [Cpx; 72]
     middle(&pss(n2))
 }
 
-/// The grid of the secondary sequence of identity 0 in subframe 0.
+/// Returns the SSS grid for identity 0 in subframe 0.
 pub fn secondary_grid() -> [Cpx; 72]
     ensures { All (IsWithin 127) result }
 {
@@ -76,7 +76,7 @@ pub fn secondary_grid() -> [Cpx; 72]
     middle(&values)
 }
 
-// A grid with these values in its middle, each of at most 127.
+// Returns a grid with these values on the middle 62 subcarriers, clamped to 127.
 fn middle(values: &[Cpx; 62]) -> [Cpx; 72]
     ensures { All (IsWithin 127) result }
 {
@@ -87,14 +87,14 @@ fn middle(values: &[Cpx; 62]) -> [Cpx; 72]
     grid
 }
 
-// An empty grid.
+// Returns an empty grid.
 fn empty() -> [Cpx; 72]
     ensures { All (IsWithin 127) result }
 {
     level(bounded(Cpx::ZERO))
 }
 
-// The value, or the nearest of at most 127.
+// Clamps both components to 127.
 fn bounded(value: Cpx) -> Cpx
     ensures { IsWithin 127 result }
 {

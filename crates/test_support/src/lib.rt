@@ -1,5 +1,7 @@
-//! What the test crates share: signals, recordings, grids, descriptions and system information. Contracts say only
-//! what a test needs.
+//! Test fixtures shared by the test crates: signals, recordings, grids, descriptions and system information. Contracts
+//! state only what a test needs.
+//!
+//! Tests: none of its own; every crate of tests uses it.
 #![tactic(auto)]
 
 mod bits;

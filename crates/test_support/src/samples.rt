@@ -10,20 +10,20 @@ use sample_file::Recording;
 use std::alloc::{AllocError, Global};
 use std::test::Fail;
 
-/// A number of samples of silence.
+/// Returns `count` zero samples.
 pub fn silent(alloc: Global, count: usize) -> Result<Vec<Sample>, AllocError>
     ensures { IfOk result (λ samples. length samples.items ≡ count) }
 {
     vec![in alloc; Sample { re: 0, im: 0 }; count]
 }
 
-/// The recording of 30 ms of silence.
+/// Returns a recording of 30 ms of silence.
 pub fn silent_recording(alloc: Global) -> Result<Recording, Fail> {
     let recording = Recording::new(silent(alloc, 57_600)?).ok_or("30 ms")?;
     Ok(recording)
 }
 
-/// Writes the useful part of a symbol from a sample on.
+/// Writes a symbol's useful part from sample `at`.
 pub fn put_symbol(samples: &mut [Sample], at: usize, grid: &[Cpx; 72])
     requires room { at + 128 ≤ length samples.old }
     requires small { All (IsWithin 127) grid.now }
@@ -37,8 +37,7 @@ pub fn put_symbol(samples: &mut [Sample], at: usize, grid: &[Cpx; 72])
     }
 }
 
-/// Writes the synchronisation signals of subframe 0 of identity 0 into a frame that begins at a
-/// sample.
+/// Writes the PSS and SSS of subframe 0 for identity 0, in a frame that starts at sample `frame`.
 pub fn put_signals(samples: &mut [Sample], frame: usize)
     requires { frame + 960 ≤ length samples.old }
 {
@@ -46,7 +45,7 @@ pub fn put_signals(samples: &mut [Sample], frame: usize)
     put_symbol(samples, frame + 832, &primary_grid(0));
 }
 
-/// Writes symbols 0 to 4 of slot 1 of a frame that begins at a sample.
+/// Writes symbols 0 to 4 of slot 1, in a frame that starts at sample `frame`.
 pub fn put_rows(samples: &mut [Sample], frame: usize, rows: &Rows)
     requires { frame + 1920 ≤ length samples.old }
 {
@@ -55,7 +54,7 @@ pub fn put_rows(samples: &mut [Sample], frame: usize, rows: &Rows)
     }
 }
 
-/// Writes a symbol at 1000 + 400 q, for q = 0 to 140.
+/// Writes a symbol every 400 samples, 141 times, from sample 1000.
 pub fn send_often(samples: &mut [Sample], grid: &[Cpx; 72])
     requires room { length samples.old ≡ 57600 }
     requires small { All (IsWithin 127) grid.now }
@@ -65,7 +64,7 @@ pub fn send_often(samples: &mut [Sample], grid: &[Cpx; 72])
     }
 }
 
-/// 30 ms of a cell of 50 resource blocks, with one master block.
+/// Returns 30 ms of a cell 50 resource blocks wide, with one MIB.
 pub fn wide_cell(alloc: Global) -> Result<Vec<Sample>, AllocError> {
     let mut samples = silent(alloc, 57_600)?;
     put_signals(&mut samples[..], 0);
@@ -73,7 +72,7 @@ pub fn wide_cell(alloc: Global) -> Result<Vec<Sample>, AllocError> {
     Ok(samples)
 }
 
-/// Whether samples are these, each with its place before it: `at` tells the sample of a place, if there is one.
+/// Returns whether `at` has the sample of each row at its index.
 pub fn are_samples<F: Fn(u32) -> Option<Sample>>(rows: &[(u32, i16, i16)], at: F) -> bool
     requires { F.IsAlwaysCallable at }
 {

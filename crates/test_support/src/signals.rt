@@ -1,11 +1,11 @@
-//! The useful parts of symbols with synchronisation signals, made by a second program.
+//! The useful parts of symbols with synchronisation signals, from the reference implementation.
 
 ghost use Rattle.std.specs.Prelude.{◌≡◌, ◌+◌, ◌*◌, ◌≤◌, length};
 
 use crate::bytes::put_sample;
 use cs_num::Sample;
 
-/// A symbol that holds the primary sequence of root 25 alone, components in turn.
+/// A symbol with only the PSS of root 25 (N_ID(2) = 0); real and imaginary parts alternate.
 pub const PRIMARY: [i16; 256] = [
     104, -72, 27, -7, -99, 69, -112, 1, -3, -134, 101, -132, 111, 21, 49, 140, -29, 117, -89, 48,
     -120, 35, -126, 41, -131, 0, -141, -41, -137, -12, -116, 49, -104, 70, -85, 70, -9, 100, 105,
@@ -22,7 +22,7 @@ pub const PRIMARY: [i16; 256] = [
     35, -89, 48, -29, 117, 49, 140, 111, 21, 101, -132, -3, -134, -112, 1, -99, 69, 27, -7,
 ];
 
-/// A symbol that holds the secondary sequence of group 167 in subframe 5, beside that signal, components in turn.
+/// A symbol with the SSS for N_ID(1) = 167 and N_ID(2) = 0 in subframe 5; real and imaginary parts alternate.
 pub const SECONDARY: [i16; 256] = [
     -32, 0, 6, -46, 57, -72, 32, -68, -48, -61, -94, -86, -88, -129, -75, -134, -61, -81, -8, -21,
     41, 4, -22, 18, -199, 56, -321, 90, -250, 80, -59, 26, 64, -39, 63, -87, 42, -79, 60, 1, 45,
@@ -39,7 +39,7 @@ pub const SECONDARY: [i16; 256] = [
     -94, 86, -48, 61, 32, 68, 57, 72, 6, 46,
 ];
 
-/// Writes a signal into the bytes of a recording, from a sample on.
+/// Writes a signal into the bytes of a recording, from sample `at`.
 pub fn put_signal(bytes: &mut [u8], at: usize, components: &[i16; 256])
     requires { 4 * at + 512 ≤ length bytes.old }
 {

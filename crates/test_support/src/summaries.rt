@@ -1,28 +1,28 @@
-//! What second programs say of recordings.
+//! Checksums of recordings, from the reference implementations.
 
 use cs_num::Sample;
 use sample_file::Recording;
 
-/// How many samples a recording has, the first four, and four sums: of all real and of all imaginary components, and of
-/// both with weights that tell the samples apart.
+/// A recording's summary: its sample count, its first four samples, and four sums over the real and imaginary parts,
+/// two plain and two weighted by position.
 #[derive(Clone, Copy)]
 pub struct Summary {
-    /// How many samples.
+    /// The sample count.
     pub count: usize,
-    /// The first four.
+    /// The first four samples.
     pub front: [(i16, i16); 4],
     /// The sums.
     pub sums: [i64; 4],
 }
 
-/// Whether a recording is one of this summary.
+/// Returns whether `recording` has this summary.
 pub fn is_summed_up(recording: &Recording, summary: &Summary) -> bool {
     recording.len() == summary.count
         && front(recording) == summary.front
         && sums(recording) == summary.sums
 }
 
-// The sums of a summary: the weights are 1 to 999 and 0 in turn.
+// Returns the sums of a summary. The weights are 1 to 999 and 0, repeated.
 fn sums(recording: &Recording) -> [i64; 4] {
     let (mut re, mut im) = (0i64, 0i64);
     let (mut far_re, mut far_im) = (0i64, 0i64);
@@ -37,7 +37,7 @@ fn sums(recording: &Recording) -> [i64; 4] {
     [re, im, far_re, far_im]
 }
 
-// The first four samples.
+// Returns the first four samples.
 fn front(recording: &Recording) -> [(i16, i16); 4] {
     let samples = recording.as_slice();
     prove!(57_600 <= recording.len());
@@ -50,12 +50,12 @@ fn front(recording: &Recording) -> [(i16, i16); 4] {
     ]
 }
 
-/// Whether the sums of a recording's components, each times its place modulo 997, are these.
+/// Returns whether the component sums of `recording`, weighted by index modulo 997, are `expected`.
 pub fn has_sums(recording: &Recording, expected: (i64, i64)) -> bool {
     sums_by_place(recording.as_slice()) == expected
 }
 
-// The sums of the components of samples, each times its place modulo 997.
+// Returns the component sums, weighted by index modulo 997.
 fn sums_by_place(samples: &[Sample]) -> (i64, i64) {
     let mut re: i64 = 0;
     let mut im: i64 = 0;

@@ -1,8 +1,8 @@
-//! System information that is sent.
+//! System information to send.
 
 use lte_types::{Mnc, Plmn, Plmns, Schedule, SiMessage, Sib1, Sibs};
 
-/// An entry of the schedule: blocks of these codes, with this period.
+/// Returns a scheduling entry with this period code and these SIB codes.
 pub fn message(period: u8, codes: &[u8]) -> SiMessage {
     let mut sibs = Sibs::new();
     for code in codes {
@@ -11,7 +11,7 @@ pub fn message(period: u8, codes: &[u8]) -> SiMessage {
     SiMessage { period, sibs }
 }
 
-/// One network 001/01 without options, and one entry of the schedule, of this period and without blocks.
+/// Returns a SIB1 with network 001/01, no options, and one scheduling entry without SIBs and with this period code.
 pub fn information(period: u8) -> Sib1 {
     let mut plmns = Plmns::new();
     plmns.push(Plmn {
@@ -41,7 +41,7 @@ pub fn information(period: u8) -> Sib1 {
     }
 }
 
-/// The block of the plain cell, with a period of 8 frames.
+/// Returns the plain cell's SIB1, with a period of 8 frames.
 pub fn plain_block() -> Sib1 {
     information(0)
 }

@@ -14,10 +14,11 @@ use std::alloc::{AllocError, Global};
 use std::test::Fail;
 use test_support::{certificate_of_zeros, put, silence, wide_cell};
 
-// The bytes of a certificate without a table of a start state.
+// The length of a certificate without start-state tables.
 const BYTES: usize = 10_501;
 
-// Whether `check` ends so over these bytes, which come in pieces of at most `most`, and writes this text and no other.
+// Returns whether `check` on `bytes`, in reads of at most `most` bytes, ends with this status, and writes exactly this
+// text.
 fn checks(
     alloc: Global,
     bytes: Vec<u8>,
@@ -32,14 +33,14 @@ fn checks(
     Ok(output_from(alloc, Program::Receiver, &words, &mut source)?.is(status, text))
 }
 
-// Whether `check` refuses these bytes for the byte at a place, and writes nothing.
+// Returns whether `check` refuses these bytes at byte offset `place`, and writes nothing.
 fn refuses_at(alloc: Global, bytes: Vec<u8>, most: usize, place: u64) -> Result<bool, AllocError>
     requires { 0 < most }
 {
     checks(alloc, bytes, most, Status::BadCertificate(place), b"")
 }
 
-// The certificate of zeros with some bytes changed.
+// Returns the all-zero certificate with `piece` written over it.
 fn changed(alloc: Global, at: usize, piece: &[u8]) -> Result<Vec<u8>, AllocError>
     requires { at + length piece.now ≤ 10501 }
 {
@@ -48,7 +49,7 @@ fn changed(alloc: Global, at: usize, piece: &[u8]) -> Result<Vec<u8>, AllocError
     Ok(bytes)
 }
 
-// The first bytes of the certificate of zeros.
+// Returns the first `len` bytes of the all-zero certificate.
 fn cut(alloc: Global, len: usize) -> Result<Vec<u8>, AllocError> {
     let mut bytes = certificate_of_zeros(alloc)?;
     bytes.truncate(len);
@@ -73,7 +74,7 @@ fn another_cost_and_a_bound_that_no_branch_allows_are_not_accepted(
     rt: HostRuntime,
 ) -> Result<(), Fail> {
     let text = b"certificates 1\n0 no\n";
-    // The cost stands at byte 249, and the general bound of step 40, state 0 at 253 + 4 * 64 * 39.
+    // The cost is at byte 249, the general bound at step 40 and state 0 at byte 253 + 4 * 64 * 39.
     for (at, byte) in [(249, [1, 0, 0, 0]), (10_237, [255, 255, 255, 255])] {
         let bytes = changed(rt.alloc(), at, &byte)?;
         assert!(rt;
@@ -105,7 +106,7 @@ fn no_bytes_are_no_certificate(rt: HostRuntime) -> Result<(), Fail> {
 fn the_first_byte_that_breaks_the_form_is_told(rt: HostRuntime) -> Result<(), Fail> {
     let alloc = rt.alloc();
     assert!(rt; refuses_at(alloc, changed(alloc, 4, &[0xf1, 0x07])?, BYTES, 4)?);
-    // A value of -2,033 whose two bytes come in two pieces.
+    // A soft value of -2,033 whose two bytes arrive in two reads.
     assert!(rt; refuses_at(alloc, changed(alloc, 242, &[0x0f, 0xf8])?, 243, 242)?);
     assert!(rt; refuses_at(alloc, changed(alloc, 3, &[0])?, BYTES, 3)?);
     assert!(rt; refuses_at(alloc, silence(alloc, 1)?, BYTES, 0)?);
@@ -172,16 +173,16 @@ fn silence_has_no_certificate(rt: HostRuntime) -> Result<(), Fail> {
     Ok(())
 }
 
-// The bytes of a cell of 50 resource blocks.
+// Returns the recording of a cell 50 resource blocks wide.
 fn wide_bytes(alloc: Global) -> Result<Vec<u8>, AllocError> {
     bytes_of(alloc, &wide_cell(alloc)?)
 }
 
-// The lines of the wide cell.
+// The report about the wide cell.
 const WIDE_LINES: &str =
     "cells 1\ncell 0 at 0 sfn 0 ports 1 n50 phich normal one br 0 spare 0\nsib1 none bandwidth n50\n";
 
-// Whether a run is done, and writes as many bytes as one certificate has.
+// Returns whether a run ended with `Done`, and wrote as many bytes as one certificate has.
 fn is_one_certificate(output: &Output) -> bool {
     output.status == Status::Done && output.written.len() == 10_501
 }
@@ -194,7 +195,7 @@ fn a_wider_cell_is_certified(rt: HostRuntime) -> Result<(), Fail> {
     Ok(())
 }
 
-// Whether the cell of a recording is certified by a form of words, and `check` accepts what that writes.
+// Returns whether a `certify` command certifies the cell in a recording, and `check` accepts the certificate.
 fn is_certified(alloc: Global, line: &str, bytes: Vec<u8>) -> Result<bool, AllocError> {
     let certified = output_of(alloc, line, bytes)?;
     if !is_one_certificate(&certified) {
@@ -212,18 +213,18 @@ fn cells_of_number_90_of_other_carriers_are_certified(rt: HostRuntime) -> Result
     Ok(())
 }
 
-// What `certify` writes of what the plain cell sends, which is the certificate of a word that is not 0.
+// Returns the plain cell's certificate, whose codeword is not 0.
 fn plain_certificate(alloc: Global) -> Result<Vec<u8>, AllocError> {
     let sent = sent_by(alloc, "")?;
     Ok(output_of(alloc, "certify", sent.written)?.written)
 }
 
-// Whether the bytes of a certificate are those of a word that is not 0: so is one of the 120 values at least.
+// Returns whether a certificate has the right length, and a soft value that is not 0.
 fn is_of_values(bytes: &[u8]) -> bool {
     bytes.len() == BYTES && bytes.iter().skip(4).take(240).any(|byte| *byte != 0)
 }
 
-// Puts a piece into bytes, where it has room.
+// Writes a piece into bytes if it fits.
 fn put_within(bytes: &mut [u8], at: usize, piece: &[u8])
     requires { at + length piece.now < 2 ^ 63 }
 {
@@ -232,7 +233,7 @@ fn put_within(bytes: &mut [u8], at: usize, piece: &[u8])
     }
 }
 
-// Whether `check` ends so over the certificate of the plain cell with a piece changed.
+// Returns whether `check` on the plain cell's certificate with one piece changed ends with this status and this text.
 fn plain_ends(
     alloc: Global,
     at: usize,
@@ -255,7 +256,7 @@ fn the_certificate_of_a_sent_cell_is_accepted_and_its_changes_are_not(
     assert!(rt; is_of_values(&plain_certificate(alloc)?));
     let (yes, no) = (b"certificates 1\n0 yes\n", b"certificates 1\n0 no\n");
     assert!(rt; plain_ends(alloc, 0, b"", Status::Done, yes)?);
-    // The general bound of step 40, state 0.
+    // The general bound at step 40 and state 0.
     assert!(rt; plain_ends(alloc, 10_237, &[255; 4], Status::Done, no)?);
     assert!(rt; plain_ends(alloc, 0, &[0], Status::BadCertificate(0), b"")?);
     let mut bytes = plain_certificate(alloc)?;
@@ -264,7 +265,7 @@ fn the_certificate_of_a_sent_cell_is_accepted_and_its_changes_are_not(
     Ok(())
 }
 
-// Appends certificates of zeros, each with as many tables of start states, which are of zeros too.
+// Appends all-zero certificates, each with this number of start-state tables.
 fn push_certificates(
     bytes: &mut Vec<u8>,
     alloc: Global,
@@ -287,7 +288,7 @@ fn push_certificates(
     Ok(())
 }
 
-// 6,144 certificates with 253 tables in all: 67,108,864 bytes, as many as are read.
+// Returns 6,144 certificates with 253 tables in total: 67,108,864 bytes, the maximum input.
 fn most_certificates(alloc: Global) -> Result<Vec<u8>, AllocError> {
     let mut bytes = Vec::new(alloc);
     push_certificates(&mut bytes, alloc, 3, 64)?;
@@ -296,12 +297,12 @@ fn most_certificates(alloc: Global) -> Result<Vec<u8>, AllocError> {
     Ok(bytes)
 }
 
-// How `check` ends over bytes.
+// Runs `check`.
 fn check_of(alloc: Global, bytes: Vec<u8>) -> Result<Output, AllocError> {
     output_of(alloc, "check", bytes)
 }
 
-// Whether a run is done, and answers for the last of 6,144 certificates.
+// Returns whether a run ended with `Done`, and answered the last of 6,144 certificates.
 fn answers_the_last(output: &Output) -> bool {
     output.status == Status::Done
         && output.written.starts_with(b"certificates 6144\n0 yes\n")
@@ -327,7 +328,7 @@ fn one_byte_more_is_too_long_and_one_less_is_an_early_end(rt: HostRuntime) -> Re
     Ok(())
 }
 
-// Whether a write failed after the first 2,000 bytes of a whole output.
+// Returns whether a write failed after the first 2,000 bytes of the output.
 fn is_front(output: &Output, whole: &Output) -> bool {
     output.status == Status::WriteFault
         && output.written.len() == 2_000

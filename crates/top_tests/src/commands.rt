@@ -1,35 +1,35 @@
-//! Commands over bytes in memory.
+//! Commands on bytes in memory.
 
 use cs_outside::{FailSink, FailSource, MemSink, MemSource, Source};
 use lte_top::{Program, Status, Words, run_in_memory, run_program};
 use std::alloc::{AllocError, Global};
 use test_support::description;
 
-/// The room of a sink where none is named.
+/// The default room of a sink.
 pub const ROOM: usize = 16_777_216;
 
-/// How a run ends, and what it writes.
+/// How a run ended, and what it wrote.
 #[derive(Drop)]
 pub struct Output {
-    /// How it ends.
+    /// The status.
     pub status: Status,
-    /// What it writes.
+    /// The bytes written.
     pub written: Vec<u8>,
 }
 
 impl Output {
-    /// Whether the run ends so, and writes these bytes and no others.
+    /// Returns whether the run ended with `status`, and wrote exactly `bytes`.
     pub fn is(&self, status: Status, bytes: &[u8]) -> bool {
         self.status == status && self.written.as_slice() == bytes
     }
 
-    /// Whether the run is refused so, with this exit code, and writes nothing.
+    /// Returns whether the run ended with this refusal and exit code, and wrote nothing.
     pub fn is_refused(&self, refusal: Status, code: u8) -> bool {
         self.is(refusal, b"") && self.status.code() == code
     }
 }
 
-/// The words of a command line, with one space between them.
+/// Splits a command line at single spaces.
 pub fn command_line(alloc: Global, line: &str) -> Result<Words, AllocError> {
     let mut words = Words::new(alloc);
     for word in line.split(' ') {
@@ -38,7 +38,7 @@ pub fn command_line(alloc: Global, line: &str) -> Result<Words, AllocError> {
     Ok(words)
 }
 
-/// What words of a program come to over a source.
+/// Runs a program on a source.
 pub fn output_from<S: Source>(
     alloc: Global,
     program: Program,
@@ -49,7 +49,7 @@ pub fn output_from<S: Source>(
     output_into(alloc, program, words, source, &mut sink)
 }
 
-/// What words of a program come to over a source and into a sink of which calls fail.
+/// Runs a program on a source, into a sink with failing calls.
 pub fn output_into<S: Source>(
     alloc: Global,
     program: Program,
@@ -64,8 +64,7 @@ pub fn output_into<S: Source>(
     })
 }
 
-/// What words of a program come to where the first call of the source would fail, and whether that call is still to
-/// come.
+/// Runs a program on a source whose first call fails, and returns whether that call was not made.
 pub fn output_unread(
     alloc: Global,
     program: Program,
@@ -76,18 +75,18 @@ pub fn output_unread(
     Ok((output, source.read(&mut [0; 1]).is_err()))
 }
 
-/// Whether words are of no form of a program: the answer is so, and nothing is read or written.
+/// Returns whether `words` select no form of a program, and nothing is read or written.
 pub fn is_no_form(alloc: Global, program: Program, words: &Words) -> Result<bool, AllocError> {
     let (output, unread) = output_unread(alloc, program, words)?;
     Ok(unread && output.is_refused(Status::Usage, 2))
 }
 
-/// What a command line of the receiver comes to over these bytes.
+/// Runs a command of `lte_cli` on `bytes`.
 pub fn output_of(alloc: Global, line: &str, bytes: Vec<u8>) -> Result<Output, AllocError> {
     output_within(alloc, line, bytes, ROOM)
 }
 
-/// The same where the sink has this room.
+/// Runs a command of `lte_cli` on `bytes`, into a sink with this room.
 pub(crate) fn output_within(
     alloc: Global,
     line: &str,
@@ -104,7 +103,7 @@ pub(crate) fn output_within(
     })
 }
 
-/// What a command line of a program comes to over these bytes.
+/// Runs a command of a program on `bytes`.
 pub fn output_by(
     alloc: Global,
     program: Program,
@@ -115,12 +114,12 @@ pub fn output_by(
     output_from(alloc, program, &words, &mut MemSource::new(bytes))
 }
 
-/// Whether a command line of the receiver is done over these bytes, and writes this text and no other.
+/// Returns whether a command of `lte_cli` on `bytes` ends with `Done`, and writes exactly `text`.
 pub fn gives(alloc: Global, line: &str, bytes: Vec<u8>, text: &str) -> Result<bool, AllocError> {
     Ok(output_of(alloc, line, bytes)?.is(Status::Done, text.as_bytes()))
 }
 
-/// Whether a command line of a program is done over these bytes, and writes this text and no other.
+/// Returns whether a command of a program on `bytes` ends with `Done`, and writes exactly `text`.
 pub fn gives_by(
     alloc: Global,
     program: Program,
@@ -131,19 +130,19 @@ pub fn gives_by(
     Ok(output_by(alloc, program, line, bytes)?.is(Status::Done, text.as_bytes()))
 }
 
-/// What a command line comes to over the plain cell's description with this change.
+/// Runs a command on the plain cell's description with `change`.
 pub fn sent_with_words(alloc: Global, line: &str, change: &str) -> Result<Output, AllocError> {
     let text = description(alloc, change, "")?;
     output_of(alloc, line, text.as_bytes().to_vec(alloc)?)
 }
 
-/// What `transmit` comes to over the plain cell's description with this change, and its block with this one.
+/// Runs `transmit` on the plain cell's description with `change`, and its SIB1 with `block`.
 pub fn sent_with(alloc: Global, change: &str, block: &str) -> Result<Output, AllocError> {
     let text = description(alloc, change, block)?;
     output_of(alloc, "transmit", text.as_bytes().to_vec(alloc)?)
 }
 
-/// The same with the plain block.
+/// Runs `transmit` on the plain cell's description with `change`.
 pub fn sent_by(alloc: Global, change: &str) -> Result<Output, AllocError> {
     sent_with(alloc, change, "")
 }

@@ -31,7 +31,7 @@ fn lengths_that_are_refused(rt: HostRuntime) -> Result<(), Fail> {
     refuse_lengths(&rt, rt.alloc(), Program::Receiver, "hits")
 }
 
-// Writes the primary signal times 28j from a sample on.
+// Writes the PSS times 28j at a sample.
 fn put_turned_signal(bytes: &mut [u8], at: usize)
     requires { 4 * at + 512 ≤ length bytes.old }
 {
@@ -41,7 +41,7 @@ fn put_turned_signal(bytes: &mut [u8], at: usize)
     }
 }
 
-// The primary signal times 28j alone, from sample 1,000 on.
+// Returns silence with the PSS times 28j at sample 1,000.
 fn turned_signal(alloc: Global) -> Result<Vec<u8>, AllocError> {
     let mut bytes = silence(alloc, 230_400)?;
     put_turned_signal(&mut bytes, 1000);
@@ -57,7 +57,7 @@ fn a_signal_of_any_phase_and_size_is_one_hit(rt: HostRuntime) -> Result<(), Fail
     Ok(())
 }
 
-// The hits of many signals that begin in the first frame.
+// Returns the report on the PSS detections in the first frame of `many_signals`.
 fn hits_of_many(alloc: Global) -> Result<String, AllocError> {
     let mut text = String::from_str(alloc, "hits 46\n")?;
     for q in 0..46_u32 {
@@ -74,7 +74,7 @@ fn signals_past_the_first_frame_are_not_listed(rt: HostRuntime) -> Result<(), Fa
     Ok(())
 }
 
-// Whether the same sink takes nothing from a run with a read fault, and then the hits of zeros from another run.
+// Returns whether one sink gets nothing from a run with a read fault, and then the report from another run.
 fn goes_on_after_a_read_fault(alloc: Global) -> Result<bool, AllocError> {
     let words = command_line(alloc, "hits")?;
     let mut sink = MemSink::new(alloc, ROOM)?;
@@ -112,7 +112,7 @@ fn a_sink_without_room_keeps_a_front(rt: HostRuntime) -> Result<(), Fail> {
     Ok(())
 }
 
-// What `hits` comes to over a reader and a writer of std.
+// Runs `hits` on a reader and a writer from `std`.
 fn hits_of_std(alloc: Global, bytes: &[u8]) -> Result<Output, AllocError> {
     let words = command_line(alloc, "hits")?;
     let mut written = Vec::new(alloc);
@@ -143,7 +143,7 @@ fn readers_and_writers_of_std(rt: HostRuntime) -> Result<(), Fail> {
     Ok(())
 }
 
-// As the second program of outputs, `python/lte_reference/forms.py`, writes it.
+// Output of the reference implementation, `python/lte_reference/forms.py`.
 const AS_JSON: &str =
     "[{\"energy\":1996394,\"n2\":0,\"peak\":3985589003236,\"power\":1996394,\"t\":832},{\"energy\":1996394,\
 \"n2\":0,\"peak\":3985589003236,\"power\":1996394,\"t\":10432}]\n";

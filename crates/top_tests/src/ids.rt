@@ -7,7 +7,7 @@ use std::alloc::{AllocError, Global};
 use std::test::Fail;
 use test_support::{SECONDARY, put_signal};
 
-// The identities of many signals that begin in the first frame.
+// Returns the report on the identities in the first frame of `many_signals`.
 fn ids_of_many(alloc: Global) -> Result<String, AllocError> {
     let mut text = String::from_str(alloc, "ids 46\n")?;
     for q in 0..46_u32 {
@@ -52,7 +52,7 @@ fn faults_of_identities(rt: HostRuntime) -> Result<(), Fail> {
     Ok(())
 }
 
-// As the second program of outputs, `python/lte_reference/forms.py`, writes it.
+// Output of the reference implementation, `python/lte_reference/forms.py`.
 const AS_JSON: &str =
     "[{\"at\":0,\"energy\":1996394,\"identity\":0,\"n2\":0,\"peak\":3985589003236,\"power\":1996394,\
 \"secondary\":{\"best\":{\"group\":0,\"score\":519218053738,\"subframe\":0},\"second\":{\"group\":165,\

@@ -1,4 +1,4 @@
-//! Recordings of another length.
+//! Recordings with a wrong length.
 
 use crate::output_by;
 use lte_top::{Program, Status};
@@ -7,8 +7,7 @@ use std::process::Abort;
 use std::test::Fail;
 use test_support::silence;
 
-/// A command line of a program over zeros that are too few, no whole samples, or too many, is refused so, with this
-/// exit code, and writes nothing.
+/// Runs a command on recordings that are too short, ragged or too long, each of which it must refuse without output.
 pub(crate) fn refuse_lengths(
     rt: &impl Abort,
     alloc: Global,

@@ -1,4 +1,5 @@
-//! Tests of the programs by command, over sources and sinks in memory, some of which fail on purpose.
+//! Tests of `lte_top` and `lte_args`, command by command, with sources and sinks in memory that fail where a test needs
+//! it.
 #![tactic(auto)]
 
 mod carriers;

@@ -1,5 +1,5 @@
-//! The command `make`. The texts are those of two other programs, `python/lte_reference/make.py` and
-//! `python/lte_reference/search.py`; those of further antenna ports and of the extended prefix are worked rows.
+//! The command `make`. The texts are from two reference implementations, `python/lte_reference/make.py` and
+//! `python/lte_reference/search.py`; for further antenna ports and the extended prefix they are worked out by hand.
 
 use crate::{Output, command_line, output_unread};
 use lte_top::{Program, Status};
@@ -39,14 +39,14 @@ cell 7 at 19193 sfn 8 ports 1 n6 phich extended two br 0 spare 7
 sib1 none long-prefix
 ";
 
-// What a command line comes to that reads nothing; `None` where it reads.
+// Runs a command that reads nothing; `None` if it reads.
 fn made_by(alloc: Global, line: &str) -> Result<Option<Output>, AllocError> {
     let words = command_line(alloc, line)?;
     let (output, unread) = output_unread(alloc, Program::Receiver, &words)?;
     Ok(if unread { Some(output) } else { None })
 }
 
-// Whether a command line reads nothing, is done, and writes this text and no other.
+// Returns whether a command reads nothing, ends with `Done`, and writes exactly `text`.
 fn makes(alloc: Global, line: &str, text: &[u8]) -> Result<bool, AllocError> {
     Ok(match made_by(alloc, line)? {
         Some(output) => output.is(Status::Done, text),

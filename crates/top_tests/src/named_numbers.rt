@@ -1,8 +1,9 @@
-//! Numbers of a report, looked up by their names, so that a further number changes none of these rows.
+//! Numbers in a report, looked up by name, so a further number does not change the tests.
 
 use std::alloc::{AllocError, Global};
 
-// Whether a text has a number, with marks before the name, between name and value, and after the value.
+// Returns whether a text has a number, with these marks in front of the name, between name and value, and after the
+// value.
 fn has_number(
     alloc: Global,
     text: &str,
@@ -15,7 +16,7 @@ fn has_number(
     Ok(text.contains(piece.as_str()))
 }
 
-// Whether a text has each of these numbers.
+// Returns whether a text has each of these numbers.
 fn has_each(
     alloc: Global,
     text: &str,

@@ -1,4 +1,4 @@
-//! The pages about the programs, word for word.
+//! The help and version pages, word for word.
 
 use crate::{command_line, output_unread};
 use lte_top::{Program, Status};
@@ -33,7 +33,7 @@ help, --help, -h: this page
 version, --version: the versions of the program and of its definition
 ";
 
-// Whether each of these command lines of a program reads nothing, is done, and writes this text and no other.
+// Returns whether each of these commands reads nothing, ends with `Done`, and writes exactly `text`.
 fn print(alloc: Global, program: Program, lines: &[&str], text: &str) -> Result<bool, AllocError> {
     for line in lines {
         let (output, unread) = output_unread(alloc, program, &command_line(alloc, line)?)?;

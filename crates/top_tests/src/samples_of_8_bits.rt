@@ -1,11 +1,11 @@
-//! The forms that read recordings of 8-bit numbers.
+//! The commands on 8-bit recordings.
 
 use crate::{gives, output_of};
 use lte_top::Status;
 use std::alloc::{AllocError, Global};
 use std::test::Fail;
 
-// So many bytes, each of which stands for -1.
+// Returns `count` bytes, each a component of -1.
 fn quiet(alloc: Global, count: usize) -> Result<Vec<u8>, AllocError> {
     vec![in alloc; 127u8; count]
 }

@@ -9,19 +9,19 @@ use std::alloc::{AllocError, Global};
 use std::test::Fail;
 use test_support::{PLAIN_REPORT, add_errors, oppose, silence};
 
-// Whether `search` over these bytes is done, and some of its lines are these.
+// Returns whether `search` ends with `Done`, and its output contains `lines`.
 fn search_shows(alloc: Global, bytes: Vec<u8>, lines: &str) -> Result<bool, AllocError> {
     let output = output_of(alloc, "search", bytes)?;
     Ok(output.status == Status::Done && contains(&output.written, lines.as_bytes()))
 }
 
-// Whether a cell was sent, and `search` shows these lines of it.
+// Returns whether a cell was sent, and `search` lists it with these lines.
 fn is_found(alloc: Global, sent: Output, lines: &str) -> Result<bool, AllocError> {
     let done = sent.status == Status::Done;
     Ok(search_shows(alloc, sent.written, lines)? && done)
 }
 
-// Whether a piece stands in a text.
+// Returns whether a text contains a piece.
 fn contains(text: &[u8], piece: &[u8]) -> bool {
     for at in 0..text.len() {
         if text[at..].starts_with(piece) {
@@ -69,7 +69,7 @@ fn calls_that_fail(rt: HostRuntime) -> Result<(), Fail> {
     Ok(())
 }
 
-// The list of the plain cell as Python's json writes it, with keys sorted and without spaces.
+// The plain cell's list in the form of Python's `json`, with sorted keys and without spaces.
 const AS_JSON: &str =
     "[{\"at\":0,\"bandwidth\":\"n6\",\"br\":0,\"duration\":\"normal\",\"identity\":0,\"ports\":1,\
 \"resource\":\"one\",\"sfn\":0,\"sib1\":{\"band\":1,\"barred\":false,\"cell\":1,\"csg\":false,\"csg_identity\":null,\
@@ -77,12 +77,12 @@ const AS_JSON: &str =
 \"q_offset\":null,\"q_rx\":-70,\"scheduling\":[{\"period\":8,\"sibs\":[]}],\"tac\":1,\"tag\":0,\"tdd\":null,\
 \"window\":1},\"spare\":0}]\n";
 
-// Samples 832 to 835 of what it sends, made by a second program.
+// Samples 832 to 835 of the plain cell, from the reference implementation.
 const SENT: [u8; 16] = [
     104, 0, 184, 255, 27, 0, 249, 255, 157, 255, 69, 0, 144, 255, 1, 0,
 ];
 
-// Whether this is what the plain cell sends.
+// Returns whether this is the plain cell's recording.
 fn is_plain(sent: &Output) -> bool {
     sent.status == Status::Done
         && sent.written.len() == 230_400
@@ -134,8 +134,8 @@ plmn 262 042 free\nsi rf8 -\nsi rf16 0\nsi rf32 1\nsi rf64 2,3\n";
 
 #[test]
 fn cells_with_punctured_blocks_are_found(rt: HostRuntime) -> Result<(), Fail> {
-    // Of 1,260 coded bits 1,224 are sent, and of 2,412, by which the bits are told in the fourth iteration alone:
-    // redundancy version 2 is the first that is sent.
+    // The first change sends 1,224 of 1,260 coded bits, the second 1,224 of 2,412, which only the fourth iteration
+    // decodes. Redundancy version 2 is sent first.
     for change in [
         r#", "sfn": 2, "mcs": 8, "column": 3"#,
         r#", "sfn": 2, "mcs": 18"#,
@@ -149,7 +149,7 @@ plmn 001 01 free\nsi rf8 -\n";
     Ok(())
 }
 
-// The recording that a changed description sends, each component off by this much, against its sign.
+// Returns the recording of a changed description, with each component moved by `error` against its sign.
 fn opposed_recording(alloc: Global, change: &str, error: i16) -> Result<Vec<u8>, AllocError> {
     let mut bytes = sent_by(alloc, change)?.written;
     oppose(&mut bytes, error);

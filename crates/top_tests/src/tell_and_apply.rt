@@ -1,4 +1,4 @@
-//! The commands `tell` and `apply` of the second program.
+//! The commands `tell` and `apply` of `lte_tune`.
 
 use crate::lengths::refuse_lengths;
 use crate::{command_line, gives_by, output_by, output_unread, sent_by};
@@ -48,7 +48,7 @@ fn lengths_that_are_refused(rt: HostRuntime) -> Result<(), Fail> {
     Ok(())
 }
 
-// As the second program of outputs, `python/lte_reference/forms.py`, writes it.
+// Output of the reference implementation, `python/lte_reference/forms.py`.
 const AS_JSON: &str =
     "{\"candidates\":[{\"coarse\":0,\"energy\":1996394,\"peak\":3985589003236,\"power\":1996394,\"turn\":0},\
 {\"coarse\":8,\"energy\":2013870,\"peak\":2925206624674,\"power\":1996394,\"turn\":255},{\"coarse\":-12,\
@@ -63,7 +63,7 @@ fn what_is_told_of_a_plain_cell_as_json(rt: HostRuntime) -> Result<(), Fail> {
     Ok(())
 }
 
-// A recording of 8-bit numbers, each of which stands somewhere.
+// Returns an 8-bit recording that contains every byte value.
 fn of_8_bits(alloc: Global) -> Result<Vec<u8>, AllocError> {
     let mut bytes = Vec::new(alloc);
     for i in 0..115_200_u32 {
@@ -73,7 +73,7 @@ fn of_8_bits(alloc: Global) -> Result<Vec<u8>, AllocError> {
     Ok(bytes)
 }
 
-// The same of 16-bit numbers: v stands for 2v - 255.
+// Widens 8-bit components to 16 bits: v becomes 2v - 255.
 fn of_16_bits(alloc: Global, bytes: &[u8]) -> Result<Vec<u8>, AllocError> {
     let mut wide = Vec::new(alloc);
     for &v in bytes {

@@ -1,4 +1,4 @@
-//! Texts of answers and of errors.
+//! The texts of answers and errors.
 
 use cell_json::JsonError;
 use cell_tx::CellError;
@@ -12,7 +12,7 @@ use std::process::Abort;
 use std::test::Fail;
 use tail_cert::BadCertificate;
 
-// Whether a value is printed so.
+// Returns whether a value prints as `text`.
 fn prints<T: Display>(alloc: Global, value: &T, text: &str) -> Result<bool, AllocError> {
     Ok(format!(in alloc; "{value}")?.as_str() == text)
 }
@@ -42,7 +42,7 @@ fn texts_of_the_conditions_of_a_description(rt: HostRuntime) -> Result<(), Fail>
     Ok(())
 }
 
-// Each of these values is printed as its text.
+// Checks that each value prints as its text.
 fn print_each<T: Display>(rt: &impl Abort, alloc: Global, rows: &[(T, &str)]) -> Result<(), Fail> {
     for (value, text) in rows {
         assert!(rt; prints(alloc, value, text)?, "{text}");

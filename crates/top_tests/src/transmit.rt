@@ -1,5 +1,6 @@
-//! The command `transmit`, where it refuses descriptions, and what is found of what it sends by each carrier. The lists
-//! are those of second programs: of `python/lte_reference/search.py` over what `python/lte_reference/cell.py` sends.
+//! The command `transmit`: refused descriptions, and `search` on its output under each transmission scheme. The lists
+//! are from the reference implementations: `python/lte_reference/search.py` on the output of
+//! `python/lte_reference/cell.py`.
 
 use crate::{Output, gives, output_of, sent_by, sent_with_words};
 use cell_tx::CellError;
@@ -8,7 +9,7 @@ use std::alloc::{AllocError, Global};
 use std::test::Fail;
 use test_support::{PLAIN_REPORT, description};
 
-// Whether a description is refused for this cause, and nothing is sent.
+// Returns whether a description is refused for this cause, and nothing is written.
 fn is_refused(sent: &Output, cause: CellError) -> bool {
     sent.is_refused(Status::BadCell(cause), 9)
 }
@@ -18,7 +19,7 @@ fn cells_whose_punctured_block_cannot_be_resolved_are_refused(rt: HostRuntime) -
     for change in [
         r#", "mcs": 21, "blocks": 1"#,
         r#", "mcs": 9, "cfi": 3, "blocks": 3"#,
-        // After one iteration the word with zeros in place of what is not told yet passes its check.
+        // After one iteration, the hard decision with zeros for the open bits passes the CRC.
         r#", "mcs": 17"#,
     ] {
         let sent = sent_by(rt.alloc(), change)?;
@@ -27,7 +28,7 @@ fn cells_whose_punctured_block_cannot_be_resolved_are_refused(rt: HostRuntime) -
     Ok(())
 }
 
-// What `transmit` comes to over the first bytes of the plain cell's description.
+// Runs `transmit` on the first bytes of the plain cell's description.
 fn sent_front(alloc: Global, len: usize) -> Result<Output, AllocError> {
     let text = description(alloc, "", "")?;
     let mut bytes = text.as_bytes().to_vec(alloc)?;
@@ -66,14 +67,14 @@ fn a_description_that_is_too_long(rt: HostRuntime) -> Result<(), Fail> {
     Ok(())
 }
 
-// The gains of both antenna ports, in a change of the plain description.
+// Gains for two antenna ports.
 const TWO_GAINS: &str = r#", "gain": [9, -5], "gain2": [-6, 8]"#;
 
-// Those of four.
+// Gains for four antenna ports.
 const FOUR_GAINS: &str =
     r#", "gain": [6, -3], "gain2": [5, 5], "gain3": [-4, 6], "gain4": [2, -6]"#;
 
-// The plain cell with two antenna ports, as `search --ports 2` writes it.
+// The plain cell with two antenna ports, as `search --ports 2` lists it.
 const TWO_PORTS_REPORT: &str = "cells 1
 cell 0 at 0 sfn 0 ports 2 n6 phich normal one br 0 spare 0
 sib1 tac 1 cell 1 open allowed csg 0 - rx -70 offset - pmax - band 1 window ms1 tag 0 tdd - extension 0
@@ -81,19 +82,19 @@ plmn 001 01 free
 si rf8 -
 ";
 
-// With four, as `search --ports 4` writes it.
+// The plain cell with four antenna ports, as `search --ports 4` lists it.
 const FOUR_PORTS_REPORT: &str = "cells 1
 cell 0 at 0 sfn 0 ports 4 n6 phich normal one br 0 spare 0
 sib1 none ports 4
 ";
 
-// With the extended prefix, as `search --prefix long` writes it.
+// The plain cell with the extended cyclic prefix, as `search --prefix long` lists it.
 const LONG_PREFIX_REPORT: &str = "cells 1
 cell 0 at 0 sfn 0 ports 1 n6 phich normal one br 0 spare 0
 sib1 none long-prefix
 ";
 
-// Whether what is sent by these words, of the plain description with this change, has this list.
+// Returns whether a `transmit` command on the plain description with `change` sends a recording with this list.
 fn is_found(
     alloc: Global,
     line: &str,

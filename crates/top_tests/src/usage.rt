@@ -1,11 +1,11 @@
-//! Words of the forms of the programs, and words of none.
+//! Arguments that select a form of the programs, and arguments that select none.
 
 use crate::{command_line, is_no_form, output_unread};
 use lte_top::{Program, Status, Words};
 use std::alloc::{AllocError, Global};
 use std::test::Fail;
 
-// Whether a command line is of no form of a program.
+// Returns whether a command line selects no form of a program.
 fn is_of_no_form(alloc: Global, program: Program, line: &str) -> Result<bool, AllocError> {
     is_no_form(alloc, program, &command_line(alloc, line)?)
 }
@@ -199,7 +199,7 @@ fn words_of_no_form_of_the_tuner(rt: HostRuntime) -> Result<(), Fail> {
     Ok(())
 }
 
-// The words of a list.
+// Builds the argument list.
 fn words_of(alloc: Global, list: &[&str]) -> Result<Words, AllocError> {
     let mut words = Words::new(alloc);
     for word in list {
@@ -208,7 +208,7 @@ fn words_of(alloc: Global, list: &[&str]) -> Result<Words, AllocError> {
     Ok(words)
 }
 
-// Lists of words of no form.
+// Argument lists that select no form.
 const NO_FORMS: [&'static [&'static str]; 17] = [
     &["hit"],
     &["hits "],

@@ -6,14 +6,14 @@ use Rattle.lte_top.specs.Run.{Runs}
 use Rattle.lte_process.specs.Exit.{at_start}
 use Rattle.lte_process.proofs.answer.Goals as goal
 
--- what the reader and the writer tell where so many of their calls failed
+-- a reader and a writer with this many failed calls
 abbrev reader : ℕ → SourceTold
 reader faults = record { left = None; faults = faults }
 
 abbrev writer : ℕ → SinkTold
 writer faults = record { taken = None; room = None; faults = faults }
 
--- a run begins at the start where no call failed before
+-- if no call has failed before, a run starts as the process does
 from_start : (program : Program) (words arguments : List (List ℕ)) (reads writes : ℕ) (now : Outside) (status : Status) →
     reads ≡ 0 → writes ≡ 0 → words ≡ arguments → Runs program words (reader reads, writer writes) now status → Runs program arguments at_start now status
 from_start program words arguments reads writes now status r w a run =

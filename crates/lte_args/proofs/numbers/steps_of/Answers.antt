@@ -8,7 +8,7 @@ use Rattle.std.proofs.lemmas.Int.{ints, to_z-of_z}
 use Rattle.lte_args.specs.Words.{IsTurn}
 use Rattle.lte_args.proofs.numbers.steps_of.Goals as goal
 
--- a turn is a number of 16 bits
+-- a phase step fits in 16 bits
 fits : (m : ℤ) → IsTurn m → FitsSigned w16 m
 fits (pos n) within = let high = within.1 in omega (arith, ints, high)
 fits (negsuc n) within = let low = within.0 in omega (arith, ints, low)

@@ -4,14 +4,14 @@ use Rattle.lte_types.specs.declared.carrier.Carrier.TheVariants.{OnePort, TwoPor
 use Rattle.lte_args.specs.Words.{carrier_words, BeginsWithNo}
 use Rattle.lte_args.proofs.parts.carrier_of.Goals as goal
 
--- a carrier has two words at most
+-- a transmission scheme has at most two words
 few : (carrier : Carrier) → drop 2 (carrier_words carrier) ≡ []
 few OnePort = refl
 few TwoPorts = refl
 few LongPrefix = refl
 few FourPorts = refl
 
--- where the words are those of a carrier, none is left after those of the one that is read
+-- if the arguments are exactly a transmission scheme's words, nothing is left after the scheme that is parsed
 none_left : (words rest : List (List ℕ)) (read carrier : Carrier) → words ≡ carrier_words read ++ rest → (carrier_words read ≡ [] → BeginsWithNo carrier_words words) →
     words ≡ carrier_words carrier → rest ≡ []
 none_left words rest OnePort carrier named unnamed is = sym named ∙ is ∙ unnamed refl carrier [] (is ∙ sym (append-nil (carrier_words carrier)))

@@ -10,13 +10,13 @@ use Rattle.cell_tx.specs.Emitting.{Progress, piece_end, piece_of}
 use Rattle.cell_tx.proofs.Advancing.{rest_is}
 use Rattle.lte_top.proofs.transmitting.write_emission.Goals as goal
 
--- what is left before a piece is the piece, and what is left after it
+-- before a piece, the remaining samples are the piece and the samples after it
 left_is : (p q : Progress) (piece : List Sample) → q.samples ≡ p.samples → q.from ≡ p.at → q.at ≡ piece_end p → piece ≡ piece_of q → p.at < length p.samples
     → drop p.at p.samples ≡ piece ++ drop q.at q.samples
 left_is p q piece samples from ends is below =
     rest_is p q samples from ends below ∙ ap₂ (λ (a b : List Sample). a ++ b) (sym is) (ap (drop q.at) (sym samples))
 
--- what waits before a piece, and the bytes of what is left, are what waits with the piece, and the bytes of what is left after it
+-- the buffered bytes and the remaining samples' bytes stay the same when a piece is moved to the buffer
 waiting_is : (waiting : List ℕ) (p q : Progress) (piece : List Sample) → q.samples ≡ p.samples → q.from ≡ p.at → q.at ≡ piece_end p → piece ≡ piece_of q
     → p.at < length p.samples → waiting ++ bytes_of (drop p.at p.samples) ≡ (waiting ++ bytes_of piece) ++ bytes_of (drop q.at q.samples)
 waiting_is waiting p q piece samples from ends is below =

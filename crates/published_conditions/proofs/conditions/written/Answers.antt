@@ -4,7 +4,7 @@ use Rattle.dci.specs.Sizes.{column_2, column_3}
 use Rattle.published_conditions.specs.Numbers.{sizes_of_two, sizes_of_three}
 use Rattle.published_conditions.proofs.conditions.written.Goals as goal
 
--- an MCS index with a size is at most 26
+-- an MCS index with a size in either column is at most 26
 is_small : (mcs size : ℕ) (two : Bool) → slice_get (if two then sizes_of_two else sizes_of_three) mcs ≡ Some size → mcs ≤ 26
 unfolding sizes_of_two sizes_of_three
 is_small mcs size true found = let l = slice_get_within sizes_of_two mcs size found in omega (arith, l)
