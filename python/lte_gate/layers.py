@@ -1,21 +1,18 @@
-"""layers [--write]
+"""layers
 
 Checks crates.txt against the crates. Each name behind a crate's colon has to be named by a file of the crate: src/ by
 `name::` or `use name`, specs/ and proofs/ by `Rattle.name`. A crate of code with more than 100 functions needs a reason:
-a line of its root file that begins with `//! Size:`. Those that have none yet have their count in large_crates.json,
-which may only shrink (--write lowers it). Prints a line for each fault, and a count; the status is 1 if there is one.
+a line of its root file that begins with `//! Size:`. Prints a line for each fault, and a count; the status is 1 if
+there is one.
 """
 import argparse
-import pathlib
 import re
 
-from . import ratchet
 from .crates_list import entries_of
 from .rattle_source import functions_of, is_of_tests, quiet, root_of
 from .repository import TOP, report, run
 
 MOST = 100
-COUNTS = pathlib.Path(__file__).with_name("large_crates.json")
 ANTT_COMMENT = re.compile(r"(?m)(?:^|(?<= ))--( [^\n]*)?$")
 
 
@@ -58,18 +55,17 @@ def sizes(top):
 
 def parser():
     """Returns the parser of the command's arguments."""
-    made = argparse.ArgumentParser("layers", description=__doc__, formatter_class=argparse.RawDescriptionHelpFormatter)
-    made.add_argument("--write", action="store_true", help="lower the counts that shrank")
-    return made
+    return argparse.ArgumentParser("layers", description=__doc__, formatter_class=argparse.RawDescriptionHelpFormatter)
 
 
 def main():
-    args, counts = parser().parse_args(), sizes(TOP)
-    if args.write:
-        print("lowered:", *ratchet.lower(COUNTS, counts))
+    parser().parse_args()
     faults = [*dead_entries(TOP)]
-    faults += [f"{line}: split it, or say why in a line `//! Size:`" for line in ratchet.grown(COUNTS, counts)]
-    return report("crates.txt", faults, f"{len(entries_of(TOP))} crates, {len(counts)} above {MOST} functions")
+    faults += [
+        f"{name}: {count} functions, above {MOST}: split it, or say why in a line `//! Size:`"
+        for name, count in sizes(TOP).items()
+    ]
+    return report("crates.txt", faults, f"{len(entries_of(TOP))} crates")
 
 
 if __name__ == "__main__":

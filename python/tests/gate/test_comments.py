@@ -1,9 +1,7 @@
-"""The rules of comments, and the counts that may only shrink."""
-import json
-
+"""The rules of comments."""
 import pytest
 
-from lte_gate import comments, english, ratchet
+from lte_gate import comments, english
 
 
 @pytest.mark.parametrize(
@@ -45,29 +43,3 @@ def test_rules(text, kinds):
 def test_comments_that_need_the_one_above(comment, leans):
     assert english.leans(comment) is leans
     assert bool(list(comments.leaning(f"-- {comment}\n"))) is leans
-
-
-def test_counts_only_shrink(tmp_path):
-    file = tmp_path / "counts.json"
-    ratchet.start(file, {"a": 3, "b": 2, "c": 0})
-    assert json.loads(file.read_text()) == {"a": 3, "b": 2}
-    assert not list(ratchet.grown(file, {"a": 3, "b": 2}))
-    assert list(ratchet.grown(file, {"a": 4, "b": 1})) == ["a: 4, more than the 3 of counts.json"]
-    assert list(ratchet.grown(file, {"a": 3, "b": 2, "d": 1})) == ["d: 1, more than the 0 of counts.json"]
-    assert ratchet.smaller(file, {"a": 3, "b": 1}) == ["b"]
-
-
-def test_renamed_crate_takes_its_count_with_it(tmp_path):
-    file = tmp_path / "counts.json"
-    ratchet.start(file, {"a": 3, "b": 2})
-    counts = {"a1": 2, "a2": 1, "b": 2}
-    assert not list(ratchet.grown(file, counts))
-    assert ratchet.lower(file, counts) == ["a", "a1", "a2"]
-    assert ratchet.stored(file) == counts
-    assert ratchet.lower(file, {"a1": 9, "b": 1}) == ["a2", "b"]
-    assert ratchet.stored(file) == {"a1": 2, "b": 1}
-
-
-def test_each_stored_count_is_of_a_crate():
-    names = {crate.name for crate in (comments.TOP / "crates").iterdir()}
-    assert ratchet.stored(comments.COUNTS).keys() <= names
