@@ -48,14 +48,14 @@ none_behind n bytes p past front (inl (four, there, off)) = omega (arith, front,
 none_behind n bytes p past front (inr (inl (low, high, even, room, large))) = omega (arith, front, high)
 none_behind n bytes p past front (inr (inr (end, early))) = omega (arith, past, early)
 
--- bytes that begin with a whole certificate state its length
+-- bytes that begin with a complete certificate state its length
 pub count_of_whole : (c : Held) → IsWhole c → (more : List ℕ) → count_of (bytes_of c ++ more) ≡ length (bytes_of c)
 count_of_whole c whole more = count_longer (bytes_of c) more (whole_long c whole) ∙ count_whole c whole
   where
     whole_long : (c : Held) → IsWhole c → head_count ≤ length (bytes_of c)
     whole_long c whole = omega (arith, length-bytes_of c whole)
 
--- a whole certificate has no format error, whatever follows
+-- a complete certificate has no format error, whatever follows
 pub whole_front : (c : Held) → IsWhole c → (more : List ℕ) (p : ℕ) → Breaks (bytes_of c ++ more) p → ⊥
 whole_front c whole more p broken =
     let size = length-bytes_of c whole in

@@ -16,7 +16,7 @@ use Rattle.explain.specs.Frame.{IsWhole}
 use Rattle.explain.specs.Receiver.{Receiver, Subframes}
 use Rattle.explain.specs.Told.{Answering, Informing}
 
--- ---- the frames that are tried; `Answers` says what a frame answers, by its number from the first frame on
+-- ---- the frames that are tried; `Answers` says what a frame answers, by its number, counted from the first frame
 
 -- even-numbered frame i, counted from the first frame, whose number is sfn
 abbrev pub even_frame : ℕ → ℕ → ℕ

@@ -32,7 +32,7 @@ pub struct Masters {
     pub sums: [WordSums; 4],
 }
 
-// The soft values of a cell's frames from frame 0 on, as far as they were read.
+// The soft values of the frames read so far, from a cell's frame 0.
 type ReceivedFrames = ArrayVec<Received, 8>;
 
 /// Returns the first frames that carry a MIB, with all their MIBs, among a cell's frames 0 to 7: a single frame, or
