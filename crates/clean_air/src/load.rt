@@ -17,7 +17,7 @@ pub fn open_places_are_silent()
 {}
 
 /// A law: a recording that is clean for a cell, whatever else the cell sends, is faithful to it. With component errors
-/// of at most eps, 128 samples have an error energy of at most 2^36 eps^2. (own)
+/// of at most eps, 128 samples have an error energy of at most 2^36 eps^2, with gains in units of 2^-14. (own)
 pub fn loaded_is_faithful()
     ensures errors { LoadedHasLittleErrors }
     ensures faithful { LoadedIsFaithful }

@@ -16,7 +16,7 @@ use Rattle.explain.specs.Frame.{IsWhole}
 use Rattle.explain.specs.Receiver.{Receiver, Subframes}
 use Rattle.explain.specs.Told.{Answering, Informing}
 
--- ---- the frames that are tried; `Answers` says what a frame answers, by its number, counted from the first frame
+-- ---- the frames that are tried; `Answers` gives each answer, by its frame counted from the first
 
 -- even-numbered frame i, counted from the first frame, whose number is sfn
 abbrev pub even_frame : ℕ → ℕ → ℕ
@@ -27,7 +27,7 @@ pub record IsTried (recording : List Sample) (start sfn i : ℕ) : Type 0 where
   pub among : i < 8
   pub whole : IsWhole recording start (even_frame sfn i)
 
--- a tried frame answers with these fields, and none before it with any
+-- these are the fields of the first tried frame that answers with any
 pub record IsFirstRead (Answers : Answering) (recording : List Sample) (start sfn : ℕ) (fields : Sib1) : Type 0 where
   pub i : ℕ
   pub tried : IsTried recording start sfn i

@@ -1,4 +1,7 @@
 //! Laws of the list.
+//!
+//! Two listed entries differ in identity, start or frame number (`apart`). If the receiver reads SIB1, no entry has the
+//! reason `Sib1Reason::LongPrefix` (`never_long`).
 
 ghost use Rattle.std.specs.Prelude.{◌≡◌};
 ghost use Rattle.explain.specs.Laws.{IsOneList, IsSound, IsComplete, IsApart, IsNeverLong};

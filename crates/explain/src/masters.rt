@@ -35,8 +35,8 @@ pub struct Masters {
 // The soft values of the frames read so far, from a cell's frame 0.
 type ReceivedFrames = ArrayVec<Received, 8>;
 
-/// Returns the first frames that carry a MIB, with all their MIBs, among a cell's frames 0 to 7: a single frame, or
-/// else two to four consecutive ones, at most as many as the reader combines.
+/// Returns the first frames that carry a MIB, with all their MIBs, among a cell's frames 0 to 7, or `None`: a single
+/// frame, or else two to four consecutive ones, at most as many as the reader combines.
 pub(crate) fn first_masters<F: FrameReader>(
     reader: &F,
     recording: &Recording,
