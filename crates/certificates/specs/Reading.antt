@@ -1,4 +1,4 @@
--- What holds while certificates are read, and how the reading ends (own).
+-- Invariants while certificates are read, and how the reading ends (own).
 use Rattle.std.specs.Prelude.{◌≡◌, ◌⊎◌, ℕ, ◌+◌, ◌<◌, ◌≤◌, ◌++◌, Bool, List, length}
 use Rattle.cs_outside.specs.Outside.{SourceTold}
 use Rattle.cs_outside.specs.Streams.{HasRead, HasReadAll, HasFailedAfter, IsAtEnd}
