@@ -53,8 +53,8 @@ abbrev pub slot_elements : Elements → ℕ → ℕ → ℕ → ℕ → Cpx
 slot_elements grid number slot l = grid number (slot / 2) (7 * (slot % 2) + l)
 
 -- a slot of port 0 is received through a channel, with bounds relative to a magnitude whose square is n. This holds for
--- its pilots and for every resource element with a point of two bits, read or not; each can be decoded, and the bounds
--- leave room.
+-- its pilots and for every resource element with a QPSK symbol, whether it is read or not; each can be decoded, and the
+-- bounds leave room.
 pub record IsSlotThrough (bounds : Bounds) (n : ℕ) (channel : Channel) (grids : ℕ → ℕ → Cpx) (slot : SeenSlot) :
     Type 0 where
   pub room : LeaveRoom 1 bounds

@@ -18,8 +18,8 @@ use explain::{Workspace, grant_of};
 use lte_types::{Bandwidth, Cfi, Entry, Sib1};
 use sample_file::Recording;
 
-/// Returns the plan of the cell of `entry`, which is in the list of `recording`, or `None` if there is none; reads the
-/// frames again. If the recording is clean for the cell, or faithful to it, this is the sent plan. (own)
+/// Returns the plan of the cell of `entry`, listed for `recording`, or `None` if there is none; reads the frames again.
+/// If the recording is clean for the cell, or faithful to it, this is the sent plan. (own)
 pub fn plan_of(recording: &Recording, entry: &Entry, work: &mut Workspace) -> Option<Cell>
     requires { IsInList recording.now entry.now }
     ensures plan { IsPlanOf recording.now entry.now result }

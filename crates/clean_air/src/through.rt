@@ -14,8 +14,8 @@ ghost use Rattle.clean_air.specs.Through.{SlotThroughIsHeard, ReceivedSlotIsThro
 ghost use Rattle.clean_air.specs.Echo.{SlotOverIsThrough, EchoesAreThrough, LoadedIsEchoed};
 ghost use Rattle.clean_air.specs.Fading.{FadingSlotIsThrough, FadingIsThrough, FaithfulIsFading, LeaveFadingRoom};
 
-/// A law: if a slot's pilots and all elements with a two-bit symbol are received through a channel, which leaves room
-/// for values of magnitude 1 there, its soft values have the signs of the carried bits.
+/// A law: if a slot's pilots and all elements with a QPSK symbol are received through a channel, which leaves room for
+/// values of magnitude 1 there, its soft values have the signs of the carried bits.
 pub fn slot_through_is_heard()
     ensures { SlotThroughIsHeard }
 {}

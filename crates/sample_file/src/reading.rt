@@ -72,8 +72,8 @@ struct Front {
     count: usize,
 }
 
-/// Reads a recording of 57,600 to 1,920,000 samples in format `form`, to the end of the source. An input that ends
-/// within a sample is ragged, however short; one that is too long is read one byte past the limit. (own)
+/// Reads 57,600 to 1,920,000 samples in format `form`, to the end of the source. An input that ends within a sample is
+/// ragged, however short; one that is too long is read one byte past the limit. (own)
 pub fn read_as<S: Source>(
     alloc: Global,
     source: &mut S,
