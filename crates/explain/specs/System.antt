@@ -47,7 +47,7 @@ IsReadFrom Answers recording start sfn (Err reason) = IsNoneRead Answers recordi
 
 -- ---- the first rule that applies
 
--- a cell has another antenna port count than the transmission scheme
+-- a cell's antenna port count is not the transmission scheme's
 pub record HasOtherPorts (wanted ports told : ℕ) : Type 0 where
   pub told_is : told ≡ ports
   pub other : ports ≢ wanted

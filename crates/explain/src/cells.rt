@@ -17,8 +17,8 @@ use lte_types::{CellPlace, Entry};
 use pbch::{Received, received, sums_of};
 use sample_file::Recording;
 
-/// Replaces `list` with a recording's cell list for one antenna port, and the content of `work` with how each entry was
-/// read. Does not allocate. (own)
+/// Replaces `list` with a recording's cell list for one antenna port, by the rules of `explain_by`, and the content of
+/// `work` with how each entry was read. Does not allocate. (own)
 pub fn explain(recording: &Recording, work: &mut Workspace, list: &mut EntryList)
     ensures list { IsExplained recording.now list.new }
     ensures readings { AllZip (IsReading recording.now) list.new work.new }

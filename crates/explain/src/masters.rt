@@ -66,7 +66,8 @@ pub(crate) fn first_masters<F: FrameReader>(
     None
 }
 
-// Returns the first among the first `whole` frames that carries a MIB alone. If none is found, all were received.
+// Returns the first frame that carries a MIB by itself, among the first `whole` frames. If there is none, all were
+// received.
 fn first_alone<F: FrameReader>(
     reader: &F,
     recording: &Recording,
