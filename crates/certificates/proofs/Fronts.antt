@@ -31,7 +31,7 @@ break_longer n m bytes more p inside (inr (inl (low, high, even, room, large))) 
     inr (inl (low, high, even, omega (arith, room, length-append bytes more), rw v large))
 break_longer n m bytes more p inside (inr (inr (end, early))) = absurd (omega (arith, end, inside))
 
--- an error in a continuation is one in the bytes themselves, unless it is a value that goes on past their end
+-- an error in a continuation is one in the bytes themselves, unless it is in a value that continues past their end
 pub break_shorter : (n m : ℕ) (bytes more : List ℕ) (p : ℕ) → p < length bytes → (p + 1 < length bytes) ⊎ (244 ≤ length bytes) → BreaksUpTo m (bytes ++ more) p →
     BreaksUpTo n bytes p
 break_shorter n m bytes more p inside second (inl (four, there, off)) =

@@ -103,7 +103,7 @@ fn broken_at(place: u64) -> StreamError
     }
 }
 
-// Returns how far the current certificate may be read, after `done` bytes in whole ones: at most one byte past the
+// Returns how far the current certificate may be read, after `done` bytes in complete ones: at most one byte past the
 // limit.
 fn part_end(aim: usize, done: usize) -> usize
     requires { done ≤ most_bytes }

@@ -24,8 +24,8 @@ IsSubframeHeard first second places bits = ArePlacesHeardIn (in_subframe first s
 abbrev pub shared_scrambled : SeenSlot → (ℕ → Bool) → ℕ → Bool
 shared_scrambled first bits = scrambled (pdsch_c_init first.identity first.number system_information_rnti) bits
 
--- a law: the shared channel's soft values have the signs of the bits before scrambling, if those of its resource
--- elements have the signs of the scrambled bits
+-- a law: the shared channel's soft values have the signs of the bits before scrambling, if its resource elements' soft
+-- values have the signs of the scrambled bits
 abbrev pub ValuesOfBlocksAreHeard : Type 0
 ValuesOfBlocksAreHeard = (first second : SeenSlot) (cfi start blocks : ℕ) (bits : ℕ → Bool) →
     let places = shared_places_of OnePort first.identity cfi start blocks in

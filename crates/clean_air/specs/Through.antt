@@ -1,6 +1,6 @@
--- Cells that are received through channels: each slot that is read has its own channel, possibly with another gain at
--- each resource element, and the synchronisation signals have their own gains. (own; frames, slots and symbols are
--- those of TS 36.211 sections 4.1 and 6.2)
+-- Cells that are received through channels: each slot that is read has its own channel, possibly with a different gain
+-- at each resource element, and the synchronisation signals have their own gains. (own; frames, slots and symbols are
+-- in TS 36.211 sections 4.1 and 6.2)
 use Rattle.std.specs.Prelude.{◌≡◌, ℕ, ◌+◌, ◌*◌, ◌/◌, ◌%◌, ◌<◌, ◌≤◌, Bool, not, ◌&&◌, nat_eq, MatchBool, List}
 use Rattle.cs_num.specs.declared.Cpx.{Cpx}
 use Rattle.cs_num.specs.declared.Sample.{Sample}

@@ -1,5 +1,5 @@
 -- Soft values that all have the signs of one word's coded bits determine this word only. (own; the code and its reading
--- order are those of TS 36.212 sections 5.1.3.1 and 5.1.4.2)
+-- order are in TS 36.212 sections 5.1.3.1 and 5.1.4.2)
 use Rattle.std.specs.Prelude.{◌≡◌, ℕ, ◌+◌, ◌*◌, ◌<◌, ◌≤◌, Bool, cond, List, length, slice_index_or, ℤ, pos, ◌+ℤ◌, neg_ℤ}
 use Rattle.finite.specs.Bits.{xor}
 use Rattle.sub_block.specs.declared.Item.{Item}

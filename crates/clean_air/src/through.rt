@@ -1,8 +1,8 @@
 //! Slots that are received through channels.
 //!
-//! A channel may have another gain at each resource element. A gain that differs between the seven symbols of a slot
-//! leaves room if the error energy of each symbol is at most 1400 times its gain's square and the gains differ by at
-//! most a twentieth (`slow`); if it is at most 600 times that square and they differ by at most 162 thousandths, as
+//! A channel may have a different gain at each resource element. A gain that differs between the seven symbols of a
+//! slot leaves room if the error energy of each symbol is at most 1400 times its gain's square and the gains differ by
+//! at most a twentieth (`slow`); if it is at most 600 times that square and they differ by at most 162 thousandths, as
 //! under an offset of 60 Hz between the first and last symbol (`turning`); and with one gain, if it is at most 1800
 //! times its square (`still`). In a cell, the two synchronisation signals of a slot share a gain.
 //!
