@@ -11,7 +11,7 @@ use crate::recent::Recent;
 use crate::signals::Root;
 use lte_types::Hit;
 
-// The first position of the span: the useful part of the preceding symbol just fits in front of it.
+// The first position of the span: the useful part of the preceding symbol just fits before it.
 pub(crate) const FIRST_PLACE: usize = 137;
 
 // A quarter of 1,990,000, the lower bound on the signals' powers.
