@@ -10,7 +10,7 @@ pub fn turned_recordings()
 {}
 
 /// A law: a recording has at most one estimate, from -576 to 575, and one correction by it. If there is an estimate,
-/// the corrected recording has the cells that it counts. (own)
+/// the corrected recording has the estimated number of cells. (own)
 pub fn the_turn_told()
     ensures one { IsOneTold }
     ensures applied { IsOneApplied }
