@@ -104,7 +104,7 @@ near quota g p q r x d share l clean known faint =
 
 -- ---- in a recording
 
--- the samples from an index on, in parts
+-- the samples from an index, in parts
 parts_from : List Sample → ℕ → ℕ → Cpx
 parts_from recording t n = in_parts (sample_at recording (t + n))
 

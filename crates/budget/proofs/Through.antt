@@ -124,7 +124,7 @@ opened m c x r e =
     (multiple_twice m c (plus (multiple 3 x) r) ∙ multiple-plus (m * c) (multiple 3 x) r ∙ ap (λ (z : Cpx). plus z (multiple (m * c) r)) (multiple_twice (m * c) 3 x))
     ∙ plus-associates (multiple (m * c * 3) x) (multiple (m * c) r) (multiple m e)
 
--- a component that is 0 is not near any component of a point
+-- a component that is 0 is not near any component of a QPSK symbol
 none_near : (bit : Bool) (c : ℤ) (scale main off v : ℕ) → nat_abs c ≤ 0 → 1 ≤ v → 6 * off < 540 * main → nat_abs (pos scale *ℤ c -ℤ pos (main * v) *ℤ component bit) ≤ off * v → ⊥
 none_near bit c scale main off v none some room near =
     outweighed (main * v) (off * v) (by bit (main * v) (off * v) (subst (λ x. nat_abs (pos scale *ℤ x -ℤ pos (main * v) *ℤ component bit) ≤ off * v) (zero_is c none) near))

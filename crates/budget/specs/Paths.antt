@@ -49,7 +49,7 @@ pub record IsReceivedOver (quota : ℕ) (paths : Paths) (grid samples : ℕ → 
 
 -- ---- the cyclic prefix
 
--- from an index on, a sequence holds the last 9 samples of a useful part, and then the part
+-- from an index, a sequence holds the last 9 samples of a useful part, followed by the part
 pub record HasPrefix (part : ℕ → Cpx) (place : ℕ) (sent : ℕ → Cpx) : Type 0 where
   pub before : (n : ℕ) → n < 9 → sent (place + n) ≡ part (119 + n)
   pub useful : (n : ℕ) → n < 128 → sent (place + 9 + n) ≡ part n
@@ -194,8 +194,8 @@ PathsAreRead =
     AreFaint sizes paths → 2 ^ 28 ≤ square paths.first → k < 72 →
     IsReadThrough path_bounds (square paths.first) pattern (over paths) slot symbol k
 
--- the first `count` symbols of a slot are received in a recording over several paths, each from its start sample on,
--- and hold the reference signals for the slot's identity and number in a pattern
+-- the first `count` symbols of a slot are received in a recording over several paths, each from its start sample, and
+-- hold the reference signals for the slot's identity and number in a pattern
 pub record IsSlotReceivedOver (paths : Paths) (pattern : Pattern) (count : ℕ) (recording : List Sample)
     (starts : ℕ → ℕ) (grids : ℕ → ℕ → Cpx) (slot : SeenSlot) : Type 0 where
   pub seen : (l : ℕ) → l < count → slice_index_or slot.symbols l [] ≡ seen_symbol recording (starts l)

@@ -37,7 +37,7 @@ pub record IsReceivedBy (ports quota : ℕ) (gains : ℕ → Cpx) (grids : ℕ �
   pub quiet : energy_below 128 (off_by samples (λ n. received_of ports gains (λ port. useful_at (grids port) n))) ≤
       quota * energy_below ports gains
 
--- a recording's samples from an index on
+-- a recording's samples from an index
 abbrev pub samples_from : List Sample → ℕ → ℕ → Cpx
 samples_from recording start n = sample_at recording (start + n)
 

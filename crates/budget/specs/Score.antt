@@ -83,15 +83,14 @@ pub record AreSeenThrough (most least n : ℕ) (gain : ℕ → Cpx) (n1 n2 : ℕ
 abbrev pub LeaveTermsRoom : ℕ → ℕ → Type 0
 LeaveTermsRoom most least = 2016 * (least * most) + 125 * (most * most) < 8128 * (least * least)
 
--- a group and a half stand alone: each term of their score is above 0, every other pair scores less, and they are the
--- best pair
+-- a group and a half are the only best pair: each term of their score is above 0, and every other pair scores less
 pub record PairStandsAlone (n1 n2 : ℕ) (half : Half) (pss_seen sss_seen : ℕ → Cpx) : Type 0 where
   pub terms : (n : ℕ) → n < 62 → pos 0 <ℤ (sss_at n1 n2 half n *ℤ agreement pss_seen sss_seen n2 n)
   pub greatest : (m : ℕ) (other : Half) → m ≤ 167 → ((m ≡ n1) × (other ≡ half) → ⊥) →
       score pss_seen sss_seen n2 m other <ℤ score pss_seen sss_seen n2 n1 half
   pub best : best_pair (score pss_seen sss_seen n2) ≡ (n1, half)
 
--- the transmitted group and half stand alone, if they are demodulated through a channel that leaves room
+-- the transmitted group and half are the only best pair, if they are demodulated through a channel that leaves room
 abbrev pub SentPairStandsAlone : Type 0
 SentPairStandsAlone =
     (most least n : ℕ) (gain : ℕ → Cpx) (n1 n2 : ℕ) (half : Half) (pss_seen sss_seen : ℕ → Cpx) →

@@ -1,4 +1,4 @@
--- A cell's synchronisation signals in a recording, demodulated through a channel, as over several paths. (own; the
+-- A cell's synchronisation signals in a recording, demodulated through a channel, such as several paths. (own; the
 -- signals are in TS 36.211 section 6.11)
 use Rattle.std.specs.Prelude.{ℕ, ◌-◌, ◌≤◌, List}
 use Rattle.cs_num.specs.declared.Cpx.{Cpx}

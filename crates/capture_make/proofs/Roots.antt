@@ -3,7 +3,7 @@ use Rattle.std.proofs.Common.{◌≡◌, ◌⊎◌, inl, inr, ℕ, ◌+◌, ◌*
 use Rattle.std.proofs.lemmas.Bool.{cases_lt}
 use Rattle.std.proofs.lemmas.Nat.{mul-le}
 
--- a number whose square is below the next square is at most the root
+-- if m ^ 2 is at most n, and n is below (r + 1) ^ 2, then m is at most r
 pub no_greater : (m r n : ℕ) → m * m ≤ n → n < (r + 1) * (r + 1) → m ≤ r
 no_greater m r n below next = elim (cases_lt r m) [
   | inl more ↦ absurd (let l = mul-le (r + 1) (r + 1) m m (omega (arith, more)) (omega (arith, more)) in omega (arith, below, next, l))

@@ -41,14 +41,14 @@ coded_bit word n = bit_of_item (coded_word word) (item_of (length word) n)
 abbrev pub scrambled_bit : ℕ → List Bool → ℕ → Bool
 scrambled_bit c_init word n = scrambled c_init (coded_bit word) n
 
--- PBCH bit i, one out of 480 in a frame. Four frames, from a frame number divisible by 4, carry the 1,920 scrambled
--- bits in order. With the extended prefix the counts are 432 and 1,728 (TS 36.212 sections 5.3.1.2 and 5.3.1.3, TS
--- 36.211 sections 6.6.1 and 6.6.4)
+-- PBCH bit i in a frame, 0 to 479. Four frames, from a frame number divisible by 4, carry the 1,920 scrambled bits in
+-- order. With the extended prefix the counts are 432 and 1,728 (TS 36.212 sections 5.3.1.2 and 5.3.1.3, TS 36.211
+-- sections 6.6.1 and 6.6.4)
 unfoldable pub port_bit : Port → CellPlan → ℕ → ℕ → Bool
 port_bit port plan sfn i =
     scrambled_bit (pbch_c_init plan.identity) (port_word port plan sfn) (port_block_bits port * (sfn % 4) + i)
 
--- PBCH symbol i, one out of 240 in a frame, or 216 with the extended prefix (QPSK, TS 36.211 section 7.1.2; the
+-- PBCH symbol i in a frame, 0 to 239, or 0 to 215 with the extended prefix (QPSK, TS 36.211 section 7.1.2; the
 -- amplitude is own)
 unfoldable pub port_point : Port → CellPlan → ℕ → ℕ → Cpx
 port_point port plan sfn i = point_of (port_bit port plan sfn) i

@@ -149,7 +149,7 @@ fn gain_of(carrier: Carrier, port: u8, value: &Value, key: &str) -> Option<Cpx>
     }
 }
 
-// Returns the gains of the transmission scheme's ports, followed by 0 up to four.
+// Returns the gains of the transmission scheme's ports, padded with zeros to four.
 fn gains_of(carrier: Carrier, value: &Value) -> Option<[Cpx; 4]>
     ensures { MatchOption result (IsFalse (has_all (gain_keys carrier) (view value.now)))
         (λ gains. IsTrue (has_all (gain_keys carrier) (view value.now))

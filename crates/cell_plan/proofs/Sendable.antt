@@ -115,7 +115,7 @@ module _ (enough : Bool) (Enough : Type 0) (plan : CellPlan) (is_enough : IsSome
         (pass (text_fits plan) _ _ ((fits (text_of plan.sib1) (block_size plan)).1 s.text) refl)))))))),
   )
 
--- the test alone decides whether the plan can be sent
+-- the test decides whether the plan can be sent
 pub accepted_is_sendable_with : (whole : Bool) (Whole : Type 0) (whole_is : Decides whole Whole) (plan : CellPlan) → (IsValid plan.sib1 × (first_failed (conditions_with whole plan) ≡ None)) ↔ IsSendableWith Whole plan
 accepted_is_sendable_with whole Whole whole_is plan = (
   sendable whole Whole plan (λ sized e. whole_is.0 e) (λ block w. whole_is.1 w),
@@ -145,7 +145,7 @@ accepted_by false carrier plan = accepted_is_sendable plan
 pub accepted_is_sendable_by : AcceptedAreSendable
 accepted_is_sendable_by carrier plan = accepted_by (needs_each_bit carrier) carrier plan
 
--- the same plan with another statement of what is enough
+-- the same plan with a different condition on the sent bits
 pub with_enough : (Enough Other : Type 0) (plan : CellPlan) → IsSendableWith Enough plan → Other → IsSendableWith Other plan
 with_enough Enough Other plan s other = record {
   valid = s.valid;

@@ -19,7 +19,7 @@ use Rattle.cell_plan.specs.Plan.{IsSendableWith}
 use Rattle.dci.proofs.SizeRows.{size_fits}
 use Rattle.cell_plan.proofs.BlockRows.{IsRowOf, row_of_size}
 
--- for a plan that can be sent, whichever statement says that enough of its block is sent
+-- for a plan that can be sent, by either condition on the sent bits of its block
 module _ {Enough : Type 0} (plan : CellPlan) (sendable : IsSendableWith Enough plan) where
   -- the table has a size
   pub sized : size_of plan.mcs plan.column ≡ Some (block_size plan)

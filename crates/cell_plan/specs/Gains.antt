@@ -1,5 +1,5 @@
--- Sample counts and antenna port gains with which a cell is sent, and the errors that clean recordings with such gains
--- allow. (own)
+-- Sample counts and antenna port gains of transmissions, and the errors that clean recordings with such gains allow.
+-- (own)
 use Rattle.std.specs.Prelude.{ℕ, ◌+◌, ◌*◌, ◌≤◌, List, nat_eq, nat_lt, MatchBool}
 use Rattle.std.specs.Bool.{OnTrue}
 use Rattle.std.proofs.Props.{props}

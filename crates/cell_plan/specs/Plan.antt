@@ -17,8 +17,8 @@ use Rattle.cell_plan.specs.Conditions.{Condition, condition, first_failed}
 use Rattle.cell_plan.specs.Transport.{block_size, text_fits, has_block, is_whole_of}
 use Rattle.cell_plan.specs.Transport.{is_whole, is_resolvable}
 
--- a plan can be sent: the conditions that do not depend on the antenna ports hold, and `Enough`, which says that the
--- sent part of its block is enough. The MIB has bandwidth n6.
+-- a plan can be sent: the conditions that do not depend on the antenna ports hold, and `Enough`: the sent part of its
+-- block is enough. The MIB has bandwidth n6.
 pub record IsSendableWith (Enough : Type 0) (plan : CellPlan) : Type 0 where
   pub valid : IsValid plan.sib1
   pub identity : plan.identity ≤ 503

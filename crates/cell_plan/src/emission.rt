@@ -1,4 +1,4 @@
-//! A cell with the transmission scheme, timing, sample count, gains and load with which it is sent.
+//! An emission: a cell and its transmission scheme, timing, sample count, gains and load.
 
 ghost use Rattle.std.specs.Prelude.{◌≡◌, None};
 ghost use Rattle.cell_plan.specs.Gains.{IsCount, AreGainsOf, are_gains_prop};

@@ -1,4 +1,4 @@
-//! A cell with the frame number, offset, sample count and gain with which it is sent, for one antenna port.
+//! A transmission from one antenna port: a cell and its frame number, offset, sample count and gain.
 
 ghost use Rattle.std.specs.Prelude.{◌≡◌};
 ghost use Rattle.cs_num.specs.Gain.{IsGain};

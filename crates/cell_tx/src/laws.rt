@@ -1,4 +1,8 @@
 //! Laws for transmitted cells.
+//!
+//! If no sample of a sequence exceeds magnitude 1,153, components have magnitude at most 32,340 with errors for one
+//! sequence (`sent_is_clean`); for two, at most 32,284 without errors and 32,293 with them (`sum_is_clean`). All of
+//! these fit 16 bits. An emission has at most 32,284 without errors.
 
 ghost use Rattle.cell_tx.specs.Laws.{UsefulPartsStand, PrefixesRepeat, FramesFollow, FramesBeginAtStart};
 ghost use Rattle.cell_tx.specs.Laws.{ElementsAreWithin, ElementsAreSmall};
@@ -28,16 +32,16 @@ pub fn sizes()
     ensures samples { SamplesAreSmall }
 {}
 
-/// A law: a sequence times a gain, plus errors up to twice the gain's magnitude, is a clean recording, and fits 16
-/// bits if no sample exceeds magnitude 1,153.
+/// A law: a sequence times a gain, plus errors up to twice the gain's magnitude, is a clean recording. It fits 16 bits
+/// if no sample of the sequence exceeds magnitude 1,153.
 pub fn sent_is_clean()
     ensures errors { ReceivedWithErrorsIsClean }
     ensures fits { ReceivedWithErrorsFits }
     ensures exact { ReceivedIsClean }
 {}
 
-/// A law: two sequences times their gains, plus errors within the bound, are a clean recording and fit 16 bits if no
-/// sample exceeds magnitude 1,153. So does an emission, if no pair of four ports is weak.
+/// A law: two sequences times their gains, plus errors within the bound, are a clean recording, and so is an emission
+/// if no pair of four ports is weak. Sequences within magnitude 1,153 fit 16 bits.
 pub fn sum_is_clean()
     ensures errors { ReceivedOfTwoIsClean }
     ensures small { ReceivedOfTwoIsSmall }

@@ -16,8 +16,8 @@ pub(crate) enum Ports {
     All(Carrier),
 }
 
-/// A cell's samples from `timing`, as the sum over the ports times their gains. For a single port the first gain is
-/// used.
+/// The first `samples` samples of a cell from `timing`: the sum of the ports' signals times their gains. For a single
+/// port the first gain is used.
 #[derive(Drop)]
 pub(crate) struct Source<'a> {
     pub cell: &'a Cell,

@@ -177,7 +177,7 @@ written_more receiver samples entries entry before between now a h = record {
       (write_then (all_bytes a.certificates) (bytes_of h.certificate) before between now a.written h.written);
 }
 
--- if a front of one certificate is written, a front of all is
+-- if a prefix of one certificate is written, a prefix of all is
 pub written_some : (receiver : Receiver) (samples : List Sample) (list entries : List Entry) (entry : Entry) (rest : List Entry) (before between now : SinkTold) →
     HasSmallValues receiver → IsListFor receiver samples list → list ≡ (entries ++ entry ∷ []) ++ rest → HasCertifiedAll receiver samples entries before between →
     HasCertifiedFront receiver samples entry between now → HasCertifiedSome receiver samples list before now

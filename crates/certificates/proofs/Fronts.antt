@@ -31,7 +31,7 @@ break_longer n m bytes more p inside (inr (inl (low, high, even, room, large))) 
     inr (inl (low, high, even, omega (arith, room, length-append bytes more), rw v large))
 break_longer n m bytes more p inside (inr (inr (end, early))) = absurd (omega (arith, end, inside))
 
--- an error in a continuation is one in the bytes themselves, unless it is a value that goes on past their end
+-- an error in a continuation is one in the bytes themselves, unless it is in a value that continues past their end
 pub break_shorter : (n m : ℕ) (bytes more : List ℕ) (p : ℕ) → p < length bytes → (p + 1 < length bytes) ⊎ (244 ≤ length bytes) → BreaksUpTo m (bytes ++ more) p →
     BreaksUpTo n bytes p
 break_shorter n m bytes more p inside second (inl (four, there, off)) =
@@ -48,14 +48,14 @@ none_behind n bytes p past front (inl (four, there, off)) = omega (arith, front,
 none_behind n bytes p past front (inr (inl (low, high, even, room, large))) = omega (arith, front, high)
 none_behind n bytes p past front (inr (inr (end, early))) = omega (arith, past, early)
 
--- bytes that begin with a whole certificate state its length
+-- bytes that begin with a complete certificate state its length
 pub count_of_whole : (c : Held) → IsWhole c → (more : List ℕ) → count_of (bytes_of c ++ more) ≡ length (bytes_of c)
 count_of_whole c whole more = count_longer (bytes_of c) more (whole_long c whole) ∙ count_whole c whole
   where
     whole_long : (c : Held) → IsWhole c → head_count ≤ length (bytes_of c)
     whole_long c whole = omega (arith, length-bytes_of c whole)
 
--- a whole certificate has no format error, whatever follows
+-- a complete certificate has no format error, whatever follows
 pub whole_front : (c : Held) → IsWhole c → (more : List ℕ) (p : ℕ) → Breaks (bytes_of c ++ more) p → ⊥
 whole_front c whole more p broken =
     let size = length-bytes_of c whole in

@@ -18,7 +18,7 @@ use Rattle.certificates.specs.Reading.{IsSound, IsCause, HasReadAnswers, HasRead
 use Rattle.certificates.proofs.Judged.{zip_append, all_whole}
 use Rattle.certificates.proofs.Parts.{cut_off, first_broken, none_however, none_so_far}
 
--- whole certificates with `done` bytes and these answers were read, then a part of one in which no byte breaks the
+-- complete certificates with `done` bytes and these answers were read, then a part of one in which no byte breaks the
 -- format
 pub record IsReadTo (answers : List Bool) (done : ℕ) (part : List ℕ) (before now : SourceTold) : Type 0 where
   pub certificates : List Held
@@ -90,7 +90,7 @@ judged_to answers done n m part next before between now answer s h judged size =
 
 -- ---- how the reading ends
 
--- at the end of the input, after whole certificates
+-- at the end of the input, after complete certificates
 pub whole_on : (answers : List Bool) (done n filled : ℕ) (buffer next : List ℕ) (before between now : SourceTold) → IsReadTo answers done (take filled buffer) before between →
     HasReadOn n (take filled buffer) next between now → n ≡ 0 → filled ≡ 0 → done ≤ most_bytes → HasReadAnswers answers before now
 whole_on answers done n filled buffer next before between now s h zero empty few =

@@ -20,7 +20,7 @@ tail_whole c cs h = λ k d l. h (suc k) d (omega arith)
 pub same_length : (c d : Held) → IsWhole c → IsWhole d → (r s : List ℕ) → bytes_of c ++ r ≡ bytes_of d ++ s → length (bytes_of c) ≡ length (bytes_of d)
 same_length c d p q r s e = sym (count_of_whole c p r) ∙ ap count_of e ∙ count_of_whole d q s
 
--- whole certificates at the front are the first among those in front of an error
+-- complete certificates at the front are the first among those in front of an error
 peel : (cs ds : List Held) (r s : List ℕ) (q : ℕ) → All IsWhole cs → All IsWhole ds → all_bytes cs ++ r ≡ all_bytes ds ++ s → Breaks s q →
     (es : List Held) × All IsWhole es × (r ≡ all_bytes es ++ s) × (length (all_bytes ds) ≡ length (all_bytes cs) + length (all_bytes es))
 peel [] ds r s q h k e b = (ds, k, e, omega arith)
@@ -35,7 +35,7 @@ peel (c ∷ cs) (d ∷ ds) r s q h k e b =
     let (es, whole, split, size) = peel cs ds r s q (tail_whole c cs h) (tail_whole d ds k) parts.1 b in
     (es, whole, split, omega (arith, size, ap length parts.0, length-append (bytes_of c) (all_bytes cs), length-append (bytes_of d) (all_bytes ds)))
 
--- an error lies after the whole certificates
+-- an error lies after the complete certificates
 pub broken_after : (cs : List Held) → All IsWhole cs → (tail : List ℕ) (place : ℕ) → IsFirstBroken (all_bytes cs ++ tail) place →
     (q : ℕ) × (place ≡ length (all_bytes cs) + q) × IsFirstBroken tail q
 broken_after cs h tail place b =
@@ -45,7 +45,7 @@ broken_after cs h tail place b =
       record { certificates = es; whole = whole; rest = b.rest; split = split; some = b.some; within = b.within; first = b.first; here = refl },
     )
 
--- an error in the bytes after whole certificates is one in the whole sequence
+-- an error in the bytes after complete certificates is one in the whole sequence
 pub broken_later : (cs : List Held) → All IsWhole cs → (tail : List ℕ) (q : ℕ) → IsFirstBroken tail q → IsFirstBroken (all_bytes cs ++ tail) (length (all_bytes cs) + q)
 broken_later cs h tail q b =
     let joined : all_bytes (cs ++ b.certificates) ≡ all_bytes cs ++ all_bytes b.certificates = flat_map-append bytes_of cs b.certificates in
@@ -79,7 +79,7 @@ no_rest : (front rest : List ℕ) → [] ≡ front ++ rest → rest ≡ []
 no_rest front [] e = refl
 no_rest front (x ∷ rest) e = absurd (omega (arith, ap length e, length-append front (x ∷ rest)))
 
--- whole certificates have no format error
+-- complete certificates have no format error
 pub none_broken : (cs : List Held) → All IsWhole cs → (place : ℕ) → IsFirstBroken (all_bytes cs) place → ⊥
 none_broken cs h place b =
     let (q, e, b') = broken_after cs h [] place (subst (λ l. IsFirstBroken l place) (sym (append-nil (all_bytes cs))) b) in

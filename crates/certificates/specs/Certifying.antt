@@ -45,7 +45,7 @@ pub record HasCertified (receiver : Receiver) (samples : List Sample) (entry : E
   pub certifies : Certifies receiver samples entry certificate
   pub written : HasWritten (bytes_of certificate) before now
 
--- only the front of a certificate for the entry was written
+-- only a prefix of a certificate for the entry was written
 pub record HasCertifiedFront (receiver : Receiver) (samples : List Sample) (entry : Entry)
     (before now : SinkTold) : Type 0 where
   pub certificate : Held
@@ -60,7 +60,7 @@ pub record HasCertifiedAll (receiver : Receiver) (samples : List Sample) (entrie
   pub each : AllZip (Certifies receiver samples) entries certificates
   pub written : HasWritten (all_bytes certificates) before now
 
--- only the front of the certificates for these entries was written
+-- only a prefix of the certificates for these entries was written
 pub record HasCertifiedSome (receiver : Receiver) (samples : List Sample) (entries : List Entry)
     (before now : SinkTold) : Type 0 where
   pub certificates : List Held

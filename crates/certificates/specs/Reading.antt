@@ -1,4 +1,4 @@
--- What holds while certificates are read, and how the reading ends (own).
+-- Invariants while certificates are read, and how the reading ends (own).
 use Rattle.std.specs.Prelude.{◌≡◌, ◌⊎◌, ℕ, ◌+◌, ◌<◌, ◌≤◌, ◌++◌, Bool, List, length}
 use Rattle.cs_outside.specs.Outside.{SourceTold}
 use Rattle.cs_outside.specs.Streams.{HasRead, HasReadAll, HasFailedAfter, IsAtEnd}
@@ -35,7 +35,7 @@ pub record HasReadAnswers (answers : List Bool) (before now : SourceTold) : Type
   pub whole : HasReadAll most_bytes bytes before now
 
 -- the bytes read break the format first at this offset, and either the input ended or the same holds for any
--- continuation; from the offset on, at most the length of the longest certificate was read, and in all at most one byte
+-- continuation; from the offset, at most the length of the longest certificate was read, and in all at most one byte
 -- past the limit
 pub record HasReadBroken (place : ℕ) (before now : SourceTold) : Type 0 where
   pub bytes : List ℕ

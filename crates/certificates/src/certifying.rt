@@ -49,7 +49,7 @@ impl CertificateWork {
 }
 
 /// Writes an accepted certificate for each entry of a recording's list, in order; `readings` says how the entries were
-/// read. Fails if the sink counts a fault, after it has taken only a front of them. (own)
+/// read. Fails if the sink counts a fault, after it has taken only a prefix of them. (own)
 pub fn certify<K: Sink>(
     recording: &Recording,
     entries: &[Entry],

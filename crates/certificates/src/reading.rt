@@ -1,7 +1,7 @@
 //! The reading of certificates, one after another, and their checks.
 //!
-//! Certificates are checked as they are read. `Broken` is returned before more bytes are read from its offset on than
-//! the longest certificate has, and `TooLong` after one byte past the limit of 67,108,864.
+//! Certificates are checked as they are read. `Broken` is returned before the bytes read from its offset exceed the
+//! length of the longest certificate, and `TooLong` after one byte past the limit of 67,108,864.
 
 ghost use Rattle.std.specs.Prelude.{◌≡◌, ◌<◌, ◌≤◌, ◌+◌, ◌-◌, min, length, take, IfOk, IfErr, OnErr};
 ghost use Rattle.cs_outside.specs.Counts.{Rose};
@@ -55,7 +55,7 @@ fn read_each<S: Source>(
     ensures never_falls { (S.told source.old).faults ≤ (S.told source.new).faults }
 {
     let mut answers = Vec::new(alloc);
-    // bytes in whole certificates, bytes read of the next one, and how many of its bytes can be read
+    // bytes in complete certificates, bytes read of the next one, and how many of its bytes can be read
     let mut done = 0;
     let mut filled = 0;
     let mut aim = HEAD_BYTES;
@@ -103,7 +103,7 @@ fn broken_at(place: u64) -> StreamError
     }
 }
 
-// Returns how far the current certificate may be read, after `done` bytes in whole ones: at most one byte past the
+// Returns how far the current certificate may be read, after `done` bytes in complete ones: at most one byte past the
 // limit.
 fn part_end(aim: usize, done: usize) -> usize
     requires { done ≤ most_bytes }

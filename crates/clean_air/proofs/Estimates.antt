@@ -16,7 +16,7 @@ clean_pilots most pattern gain slot seen i l = record {
   seen = deviation-sized most (square gain) gain (pattern_sent pattern slot.identity slot.number i) (pattern_seen pattern slot i) (seen.pilot i l);
 }
 
--- a point's square magnitude, 16200, is below 128^2
+-- a QPSK symbol's squared magnitude, 16200, is below 128^2
 in_gain : (n : ℕ) (gain : Cpx) (c t : ℕ) (z : Cpx) → IsNear (16200 * n) gain c t z → IsNear n gain c (128 * t) z
 in_gain n gain c t z near = record {
   off = near.off;

@@ -21,7 +21,7 @@ pub mod SharedBlocks
 pub mod Masters
 -- The elements of a cell that carries a plan, where the plan uses them.
 pub mod Carrying
--- The plan sends a point in each resource element that it uses.
+-- The plan sends a QPSK symbol in each resource element that it uses.
 pub mod Taken
 -- Each symbol is received from all ports of the scheme, the synchronisation signals as from the first port alone.
 pub mod SentSymbols

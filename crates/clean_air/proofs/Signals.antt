@@ -118,7 +118,7 @@ in_row port plan sfn subframe symbol k z first second later first_slot row alone
     (subst (λ l. port_reference_if port plan.identity (port_slot port subframe symbol) l k ≡ None) (sym first_slot) (no_port_reference port plan.identity (port_slot port subframe symbol) symbol k first second later))
     ∙ alone ∙ rw (no_channel port plan sfn subframe symbol k row) (in_signal port k z)
 
--- the last symbol of slots 0 and 10 holds the primary signal alone
+-- the last symbol of slots 0 and 10 holds only the primary signal
 primary_by : (carrier : Carrier) (number : ℕ) (plan : CellPlan) (sfn k : ℕ) (half : Half) →
     port_element (port_by carrier number) plan sfn (subframe_of half) (symbols_of_slot (prefix_of carrier) - 1) k ≡ sent_signal (port_by carrier number) (pss_grid (plan.identity % 3) k)
 primary_by OnePort number plan sfn k Zero = in_row (port_by OnePort number) plan sfn 0 6 k (primary_value plan k) refl refl refl refl (inr refl) refl
@@ -133,7 +133,7 @@ primary_by FourPorts number plan sfn k Five = in_row (port_by FourPorts number) 
 pub primary_symbol : (port : Port) (plan : CellPlan) (sfn k : ℕ) (half : Half) → port_element port plan sfn (subframe_of half) (port_symbols port - 1) k ≡ sent_signal port (pss_grid (plan.identity % 3) k)
 primary_symbol port plan sfn k half = primary_by port.carrier port.number plan sfn k half
 
--- the symbol before the primary signal's holds the secondary signal alone
+-- the symbol before the primary signal's holds only the secondary signal
 secondary_by : (carrier : Carrier) (number : ℕ) (plan : CellPlan) (sfn k : ℕ) (half : Half) →
     port_element (port_by carrier number) plan sfn (subframe_of half) (symbols_of_slot (prefix_of carrier) - 2) k ≡ sent_signal (port_by carrier number) (sss_grid (plan.identity / 3) (plan.identity % 3) half k)
 secondary_by OnePort number plan sfn k Zero = in_row (port_by OnePort number) plan sfn 0 5 k (secondary_value plan 0 k) refl refl refl refl (inl refl) refl

@@ -73,7 +73,7 @@ module _ (reading : ℕ → Item) (word : List Bool) (values : List ℤ) (speak 
           (supports-speaks (get_or (coded_bits word k) t false) (summed_at reading values (length values) t k)
           (subst (λ b. Supports 1 b (summed_at reading values (length values) t k)) (at_index word k t inside) (sum_at_supports k t inside stream)))
 
--- from any number on, one of the next m has remainder j modulo m
+-- of any m consecutive numbers, one has remainder j modulo m
 next_with_rest : (m first j : ℕ) → j < m → (i : ℕ) × (i < m) × ((first + i) % m ≡ j)
 next_with_rest m first j below =
     let rest = mod_below first m (omega (arith, below)) in
@@ -116,7 +116,7 @@ sums_speak_from first word values long short speak = sums_speak_by_reading (λ i
   value = speak.value;
 })
 
--- the sums for a reading from bit 0 on
+-- the sums for a reading from bit 0
 pub sums_speak : SumsSpeak
 sums_speak word values long short =
     subst (λ reading. SpeakInTurn reading word values → Speaks (summed_by reading (length word) values) word) (fun_ext (λ i. ap (item_of (length word)) (from_start i)))

@@ -1,5 +1,5 @@
--- In each resource element that a plan uses it sends a point, except in the synchronisation signals' symbols and where
--- it is silent for other ports.
+-- In each resource element that a plan uses it sends a QPSK symbol, except in the synchronisation signals' symbols and
+-- where it is silent for other ports.
 use Rattle.std.proofs.Common.{◌≡◌, ℕ, ◌+◌, ◌-◌, ◌/◌, ◌%◌, Bool, true, false, ◌&&◌, ◌||◌, nat_eq, nat_lt, not, arith, refl, ◌∙◌, neg_ℤ, nat_abs}
 use Rattle.std.specs.Prelude.{if◌then◌else◌}
 use Rattle.std.proofs.lemmas.Int.{ints}
@@ -36,7 +36,7 @@ crossed-size f full i =
     (square-negated (conjugate (f (i + 1))) ∙ square-conjugate (f (i + 1)) ∙ full-size (f (i + 1)) (full (i + 1)))
     (square-conjugate (f (i - 1)) ∙ full-size (f (i - 1)) (full (i - 1)))
 
--- elements that are sent in turn have a point's magnitude in the port's own pairs
+-- elements that are sent in turn have a QPSK symbol's magnitude in the port's own pairs
 in-turn-size : (t : Bool) (z : Cpx) → square z ≡ 16200 → not t ≡ false → square (if t then z else nothing) ≡ 16200
 in-turn-size true z size own = size
 in-turn-size false z size own = absurd cc
@@ -44,7 +44,7 @@ in-turn-size false z size own = absurd cc
 paired-size : (half number : ℕ) (f : ℕ → Cpx) → ((i : ℕ) → IsPoint (f i)) → (i : ℕ) → square (paired_point half number f i) ≡ 16200
 paired-size half number f full i = pick (λ z. square z ≡ 16200) (nat_lt number half) _ _ (full-size (f i) (full i)) (crossed-size f full i)
 
--- the points that a port sends have a point's magnitude, except in others' pairs
+-- the elements that a port sends have a QPSK symbol's magnitude, except in other ports' pairs
 size-by : (carrier : Carrier) (number : ℕ) (f : ℕ → Cpx) → ((i : ℕ) → IsPoint (f i)) → (i : ℕ) → is_of_others_by carrier number i ≡ false → square (sent_point (port_by carrier number) f i) ≡ 16200
 size-by OnePort number f full i own = full-size (f i) (full i)
 size-by TwoPorts number f full i own = paired-size 1 number f full i
@@ -64,7 +64,7 @@ none_by FourPorts number has i = absurd cc
 none_of_others : (port : Port) → has_control port ≡ true → (i : ℕ) → is_of_others port i ≡ false
 none_of_others port has i = none_by port.carrier port.number has i
 
--- the port's reference signal has a point's magnitude
+-- the port's reference signal has a QPSK symbol's magnitude
 reference-size : (port : Port) (identity slot symbol k : ℕ) → square (port_reference port identity slot symbol k) ≡ 16200
 reference-size port identity slot symbol k = full-size _ (reference_full port identity slot symbol k)
 

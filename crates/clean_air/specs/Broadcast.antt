@@ -1,5 +1,5 @@
--- A slot determines the MIB that was sent in it. (own; the channel is that of TS 36.211 section 6.6 and TS 36.212
--- section 5.3.1)
+-- A slot determines the MIB that was sent in it. (own; the channel is in TS 36.211 section 6.6 and TS 36.212 section
+-- 5.3.1)
 use Rattle.std.specs.Prelude.{◌≡◌, ℕ, ◌*◌, ◌≤◌, Bool, List, [], ◌∷◌, length, ℤ}
 use Rattle.cs_num.specs.declared.Cpx.{Cpx}
 use Rattle.cs_bits.specs.Numbers.{field}

@@ -1,6 +1,6 @@
 -- The soft values of bits that are sent in a slot's resource elements have the bits' signs. If they are a codeword's
--- scrambled bits, the values determine this word only. (own; the coding is that of TS 36.212 sections 5.1.3.1 and
--- 5.1.4.2, the scrambling that of TS 36.211 section 7.2)
+-- scrambled bits, the values determine this word only. (own; the coding is in TS 36.212 sections 5.1.3.1 and 5.1.4.2,
+-- the scrambling in TS 36.211 section 7.2)
 use Rattle.std.specs.Prelude.{◌≡◌, ℕ, ◌+◌, ◌*◌, ◌%◌, ◌<◌, ◌≤◌, Bool, All, List, length, slice_index_or, ℤ, pos}
 use Rattle.cs_num.specs.declared.Cpx.{Cpx}
 use Rattle.cs_bits.specs.Signs.{Supports}

@@ -34,7 +34,7 @@ pub record IsKnownPlan (plan : CellPlan) : Type 0 where
   pub identity : plan.identity ≤ 503
   pub spare : plan.spare ≤ 1023
 
--- the part of the plan that this transmission scheme sends can be sent: the whole plan, or the MIB alone
+-- the part of the plan that this transmission scheme sends can be sent: the complete plan, or only the MIB
 abbrev pub IsKnownBy : Carrier → CellPlan → Type 0
 IsKnownBy carrier plan = MatchBool (has_control_by carrier) (IsSendableBy carrier plan) (IsKnownPlan plan)
 

@@ -1,5 +1,5 @@
 -- Cells with one antenna port that arrive over several paths: a direct one, and fainter echoes up to 9 samples later,
--- within the cyclic prefix. (own; the prefix is that of TS 36.211 section 6.12)
+-- within the cyclic prefix. (own; the prefix is in TS 36.211 section 6.12)
 use Rattle.std.specs.Prelude.{◌≡◌, ℕ, ◌+◌, ◌*◌, ◌^◌, ◌<◌, ◌≤◌, List, length}
 use Rattle.cs_num.specs.declared.Cpx.{Cpx}
 use Rattle.cs_num.specs.declared.Sample.{Sample}

@@ -72,8 +72,8 @@ is_other_pair port plan subframe symbol k =
     has_broadcast port plan.identity subframe symbol k
     && is_of_others port (broadcast_index port plan.identity symbol k)
 
--- a law: the element that the plan sends has a point's magnitude in each resource element that the plan uses, outside
--- the synchronisation signals' symbols and other ports' reference signals and pairs
+-- a law: the element that the plan sends has a QPSK symbol's magnitude in each resource element that the plan uses,
+-- outside the synchronisation signals' symbols and other ports' reference signals and pairs
 abbrev pub TakenPlacesAreSent : Type 0
 TakenPlacesAreSent =
     (port : Port) (plan : CellPlan) (sfn subframe symbol k : ℕ) → is_taken port plan sfn subframe symbol k ≡ true →

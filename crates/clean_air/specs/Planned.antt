@@ -1,4 +1,4 @@
--- The plan by which a listed cell was sent. (own)
+-- The plan with which a listed cell was sent. (own)
 use Rattle.std.specs.Prelude.{◌≡◌, ℕ, List, Option, Some, None, Ok}
 use Rattle.cs_num.specs.declared.Cpx.{Cpx}
 use Rattle.cs_num.specs.declared.Sample.{Sample}
@@ -47,8 +47,8 @@ abbrev pub IsPlanOf : List Sample → Entry → Option CellPlan → Type 0
 IsPlanOf recording entry (Some plan) = IsPlanned recording entry plan
 IsPlanOf recording entry None = (plan : CellPlan) → IsPlanned recording entry plan → ⊥
 
--- if the recording is faithful to a cell that can be sent, whatever else it sends, and the entry has the cell's
--- identity, first frame's sample and frame number, the plan is the sent one
+-- if the recording is faithful to a cell that can be sent, whatever else the cell sends, and the entry has the cell's
+-- identity, start and frame number, the plan is the sent one
 abbrev pub IsFaithfulPlan : List Sample → Entry → Option CellPlan → Type 0
 IsFaithfulPlan recording entry answer =
     (plan : CellPlan) (grid : Elements) (sfn offset : ℕ) (gain : Cpx) → IsSendable plan →
@@ -64,8 +64,8 @@ IsSentPlan recording entry answer =
     entry.id ≡ plan.identity → entry.start ≡ start_of offset → entry.sfn ≡ number_at_start sfn offset →
     answer ≡ Some plan
 
--- a law: in a recording that is faithful to a cell that can be sent, whatever else it sends, the entry with the cell's
--- identity, first frame's sample and frame number has the sent plan
+-- a law: if a recording is faithful to a cell that can be sent, whatever else the cell sends, the entry with the cell's
+-- identity, start and frame number has the sent plan
 abbrev pub FaithfulEntryHasPlan : Type 0
 FaithfulEntryHasPlan =
     (recording : List Sample) (entry : Entry) (plan : CellPlan) (grid : Elements) (sfn offset : ℕ) (gain : Cpx) →

@@ -20,12 +20,12 @@ use Rattle.clean_air.specs.Carried.{AreHeard, ArePlacesHeardIn}
 abbrev pub IsSubframeHeard : SeenSlot → SeenSlot → List Place → (ℕ → Bool) → Type 0
 IsSubframeHeard first second places bits = ArePlacesHeardIn (in_subframe first second) places bits
 
--- bits of the shared channel after scrambling, from the subframe's first resource element on (TS 36.211 section 6.3.1)
+-- the shared channel's scrambled bits, in the order of the subframe's resource elements (TS 36.211 section 6.3.1)
 abbrev pub shared_scrambled : SeenSlot → (ℕ → Bool) → ℕ → Bool
 shared_scrambled first bits = scrambled (pdsch_c_init first.identity first.number system_information_rnti) bits
 
--- a law: the shared channel's soft values have the signs of the bits before scrambling, if those of its resource
--- elements have the signs of the scrambled bits
+-- a law: the shared channel's soft values have the signs of the bits before scrambling, if its resource elements' soft
+-- values have the signs of the scrambled bits
 abbrev pub ValuesOfBlocksAreHeard : Type 0
 ValuesOfBlocksAreHeard = (first second : SeenSlot) (cfi start blocks : ℕ) (bits : ℕ → Bool) →
     let places = shared_places_of OnePort first.identity cfi start blocks in

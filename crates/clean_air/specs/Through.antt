@@ -1,6 +1,6 @@
--- Cells that are received through channels: each slot that is read has its own channel, possibly with another gain at
--- each resource element, and the synchronisation signals have their own gains. (own; frames, slots and symbols are
--- those of TS 36.211 sections 4.1 and 6.2)
+-- Cells that are received through channels: each slot that is read has its own channel, possibly with a different gain
+-- at each resource element, and the synchronisation signals have their own gains. (own; frames, slots and symbols are
+-- in TS 36.211 sections 4.1 and 6.2)
 use Rattle.std.specs.Prelude.{◌≡◌, ℕ, ◌+◌, ◌*◌, ◌/◌, ◌%◌, ◌<◌, ◌≤◌, Bool, not, ◌&&◌, nat_eq, MatchBool, List}
 use Rattle.cs_num.specs.declared.Cpx.{Cpx}
 use Rattle.cs_num.specs.declared.Sample.{Sample}
@@ -53,8 +53,8 @@ abbrev pub slot_elements : Elements → ℕ → ℕ → ℕ → ℕ → Cpx
 slot_elements grid number slot l = grid number (slot / 2) (7 * (slot % 2) + l)
 
 -- a slot of port 0 is received through a channel, with bounds relative to a magnitude whose square is n. This holds for
--- its pilots and for every resource element with a point of two bits, read or not; each can be decoded, and the bounds
--- leave room.
+-- its pilots and for every resource element with a QPSK symbol, whether it is read or not; each can be decoded, and the
+-- bounds leave room.
 pub record IsSlotThrough (bounds : Bounds) (n : ℕ) (channel : Channel) (grids : ℕ → ℕ → Cpx) (slot : SeenSlot) :
     Type 0 where
   pub room : LeaveRoom 1 bounds

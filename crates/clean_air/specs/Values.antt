@@ -28,7 +28,7 @@ pub record ArePatternSeen (most : ℕ) (pattern : Pattern) (gain : Cpx) (slot : 
 abbrev pub ArePilotsSeen : ℕ → Cpx → SeenSlot → Type 0
 ArePilotsSeen most gain slot = ArePatternSeen most port_0 gain slot
 
--- a law: if a point of two bits is observed with the gain of the slot's pilots, each off by at most `most` times the
+-- a law: if a QPSK symbol is demodulated with the gain of the slot's pilots, each off by at most `most` times the
 -- gain's magnitude, its soft values have the signs of the bits and a magnitude of at least `size`
 abbrev pub SeenPairSupportsBits : ℕ → ℕ → Type 0
 SeenPairSupportsBits most size =

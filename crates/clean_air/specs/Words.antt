@@ -1,5 +1,5 @@
 -- Soft values that all have the signs of one word's coded bits determine this word only. (own; the code and its reading
--- order are those of TS 36.212 sections 5.1.3.1 and 5.1.4.2)
+-- order are in TS 36.212 sections 5.1.3.1 and 5.1.4.2)
 use Rattle.std.specs.Prelude.{◌≡◌, ℕ, ◌+◌, ◌*◌, ◌<◌, ◌≤◌, Bool, cond, List, length, slice_index_or, ℤ, pos, ◌+ℤ◌, neg_ℤ}
 use Rattle.finite.specs.Bits.{xor}
 use Rattle.sub_block.specs.declared.Item.{Item}
@@ -29,7 +29,7 @@ pub record SpeakByReading (reading : ℕ → Item) (word : List Bool) (values : 
   pub value : (i : ℕ) → i < length values →
       Supports 1 (bit_of_item (coded_word word) (reading i)) (slice_index_or values i (pos 0))
 
--- a law: if soft values in reading order have the signs of the word's coded bits, so have their sums by coded bit
+-- a law: if soft values in reading order have the signs of the word's coded bits, so do their sums by coded bit
 abbrev pub SumsSpeakByReading : Type 0
 SumsSpeakByReading = (reading : ℕ → Item) (word : List Bool) (values : List ℤ) →
     SpeakByReading reading word values → Speaks (summed_by reading (length word) values) word
@@ -40,16 +40,15 @@ pub record SpeakInTurn (reading : ℕ → Item) (word : List Bool) (values : Lis
   pub value : (i : ℕ) → i < length values →
       Supports 1 (bit_of_item (coded_word word) (reading i)) (slice_index_or values i (pos 0))
 
--- soft values with the signs of the word's coded bits, in the cyclic reading order from bit `first` on, or from bit 0
--- on
+-- soft values with the signs of the word's coded bits, in the cyclic reading order from bit `first`, or from bit 0
 abbrev pub SpeakInOrderFrom : ℕ → List Bool → List ℤ → Type 0
 SpeakInOrderFrom first word values = SpeakInTurn (λ i. item_of (length word) (first + i)) word values
 
 abbrev pub SpeakInOrder : List Bool → List ℤ → Type 0
 SpeakInOrder word values = SpeakInTurn (item_of (length word)) word values
 
--- a law: the sums of soft values in the cyclic reading order, from any bit on, have the signs of the coded bits of a
--- word of 6 to 64 bits
+-- a law: the sums of soft values in the cyclic reading order, from any bit, have the signs of the coded bits of a word
+-- of 6 to 64 bits
 abbrev pub SumsSpeakFrom : Type 0
 SumsSpeakFrom = (first : ℕ) (word : List Bool) (values : List ℤ) → 6 ≤ length word → length word ≤ 64 →
     SpeakInOrderFrom first word values → Speaks (summed_from first (length word) values) word

@@ -2,8 +2,8 @@
 //!
 //! Each law also holds for a slot: it is enough that the channel's resource elements are received with the right signs
 //! (`heard`), or that the slot is received and its channel carries the bits (`carried`). For the grant the control
-//! format indicator is then 2 or 3, so that there are at least four control channel elements, and the first four are
-//! used.
+//! format indicator is then 2 or 3, so that there are at least four control channel elements, and the 288 soft values
+//! of the first four are used. The sent grant's CRC passes, and no other 37-bit word has its cost of 0.
 
 ghost use Rattle.clean_air.specs.Indicator.{SentIndicatorIsTold, HeardIndicatorIsTold, CarriedIndicatorIsTold};
 ghost use Rattle.clean_air.specs.Grant.{SentGrantIsTold, HeardGrantIsTold, CarriedGrantIsTold};

@@ -1,9 +1,9 @@
-//! The plan by which a listed cell was sent.
+//! The plan with which a listed cell was sent.
 //!
-//! Identity, PHICH and spare bits are the entry's; the control format indicator, resource blocks, modulation and coding
-//! scheme and column are those by which its SIB1 was read (`grant_of`). There is no plan exactly if `grant_of` returns
-//! `None`, if the entry has more than one antenna port or a bandwidth other than n6, or if `Cell::new` refuses the
-//! plan.
+//! The identity, PHICH fields, spare bits and SIB1 are the entry's. The control format indicator, resource blocks,
+//! modulation and coding scheme and column are those of the grant with which SIB1 was read (`grant_of`). There is no
+//! plan exactly if `grant_of` returns `None`, if the entry has more than one antenna port or a bandwidth other than n6,
+//! or if `Cell::new` refuses the plan.
 
 ghost use Rattle.std.specs.Prelude.{◌≡◌, ◌↔◌, IsTrue};
 ghost use Rattle.lte_types.specs.declared.bandwidth.Bandwidth.TheVariants.{N6};
@@ -18,8 +18,8 @@ use explain::{Workspace, grant_of};
 use lte_types::{Bandwidth, Cfi, Entry, Sib1};
 use sample_file::Recording;
 
-/// Returns the plan by which the cell of `entry`, in the list of `recording`, was sent; reads the frames again. If the
-/// recording is clean for the cell, or faithful to it, this is the sent plan. (own)
+/// Returns the plan of the cell of `entry`, listed for `recording`, or `None` if there is none; reads the frames again.
+/// If the recording is clean for the cell, or faithful to it, this is the sent plan. (own)
 pub fn plan_of(recording: &Recording, entry: &Entry, work: &mut Workspace) -> Option<Cell>
     requires { IsInList recording.now entry.now }
     ensures plan { IsPlanOf recording.now entry.now result }

@@ -7,7 +7,7 @@ ghost use Rattle.clean_air.specs.Words.{FourSpeakTogether, DescramblingKeeps, Su
 ghost use Rattle.clean_air.specs.Words.{SumsSpeak, SpokenWordIsOnly};
 
 /// A law: the sent word is the only one of minimum cost if each soft value has the sign of its coded bit, with at least
-/// one value per coded bit in sending order.
+/// one value per coded bit, in sending order from any bit.
 pub fn spoken_word_is_the_least()
     ensures together { FourSpeakTogether }
     ensures descrambled { DescramblingKeeps }

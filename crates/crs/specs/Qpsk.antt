@@ -15,7 +15,7 @@ point first second = record { re = component first; im = component second }
 abbrev pub IsFull : ℤ → Type 0
 IsFull z = (z ≡ pos 90) ⊎ (z ≡ negsuc 89)
 
--- both components of a point are 90 or -90
+-- both components of a QPSK symbol are 90 or -90
 pub record IsPoint (a : Cpx) : Type 0 where
   pub re : IsFull a.re
   pub im : IsFull a.im

@@ -121,12 +121,12 @@ reference_at identity slot symbol k = reference identity slot symbol (k / 6)
 
 -- ---- for port 1 with the normal prefix
 
--- the reference signal positions of port 1: v is 3 in symbol 0 and 0 in symbol 4. The sequence is that of port 0, and
--- so is the value for the same k / 6.
+-- the reference signal positions of port 1: v is 3 in symbol 0 and 0 in symbol 4. The sequence is port 0's, and so is
+-- the value for the same k / 6.
 unfoldable pub is_second_reference : ℕ → ℕ → ℕ → Bool
 is_second_reference identity symbol k = is_pattern_place port_1 identity symbol k
 
--- ---- for ports 2 and 3 with the normal prefix, in symbol 1 of a slot; sequence and values are those of port 0
+-- ---- for ports 2 and 3 with the normal prefix, in symbol 1 of a slot; sequence and values are port 0's
 
 -- the part of v before 3 (n_s mod 2): 0 for port 2 and 3 for port 3 (section 6.10.1.2)
 abbrev pub upper_shift : ℕ → ℕ

@@ -58,7 +58,7 @@ pub record HasReadFault (limit : ℕ) (before now : SourceTold) : Type 0 where
 
 -- ---- writing
 
--- these bytes were appended to those written before and used up free space, as far as either is known
+-- these bytes were appended to those written before, if known, and reduced the free space, if known
 pub record AreTaken (bytes : List ℕ) (before now : SinkTold) : Type 0 where
   pub appended : now.taken ≡ option_map (λ taken. taken ++ bytes) before.taken
   pub filled : before.room ≡ option_map (λ room. room + length bytes) now.room

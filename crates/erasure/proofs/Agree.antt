@@ -1,4 +1,4 @@
--- Found bits depend on the known bits alone, and the marks in the code are those of the definition.
+-- Found bits depend only on the known bits, and the marks in the code agree with the definition.
 use Rattle.std.proofs.Common.{◌≡◌, ℕ, zero, suc, ◌+◌, ◌*◌, ◌<◌, ◌≤◌, Bool, true, false, inl, inr, ◌⊎◌, List, ◌∷◌, length, get_or, take, replicate, refl, ap, ap₂, sym, subst, ◌∙◌, arith, add-one}
 use Rattle.std.specs.Prelude.{◌&&◌, ◌||◌, not, nat_eq}
 use Rattle.std.proofs.Math.Bool.{and-false, or-false}

@@ -10,8 +10,7 @@ pub mod Unsent
 pub mod Hiding
 -- Both passes over the sets determine which bits are found.
 pub mod Passes
--- Found bits depend on the known bits alone, so the marks in the code are those of the definition, iteration by
--- iteration.
+-- Found bits depend only on the known bits, so the marks in the code agree with the definition, iteration by iteration.
 pub mod Agree
 -- Sent bits, by counts.
 pub mod Counts

@@ -1,5 +1,5 @@
--- Sets of states in place of words: states reached or left by steps without a known bit 1. (own; the machine is that
--- of TS 36.212 section 5.1.3.2.1)
+-- Sets of states instead of words: states reached or left by steps without a known bit 1. (own; the machine is in TS
+-- 36.212 section 5.1.3.2.1)
 use Rattle.std.specs.Prelude.{◌≡◌, ℕ, zero, suc, ◌+◌, ◌*◌, ◌/◌, ◌<◌, ◌≤◌, Bool, true, false, not, cond, ◌&&◌, ◌||◌}
 use Rattle.std.specs.Prelude.{List, [], length, slice_index_or, nat_eq, pos, int_lt, ℤ}
 use Rattle.finite.specs.Tables.{sum_at}

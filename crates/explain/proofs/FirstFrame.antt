@@ -40,7 +40,7 @@ whole_before recording start j k not_whole whole = elim (cases_lt j k) [
 
 -- ---- the soft values of frames
 
--- a count of frames from frame j on
+-- a count of frames from frame j
 pub length-part : (j count : ℕ) (frames : List (List ℤ)) → j + count ≤ length frames → length (take (j + count - j) (drop j frames)) ≡ count
 length-part j count frames long =
     let rest = length-drop j frames in let size = length-take-le (j + count - j) (drop j frames) (omega (arith, rest, long)) in omega (arith, size)
@@ -49,7 +49,7 @@ module _ (values : ℕ → List ℤ) where
   received_at : (j k : ℕ) (frames : List (List ℤ)) → k < length frames → AreReceived values j frames → get_or frames k [] ≡ values (j + k)
   received_at j k frames inside are = ap (λ fs. get_or fs k []) are ∙ values_below_at (λ m. values (j + m)) (length frames) k [] inside
 
-  -- all frames from frame j on
+  -- all frames from frame j
   received_after : (j : ℕ) (frames : List (List ℤ)) → AreReceived values 0 frames → AreReceived values j (drop j frames)
   received_after j frames are =
       values_below_is [] (length (drop j frames)) (λ m. values (j + m)) (drop j frames) refl
@@ -57,7 +57,7 @@ module _ (values : ℕ → List ℤ) where
       let from : 0 + (j + m) ≡ j + m = omega arith in
       get_or-drop j frames m [] ∙ received_at 0 (j + m) frames (omega (arith, below, size)) are ∙ ap values from)
 
-  -- a count of frames from frame j on, as the code takes them
+  -- a count of frames from frame j, as the code takes them
   pub received_part : (j count : ℕ) (frames : List (List ℤ)) → j + count ≤ length frames → AreReceived values 0 frames →
       AreReceived values j (take (j + count - j) (drop j frames))
   received_part j count frames long are =
@@ -131,7 +131,7 @@ has_one count masters beyond e =
 -- ---- the MIBs that a receiver accepts
 
 module _ (receiver : Receiver) (recording : List Sample) where
-  -- the MIBs in frames from frame j on, from their soft values
+  -- the MIBs in frames from frame j, from their soft values
   pub masters_of_frames : (place : Place) (identity size j : ℕ) (frames : List (List ℤ)) (all : List (Option Master)) → identity ≡ place.id → size ≡ receiver.count →
       AreReceived (receiver.broadcast recording place) j frames → AreMasters identity size (length frames) (flat_map (λ frame. frame) frames) all →
       AreMasters place.id receiver.count (length frames) (values_in (receiver.broadcast recording place) (length frames) j) all

@@ -111,7 +111,8 @@ module _ (Answers : Answering) (one : (j : ℕ) (a b : Result Sib1 Sib1Reason) �
   pub never_long_by : ((j : ℕ) → Answers j (Err LongPrefix) → ⊥) → (ports : ℕ) (mib : Mib) → IsSystemBy carrier Answers recording start sfn ports mib (Err LongPrefix) → ⊥
   never_long_by never ports mib s = never (even_frame sfn 0) s.read.refused
 
-  -- if the port count and the bandwidth are right, the answer is that of the frames, which never give these two reasons
+  -- if the port count and the bandwidth are right, the answer is the frames' answer, which is never one of these two
+  -- reasons
   pub searched : ((j told : ℕ) → Answers j (Err (NotOnePort told)) → ⊥) → ((j : ℕ) (told : Bandwidth) → Answers j (Err (OtherWidth told)) → ⊥) →
       (ports : ℕ) (mib : Mib) → ports ≡ ports_of carrier → mib.bandwidth ≡ N6 → (sib1 : Result Sib1 Sib1Reason) → IsReadFrom Answers recording start sfn sib1 →
       IsSystemBy carrier Answers recording start sfn ports mib sib1

@@ -74,7 +74,7 @@ fold_only acc (e ∷ es) x h = elim (fold_only (with_entry acc e) es x h) [
 pub kept_only : (entries : List Entry) (x : Entry) → Contains (kept entries) x → Contains entries x
 kept_only entries x h = elim (fold_only [] entries x h) [ inl none ↦ absurd (in_none x none) | inr c ↦ c ]
 
--- an entry, or one of its cell, is in the list
+-- an entry, or another entry of its cell, is in the list
 with_entry_stands : (acc : List Entry) (entry : Entry) → (other : Entry) × StandsFor (with_entry acc entry) entry other
 with_entry_stands acc entry = settle (list_any (λ other. is_same_cell other entry) acc) refl
   where
@@ -231,7 +231,7 @@ adds_again [] list each = adds_none list
 adds_again (e ∷ es) list each =
     adds_more (e ∷ []) es list list list (λ before h. told_already before list e h (each e (Contains-here e es))) (adds_again es list (λ x h. each x (Contains-later e es x h)))
 
--- for each entry from which a list is made, one of its cell is in the list
+-- for each entry from which a list is made, an entry of its cell is in the list
 pub stands_in : (entries list : List Entry) (entry : Entry) → IsListOf entries list → Contains entries entry → list_any (λ other. is_same_cell other entry) list ≡ true
 stands_in entries list entry h inside =
     let (other, s) = kept_stands entries entry inside in

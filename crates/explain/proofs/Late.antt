@@ -110,7 +110,7 @@ later_pass carrier hits n k d span order first above inside = settle (nat_le k n
         let root = (span k d inside).root in
         passes _ (get_or hits k d).t (omega (arith, first, after, root))
 
--- the hits used are the slice from the first one with room on
+-- the hits used are those from the first one with room
 pub late_slice : (carrier : Carrier) (recording : List Sample) (hits : List Hit) (first : ℕ) → hits ≡ hits_of recording → first ≤ length hits →
     filter (has_step_before carrier) hits ≡ drop first hits → take (length hits - first) (drop first hits) ≡ hits_by carrier recording
 late_slice carrier recording hits first are fits later =

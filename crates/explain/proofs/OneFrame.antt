@@ -1,4 +1,4 @@
--- A MIB from one frame alone gives an entry of its hit, and if frames are not combined there is no other.
+-- A MIB from a single frame gives an entry of its hit, and if frames are not combined there is no other.
 use Rattle.std.proofs.Common.{◌≡◌, ◌⊎◌, inl, inr, ℕ, ◌+◌, ◌<◌, ◌≤◌, arith, sym, subst}
 use Rattle.lte_types.specs.Frames.{frames_from}
 use Rattle.pbch.specs.declared.master.Master.{Master}

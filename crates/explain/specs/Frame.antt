@@ -28,6 +28,6 @@ seen_slot recording f number identity =
 abbrev pub broadcast_slot : List Sample → ℕ → ℕ → ℕ → SeenSlot
 broadcast_slot recording identity start j = seen_slot recording (frame_at start j) 1 identity
 
--- the soft values of a count of frames from frame j on, frame after frame
+-- the soft values of `count` frames from frame j, frame after frame
 abbrev pub values_in : (ℕ → List ℤ) → ℕ → ℕ → List ℤ
 values_in values count j = flat_map (λ frame. frame) (values_below count (λ m. values (j + m)))

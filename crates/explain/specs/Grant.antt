@@ -14,7 +14,7 @@ use Rattle.explain.specs.Told.{Answering, Attempting, Granting}
 use Rattle.explain.specs.System.{even_frame, IsTried}
 use Rattle.explain.specs.Entries.{place_of}
 
--- ---- the frames that are tried; `Attempts` says which attempt a frame has, by its number from the first frame on
+-- ---- the frames that are tried; `Attempts` gives each attempt, by its frame counted from the first
 
 -- the first tried frame that answers with fields has this indicator and this grant, and the answer is its fields
 pub record IsReadBy (Attempts : Attempting) (recording : List Sample) (start sfn : ℕ) (sib1 : Result Sib1 Sib1Reason)

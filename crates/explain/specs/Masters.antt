@@ -30,12 +30,12 @@ pub record HasMaster (count : ℕ) (masters : List (Option Master)) : Type 0 whe
   pub master : Master
   pub is : master_at masters phase ≡ Some master
 
--- a count of frames from frame j on carry a MIB, and these are their MIBs
+-- `count` frames from frame j carry a MIB, and these are their MIBs
 pub record HaveMasters (Tells : Telling) (place : Place) (count j : ℕ) (masters : List (Option Master)) : Type 0 where
   pub are : AreTold Tells place count j masters
   pub some : HasMaster count masters
 
--- a count of frames from frame j on are the first that carry a MIB, and these are their MIBs
+-- `count` frames from frame j are the first that carry a MIB, and these are their MIBs
 pub record AreFirstWith (Tells : Telling) (recording : List Sample) (place : Place) (count j : ℕ)
     (masters : List (Option Master)) : Type 0 where
   pub frames : AreFirstFrames Tells recording place count j

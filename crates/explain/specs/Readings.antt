@@ -28,7 +28,7 @@ pub record IsReadingBy (summed : Place → Frames → List (List ℤ)) (IsGrant 
   pub sums : reading.sums ≡ summed (place_of entry) (frames_of entry)
   pub granted : IsGrant (place_of entry) entry.sfn entry.mib entry.sib1 reading.granted
 
--- the combined soft values for a count of a cell's frames from frame j on, at each phase of the first
+-- the combined soft values for `count` of a cell's frames from frame j, at each phase of the first
 abbrev pub AreSums : (Frames → List (List ℤ)) → ℕ → ℕ → List (List (List ℤ)) → Type 0
 AreSums sums count j all = (phase : ℕ) → phase + count ≤ 4 → sums_at all phase ≡ sums (frames_from count j phase)
 

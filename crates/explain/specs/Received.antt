@@ -12,7 +12,7 @@ abbrev pub taken_of : (ℕ → Bool) → Option Master → Option Master
 taken_of takes None = None
 taken_of takes (Some master) = if takes master.ports then Some master else None
 
--- a list of frames holds the soft values received in as many frames from frame j on
+-- a list of frames holds the soft values received in consecutive frames from frame j
 abbrev pub AreReceived : (ℕ → List ℤ) → ℕ → List (List ℤ) → Type 0
 AreReceived values j frames = frames ≡ values_below (length frames) (λ m. values (j + m))
 
@@ -20,8 +20,8 @@ AreReceived values j frames = frames ≡ values_below (length frames) (λ m. val
 abbrev pub NoneTell : Telling → Place → ℕ → ℕ → Type 0
 NoneTell Tells place whole count = (j : ℕ) → j + count ≤ whole → TellNone Tells place count j
 
--- frames from frame j on are the first `count` consecutive ones among the first `whole` that carry a MIB, and these are
--- their MIBs
+-- the frames from frame j are the first `count` consecutive ones among the first `whole` that carry a MIB, and these
+-- are their MIBs
 pub record AreFirstOf (Tells : Telling) (place : Place) (whole count j : ℕ)
     (masters : List (Option Master)) : Type 0 where
   pub within : j + count ≤ whole

@@ -16,7 +16,7 @@ use Rattle.explain.specs.Frame.{IsWhole}
 use Rattle.explain.specs.Receiver.{Receiver, Subframes}
 use Rattle.explain.specs.Told.{Answering, Informing}
 
--- ---- the frames that are tried; `Answers` says what a frame answers, by its number from the first frame on
+-- ---- the frames that are tried; `Answers` gives each answer, by its frame counted from the first
 
 -- even-numbered frame i, counted from the first frame, whose number is sfn
 abbrev pub even_frame : ℕ → ℕ → ℕ
@@ -27,7 +27,7 @@ pub record IsTried (recording : List Sample) (start sfn i : ℕ) : Type 0 where
   pub among : i < 8
   pub whole : IsWhole recording start (even_frame sfn i)
 
--- a tried frame answers with these fields, and none before it with any
+-- these are the fields of the first tried frame that answers with any
 pub record IsFirstRead (Answers : Answering) (recording : List Sample) (start sfn : ℕ) (fields : Sib1) : Type 0 where
   pub i : ℕ
   pub tried : IsTried recording start sfn i
@@ -47,7 +47,7 @@ IsReadFrom Answers recording start sfn (Err reason) = IsNoneRead Answers recordi
 
 -- ---- the first rule that applies
 
--- a cell has another antenna port count than the transmission scheme
+-- a cell's antenna port count is not the transmission scheme's
 pub record HasOtherPorts (wanted ports told : ℕ) : Type 0 where
   pub told_is : told ≡ ports
   pub other : ports ≢ wanted

@@ -17,11 +17,11 @@ Telling = Place → Frames → Master → Type 0
 abbrev pub Informing : Type 1
 Informing = Place → ℕ → ℕ → Mib → Result Sib1 Sib1Reason → Type 0
 
--- the answer of one frame of a cell, by its number from the first frame on
+-- the answer of one frame of a cell, by its number, counted from the first frame
 abbrev pub Answering : Type 1
 Answering = ℕ → Result Sib1 Sib1Reason → Type 0
 
--- the attempt to read system information in one frame of a cell, by its number from the first frame on
+-- the attempt to read system information in one frame of a cell, by its number, counted from the first frame
 abbrev pub Attempting : Type 1
 Attempting = ℕ → Attempt → Type 0
 

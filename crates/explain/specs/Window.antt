@@ -1,6 +1,6 @@
--- The frames in which a cell's MIBs are searched: frames 0 to 7 from its start, as far as they lie within the
--- recording, one alone or two to four consecutive ones in one period of four. `Tells` says which MIB frames carry; for
--- a receiver that combines fewer frames, more of them carry none. (own)
+-- The frames in which a cell's MIBs are searched: those of its frames 0 to 7 that lie within the recording, one alone
+-- or two to four consecutive ones in one period of four. `Tells` says which MIB frames carry; for a receiver that
+-- combines fewer frames, more of them carry none. (own)
 use Rattle.std.specs.Prelude.{◌≡◌, ◌⊎◌, ℕ, ◌+◌, ◌<◌, ◌≤◌, List}
 use Rattle.cs_num.specs.declared.Sample.{Sample}
 use Rattle.lte_types.specs.CellPlace.{Place}
@@ -9,7 +9,7 @@ use Rattle.pbch.specs.declared.master.Master.{Master}
 use Rattle.explain.specs.Frame.{IsWhole}
 use Rattle.explain.specs.Told.{Telling}
 
--- a count of frames from frame j on are tried together
+-- `count` frames from frame j are tried together
 pub record IsInWindow (recording : List Sample) (start count j : ℕ) : Type 0 where
   pub some : 1 ≤ count
   pub few : count ≤ 4
@@ -21,7 +21,7 @@ pub record IsInWindow (recording : List Sample) (start count j : ℕ) : Type 0 w
 abbrev pub ComeBefore : ℕ × ℕ → ℕ × ℕ → Type 0
 ComeBefore (few, i) (count, j) = (few < count) ⊎ ((few ≡ count) × (i < j))
 
--- a count of frames from frame j on carry no MIB, at any phase
+-- `count` frames from frame j carry no MIB, at any phase
 abbrev pub TellNone : Telling → Place → ℕ → ℕ → Type 0
 TellNone Tells place count j =
     (phase : ℕ) (master : Master) → phase + count ≤ 4 → Tells place (frames_from count j phase) master → ⊥
@@ -36,7 +36,7 @@ abbrev pub HasNoMasters : Telling → List Sample → Place → Type 0
 HasNoMasters Tells recording place =
     (count j : ℕ) → IsInWindow recording place.start count j → TellNone Tells place count j
 
--- a count of frames from frame j on are tried, and none before them carry a MIB
+-- `count` frames from frame j are tried, and none before them carry a MIB
 pub record AreFirstFrames (Tells : Telling) (recording : List Sample) (place : Place) (count j : ℕ) : Type 0 where
   pub inside : IsInWindow recording place.start count j
   pub first : HasNoMasterBefore Tells recording place count j

@@ -17,8 +17,8 @@ use lte_types::{CellPlace, Entry};
 use pbch::{Received, received, sums_of};
 use sample_file::Recording;
 
-/// Replaces `list` with a recording's cell list for one antenna port, and the content of `work` with how each entry was
-/// read. Does not allocate. (own)
+/// Replaces `list` with a recording's cell list for one antenna port, by the rules of `explain_by`, and the content of
+/// `work` with how each entry was read. Does not allocate. (own)
 pub fn explain(recording: &Recording, work: &mut Workspace, list: &mut EntryList)
     ensures list { IsExplained recording.now list.new }
     ensures readings { AllZip (IsReading recording.now) list.new work.new }
@@ -27,8 +27,8 @@ pub fn explain(recording: &Recording, work: &mut Workspace, list: &mut EntryList
     explain_by(&OnePort, recording, work, list);
 }
 
-/// Returns the combined soft values from which an entry's MIB is decoded, for each position and stream of the codeword,
-/// each at most 2,032 in magnitude. The entry is in the recording's list.
+/// Returns the combined soft values, at most 2,032 in magnitude, by position and stream of the codeword. Their
+/// minimum-cost word gives the MIB, ports and cost of `entry`, which is in the recording's list.
 pub fn values_of(recording: &Recording, entry: &Entry) -> [[i32; 3]; 40]
     requires { IsInList recording.now entry.now }
     ensures values { result ≡ values_of_entry recording.now entry.now }

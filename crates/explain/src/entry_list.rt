@@ -48,7 +48,7 @@ impl EntryList {
         self.entries.clear();
     }
 
-    /// Inserts `item` at index `at`, in front of the items from there on. Does not allocate.
+    /// Inserts `item` at index `at`; later items, and the one there, move up by one. Does not allocate.
     pub fn insert(&mut self, at: usize, item: Entry)
         requires at { at ≤ length self.old }
         requires room { length self.old < 23040 }

@@ -109,8 +109,8 @@ fn front_in(recording: &Recording, frame: usize) -> [[Cpx; 72]; 7]
     ]
 }
 
-/// Returns the first five demodulated symbols of the PBCH slot in frame `j` of a cell, and two zero symbols, where
-/// neither the PBCH nor its reference signals are. The frame lies within the recording.
+/// Returns the first five demodulated symbols of frame `j`'s PBCH slot, and two zero symbols, where neither the PBCH
+/// nor its reference signals are. The frame lies within the recording; components have magnitude at most 2^25.
 pub(crate) fn broadcast_front(recording: &Recording, place: CellPlace, j: u8) -> [[Cpx; 72]; 7]
     requires { IsWhole recording.now place.start j }
     ensures front { (symbol : ℕ) → symbol < 5 → slice_index_or result symbol []

@@ -1,4 +1,7 @@
 //! Laws of the list.
+//!
+//! Two listed entries differ in identity, start or frame number (`apart`). If the receiver reads SIB1, no entry has the
+//! reason `Sib1Reason::LongPrefix` (`never_long`).
 
 ghost use Rattle.std.specs.Prelude.{◌≡◌};
 ghost use Rattle.explain.specs.Laws.{IsOneList, IsSound, IsComplete, IsApart, IsNeverLong};
@@ -13,7 +16,7 @@ use lte_types::FRAME_LENGTH;
 pub const DECIDING_SAMPLES: usize = 17 * FRAME_LENGTH;
 
 /// A law: for any receiver, a recording has at most one list. Every listed entry comes from a hit, every hit's entry or
-/// one of its cell is listed, and no two listed entries belong to one cell.
+/// another entry of its cell is listed, and no two listed entries belong to one cell.
 pub fn the_list_in_plain_words()
     ensures one { IsOneList }
     ensures sound { IsSound }
@@ -23,15 +26,15 @@ pub fn the_list_in_plain_words()
 {}
 
 /// A law: recordings of at least 326,400 samples (17 frames) that agree in these have the same list, for any receiver
-/// that reads only a cell's first 16 frames. A longer recording may be cut there. (own)
+/// that reads only a cell's first 16 frames (`all`). A longer recording may be cut there. (own)
 pub fn the_first_frames_decide()
     ensures samples { DECIDING_SAMPLES ≡ deciding_length }
     ensures one_port { FirstFramesDecide }
     ensures all { FirstFramesDecideAll }
 {}
 
-/// A law: the first frame of a hit that decodes alone gives an entry of the hit, listed itself or through one of its
-/// cell. A receiver that combines no frames has no other entries. (own)
+/// A law: the first frame of a hit that decodes by itself gives an entry of the hit, which is listed itself or through
+/// an entry of its cell. A receiver that combines no frames has no other entries. (own)
 pub fn one_frame_is_enough()
     ensures tells { OneFrameTells }
     ensures alone { OneFrameAlone }

@@ -32,11 +32,11 @@ pub struct Masters {
     pub sums: [WordSums; 4],
 }
 
-// The soft values of a cell's frames from frame 0 on, as far as they were read.
+// The soft values of the frames read so far, from a cell's frame 0.
 type ReceivedFrames = ArrayVec<Received, 8>;
 
-/// Returns the first frames that carry a MIB, with all their MIBs, among a cell's frames 0 to 7: a single frame, or
-/// else two to four consecutive ones, at most as many as the reader combines.
+/// Returns the first frames that carry a MIB, with all their MIBs, among a cell's frames 0 to 7, or `None`: a single
+/// frame, or else two to four consecutive ones, at most as many as the reader combines.
 pub(crate) fn first_masters<F: FrameReader>(
     reader: &F,
     recording: &Recording,
@@ -66,7 +66,8 @@ pub(crate) fn first_masters<F: FrameReader>(
     None
 }
 
-// Returns the first among the first `whole` frames that carries a MIB alone. If none is found, all were received.
+// Returns the first frame that carries a MIB by itself, among the first `whole` frames. If there is none, all were
+// received.
 fn first_alone<F: FrameReader>(
     reader: &F,
     recording: &Recording,

@@ -5,9 +5,10 @@
 //! MIBs, by phase. If no frame does, the first two, three or four consecutive frames in one period do that carry a MIB
 //! by the sums of their soft values, at most as many as the receiver combines. Only frames within the recording count.
 //!
-//! An entry has the cell's system information, whose fields are in their ranges. It is dropped if a kept one before it
-//! has the same identity and an epoch at most 9 samples away, modulo 1,024 frames. The list is in order of start,
-//! identity and frame number.
+//! An entry has the cell's system information, or a `Sib1Reason` (`system_in`). The fields, which are in their ranges,
+//! are those of the first frame that has any among the cell's first eight even-numbered frames. It is dropped if a kept
+//! one before it has the same identity and an epoch at most 9 samples away, modulo 1,024 frames. The list is in order
+//! of start, identity and frame number.
 
 ghost use Rattle.std.specs.Prelude.{◌≡◌, ◌+◌, ◌-◌, ◌<◌, ◌≤◌, true, false, List, [], ◌∷◌, ◌++◌, All, IfOk, length};
 ghost use Rattle.std.specs.List.{AllZip};
@@ -44,8 +45,8 @@ struct Found {
     masters: Masters,
 }
 
-/// Replaces `list` with a recording's cell list for a receiver, and the content of `work` with how each entry was read.
-/// Does not allocate. (own)
+/// Replaces `list` with a recording's cell list for a receiver, by the rules at the head of this file, and the content
+/// of `work` with how each entry was read. Does not allocate. (own)
 pub fn explain_by<F: FrameReader>(
     reader: &F,
     recording: &Recording,

@@ -51,7 +51,7 @@ impl Readings {
         self.readings.clear();
     }
 
-    /// Inserts how an entry was read at index `at`, in front of the items from there on. Does not allocate.
+    /// Inserts how an entry was read at index `at`; later items, and the one there, move up by one. Does not allocate.
     pub fn insert(&mut self, at: usize, hit: Hit, sums: WordSums, granted: Option<(Cfi, Grant)>)
         requires at { at ≤ length self.old }
         requires room { length self.old < 23040 }

@@ -22,7 +22,7 @@ pub fn slot_of<S: ReadSlot>(recording: &Recording, place: CellPlace, j: u8, numb
     S::of(symbols_of(recording, place, j, number), number, place.id())
 }
 
-// Returns the slot that carries the PBCH in frame `j` of a cell, as far as the PBCH soft values depend on it.
+// Returns the PBCH slot in frame `j` of a cell, with only those symbols that the PBCH soft values depend on.
 fn front_of<S: ReadSlot>(recording: &Recording, place: CellPlace, j: u8) -> S
     requires { IsWhole recording.now place.start j }
     ensures { HaveOneFront (S.seen_as result) (broadcast_slot_of recording.now place.id place.start j) }

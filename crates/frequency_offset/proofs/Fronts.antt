@@ -14,7 +14,7 @@ pub front_made : {E : Type 0} (x : List Sample) (count most : ℕ) (made : Resul
 front_made x count most (Ok front) few size same = sym (take_all count front (omega (arith, size))) ∙ same ∙ ap (λ n. take n x) few ∙ take_min most x
 front_made x count most (Err e) few size same = tt
 
--- the front has as many cells as the whole
+-- the front has as many cells as the complete recording
 pub cells_of_front : (x front : List Sample) (count : ℕ) → front ≡ take deciding_length x → HasCells front count → HasCells x count
 cells_of_front x front count is has = settle (cases_lt (length x) deciding_length)
   where

@@ -9,8 +9,8 @@ pub fn turned_recordings()
     ensures recording { TurnedIsRecording }
 {}
 
-/// A law: a recording has one estimate, from -576 to 575, and one correction by it; the corrected recording has as
-/// many cells as the estimate states. (own)
+/// A law: a recording has at most one estimate, from -576 to 575, and one correction by it. If there is an estimate,
+/// the corrected recording has the estimated number of cells. (own)
 pub fn the_turn_told()
     ensures one { IsOneTold }
     ensures applied { IsOneApplied }

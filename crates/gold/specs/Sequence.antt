@@ -1,4 +1,4 @@
--- The two LFSR sequences behind a length-31 Gold sequence (TS 36.211 section 7.2).
+-- The two LFSR sequences that make up a length-31 Gold sequence (TS 36.211 section 7.2).
 use Rattle.std.specs.Prelude.{ℕ, Bool, true, false, List, [], ◌∷◌, get_or, replicate}
 use Rattle.gold.specs.Register.{window, low_bits}
 

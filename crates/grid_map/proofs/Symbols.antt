@@ -205,7 +205,7 @@ pdsch_count carrier identity (suc (suc (suc (suc cfi)))) start blocks low high f
 pub rooms_next : (carrier : Carrier) (s last : ℕ) → s < last → block_rooms carrier s (last - s) ≡ block_room carrier s + block_rooms carrier (s + 1) (last - (s + 1))
 rooms_next carrier s last l = let e : last - s ≡ suc (last - (s + 1)) = omega arith in rw e refl
 
--- ---- the search for PDSCH symbol i, which is number `left` among those from a symbol on
+-- ---- the search for PDSCH symbol i, which is number `left` among those from a symbol
 
 pub record IsAhead (carrier : Carrier) (identity cfi start blocks i symbol left : ℕ) : Type 0 where
   pub same : shared_place_of carrier identity cfi start blocks i ≡ get_or (rows carrier identity cfi start blocks symbol (subframe_symbols carrier - symbol)) left (place 0 0)

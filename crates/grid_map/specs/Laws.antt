@@ -1,4 +1,4 @@
--- Laws of resource element lists and the groups behind them.
+-- Laws on resource element lists, and on the resource element groups in them.
 use Rattle.std.specs.Prelude.{◌≡◌, ℕ, ◌<◌, ◌≤◌, IsTrue, List, length, slice_index_or, All}
 use Rattle.grid_map.specs.declared.Place.{Place}
 use Rattle.grid_map.specs.declared.Reg.{Reg}

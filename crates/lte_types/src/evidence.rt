@@ -1,8 +1,8 @@
-//! The measurements behind an entry of the cell list.
+//! The measurements that support an entry of the cell list.
 
 use crate::{CellId, Sfn};
 
-/// The measurements behind an entry of the cell list; the first three fields identify the entry. (own)
+/// The measurements that support an entry of the cell list; the first three fields identify the entry. (own)
 #[derive(Clone, Copy, Debug, PartialEq, Eq)]
 pub struct Evidence {
     /// The cell identity.

@@ -82,7 +82,7 @@ determinant x w k c e g i h l =
 square_real : (m : ℕ) → square (real m) ≡ m * m
 square_real m = omega arith
 
--- E(f) E(p) - |<f, p>|^2 is the same for the errors alone
+-- E(f) E(p) - |<f, p>|^2 stays the same if f = g p + e is replaced by e
 pub gram : (n : ℕ) (g : Cpx) (p e : ℕ → Cpx) →
     energy_below n (λ k. plus (times g (p k)) (e k)) * energy_below n p + square (correlation_below n e p)
     ≡ square (correlation_below n (λ k. plus (times g (p k)) (e k)) p) + energy_below n p * energy_below n e

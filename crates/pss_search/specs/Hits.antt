@@ -11,7 +11,7 @@ use Rattle.pss_search.specs.Tests.{is_hit}
 -- ---- the span
 
 -- the positions of one frame; the useful part of the preceding symbol, which carries the secondary signal, just fits
--- in front of the first
+-- before the first
 abbrev pub first_place : ℕ
 first_place = 137
 

@@ -11,7 +11,7 @@ use crate::recent::Recent;
 use crate::signals::Root;
 use lte_types::Hit;
 
-// The first position of the span: the useful part of the preceding symbol just fits in front of it.
+// The first position of the span: the useful part of the preceding symbol just fits before it.
 pub(crate) const FIRST_PLACE: usize = 137;
 
 // A quarter of 1,990,000, the lower bound on the signals' powers.
@@ -82,7 +82,7 @@ fn is_ruled_out_at(recent: &Recent, root: &Root, t: usize, own: Metric) -> bool
     false
 }
 
-// Returns whether position `u` rules `t` out: it is above `t`, or earlier and level with it.
+// Returns whether position `u` rules out `t`: its metric is higher, or equal at an earlier position.
 #[tactic(auto, using(std::proofs::lemmas::Bool::Decides::nat_tests), unfolding(crate::specs::Tests::rules_out))]
 fn rules_out_at(recent: &Recent, root: &Root, t: usize, own: Metric, u: usize) -> bool
     requires first { 128 ≤ u }

@@ -64,7 +64,7 @@ impl HitList {
     }
 }
 
-/// Replaces the list by the recording's hits at the 19,200 positions from 137, ordered by position and then by
+/// Replaces the list by the recording's hits at positions 137 to 19,336 (one frame), ordered by position and then by
 /// identity within the group. Peaks are at most 2^59, energies at most 2^38. Allocates nothing. (own)
 pub fn hits(recording: &Recording, list: &mut HitList)
     ensures list { list.new ≡ hits_of recording.now }

@@ -20,7 +20,7 @@ put_last put xs ys before all (inl none) so_far = sym (append-nil before) ∙ sy
 put_last put [] ys before all (inr none) so_far = sym (append-nil before) ∙ so_far
 put_last put (x ∷ xs) ys before all (inr none) so_far = sym (append-nil before) ∙ sym (ap (λ l. before ++ put_for put (x ∷ xs) l) none) ∙ so_far
 
--- if the second list is computed from the first, the output depends on the first alone
+-- if the second list is computed from the first, the output depends on the first only
 pub put_by : {A B C : Type 0} (put : A → B → List C) (of : A → B) (xs : List A) → put_for put xs (map of xs) ≡ flat_map (λ x. put x (of x)) xs
 put_by put of [] = refl
 put_by put of (x ∷ xs) = ap (λ l. put x (of x) ++ l) (put_by put of xs)

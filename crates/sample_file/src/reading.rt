@@ -1,4 +1,5 @@
-//! Reading a recording from a source of bytes.
+//! Reading a recording from a source of bytes, which may return them in pieces of any size. After an error the bytes
+//! read are lost.
 
 ghost use Rattle.std.specs.Prelude.{◌≡◌, ◌+◌, ◌*◌, ◌^◌, ◌<◌, ◌≤◌, length, take, List, IfOk, IsErr, IsErrOf};
 ghost use Rattle.cs_num.specs.declared.Sample.{Sample as SampleValue};
@@ -71,7 +72,7 @@ struct Front {
     count: usize,
 }
 
-/// Reads a recording of 57,600 to 1,920,000 samples, to the end of the source. An input that ends within a sample is
+/// Reads 57,600 to 1,920,000 samples in format `form`, to the end of the source. An input that ends within a sample is
 /// ragged, however short; one that is too long is read one byte past the limit. (own)
 pub fn read_as<S: Source>(
     alloc: Global,

@@ -11,7 +11,7 @@ pub record IsSib1 (bits : List Bool) : Type 0 where
   pub rest : List Bool
   pub begins : bits ≡ false ∷ true ∷ rest
 
--- the bits are refused for this reason: another message, or the first bad field and its position
+-- the bits are refused for this reason: they are not a SIB1, or its first bad field begins at this bit
 abbrev pub IsRefused : List Bool → Sib1Reason → Type 0
 IsRefused bits NotSib1 = IsSib1 bits → ⊥
 IsRefused bits (BadFields place) = IsSib1 bits × Refuses sib1 bits place

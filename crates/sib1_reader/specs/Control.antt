@@ -26,7 +26,7 @@ pub record HasNoControl (count : ℕ) (candidate : List ℤ) : Type 0 where
   pub is : IsWord count candidate word
   pub fails : HasCheck16 system_information_rnti word → ⊥
 
--- the CRC in the candidate's word passes, and the 21 bits in front of it give this answer
+-- the CRC in the candidate's word passes, and the 21 bits that precede it give this answer
 pub record ControlSays (count : ℕ) (candidate : List ℤ) (answer : Result Grant Sib1Reason) : Type 0 where
   pub word : List Bool
   pub is : IsWord count candidate word

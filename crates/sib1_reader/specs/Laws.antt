@@ -7,15 +7,15 @@ use Rattle.sib1_reader.specs.Subframe.{Subframe}
 use Rattle.sib1_reader.specs.declared.reading.Attempt.{Attempt}
 use Rattle.sib1_reader.specs.Attempt.{IsAttempt, Reads}
 
--- a subframe has at most one attempt
+-- each subframe has at most one attempt
 abbrev pub IsOneAttempt : Type 0
 IsOneAttempt = (values : Subframe) (a b : Attempt) → IsAttempt values a → IsAttempt values b → a ≡ b
 
--- a subframe has at most one answer
+-- each subframe has at most one answer
 abbrev pub IsOneAnswer : Type 0
 IsOneAnswer = (values : Subframe) (a b : Result Sib1 Sib1Reason) → Reads values a → Reads values b → a ≡ b
 
--- a subframe has an attempt
+-- each subframe has an attempt
 abbrev pub IsSomeAttempt : Type 0
 IsSomeAttempt = (values : Subframe) → (attempt : Attempt) × IsAttempt values attempt
 

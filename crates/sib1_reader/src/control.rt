@@ -18,7 +18,7 @@ use pdcch::{candidate, elements};
 use soft_bits::ReadSlot;
 use tailbite::{Trellis, least};
 
-// The count of control information bits in front of the CRC.
+// The number of control information bits, without the CRC.
 const INFORMATION: usize = 21;
 
 /// Returns the grant of subframe 5, or the first reason why there is none: too few control channel elements, no word
@@ -72,7 +72,7 @@ fn is_checked(word: &Bits<37>) -> bool
     number_of(check) as u16 == crc16(information) ^ SI_RNTI
 }
 
-// Returns the bits in front of the CRC.
+// Returns the bits without the CRC.
 fn information_of(word: &Bits<37>) -> Bits<21>
     ensures { result ≡ message_of 16 word.now }
 {

@@ -1,5 +1,5 @@
--- Lines of pilots: one for each port, by its pattern, the channel along them, and their dependence on the slot's
--- front alone.
+-- Lines of pilots: one for each port, by its pattern, the channel along them, and their dependence only on the slot's
+-- first symbols.
 use Rattle.std.proofs.Common.{◌≡◌, ℕ, zero, suc, ◌+◌, ◌-◌, ◌*◌, ◌/◌, ◌<◌, ◌≤◌, ◌⊎◌, inl, inr, Bool, true, false, arith, List, ℤ, pos, refl, ap, ap₂, sym, subst, ◌∙◌}
 use Rattle.std.specs.Prelude.{if◌then◌else◌, ◌*ℤ◌}
 use Rattle.std.proofs.Math.Path.{fun_ext}

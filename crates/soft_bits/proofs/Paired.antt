@@ -66,7 +66,7 @@ pair-small a energy =
     All-cons (λ z. nat_abs z ≤ 127) (soft_value a.re energy) (soft_value a.im energy ∷ []) (soft_value-small a.re energy)
     (All-cons (λ z. nat_abs z ≤ 127) (soft_value a.im energy) [] (soft_value-small a.im energy) (All-nil (λ z. nat_abs z ≤ 127)))
 
--- the points of a pair, for any channels
+-- the symbols of a pair, for any channels
 pub points-small : (h g : Cpx) (energy : ℕ) (a b : Cpx) → AllWithin 127 (point_values h g energy a b)
 points-small h g energy a b =
     All-append (λ z. nat_abs z ≤ 127) (soft_pair (first_point h g a b) energy) (soft_pair (second_point h g a b) energy)

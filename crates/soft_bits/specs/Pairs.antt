@@ -13,15 +13,15 @@ use Rattle.soft_bits.specs.Lines.{port_channel, ports_energy}
 use Rattle.soft_bits.specs.Places.{Valuing, placed_values}
 use Rattle.soft_bits.specs.Soft.{SeenSlot, seen_at, soft_pair}
 
--- the combined amplitude for a pair's first point, received as a and b over the two ports' channels h and k
+-- the combined amplitude for a pair's first symbol, received as a and b over the two ports' channels h and k
 abbrev pub first_point : Cpx → Cpx → Cpx → Cpx → Cpx
 first_point h k a b = plus (times (conjugate h) a) (times k (conjugate b))
 
--- the combined amplitude for a pair's second point, received as a and b over the two ports' channels h and k
+-- the combined amplitude for a pair's second symbol, received as a and b over the two ports' channels h and k
 abbrev pub second_point : Cpx → Cpx → Cpx → Cpx → Cpx
 second_point h k a b = minus (times (conjugate h) b) (times k (conjugate a))
 
--- a pair's four soft values for these channels and the pilot energy: the first point, then the second
+-- a pair's four soft values for these channels and the pilot energy: the first symbol, then the second
 abbrev pub point_values : Cpx → Cpx → ℕ → Cpx → Cpx → List ℤ
 point_values h k energy a b = soft_pair (first_point h k a b) energy ++ soft_pair (second_point h k a b) energy
 

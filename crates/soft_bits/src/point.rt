@@ -1,4 +1,4 @@
-//! Soft values of a pair of points that two antenna ports send.
+//! Soft values of a pair of QPSK symbols that two antenna ports send.
 
 ghost use Rattle.std.specs.Prelude.{◌≡◌, ◌*◌, ◌^◌, ◌≤◌};
 ghost use Rattle.finite.specs.Sizes.{AllWithin};
@@ -8,7 +8,7 @@ ghost use Rattle.soft_bits.specs.Pairs.{first_point, second_point, point_values 
 use crate::soft_pairs;
 use cs_num::Cpx;
 
-/// Returns the soft values of two points sent by transmit diversity (TS 36.211 section 6.3.4.3), real part first:
+/// Returns the soft values of two QPSK symbols sent by transmit diversity (TS 36.211 section 6.3.4.3), real part first:
 /// -127 to 127, positive for bit 0. `a` and `b` were received over channels `h` and `g`; `energy` is the pilots'.
 pub fn point_values(h: Cpx, g: Cpx, energy: u64, a: Cpx, b: Cpx) -> [i16; 4]
     requires h { IsWithin (1080 * 2 ^ 25) h }
@@ -22,7 +22,7 @@ pub fn point_values(h: Cpx, g: Cpx, energy: u64, a: Cpx, b: Cpx) -> [i16; 4]
     soft_pairs(first_point(h, g, a, b), second_point(h, g, a, b), energy)
 }
 
-// Returns the combined amplitude for the first point of a pair.
+// Returns the combined amplitude for the first symbol of a pair.
 fn first_point(h: Cpx, g: Cpx, a: Cpx, b: Cpx) -> Cpx
     requires h { IsWithin (1080 * 2 ^ 25) h }
     requires g { IsWithin (1080 * 2 ^ 25) g }
@@ -34,7 +34,7 @@ fn first_point(h: Cpx, g: Cpx, a: Cpx, b: Cpx) -> Cpx
     h.conj().mul(a) + g.mul(b.conj())
 }
 
-// Returns the combined amplitude for the second point of a pair.
+// Returns the combined amplitude for the second symbol of a pair.
 fn second_point(h: Cpx, g: Cpx, a: Cpx, b: Cpx) -> Cpx
     requires h { IsWithin (1080 * 2 ^ 25) h }
     requires g { IsWithin (1080 * 2 ^ 25) g }

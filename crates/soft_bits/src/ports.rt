@@ -7,7 +7,7 @@ ghost use Rattle.soft_bits.specs.Pairs.{Pairing, alone};
 
 use lte_types::Carrier;
 
-/// A transmission scheme with the normal prefix, and the ports that send each pair of points (TS 36.211 section
+/// A transmission scheme with the normal prefix, and the ports that send each pair of QPSK symbols (TS 36.211 section
 /// 6.3.4.3).
 pub trait Ports {
     ghost pairing: { Pairing };

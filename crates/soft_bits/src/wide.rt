@@ -1,4 +1,4 @@
-//! Soft values of two points, each combined from two resource elements.
+//! Soft values of two QPSK symbols, each combined from two resource elements.
 
 ghost use Rattle.std.specs.Prelude.{◌≡◌, ◌*◌, ◌^◌, ◌≤◌, ◌<ℤ◌, ◌++◌, int_div, nat_abs, pos};
 ghost use Rattle.finite.specs.Sizes.{AllWithin};

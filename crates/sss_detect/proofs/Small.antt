@@ -55,7 +55,7 @@ channel_sizes a value m n p q =
 real_part : (x y s t : ℤ) → x *ℤ s -ℤ y *ℤ neg_ℤ t ≡ x *ℤ s +ℤ y *ℤ t
 real_part x y s t = same (ring.minus (ring.times (var x) (var s)) (ring.times (var y) (ring.minus_one (var t)))) (ring.plus (ring.times (var x) (var s)) (ring.times (var y) (var t))) (omega arith)
 
--- an agreement is smaller than bounds on the components alone imply
+-- an agreement is smaller than the bounds on the components imply
 agreement-small : (primary secondary value : Cpx) (m n : ℕ) → IsWithin m primary → IsWithin m secondary → IsWithin n value →
     nat_abs (times secondary (conjugate (times primary (conjugate value)))).re ≤ m * (m * (2 * n))
 agreement-small primary secondary value m n p s v =

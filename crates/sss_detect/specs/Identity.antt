@@ -38,7 +38,7 @@ best_pair scores =
     then (best_group scores Five, Five)
     else (best_group scores Zero, Zero)
 
--- a hit's scores for a cyclic prefix, from the primary symbol at the hit and the secondary symbol just in front of it
+-- a hit's scores for a cyclic prefix, from the primary symbol at the hit and the secondary symbol immediately before it
 abbrev pub prefix_scores : Prefix → List Sample → Hit → ℕ → Half → ℤ
 prefix_scores prefix recording hit = score (seen recording hit.t) (seen recording (hit.t - symbol_step prefix)) hit.n2
 

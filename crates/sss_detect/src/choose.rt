@@ -1,4 +1,7 @@
 //! Choosing an identity group and a half-frame.
+//!
+//! The score of a pair is the sum over the 62 values of its secondary sequence, each times the real part of the SSS
+//! value demodulated at its subcarrier times the conjugate of the channel that the PSS value there gives (`agreement`).
 
 ghost use Rattle.std.specs.Prelude.{◌≡◌, ◌^◌, ◌≤◌, All, int_lt, if◌then◌else◌};
 ghost use Rattle.finite.specs.Sizes.{AllWithin};

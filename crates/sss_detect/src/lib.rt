@@ -23,8 +23,8 @@ use rank::best_two;
 pub use rank::{Choice, Ranking};
 use sample_file::Recording;
 
-/// Returns a hit's identity group and half-frame for a cyclic prefix (TS 36.211 section 6.11), by `best`. Both
-/// symbols, the secondary one just in front of the primary, lie within the recording. `n2` is 0 to 2.
+/// Returns a hit's identity group and half-frame for a cyclic prefix (TS 36.211 section 6.11), by `best`. Both symbols,
+/// the secondary one immediately before the primary, lie within the recording. `n2` is 0 to 2.
 pub fn identity_with(recording: &Recording, hit: &Hit, prefix: Prefix) -> (u16, Half)
     requires after { symbol_step prefix ≤ hit.now.t }
     requires within { hit.now.t + 128 ≤ length recording.now }

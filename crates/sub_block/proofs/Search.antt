@@ -38,7 +38,7 @@ kept : (n : ℕ) (cells : List Item) (m : ℕ) → m < length cells → n ≤ (g
     bits_in n (drop m cells) ≡ item (get_or cells m (item 0 0)).stream ((get_or cells m (item 0 0)).index - n) ∷ bits_in n (drop (m + 1) cells)
 kept n cells m inside bit = ap (bits_in n) (next_cell cells m inside) ∙ bits_in-kept n (get_or cells m (item 0 0)) (drop (m + 1) cells) bit
 
--- a bit in front of the sought one is passed
+-- a bit that precedes the sought one is passed over
 pub left_bit : (n : ℕ) (cells : List Item) (p m left : ℕ) → m < length cells → n ≤ (get_or cells m (item 0 0)).index →
     IsLeft n cells p m (suc left) → IsLeft n cells p (m + 1) left
 left_bit n cells p m left inside bit known =

@@ -8,7 +8,7 @@ use Rattle.fold128.specs.Tables.{z_at}
 abbrev pub root_of : ℕ → ℕ
 root_of n2 = if n2 == 0 then 25 else if n2 == 1 then 29 else 34
 
--- the phase at value n, in multiples of the root
+-- the phase of value n, divided by minus the root, in 1/63 of a cycle
 abbrev pub turns : ℕ → ℕ
 turns n = if nat_lt n 31 then n * (n + 1) / 2 else (n + 1) * (n + 2) / 2
 

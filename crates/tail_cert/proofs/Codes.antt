@@ -194,7 +194,7 @@ maybes_same (Some t ∷ xs) (Some u ∷ ys) size there p q e =
     let rest : xs ≡ ys = maybes_same xs ys (omega (arith, size)) (λ s l. there (suc s) (omega (arith, l))) (λ i d l. p (suc i) d (omega (arith, l))) (λ i d l. q (suc i) d (omega (arith, l))) parts.1 in
     rw (here, rest) refl
 
--- ---- whole certificates
+-- ---- complete certificates
 
 -- the parts up to the values, the word, the cost, the general table and the set, with their lengths
 abbrev to_values : Held → List ℕ

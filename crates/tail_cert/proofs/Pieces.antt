@@ -15,7 +15,7 @@ pub one_more : (n : ℕ) (f : ℕ → Option (List (List ℕ))) → flat_map may
 one_more n f = ap (flat_map maybe_bytes) (values_below_more n f) ∙ flat_map-append maybe_bytes (values_below n f) (f n ∷ [])
     ∙ ap (λ l. flat_map maybe_bytes (values_below n f) ++ l) (append-nil (maybe_bytes (f n)))
 
--- a write to the rest of the bytes from an offset on
+-- a write to the rest of the bytes from an offset
 pub put_piece : (at : ℕ) (piece bytes mid : List ℕ) → mid ≡ piece ++ drop (length piece) (take (length bytes - at) (drop at bytes)) → at ≤ length bytes →
     take at bytes ++ (mid ++ drop (length bytes - at) (drop at bytes)) ≡ with_piece at piece bytes
 unfolding with_piece

@@ -86,7 +86,7 @@ fn starts_by(from: &CostRow) -> CostRow
     starts
 }
 
-/// Writes, as a key, the minimum cost to each state less the cost of a start there.
+/// Writes each state's bound as a key: the minimum cost to reach the state, less the cost of a start there.
 fn fill_bounds(starts: &CostRow, to: &CostRow, bounds: &mut [u128; 64])
     ensures { (x : ℕ) → x < 64 →
         slice_index bounds.new x ≡ (slice_index to.now x - slice_index starts.now x) * scale }

@@ -1,4 +1,4 @@
--- Soft values and sums with the sent bits' signs. (own; the code and its reading order are those of TS 36.212 sections
+-- Soft values and sums with the sent bits' signs. (own; the code and its reading order are in TS 36.212 sections
 -- 5.1.3.2 and 5.1.4.1)
 use Rattle.std.specs.Prelude.{◌≡◌, ℕ, ◌+◌, ◌*◌, ◌<◌, Bool, true, false, List, length, ℤ, pos}
 use Rattle.finite.specs.Tables.{sum_at}

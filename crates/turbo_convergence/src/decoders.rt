@@ -1,9 +1,8 @@
 //! The two constituent decoders and their iterations.
 //!
-//! An extrinsic value is not 0 exactly if every codeword with a 1 at its bit has a 1 at another bit that was sent or is
-//! known, and it then has the sign of the sent bit. In each iteration the extrinsic values of both decoders that are
-//! not 0 are those of the bits found so far, and the decoded word is the sent word with 0 at each bit that is not yet
-//! settled.
+//! An extrinsic value is nonzero if and only if every codeword with a 1 at its bit has a 1 at another bit that was sent
+//! or is known; it then has the sent bit's sign. In each iteration, both decoders' extrinsic values are nonzero exactly
+//! for the bits found so far, and the decoded word is the sent word with 0 at each bit that is not yet settled.
 
 ghost use Rattle.turbo_convergence.specs.Laws.{ExtrinsicsSpeak, ExtrinsicsTell, IterationsTell};
 

@@ -23,7 +23,7 @@ upper : (p identity slot m : ℕ) → 1 < p → p < 4 → IsAlone p identity slo
 unfolding is_reference first_subcarrier is_second_reference is_upper_reference
 upper p identity slot m l h = grind (arith, nat_tests)
 
--- with four ports, each pilot belongs to one port alone
+-- with four ports, each pilot belongs to only one port
 pub is_alone : (p : ℕ) (slot : SeenSlot) (i : ℕ) → p < 4 → IsAlone p slot.identity slot.number ((line_of FourPorts p slot).symbol i) (line_place (line_of FourPorts p slot) i)
 unfolding pattern_symbol
 is_alone zero slot i l = lower 0 slot.identity slot.number i (pilot_subcarrier slot.identity i) _ (omega arith) refl refl

@@ -66,8 +66,8 @@ SpeakWith gains pairing most least =
 
 -- ---- slots of a recording
 
--- the slot's seven symbols are received from all ports with these gains, and contain all ports' reference signals; each
--- port sends nothing in the other ports'
+-- the slot's seven symbols are received from all ports with these gains, and contain all ports' reference signals; no
+-- port sends anything in another port's reference elements
 pub record IsSlotReceived (carrier : Carrier) (quota : ℕ) (gains : ℕ → Cpx) (recording : List Sample)
     (starts : ℕ → ℕ) (grids : ℕ → ℕ → ℕ → Cpx) (slot : SeenSlot) : Type 0 where
   pub seen : (l : ℕ) → l < 7 → slice_index_or slot.symbols l [] ≡ seen_symbol recording (starts l)
