@@ -7,8 +7,8 @@
 ghost use Rattle.clean_air.specs.Carried.{SentWordIsOnly, ValuesOfPlacesAreHeard};
 ghost use Rattle.clean_air.specs.Carried.{DescrambledBitsAreHeard, CarriedBitsAreHeard};
 
-/// A law: soft values return the sent word of 6 to 64 bits, and no other, if each has the sign of its scrambled bit,
-/// with at least one value per coded bit, from any bit of the circular buffer.
+/// A law: soft values return the sent word of 6 to 64 bits, and no other, if each has its scrambled bit's sign, with at
+/// least one value per coded bit, from any bit of the circular buffer.
 pub fn carried_word_is_heard()
     ensures only { SentWordIsOnly }
     ensures places { ValuesOfPlacesAreHeard }

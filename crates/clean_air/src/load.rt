@@ -16,8 +16,8 @@ pub fn open_places_are_silent()
     ensures sent { TakenPlacesAreSent }
 {}
 
-/// A law: a recording that is clean for a cell is faithful to it, whatever else the cell sends. If components are off
-/// by at most eps, the error energy of 128 samples is at most 2^36 eps^2, in units of 2^-28. (own)
+/// A law: a recording that is clean for a cell is faithful to it. If components are off by at most eps, the error
+/// energy of 128 samples is at most 2^36 eps^2, in units of 2^-28. (own)
 pub fn loaded_is_faithful()
     ensures errors { LoadedHasLittleErrors }
     ensures faithful { LoadedIsFaithful }

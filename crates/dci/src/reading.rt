@@ -21,9 +21,8 @@ const RV: usize = 16;
 
 const TPC_LOW: usize = 19;
 
-/// Decodes a grant, or returns the first reason to refuse it, in this order: a format other than 1A, distributed
-/// blocks, a resource indication value above 20, a scheme above 26, no transport block size. All other fields are
-/// ignored.
+/// Decodes a grant, or returns the first reason to refuse it: a format other than 1A, distributed blocks, a resource
+/// indication value above 20, a scheme above 26, no transport block size. Other fields are ignored.
 pub fn read(word: &Bits<21>) -> Result<Grant, Sib1Reason>
     ensures answer { Says word.now result }
     ensures grant { IfOk result IsGrant }

@@ -33,8 +33,8 @@ pub fn the_first_frames_decide()
     ensures all { FirstFramesDecideAll }
 {}
 
-/// A law: the first frame of a hit that decodes by itself gives an entry of the hit, which is listed itself or through
-/// an entry of its cell. A receiver that combines no frames has no other entries. (own)
+/// A law: the first frame of a hit that decodes by itself gives an entry, which is listed itself or through an entry of
+/// its cell. A receiver that combines no frames has no other entries. (own)
 pub fn one_frame_is_enough()
     ensures tells { OneFrameTells }
     ensures alone { OneFrameAlone }

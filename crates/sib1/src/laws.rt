@@ -10,8 +10,7 @@ ghost use Rattle.sib1.specs.Message.{Says, Writes};
 ghost use Rattle.sib1.specs.Text.{text_of};
 
 /// A law: bits begin with the encoding of exactly one block or are refused for exactly one reason. Later bits are
-/// ignored, blocks are in range, `text_of` is a block's only encoding and no prefix of another, and `read` inverts
-/// `write`.
+/// ignored, blocks are in range, `text_of` is a block's only encoding, and `read` inverts `write`.
 pub fn texts_and_bits()
     ensures one_answer { (bits : List Bool) (a b : Result Fields Sib1Reason)
         → Says bits a → Says bits b → a ≡ b }

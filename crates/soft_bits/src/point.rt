@@ -8,8 +8,8 @@ ghost use Rattle.soft_bits.specs.Pairs.{first_point, second_point, point_values 
 use crate::soft_pairs;
 use cs_num::Cpx;
 
-/// Returns the soft values of two QPSK symbols sent by transmit diversity (TS 36.211 section 6.3.4.3), real part first:
-/// -127 to 127, positive for bit 0. `a` and `b` were received over channels `h` and `g`; `energy` is the pilots'.
+/// Returns the soft values of two QPSK symbols in transmit diversity (TS 36.211 section 6.3.4.3), real part first: -127
+/// to 127, positive for bit 0. `a` and `b` came over channels `h` and `g`; `energy` is the pilots'.
 pub fn point_values(h: Cpx, g: Cpx, energy: u64, a: Cpx, b: Cpx) -> [i16; 4]
     requires h { IsWithin (1080 * 2 ^ 25) h }
     requires g { IsWithin (1080 * 2 ^ 25) g }
