@@ -2,8 +2,8 @@
 """python3 -m lte_reference.cancel < RECORDING
 
 A second program for what `search --cancel` writes: the list of cells, and round after round the first listed cell whose
-plan is told taken off what is left, with the gain that leaves the least greatest component, and the list of the rest.
-The list is that of search.py, what a cell sends that of cell.py, and which punctured blocks can be sent
+plan is known is cancelled, with the gain that leaves the least greatest component, and the list of the residue. The
+list is that of search.py, what a cell sends that of cell.py, and which punctured blocks can be sent
 that of erasure.py; nothing is shared with the repository's code.
 
     python3 -m lte_reference.cell < scripts/examples/plain_cell.json | python3 -m lte_reference.cancel

@@ -390,11 +390,11 @@ def main():
     carrier.add_argument("--ports", choices=["2", "4"])
     carrier.add_argument("--prefix", choices=["long"])
     words.add_argument("--load", type=int)
-    told = words.parse_args()
+    args = words.parse_args()
     cell = json.load(sys.stdin)
-    if told.load is not None:
-        cell["load"] = told.load
-    samples = sent(cell, {"2": "two", "4": "four"}.get(told.ports) or told.prefix or "one")
+    if args.load is not None:
+        cell["load"] = args.load
+    samples = sent(cell, {"2": "two", "4": "four"}.get(args.ports) or args.prefix or "one")
     if "noise" in cell:
         draw, bound = random.Random(cell["identity"]), cell["noise"]
         samples = samples + np.array([draw.randint(-bound, bound) for _ in range(samples.size)]).reshape(samples.shape)

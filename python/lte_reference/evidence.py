@@ -63,9 +63,9 @@ def read(r, entry, rule):
             for phase in range(5 - frames):
                 values = sums(r, entry, frames, j, phase, rule)
                 total, (cost, word) = sum(abs(value) for row in values for value in row), least(values)
-                told = PORTS.get(crc(word >> 16, 24) ^ word & 0xFFFF), word >> 16
+                decoded = PORTS.get(crc(word >> 16, 24) ^ word & 0xFFFF), word >> 16
                 if (
-                    told == (ports, block)
+                    decoded == (ports, block)
                     and 0 < total >= 4 * cost
                     and (4 * (block >> 10 & 255) + phase - j) % 1024 == sfn
                 ):
@@ -94,9 +94,9 @@ def bends(its):
     return sum(sum((a - 2 * b + c) ** 2 for a, b, c in zip(*three)) for three in zip(its, its[1:], its[2:]))
 
 
-def line(r, told, entry, rule):
+def line(r, detections, entry, rule):
     start, cell, sfn, *_ = entry
-    t = min(t for t, place in told if place == (cell, start))
+    t = min(t for t, place in detections if place == (cell, start))
     frames, j, phase, cost, total = read(r, entry, rule)
     ports = pilots(r, entry, j, rule)
     power = sum(24 // len(there) * (a * a + b * b) for there, _ in ports for a, b in there)
@@ -108,9 +108,9 @@ def line(r, told, entry, rule):
 
 
 def lines(r, rule=ONE_PORT):
-    told = [(t, identity(r, t, n2, rule)) for t, n2 in hits(r) if t >= rule.step]
+    detections = [(t, identity(r, t, n2, rule)) for t, n2 in hits(r) if t >= rule.step]
     cells = listed(r, rule)
-    return [f"evidence {len(cells)}"] + [line(r, told, entry, rule) for entry in cells]
+    return [f"evidence {len(cells)}"] + [line(r, detections, entry, rule) for entry in cells]
 
 
 def hexadecimal(bits):

@@ -179,7 +179,7 @@ def of_evidence(r, words):
 def of_tell(samples):
     by = tune_reference.Second()
     taken = tune_reference.taken(samples, by)
-    its = tune_reference.told(samples, by, taken)
+    its = tune_reference.estimate(samples, by, taken)
     names = ("coarse", "turn", "peak", "energy", "power")
     return {
         "told": {"hits": its[0].hits, "turn": its[0].turn, "cells": its[1]} if its else None,

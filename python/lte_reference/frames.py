@@ -48,12 +48,12 @@ def rows(word, phase, kept):
     return ["".join(str(grid.get((l, k), ".")) for k in range(72)) for l in range(5)]
 
 
-def first_word(told):
+def first_word(known):
     """The first word of 40 bits that agrees with these coded bits, by place of the reading; None where none does."""
     units = [tail_biting([int(i == k) for i in range(40)], 120) for k in range(40)]
     # equations on the bits of the word, the last bits first, so that free bits are early ones
     pivots = {}
-    for place, bit in told:
+    for place, bit in known:
         row = [units[k][place % 120] for k in range(40)] + [bit]
         for k in range(39, -1, -1):
             if row[k] and k in pivots:
@@ -83,17 +83,17 @@ def tried(word, kept):
     for count in range(1, 5):
         for first in range(6 - count):
             for phase in range(5 - count):
-                told = []
+                known = []
                 for m in range(count):
                     for i in range(240) if first + m < 4 else ():
                         if kept(first + m, i):
                             for n in (2 * i, 2 * i + 1):
                                 sent = coded[480 * (first + m) + n] ^ sequence[480 * (first + m) + n]
-                                told.append((n, sent ^ sequence[480 * (phase + m) + n]))
-                if not told:
+                                known.append((n, sent ^ sequence[480 * (phase + m) + n]))
+                if not known:
                     continue
                 sums = {}
-                for n, bit in told:
+                for n, bit in known:
                     sums[n % 120] = sums.get(n % 120, 0) + (1 - 2 * bit)
                 least = first_word([(n, int(v < 0)) for n, v in sums.items() if v])
                 found.append(((count, first, phase), "open" if least is None else tells(least)))
@@ -106,8 +106,8 @@ def main():
         show("QUARTER_%d" % m, rows(word_of(PLAIN, 1), m, lambda i: i % 4 == m))
     for m in range(4):
         show("SPARSE_%d" % m, rows(word_of(OTHER, 2), m, lambda i: i % 10 == m))
-    for case, told in tried(word_of(OTHER, 2), lambda m, i: i % 10 == m):
-        print(case, told)
+    for case, outcome in tried(word_of(OTHER, 2), lambda m, i: i % 10 == m):
+        print(case, outcome)
 
 
 if __name__ == "__main__":

@@ -96,10 +96,10 @@ def recording(n, **keys):
 
 def command(words, made, heading):
     """Writes the recording of a number, or with -i its heading, sums and some samples."""
-    told = words[0] == "-i"
-    n, *rest = map(int, words[told:])
+    indexed = words[0] == "-i"
+    n, *rest = map(int, words[indexed:])
     samples = made(n)
-    if not told:
+    if not indexed:
         sys.stdout.buffer.write(samples.astype("<i2").tobytes())
         return
     first, count = rest + [0, 8][len(rest) :]

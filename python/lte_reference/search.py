@@ -581,9 +581,9 @@ def system(r, entry, say, rule=ONE_PORT):
     for j in range(sfn % 2, min(16, (len(r) - start) // FRAME), 2):
         steps = [f"  frame {j}"]
         try:
-            told = attempt(r, start + FRAME * j, cell, block >> 20 & 1, block >> 18 & 3, steps.append, rule)
+            answer = attempt(r, start + FRAME * j, cell, block >> 20 & 1, block >> 18 & 3, steps.append, rule)
             say(", ".join(steps + ["read"]))
-            return told
+            return answer
         except Refused as reason:
             reasons.append(f"sib1 none {reason}")
             say(", ".join(steps + [str(reason)]))
@@ -661,8 +661,8 @@ def listed(r, rule=ONE_PORT, say=silent):
 
 def list_lines(r, found, rule=ONE_PORT, say=silent):
     """The lines of these entries."""
-    told = [f"{cell_line(entry)}\n{system(r, entry, say, rule)[1]}" for entry in found]
-    return "\n".join([f"cells {len(found)}"] + told).split("\n")
+    cells = [f"{cell_line(entry)}\n{system(r, entry, say, rule)[1]}" for entry in found]
+    return "\n".join([f"cells {len(found)}"] + cells).split("\n")
 
 
 def recording():
@@ -678,8 +678,8 @@ def main(rule, why):
 
 if __name__ == "__main__":
     words = sys.argv[1:]
-    told = words[-1:] == ["why"]
-    named = tuple(words[: len(words) - told])
+    explained = words[-1:] == ["why"]
+    named = tuple(words[: len(words) - explained])
     if named not in RULES:
         sys.exit(__doc__)
-    main(RULES[named], told)
+    main(RULES[named], explained)

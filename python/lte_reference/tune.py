@@ -98,18 +98,18 @@ class Program(Second):
         super().__init__()
         self.command = command
 
-    def told(self, x, word):
+    def lines(self, x, word):
         done = subprocess.run(self.command + [word], input=data_of(x), stdout=subprocess.PIPE, check=True)
         return done.stdout.decode().splitlines()
 
     def hits(self, x):
-        return [tuple(int(number) for number in line.split()) for line in self.told(x, "hits")[1:]]
+        return [tuple(int(number) for number in line.split()) for line in self.lines(x, "hits")[1:]]
 
     def cells(self, x):
-        return int(self.told(x, "search")[0].split()[1])
+        return int(self.lines(x, "search")[0].split()[1])
 
 
-# ---- the turn told
+# ---- the estimated turn
 
 
 class Candidate(typing.NamedTuple):
@@ -177,8 +177,8 @@ def taken(r, by):
     return kept
 
 
-def told(r, by, candidates):
-    """Of these candidates the one that is told, and the count of its cells, or None."""
+def estimate(r, by, candidates):
+    """Returns the candidate that is the estimate, and the count of its cells, or None."""
     centre = mean(r)
     for candidate in candidates:
         cells = by.cells(turned(r, candidate.turn, centre, len(r)))
@@ -199,7 +199,7 @@ def main():
         sys.stdout.buffer.write(data_of(turned(r, int(words[1]), mean(r), len(r))))
         return
     by = Program(command) if command else Second()
-    its = told(r, by, taken(r, by))
+    its = estimate(r, by, taken(r, by))
     if words[0] == "apply":
         sys.stdout.buffer.write(data_of(turned(r, its[0].turn if its else 0, mean(r), len(r))))
     else:

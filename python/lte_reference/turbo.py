@@ -1,7 +1,7 @@
 #!/usr/bin/env python3
 """A second program for the turbo decoder, from which the tables of the tests of `turbo_dec` come.
 
-The extrinsic values of the short words are maxima over all words, one by one. A block is told by the same
+The extrinsic values of the short words are maxima over all words, one by one. A block is decoded by the same
 iterations over a recursion on the 8 states, which is first compared with those maxima. The encoder is that of
 TS 36.212 section 5.1.3.2, the check that of section 5.1.1; nothing is shared with the repository's code.
 
@@ -151,7 +151,7 @@ def received(block, gain, spread, seed):
     return streams
 
 
-def told(d, k, f1, f2):
+def decoded(d, k, f1, f2):
     """The number of the first iterate that passes, and its block; nothing where none of eight does."""
     places = order(k, f1, f2)
     tails = [[d[t][p] for p in (start, start + 1) for t in range(3)] for start in (k, k + 2)]
@@ -180,7 +180,7 @@ def main():
     for block, gain, spread, seed in RECEPTIONS:
         d = received(block, gain, spread, seed)
         sizes = sum(abs(value) for stream in d for value in stream)
-        answer = told(d, *ROWS[4 * len(block)])
+        answer = decoded(d, *ROWS[4 * len(block)])
         if answer is None:
             print(block, gain, spread, seed, sizes, "nothing")
         else:

@@ -16,13 +16,13 @@ def elements(samples):
     return samples @ TURNS.conj().T / 128
 
 
-def broadcast_places(rule, told):
+def broadcast_places(rule, plan):
     places = [(l, k) for l in range(4) for k in range(72)]
-    return [(l, k) for l, k in places if l not in rule.beside or (k - told["identity"]) % 3]
+    return [(l, k) for l, k in places if l not in rule.beside or (k - plan["identity"]) % 3]
 
 
-def block_places(rule, told, slot):
-    shared = shared_places(*(told[key] for key in ("identity", "cfi", "start", "blocks")), rule)
+def block_places(rule, plan, slot):
+    shared = shared_places(*(plan[key] for key in ("identity", "cfi", "start", "blocks")), rule)
     return [(l % 7, k) for l, k in shared if l // 7 == slot - 10]
 
 
@@ -30,15 +30,15 @@ class Slot:
     """The places of a slot that carry the broadcast channel or SIB1, and of each antenna port the symbols, subcarriers
     and values of its reference signals, and the line through its pilots."""
 
-    def __init__(self, rule, told, slot):
-        self.rule, self.told, self.slot = rule, told, slot
+    def __init__(self, rule, plan, slot):
+        self.rule, self.plan, self.slot = rule, plan, slot
         self.rows, self.columns = np.array(
-            broadcast_places(rule, told) if slot == 1 else block_places(rule, told, slot)
+            broadcast_places(rule, plan) if slot == 1 else block_places(rule, plan, slot)
         ).T
         self.ports = []
         for port in range(rule.ports):
-            at = reference_places(told["identity"], slot, port, rule)
-            sent = np.array([complex(*reference(told["identity"], slot, l, rule.n_cp)[k // 6]) for l, k in at])
+            at = reference_places(plan["identity"], slot, port, rule)
+            sent = np.array([complex(*reference(plan["identity"], slot, l, rule.n_cp)[k // 6]) for l, k in at])
             units = [[(float(i == j), 0.0) for j in range(len(at))] for i in range(len(at))]
             line = np.array([[channel(unit, at[0][1], k)[0] for unit in units] for k in range(72)]) * len(at) / 72
             self.ports.append((*np.array(at).T, sent / abs(sent), line))
@@ -68,7 +68,7 @@ class Slot:
             _, columns, *_ = self.ports[0]
             within = np.flatnonzero((columns >= self.columns.min()) & (columns <= self.columns.max()))
             return self.falling(flat, signs, draw.choice(within), draw.randint(1, 4), draw.choice([-0.3, 0.3]))
-        first = self.rule.size * (self.told["sfn"] + (self.told["offset"] > 0))
+        first = self.rule.size * (self.plan["sfn"] + (self.plan["offset"] > 0))
         numbers = (first + np.arange(rest.size).reshape(rest.shape)) % 120
         if attack == "bit":
             return numbers == draw.choice([numbers.flat[rest.argmin()], draw.randrange(120)])

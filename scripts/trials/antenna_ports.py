@@ -65,11 +65,11 @@ def said(words, data):
 
 def sent(program, carrier, plan, gains):
     """What all ports send, each with its gain."""
-    told = {**plan, **{key: [gain, 0] for key, gain in zip(KEYS, gains)}}
+    loud = {**plan, **{key: [gain, 0] for key, gain in zip(KEYS, gains)}}
     if program == "second":
-        return second_cell.sent(told, {2: "two", 4: "four"}[carrier.ports]) @ (1, 1j)
+        return second_cell.sent(loud, {2: "two", 4: "four"}[carrier.ports]) @ (1, 1j)
     words = [program, "transmit", "--ports", str(carrier.ports)]
-    return radio.from_bytes(said(words, json.dumps(told).encode()))
+    return radio.from_bytes(said(words, json.dumps(loud).encode()))
 
 
 def lines_of(program, rule, x):

@@ -65,8 +65,8 @@ def wave(cell, later=0, *words):
     command, parts = [machine.program("lte_cli"), "transmit", *words], []
     for first in range(0, CYCLE, FRAMES):
         samples = min(FRAMES, CYCLE - first) * radio.FRAME
-        told = {**cell, "gain": [GAIN, 0], "sfn": first, "offset": 0, "samples": samples}
-        made = subprocess.run(command, input=json.dumps(told).encode(), stdout=subprocess.PIPE, check=True)
+        plan = {**cell, "gain": [GAIN, 0], "sfn": first, "offset": 0, "samples": samples}
+        made = subprocess.run(command, input=json.dumps(plan).encode(), stdout=subprocess.PIPE, check=True)
         parts.append(radio.from_bytes(made.stdout))
     return at_rate(np.roll(np.concatenate(parts) / GAIN, later))
 
@@ -140,11 +140,11 @@ def faults(found, points):
     best, leads = picture_map.strongest_of(Survey.from_json(found)), 0
     for i, (second, lon, lat) in enumerate(found["track"]["windows"]):
         first, other = sorted(((decibels(identity, second), identity) for identity in SITES), reverse=True)[:2]
-        told = found["cells"][best[i][0]]["identity"] if i in best else None
+        strongest = found["cells"][best[i][0]]["identity"] if i in best else None
         if first[0] >= HEARD and first[0] - other[0] >= LEADS:
             leads += 1
-            if told != first[1]:
-                yield f"second {second:.2f}: PCI {told} is the strongest, and not {first[1]}"
+            if strongest != first[1]:
+                yield f"second {second:.2f}: PCI {strongest} is the strongest, and not {first[1]}"
         if (apart := math.dist(EARTH.metres(lon, lat), where(second))) > 1:
             yield f"second {second:.2f}: {apart:.1f} m from where it was"
     if not 100 < leads < found["windows"]:
@@ -158,9 +158,9 @@ def main(folder):
     room = pathlib.Path(folder)
     room.mkdir(exist_ok=True)
     write(room)
-    told = list(faults(surveyed(room), json.loads((room / "drive.geojson").read_text())))
-    print(*told, f"drive: {len(told)} faults", sep="\n")
-    sys.exit(bool(told))
+    found = list(faults(surveyed(room), json.loads((room / "drive.geojson").read_text())))
+    print(*found, f"drive: {len(found)} faults", sep="\n")
+    sys.exit(bool(found))
 
 
 if __name__ == "__main__":

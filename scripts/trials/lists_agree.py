@@ -56,9 +56,9 @@ def said(words, data):
     return subprocess.run(words, input=data, stdout=subprocess.PIPE, check=True).stdout.decode()
 
 
-def compared(told):
+def compared(case):
     """Of a recording: the rules whose lists differ, how many lists hold an entry, and how many one of added frames."""
-    kind, seed = told
+    kind, seed = case
     data = recording(kind, seed)
     differ, some = [], 0
     for rule in RULES:

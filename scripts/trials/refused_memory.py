@@ -26,17 +26,17 @@ def run(program, words, data):
 
 def run_refused(program, words, data, shim, number):
     """The ending of a run whose growth of this number is refused, and whether there was one."""
-    with tempfile.TemporaryFile() as told:
-        environment = {"LD_PRELOAD": str(shim), "REFUSE": str(number), "TOLD": str(told.fileno())}
+    with tempfile.TemporaryFile() as report:
+        environment = {"LD_PRELOAD": str(shim), "REFUSE": str(number), "REPORT": str(report.fileno())}
         done = subprocess.run(
             [program, *words],
             input=data,
             capture_output=True,
             env=environment,
-            pass_fds=[told.fileno()],
+            pass_fds=[report.fileno()],
             check=False,
         )
-        refused = os.fstat(told.fileno()).st_size > 0
+        refused = os.fstat(report.fileno()).st_size > 0
     return (done.returncode, done.stdout, done.stderr), refused
 
 

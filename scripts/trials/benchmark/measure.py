@@ -45,12 +45,12 @@ class Series:
 
     def first(self):
         words, clock = self.words, shutil.which("time")
-        with tempfile.NamedTemporaryFile("r") as told:
+        with tempfile.NamedTemporaryFile("r") as usage:
             if clock:
-                words = [clock, "-q", "-o", told.name, "-f", "%M", *words]
+                words = [clock, "-q", "-o", usage.name, "-f", "%M", *words]
             seconds = self.once(words)
             if clock:
-                self.memory = told.read().strip()
+                self.memory = usage.read().strip()
         self.long = seconds > LONG
         if self.long:
             self.times.append(seconds)

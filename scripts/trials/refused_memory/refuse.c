@@ -1,6 +1,6 @@
 /* Loaded before the C library (LD_PRELOAD): the call of malloc, calloc, realloc or of an aligned allocation whose number
- * stands in REFUSE, counted from 1, is refused, and no other. Without REFUSE none is. A refusal is told by a byte to the
- * file descriptor that stands in TOLD. For scripts/trials/refused_memory.py. */
+ * stands in REFUSE, counted from 1, is refused, and no other. Without REFUSE none is. A refusal is report by a byte to the
+ * file descriptor that stands in REPORT. For scripts/trials/refused_memory.py. */
 #include <errno.h>
 #include <stdlib.h>
 #include <unistd.h>
@@ -17,8 +17,8 @@ static int is_refused(void) {
         refused = text ? strtoul(text, NULL, 10) : 0;
     }
     if (calls != refused) return 0;
-    const char *told = getenv("TOLD");
-    if (told && write(atoi(told), "!", 1) != 1) _exit(99);
+    const char *report = getenv("REPORT");
+    if (report && write(atoi(report), "!", 1) != 1) _exit(99);
     errno = ENOMEM;
     return 1;
 }
