@@ -132,7 +132,9 @@ def faults(given, ending):
         yield f"signal {-code}"
     elif code != 0 and code not in TEXTS:
         yield f"code {code}"
-    elif not re.fullmatch(given.program.encode() + b": " + TEXTS[code].encode() + b"[:;] [^\n]+\n" if code else b"", ending.text):
+    elif not re.fullmatch(
+        given.program.encode() + b": " + TEXTS[code].encode() + b"[:;] [^\n]+\n" if code else b"", ending.text
+    ):
         yield f"text {ending.text[:80]!r} with code {code}"
     if code not in (0, 7) and ending.output:
         yield f"output with code {code}"
