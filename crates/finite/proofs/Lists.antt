@@ -85,6 +85,11 @@ Contains-joined (suc n) k f x l h = settle (nat_lt k n) refl (λ below. Contains
         let s : k ≡ n = omega (arith, ltb-false k n e) in
         Contains-append_right (joined_below n f) (f n) x (subst (λ i. Contains (f i) x) s h)
 
+-- a list of one item contains that item alone
+pub only_one : {A : Type 0} (x y : A) → Contains (x ∷ []) y → x ≡ y
+only_one x y (zero, l, e) = e
+only_one x y (suc i, l, e) = absurd (omega (arith, l))
+
 -- ---- order
 
 pub AllPairs-append : {A : Type 0} (R : A → A → Type 0) (xs ys : List A) → AllPairs R xs → AllPairs R ys →
