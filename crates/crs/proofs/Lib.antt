@@ -1,1 +1,2 @@
+pub mod Spacing
 pub mod Values

@@ -1,12 +1,12 @@
 -- The reference values, by the bits of the sequence.
 use Rattle.std.proofs.Common.{subst, ap, ℕ, ◌+◌, ◌*◌, ◌<◌, ◌≡◌, Bool, false, ◌&&◌, ◌||◌, ◌%◌, nat_eq, get_or, arith, refl, inl, inr, true, All}
-use Rattle.std.proofs.lemmas.Bool.Decides.{nat_tests}
 use Rattle.cs_num.specs.declared.Cpx.{Cpx}
 use Rattle.gold.specs.Gold.{gold_bit, gold_bits}
 use Rattle.gold.proofs.Bits.{get_or-gold_bits}
 use Rattle.crs.specs.Qpsk.{component, IsFull, IsPoint}
 use Rattle.crs.specs.declared.pattern.Pattern.{Pattern}
-use Rattle.crs.specs.Reference.{port_0, has_pilots, value_by, pattern_c_init, pattern_reference, pattern_pair, pattern_list, reference_c_init, reference, reference_list, first_subcarrier, is_reference, is_second_reference, upper_first, is_upper_reference}
+use Rattle.crs.specs.Reference.{port_0, port_1, has_pilots, value_by, pattern_first, pattern_c_init, pattern_reference, pattern_pair, pattern_list, reference_c_init, reference, reference_list, first_subcarrier, is_reference, is_second_reference, upper_first, is_upper_reference}
+use Rattle.crs.proofs.Spacing.{lower_third, upper_third}
 use Rattle.cs_num.specs.Complex.{nothing}
 use Rattle.std.specs.List.{range_with_len}
 use Rattle.std.proofs.lemmas.List.FromFn.{get_or-map-range_with_len}
@@ -64,41 +64,22 @@ reference-IsPoint identity slot symbol m = subst IsPoint (reference-of_port_0 id
 -- together they are every third subcarrier of both symbols
 pub both_ports : (identity symbol k : ℕ) → (is_reference identity symbol k || is_second_reference identity symbol k) ≡ (has_pilots port_0 symbol && nat_eq (k % 3) (identity % 3))
 unfolding first_subcarrier is_reference is_second_reference
-both_ports identity symbol k = cases (nat_eq symbol 0) (nat_eq symbol 4) refl refl
+both_ports identity symbol k = by (has_pilots port_0 symbol)
   where
-    even_odd : (a b : ℕ) → (nat_eq (k % 6) ((0 + identity) % 6) || nat_eq (k % 6) ((3 + identity) % 6)) ≡ nat_eq (k % 3) (identity % 3)
-    even_odd a b = by (nat_eq (k % 3) (identity % 3)) refl
-      where
-        by : (t : Bool) → nat_eq (k % 3) (identity % 3) ≡ t → (nat_eq (k % 6) ((0 + identity) % 6) || nat_eq (k % 6) ((3 + identity) % 6)) ≡ t
-        by true e = grind (arith, nat_tests)
-        by false e = grind (arith, nat_tests)
-
-    odd_even : (nat_eq (k % 6) ((3 + identity) % 6) || nat_eq (k % 6) ((0 + identity) % 6)) ≡ nat_eq (k % 3) (identity % 3)
-    odd_even = by (nat_eq (k % 3) (identity % 3)) refl
-      where
-        by : (t : Bool) → nat_eq (k % 3) (identity % 3) ≡ t → (nat_eq (k % 6) ((3 + identity) % 6) || nat_eq (k % 6) ((0 + identity) % 6)) ≡ t
-        by true e = grind (arith, nat_tests)
-        by false e = grind (arith, nat_tests)
-
-    cases : (a b : Bool) → nat_eq symbol 0 ≡ a → nat_eq symbol 4 ≡ b → (is_reference identity symbol k || is_second_reference identity symbol k) ≡ (has_pilots port_0 symbol && nat_eq (k % 3) (identity % 3))
-    cases true b e f = rw (e) (even_odd 0 0)
-    cases false true e f = rw (e, f) odd_even
-    cases false false e f = rw (e, f) refl
+    by : (has : Bool) → ((has && nat_eq (k % 6) (first_subcarrier identity symbol)) || (has && nat_eq (k % 6) (pattern_first port_1 identity symbol))) ≡ (has && nat_eq (k % 3) (identity % 3))
+    by true = lower_third (nat_eq symbol 0) identity k
+    by false = refl
 
 -- ---- ports 2 and 3 of four
 
 -- the places of ports 2 and 3 are every third subcarrier of symbol 1
 pub both_upper : (identity slot symbol k : ℕ) → (is_upper_reference 2 identity slot symbol k || is_upper_reference 3 identity slot symbol k) ≡ (nat_eq symbol 1 && nat_eq (k % 3) (identity % 3))
 unfolding is_upper_reference
-both_upper identity slot symbol k = in_symbol (nat_eq symbol 1)
+both_upper identity slot symbol k = by (nat_eq symbol 1)
   where
-    every_third : (t : Bool) → nat_eq (k % 3) (identity % 3) ≡ t → (nat_eq (k % 6) (upper_first 2 identity slot) || nat_eq (k % 6) (upper_first 3 identity slot)) ≡ t
-    every_third true e = grind (arith, nat_tests)
-    every_third false e = grind (arith, nat_tests)
-
-    in_symbol : (a : Bool) → ((a && nat_eq (k % 6) (upper_first 2 identity slot)) || (a && nat_eq (k % 6) (upper_first 3 identity slot))) ≡ (a && nat_eq (k % 3) (identity % 3))
-    in_symbol true = every_third (nat_eq (k % 3) (identity % 3)) refl
-    in_symbol false = refl
+    by : (has : Bool) → ((has && nat_eq (k % 6) (upper_first 2 identity slot)) || (has && nat_eq (k % 6) (upper_first 3 identity slot))) ≡ (has && nat_eq (k % 3) (identity % 3))
+    by true = upper_third identity slot k
+    by false = refl
 
 -- in the next slot port 2 has the places of port 3
 pub upper_turns : (identity slot symbol k : ℕ) → is_upper_reference 2 identity (slot + 1) symbol k ≡ is_upper_reference 3 identity slot symbol k

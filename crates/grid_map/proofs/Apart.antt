@@ -1,15 +1,16 @@
 -- The places of the control and the shared channels of a subframe: none is a reference place, and no two channels have a place in common.
-use Rattle.std.proofs.Common.{◌≡◌, ℕ, ◌*◌, ◌/◌, ◌%◌, ◌<◌, ◌≤◌, Bool, true, false, not, nat_lt, ◌⊎◌, List, length, get_or, refl, ap, sym, subst, ◌∙◌, arith}
+use Rattle.std.proofs.Common.{◌≡◌, ℕ, ◌*◌, ◌/◌, ◌%◌, ◌<◌, ◌≤◌, Bool, true, false, not, ◌||◌, nat_lt, ◌⊎◌, List, length, get_or, refl, ap, sym, subst, ◌∙◌, arith}
 use Rattle.std.specs.Prelude.{All}
 use Rattle.std.specs.List.{Contains}
-use Rattle.std.proofs.lemmas.Bool.{and_parts, leb-true, ltb-true, false≢true}
+use Rattle.std.proofs.lemmas.Bool.{and_parts, or_parts, leb-true, ltb-true, false≢true}
 use Rattle.std.proofs.lemmas.Bool.Decides.{nat_tests}
 use Rattle.std.proofs.lemmas.List.Elements.{All-filter, Contains-get_or}
 use Rattle.std.proofs.lemmas.List.Folds.{list_any_at}
 use Rattle.finite.proofs.Lists.{values_below_at, values_below-length}
 use Rattle.lte_types.specs.declared.duration.Duration.{Duration}
 use Rattle.lte_types.specs.declared.resource.Resource.{Resource}
-use Rattle.crs.specs.Reference.{is_reference, is_second_reference, first_subcarrier}
+use Rattle.crs.specs.Reference.{is_reference, is_second_reference}
+use Rattle.crs.proofs.Values.{both_ports}
 use Rattle.grid_map.specs.declared.Place.{Place}
 use Rattle.grid_map.specs.declared.Reg.{Reg}
 use Rattle.grid_map.specs.Place.{place, places_of}
@@ -35,25 +36,15 @@ pub record IsInRegion (identity last : ℕ) (p : Place) : Type 0 where
   pub second_free : is_second_reference identity (p.symbol % 7) p.k ≡ false
 
 -- the first symbols of a slot have reference places in symbol 0 alone, and those are kept
-reference_is_kept : (identity symbol k : ℕ) → symbol < 4 → is_reference identity (symbol % 7) k ≡ true → is_kept identity (place symbol k) ≡ true
-unfolding is_reference first_subcarrier
-reference_is_kept identity symbol k low e = grind (arith, nat_tests)
+reference_is_kept : (identity symbol k : ℕ) → symbol < 4 → (is_reference identity (symbol % 7) k || is_second_reference identity (symbol % 7) k) ≡ true →
+    is_kept identity (place symbol k) ≡ true
+reference_is_kept identity symbol k low e = let third = sym (both_ports identity (symbol % 7) k) ∙ e in grind (arith, nat_tests, low, third)
 
-second_is_kept : (identity symbol k : ℕ) → symbol < 4 → is_second_reference identity (symbol % 7) k ≡ true → is_kept identity (place symbol k) ≡ true
-unfolding is_second_reference
-second_is_kept identity symbol k low e = grind (arith, nat_tests)
-
-second_where_not_kept : (identity symbol k : ℕ) → symbol < 4 → (is_kept identity (place symbol k) ≡ true → ⊥) → is_second_reference identity (symbol % 7) k ≡ false
-second_where_not_kept identity symbol k low none = cases (is_second_reference identity (symbol % 7) k) refl
+none_where_not_kept : (identity symbol k : ℕ) → symbol < 4 → (is_kept identity (place symbol k) ≡ true → ⊥) →
+    (is_reference identity (symbol % 7) k ≡ false) × (is_second_reference identity (symbol % 7) k ≡ false)
+none_where_not_kept identity symbol k low none = or_parts _ _ (cases (is_reference identity (symbol % 7) k || is_second_reference identity (symbol % 7) k) refl)
   where
-    cases : (b : Bool) → is_second_reference identity (symbol % 7) k ≡ b → b ≡ false
-    cases false e = refl
-    cases true e = absurd (none (second_is_kept identity symbol k low e))
-
-free_where_not_kept : (identity symbol k : ℕ) → symbol < 4 → (is_kept identity (place symbol k) ≡ true → ⊥) → is_reference identity (symbol % 7) k ≡ false
-free_where_not_kept identity symbol k low none = cases (is_reference identity (symbol % 7) k) refl
-  where
-    cases : (b : Bool) → is_reference identity (symbol % 7) k ≡ b → b ≡ false
+    cases : (b : Bool) → (is_reference identity (symbol % 7) k || is_second_reference identity (symbol % 7) k) ≡ b → b ≡ false
     cases false e = refl
     cases true e = absurd (none (reference_is_kept identity symbol k low e))
 
@@ -61,11 +52,12 @@ free_where_not_kept identity symbol k low none = cases (is_reference identity (s
 of_group : (identity last : ℕ) (g : Reg) (p : Place) → last ≤ 3 → is_group g ≡ true → g.symbol ≤ last → Contains (group_places identity g) p → IsInRegion identity last p
 of_group identity last g p few is below has =
     let inside = places_inside identity g p is has in
+    let free = none_where_not_kept identity p.symbol p.k (omega (arith, inside.0, below, few)) inside.2 in
     record {
       symbol = omega (arith, inside.0, below);
       k = inside.1;
-      free = free_where_not_kept identity p.symbol p.k (omega (arith, inside.0, below, few)) inside.2;
-      second_free = second_where_not_kept identity p.symbol p.k (omega (arith, inside.0, below, few)) inside.2;
+      free = free.0;
+      second_free = free.1;
     }
 
 has_four : (identity : ℕ) (g : Reg) (n : ℕ) → is_group g ≡ true → n < 4 → Contains (group_places identity g) (get_or (group_places identity g) n (place 0 0))

@@ -9,6 +9,7 @@ use Rattle.lte_types.specs.declared.carrier.Carrier.{Carrier}
 use Rattle.lte_types.specs.declared.carrier.Carrier.TheVariants.{OnePort, TwoPorts, LongPrefix, FourPorts}
 use Rattle.crs.specs.Reference.{port_0, long_prefix, has_pilots, pattern_of, pattern_first, upper_first, is_upper_reference}
 use Rattle.crs.specs.Ports.{is_reference_of_any}
+use Rattle.crs.proofs.Spacing.{lower_third, upper_third}
 use Rattle.grid_map.specs.Place.{skipping}
 use Rattle.grid_map.specs.Shared.{is_in_blocks, pilots_of_block}
 use Rattle.grid_map.specs.Steps.{offset_by}
@@ -131,19 +132,6 @@ leaves_third zeroth identity k =
     same true = omega arith
     same false = omega arith
 
--- both lower ports together, and both upper ones
-lower_third : (zeroth : Bool) (identity k : ℕ) (b : Bool) → is_third identity k ≡ b →
-    (nat_eq (k % 6) (first_by zeroth identity) || nat_eq (k % 6) ((cond zeroth 3 0 + identity) % 6)) ≡ b
-lower_third true identity k true e = grind (arith, nat_tests)
-lower_third true identity k false e = grind (arith, nat_tests)
-lower_third false identity k true e = grind (arith, nat_tests)
-lower_third false identity k false e = grind (arith, nat_tests)
-
-upper_third : (identity slot k : ℕ) (b : Bool) → is_third identity k ≡ b →
-    (nat_eq (k % 6) (upper_first 2 identity slot) || nat_eq (k % 6) (upper_first 3 identity slot)) ≡ b
-upper_third identity slot k true e = grind (arith, nat_tests)
-upper_third identity slot k false e = grind (arith, nat_tests)
-
 -- two tests of which one holds where a third does
 two_are : (a b c : Bool) → (a || b) ≡ c → (a || (b || false)) ≡ c
 two_are true b c e = e
@@ -154,7 +142,7 @@ two_are false false c e = e
 of_two : (has zeroth second : Bool) (identity k : ℕ) →
     ((has && nat_eq (k % 6) (first_by zeroth identity)) || ((has && nat_eq (k % 6) ((cond zeroth 3 0 + identity) % 6)) || false))
     ≡ leaves (shift_by (cond has 4 (cond (second && false) 4 0)) (first_by zeroth identity)) k
-of_two true zeroth second identity k = two_are _ _ _ (lower_third zeroth identity k _ refl) ∙ sym (leaves_third zeroth identity k)
+of_two true zeroth second identity k = two_are _ _ _ (lower_third zeroth identity k) ∙ sym (leaves_third zeroth identity k)
 of_two false zeroth true identity k = rw (never_6 k) refl
 of_two false zeroth false identity k = rw (never_6 k) refl
 
@@ -172,9 +160,9 @@ of_four : (has zeroth second : Bool) (identity slot k : ℕ) →
     ≡ leaves (shift_by (cond has 4 (cond (second && true) 4 0)) (first_by zeroth identity)) k
 of_four true zeroth true identity slot k =
     four_are (nat_eq (k % 6) (first_by zeroth identity)) (nat_eq (k % 6) ((cond zeroth 3 0 + identity) % 6)) (nat_eq (k % 6) (upper_first 2 identity slot)) (nat_eq (k % 6) (upper_first 3 identity slot)) _
-    (lower_third zeroth identity k _ refl) (upper_third identity slot k _ refl) ∙ sym (leaves_third zeroth identity k)
-of_four true zeroth false identity slot k = two_are _ _ _ (lower_third zeroth identity k _ refl) ∙ sym (leaves_third zeroth identity k)
-of_four false zeroth true identity slot k = two_are _ _ _ (upper_third identity slot k _ refl) ∙ sym (leaves_third zeroth identity k)
+    (lower_third zeroth identity k) (upper_third identity slot k) ∙ sym (leaves_third zeroth identity k)
+of_four true zeroth false identity slot k = two_are _ _ _ (lower_third zeroth identity k) ∙ sym (leaves_third zeroth identity k)
+of_four false zeroth true identity slot k = two_are _ _ _ (upper_third identity slot k) ∙ sym (leaves_third zeroth identity k)
 of_four false zeroth false identity slot k = rw (never_6 k) refl
 
 -- a place of a slot is a reference place where its subcarrier is left out

@@ -1,6 +1,7 @@
-use Rattle.std.proofs.Common.{arith, ap, ◌≡◌, ◌/◌}
+use Rattle.std.proofs.Common.{true, arith, ap, sym, ◌∙◌, ◌≡◌, ◌/◌, ◌%◌, eq-eqb, eqb-true}
 use Rattle.std.proofs.lemmas.Bool.Decides.{nat_tests}
 use Rattle.crs.specs.Reference.{first_subcarrier, subcarrier, is_reference, reference_at, reference}
+use Rattle.crs.proofs.Spacing.{lower_third, lower_apart}
 use Rattle.crs.proofs.Values.{reference-IsPoint}
 use Rattle.crs.proofs.reference_places.Goals as goal
 
@@ -27,11 +28,13 @@ returns-clause-full c identity slot symbol m = reference-IsPoint identity slot s
 
 pub returns-clause-third : goal.returns-clause-third
 unfolding first_subcarrier is_reference
-returns-clause-third c identity k = grind (arith, nat_tests)
+returns-clause-third c identity k =
+    let both = lower_third true identity k in
+    (λ e. eqb-true (k % 3) (identity % 3) (sym both ∙ e), λ e. both ∙ eq-eqb (k % 3) (identity % 3) e)
 
 pub returns-clause-never_both : goal.returns-clause-never_both
 unfolding first_subcarrier is_reference
-returns-clause-never_both c identity k one other = grind (arith, nat_tests)
+returns-clause-never_both c identity k = lower_apart true true identity k
 
 pub returns-clause-symbols : goal.returns-clause-symbols
 unfolding is_reference
