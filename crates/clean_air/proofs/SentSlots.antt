@@ -10,6 +10,7 @@ use Rattle.norms.proofs.Cauchy.{energy_same}
 use Rattle.fold128.specs.Symbol.{useful_at}
 use Rattle.finite.proofs.Lists.{values_below_at}
 use Rattle.crs.specs.Reference.{port_0, is_reference, is_second_reference, is_upper_reference, first_subcarrier, pattern_reference, reference, reference_c_init, reference_at}
+use Rattle.crs.proofs.Spacing.{lower_other}
 use Rattle.observe.specs.Seen.{seen_symbol}
 use Rattle.sync_seq.specs.Middle.{is_middle}
 use Rattle.soft_bits.specs.Soft.{pattern_symbol, pattern_sent, pilot_symbol, pilot_subcarrier, pilot_sent}
@@ -57,7 +58,7 @@ record IsPilotPlace (identity symbol k : ℕ) : Type 0 where
 
 other_symbol : (identity i k : ℕ) → k ≡ pilot_subcarrier identity i → is_reference identity 0 k ≡ false → is_reference identity 4 k ≡ true
 unfolding is_reference first_subcarrier
-other_symbol identity i k e none = grind (arith, nat_tests)
+other_symbol identity i k e none = lower_other identity k (omega (arith, e)) none
 
 pilot_place : (identity i : ℕ) → IsPilotPlace identity (pilot_symbol identity i) (pilot_subcarrier identity i)
 unfolding pattern_symbol is_reference first_subcarrier

@@ -3,7 +3,7 @@ use Rattle.std.proofs.Common.{◌≡◌, ◌⊎◌, inl, inr, ℕ, ◌+◌, ◌-
 use Rattle.std.specs.Prelude.{Result}
 use Rattle.std.specs.List.{AllPairs, Contains}
 use Rattle.std.proofs.lemmas.Bool.{cases_lt}
-use Rattle.finite.proofs.Lists.{Contains-in_joined, Contains-joined, joined_below-pairs}
+use Rattle.finite.proofs.Lists.{Contains-in_joined, Contains-joined, joined_below-pairs, only_one}
 use Rattle.cs_num.specs.declared.Sample.{Sample}
 use Rattle.lte_types.specs.declared.hit.Hit.{Hit}
 use Rattle.lte_types.specs.declared.entry.Entry.{Entry}
@@ -21,7 +21,7 @@ use Rattle.lte_types.specs.Frames.{Frames, frames_from, first_number}
 use Rattle.explain.proofs.Once.{TellsOne, HasOneSystem}
 use Rattle.explain.specs.Receiver.{Receiver, place_by, sums_by}
 use Rattle.explain.specs.System.{IsSystemFor}
-use Rattle.explain.proofs.Sorted.{in_none, in_one, Contains-here}
+use Rattle.explain.proofs.Sorted.{in_none, Contains-here}
 use Rattle.explain.proofs.Entries.{same_master, same_entry}
 use Rattle.explain.proofs.Information.{one_system}
 
@@ -40,7 +40,7 @@ record Stands (place : Place) (frames : Frames) (o : Option Master) (sib1 : Resu
 stands : (place : Place) (frames : Frames) (o : Option Master) (sib1 : Result Sib1 Sib1Reason) (entry : Entry) → Contains (entry_at place frames o sib1) entry →
     Stands place frames o sib1 entry
 stands place frames None sib1 entry h = absurd (in_none entry h)
-stands place frames (Some master) sib1 entry h = record { master = master; is = refl; found = in_one _ entry h }
+stands place frames (Some master) sib1 entry h = record { master = master; is = refl; found = only_one _ entry h }
 
 one_by_phase : (place : Place) (frames : Frames) (o : Option Master) (sib1 : Result Sib1 Sib1Reason) → AllPairs (λ (a b : Entry). a.phase < b.phase) (entry_at place frames o sib1)
 one_by_phase place frames None sib1 i j d below inside = absurd (omega (arith, below, inside))

@@ -10,11 +10,11 @@ use Rattle.std.proofs.lemmas.List.Sums.{fold-append}
 use Rattle.std.proofs.lemmas.List.Folds.{list_any-from_Any, Any-from_list_any}
 use Rattle.std.proofs.lemmas.List.Edits.{length-insert, get_or-insert_below, get_or-insert_at, get_or-insert_above}
 use Rattle.std.proofs.lemmas.List.Sorted.{IsPermutation-trans, IsPermutation-cons, IsPermutation-to_front, IsPermutation-insert, list_any-IsPermutation}
-use Rattle.finite.proofs.Lists.{AllPairs-append}
+use Rattle.finite.proofs.Lists.{AllPairs-append, only_one}
 use Rattle.lte_types.specs.declared.entry.Entry.{Entry}
 use Rattle.explain.specs.Entries.{epoch, distance, is_same_cell, with_entry, kept, IsBefore, IsListOf, Adds}
 use Rattle.explain.specs.Laws.{StandsFor}
-use Rattle.explain.proofs.Sorted.{in_none, in_one, in_cons, Contains-here, Contains-later}
+use Rattle.explain.proofs.Sorted.{in_none, in_cons, Contains-here, Contains-later}
 
 -- ---- one cell
 
@@ -112,7 +112,7 @@ with_entry_apart acc entry h = settle (list_any (λ other. is_same_cell other en
     settle : (b : Bool) → list_any (λ other. is_same_cell other entry) acc ≡ b → AllPairs IsOtherCell (if b then acc else acc ++ entry ∷ [])
     settle true e = h
     settle false e = AllPairs-append IsOtherCell acc (entry ∷ []) h (λ i j d below inside. absurd (omega (arith, below, inside)))
-        (λ x y a b. subst (λ z. is_same_cell x z ≡ false) (in_one entry y b) (none_same acc entry x e a))
+        (λ x y a b. subst (λ z. is_same_cell x z ≡ false) (only_one entry y b) (none_same acc entry x e a))
 
 fold_apart : (acc entries : List Entry) → AllPairs IsOtherCell acc → AllPairs IsOtherCell (fold with_entry acc entries)
 fold_apart acc [] h = h

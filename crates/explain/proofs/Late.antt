@@ -5,6 +5,7 @@ use Rattle.std.specs.List.{Contains, AllPairs, filter}
 use Rattle.std.proofs.lemmas.Bool.Decides.{nat_tests}
 use Rattle.std.proofs.lemmas.List.Elements.{All-contains, All-filter, filter_passes, Contains-append_left, Contains-append_right, Contains-append_cases}
 use Rattle.std.proofs.lemmas.List.{take_all}
+use Rattle.finite.proofs.Lists.{only_one}
 use Rattle.cs_num.specs.declared.Sample.{Sample}
 use Rattle.lte_types.specs.declared.hit.Hit.{Hit}
 use Rattle.lte_types.specs.declared.carrier.Carrier.{Carrier}
@@ -30,14 +31,10 @@ module _ {X : Type 0} (p : X → Bool) where
       ]
       settle false e more = Contains-append_right (y ∷ []) ys x (more (rw e at h))
 
-  only : (y x : X) → Contains (y ∷ []) x → y ≡ x
-  only y x (zero, inside, is) = is
-  only y x (suc k, inside, is) = absurd (omega (arith, inside))
-
   kept_after : (xs : List X) (x : X) → Contains xs x → p x ≡ true → Contains (filter p xs) x
   kept_after [] x h e = h
   kept_after (y ∷ ys) x h e = elim (Contains-append_cases (y ∷ []) ys x h) [
-    | inl first ↦ (let same = only y x first in let here : p y ≡ true = ap p same ∙ e in rw here (Contains-append_left (y ∷ []) (filter p ys) x first))
+    | inl first ↦ (let same = only_one y x first in let here : p y ≡ true = ap p same ∙ e in rw here (Contains-append_left (y ∷ []) (filter p ys) x first))
     | inr rest ↦ settle (p y) (kept_after ys x rest e)
   ]
     where

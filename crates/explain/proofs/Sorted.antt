@@ -1,18 +1,15 @@
 -- A list in strict order is determined by its items.
-use Rattle.std.proofs.Common.{◌≡◌, ◌⊎◌, inl, inr, zero, suc, List, [], ◌∷◌, arith, refl, ap, sym, subst, ◌∙◌}
+use Rattle.std.proofs.Common.{◌≡◌, ◌⊎◌, inl, inr, suc, List, [], ◌∷◌, arith, refl, ap, sym, subst, ◌∙◌}
 use Rattle.std.specs.List.{AllPairs, Contains}
 use Rattle.std.proofs.lemmas.List.Elements.{Contains-append_cases, Contains-append_right}
+use Rattle.finite.proofs.Lists.{only_one}
 
 pub in_none : {A : Type 0} (x : A) → Contains [] x → ⊥
 in_none x (i, l, e) = absurd (omega (arith, l))
 
-pub in_one : {A : Type 0} (y x : A) → Contains (y ∷ []) x → y ≡ x
-in_one y x (zero, l, e) = e
-in_one y x (suc i, l, e) = absurd (omega (arith, l))
-
 pub in_cons : {A : Type 0} (y : A) (ys : List A) (x : A) → Contains (y ∷ ys) x → (y ≡ x) ⊎ Contains ys x
 in_cons y ys x h = elim (Contains-append_cases (y ∷ []) ys x h) [
-  | inl one ↦ inl (in_one y x one)
+  | inl one ↦ inl (only_one y x one)
   | inr rest ↦ inr rest
 ]
 

@@ -11,6 +11,7 @@ use Rattle.lte_types.specs.declared.carrier.Carrier.TheVariants.{LongPrefix}
 use Rattle.lte_types.specs.Numerology.{extended, useful_start}
 use Rattle.lte_types.specs.Timing.{start_of, number_at_start}
 use Rattle.crs.specs.Reference.{long_prefix, is_pattern_place, pattern_reference}
+use Rattle.crs.proofs.Spacing.{lower_other}
 use Rattle.observe.specs.Seen.{seen_symbol}
 use Rattle.grid_map.specs.declared.Place.{Place}
 use Rattle.grid_map.specs.Place.{place, index_in}
@@ -47,7 +48,7 @@ record IsPilotPlace (identity symbol k : ℕ) : Type 0 where
   inside : symbol < 6
 
 other_symbol : (identity i k : ℕ) → k ≡ pilot_subcarrier identity i → is_pattern_place long_prefix identity 0 k ≡ false → is_pattern_place long_prefix identity 3 k ≡ true
-other_symbol identity i k e none = grind (arith, nat_tests)
+other_symbol identity i k e none = lower_other identity k (omega (arith, e)) none
 
 pilot_place : (identity i : ℕ) → IsPilotPlace identity (pattern_symbol long_prefix identity i) (pilot_subcarrier identity i)
 unfolding pattern_symbol

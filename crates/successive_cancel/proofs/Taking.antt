@@ -1,11 +1,12 @@
 -- Cancellation of one cell.
-use Rattle.std.proofs.Common.{◌≡◌, ◌∙◌, ℕ, zero, suc, ◌+◌, ◌<◌, inl, inr, arith, sym, ap, subst, List, [], ◌∷◌, ◌++◌, length, take, drop, get_or, Option, Some, None, Result, Ok, Err}
+use Rattle.std.proofs.Common.{◌≡◌, ◌∙◌, ℕ, suc, ◌+◌, ◌<◌, inl, inr, arith, sym, ap, subst, List, [], ◌∷◌, ◌++◌, length, take, drop, get_or, Option, Some, None, Result, Ok, Err}
 use Rattle.std.specs.Prelude.{IfOk}
 use Rattle.std.specs.declared.alloc.AllocError.{AllocError}
 use Rattle.std.specs.List.{Contains}
 use Rattle.std.proofs.lemmas.List.{take_more}
 use Rattle.std.proofs.lemmas.List.Elements.{Contains-append_cases}
 use Rattle.std.proofs.Math.Seq.{split_at}
+use Rattle.finite.proofs.Lists.{only_one}
 use Rattle.cs_num.specs.declared.Sample.{Sample}
 use Rattle.lte_types.specs.declared.entry.Entry.{Entry}
 use Rattle.cell_plan.specs.declared.cell.CellPlan.{CellPlan}
@@ -44,13 +45,6 @@ one_taken recording entry a b p q =
 
 pub none_in_none : (recording : List Sample) → NoneIsTakenOff recording []
 none_in_none recording entry taken inside is = let low = inside.1 in absurd (omega (arith, low))
-
-only_one : (x y : Entry) → Contains (x ∷ []) y → x ≡ y
-only_one x y inside = at inside.0 inside.1 inside.2
-  where
-    at : (k : ℕ) → k < 1 → get_or (x ∷ []) k y ≡ y → x ≡ y
-    at zero low e = e
-    at (suc k) low e = absurd (omega (arith, low))
 
 -- if neither an entry nor any before it can be cancelled, none up to it can
 pub none_with : (recording : List Sample) (before : List Entry) (entry : Entry) → NoneIsTakenOff recording before →
