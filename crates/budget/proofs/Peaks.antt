@@ -1,5 +1,6 @@
 -- A primary signal stands out, so that its position is a hit and none near it is.
 use Rattle.std.proofs.Common.{◌≡◌, ◌≢◌, ℕ, ◌+◌, ◌-◌, ◌*◌, ◌^◌, ◌<◌, ◌≤◌, ◌⊎◌, inl, inr, arith, refl, ap, sym, ◌∙◌, subst, List}
+use Rattle.std.specs.List.{Contains}
 use Rattle.cs_num.specs.declared.Cpx.{Cpx}
 use Rattle.cs_num.specs.declared.Sample.{Sample}
 use Rattle.cs_num.specs.Complex.{plus, times, square, sample_at, minus}
@@ -8,11 +9,11 @@ use Rattle.norms.specs.Sizes.{energy_below, correlation_below}
 use Rattle.norms.proofs.Algebra.{plus-minus}
 use Rattle.norms.proofs.Cauchy.{energy_same, energy_split, energy_part, correlation_same, correlation_split, correlation_multiple}
 use Rattle.pss_search.specs.Correlation.{pss_grid, wave, wave_power, peak, energy}
-use Rattle.pss_search.specs.Hits.{IsAbove, IsLevel, IsHit, found}
+use Rattle.pss_search.specs.Hits.{IsAbove, IsLevel, IsHit, found, hits_of}
 use Rattle.pss_search.proofs.Symmetry.{power_high}
 use Rattle.pss_search.proofs.Listed.{list_is_right}
 use Rattle.budget.specs.Received.{in_parts, IsReceived, samples_from}
-use Rattle.budget.specs.Peak.{IsPrimaryWithin, PrimaryStandsOutBy, PrimaryIsHitWithin, PrimaryIsListedWithin, OnlyHitOfRootWithin, PrimaryStandsOut, PrimaryIsHit, PrimaryIsListed, OnlyHitNear, IsPrimaryAt}
+use Rattle.budget.specs.Peak.{IsPrimaryWithin, StandsOutBy, PrimaryStandsOutBy, PrimaryIsHitWithin, PrimaryIsListedWithin, OnlyHitOfRootWithin, PrimaryStandsOut, PrimaryIsHit, PrimaryIsListed, OnlyHitNear, IsPrimaryAt}
 use Rattle.budget.proofs.Parts.{square_in_parts, energy_in_parts, is_received_by_more}
 use Rattle.budget.proofs.PeakSums.{IsSharp, IsFaintAt, AreApart, before, skipped, common, wave_is_sharp, waves_are_apart}
 use Rattle.budget.proofs.Windows.{Peaks, AreFew, with_errors, true_place, beside, above}
@@ -248,31 +249,54 @@ not_above_itself recording n2 t h = clash (peak recording n2 t * energy recordin
 same_or_not : (u t : ℕ) → (u ≡ t) ⊎ (u ≢ t)
 same_or_not u t = grind arith
 
-clear_enough : (c e w : ℕ) → 990 * (e * w) ≤ 1000 * c → e * w ≤ 4 * c
+clear_enough : (c e w : ℕ) → 250 * (e * w) ≤ 1000 * c → e * w ≤ 4 * c
 clear_enough c e w h = omega (arith, h)
 
-pub primary_is_hit_within : PrimaryIsHitWithin 14000
-primary_is_hit_within recording t n2 primary low high =
+-- ---- by the rule of the list
+
+-- in the span of one frame the place of a signal that stands out by the rule of the list is a hit
+pub standing_is_hit : (recording : List Sample) (t n2 : ℕ) → StandsOutBy 250 recording t n2 → 137 ≤ t → t ≤ 19336 → IsHit recording t n2
+standing_is_hit recording t n2 stands low high = record {
+  from_first = low;
+  to_last = high;
+  sounds = stands.sounds;
+  clear = clear_enough (peak recording n2 t) (energy recording t) (wave_power n2) stands.clear;
+  none_above = λ u a b over. elim (same_or_not u t) [
+    | inl same ↦ not_above_itself recording n2 t (subst (λ n. IsAbove recording n2 n t) same over)
+    | inr ne ↦ not_above recording n2 t u (stands.above u ne a b over.first_sounds) over
+  ];
+  none_level_before = λ u before b level. not_level recording n2 t u (stands.above u (omega arith) (omega arith) b level.first_sounds) level;
+}
+
+-- which is listed
+pub standing_is_listed : (recording : List Sample) (t n2 : ℕ) → StandsOutBy 250 recording t n2 → n2 < 3 → 137 ≤ t → t ≤ 19336 → Contains (hits_of recording) (found recording t n2)
+standing_is_listed recording t n2 stands root low high =
+    (list_is_right recording (found recording t n2)).1 (record { root = root; is_hit = standing_is_hit recording t n2 stands low high; measured = refl })
+
+-- and no other place within 9 is a hit of its root, wherever it stands
+pub only_hit_near_standing : (recording : List Sample) (t u n2 : ℕ) → StandsOutBy 250 recording t n2 → u ≤ t + 9 → t ≤ u + 9 → IsHit recording u n2 → u ≡ t
+only_hit_near_standing recording t u n2 stands a b hit = elim (same_or_not u t) [
+  | inl same ↦ same
+  | inr ne ↦ absurd (hit.none_above t b a (stands.above u ne a b hit.sounds))
+]
+
+-- a primary signal stands out by more
+quarter : (c e : ℕ) → 990 * e ≤ 1000 * c → 250 * e ≤ 1000 * c
+quarter c e h = omega (arith, h)
+
+pub primary_stands_by_rule : PrimaryStandsOutBy 14000 250
+primary_stands_by_rule recording t n2 primary =
     let stands = primary_stands_out_by recording t n2 primary in
-    record {
-      from_first = low;
-      to_last = high;
-      sounds = stands.sounds;
-      clear = clear_enough (peak recording n2 t) (energy recording t) (wave_power n2) stands.clear;
-      none_above = λ u a b over. elim (same_or_not u t) [
-        | inl same ↦ not_above_itself recording n2 t (subst (λ n. IsAbove recording n2 n t) same over)
-        | inr ne ↦ not_above recording n2 t u (stands.above u ne a b over.first_sounds) over
-      ];
-      none_level_before = λ u before b level. not_level recording n2 t u (stands.above u (omega arith) (omega arith) b level.first_sounds) level;
-    }
+    record { sounds = stands.sounds; clear = quarter (peak recording n2 t) (energy recording t * wave_power n2) stands.clear; above = stands.above }
+
+pub primary_is_hit_within : PrimaryIsHitWithin 14000
+primary_is_hit_within recording t n2 primary low high = standing_is_hit recording t n2 (primary_stands_by_rule recording t n2 primary) low high
 
 pub primary_is_hit : PrimaryIsHit
 primary_is_hit recording t n2 primary = primary_is_hit_within recording t n2 (among recording t n2 primary)
 
 pub primary_is_listed_within : PrimaryIsListedWithin 14000
-primary_is_listed_within recording t n2 primary low high =
-    (list_is_right recording (found recording t n2)).1
-    (record { root = below primary.root; is_hit = primary_is_hit_within recording t n2 primary low high; measured = refl })
+primary_is_listed_within recording t n2 primary low high = standing_is_listed recording t n2 (primary_stands_by_rule recording t n2 primary) (below primary.root) low high
   where
     below : n2 ≤ 2 → n2 < 3
     below h = omega arith
@@ -281,10 +305,7 @@ pub primary_is_listed : PrimaryIsListed
 primary_is_listed recording t n2 primary = primary_is_listed_within recording t n2 (among recording t n2 primary)
 
 pub only_hit_of_root_within : OnlyHitOfRootWithin 14000
-only_hit_of_root_within recording t u n2 primary a b hit = elim (same_or_not u t) [
-  | inl same ↦ same
-  | inr ne ↦ absurd (hit.none_above t b a ((primary_stands_out_by recording t n2 primary).above u ne a b hit.sounds))
-]
+only_hit_of_root_within recording t u n2 primary a b hit = only_hit_near_standing recording t u n2 (primary_stands_by_rule recording t n2 primary) a b hit
 
 -- ---- other roots, with small errors
 
