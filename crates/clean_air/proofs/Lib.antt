@@ -24,6 +24,8 @@ pub mod Carrying
 pub mod Taken
 -- Each symbol is received from all ports of a carrier, and the signals as from the first alone.
 pub mod SentSymbols
+-- A hit is identified by its best pair alone.
+pub mod BestPairs
 -- A clean recording is faithful, since its errors have little energy.
 pub mod LoadedErrors
 pub mod Signals
@@ -43,10 +45,14 @@ pub mod FadingCells
 pub mod EchoCells
 -- Its block says its fields, so that its first frame of even number answers with them.
 pub mod SentFields
+-- So does a receiver with each frame whose values have the signs of a plan's bits.
+pub mod SpokenSystem
 pub mod SentSystem
--- A list holds each cell that is shown to its receiver.
+-- And it has some answer on the system information of each cell.
+pub mod SomeSystem
+-- A list holds each cell that its receiver hears.
 pub mod Held
--- All together: the list holds each cell of one port that is seen through channels, so each of a faithful recording.
+-- All together: a receiver of one port hears each cell that is received through channels, so its list holds it.
 pub mod HeldCells
 -- The plan of an entry is that of the sent cell.
 pub mod Plans

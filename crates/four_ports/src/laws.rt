@@ -1,5 +1,7 @@
 //! Laws of the soft values of transmit diversity pairs.
 
+ghost use Rattle.clean_air.specs.HeardLaws.{FaithfulIsHeard};
+ghost use Rattle.four_ports.specs.Entries.{four_ports_receiver};
 ghost use Rattle.four_ports.specs.Received.{PairValuesSpeak, ReceivedPairSpeaks};
 
 /// States that the four soft values of a transmit diversity pair have the signs of its bits (TS 36.211 section
@@ -12,4 +14,10 @@ ghost use Rattle.four_ports.specs.Received.{PairValuesSpeak, ReceivedPairSpeaks}
 pub fn pair_values_speak_for_the_sent_bits()
     ensures seen { PairValuesSpeak }
     ensures recording { ReceivedPairSpeaks }
+{}
+
+/// States that every cell with four antenna ports to which a recording is faithful is heard, part by part (`IsHeardBy`,
+/// `clean_air/specs/Heard.antt`).
+pub fn faithful_cells_are_heard()
+    ensures { FaithfulIsHeard four_ports_receiver }
 {}

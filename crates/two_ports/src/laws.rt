@@ -1,5 +1,7 @@
 //! Laws of the soft values of transmit diversity pairs.
 
+ghost use Rattle.clean_air.specs.HeardLaws.{FaithfulIsHeard};
+ghost use Rattle.two_ports.specs.Entries.{two_ports_receiver};
 ghost use Rattle.two_ports.specs.Received.{PairValuesSpeak, ReceivedPairSpeaks};
 ghost use Rattle.two_ports.specs.Received.{QuietPairValuesSpeak, QuietReceivedPairSpeaks};
 
@@ -16,4 +18,10 @@ pub fn pair_values_speak_for_the_sent_bits()
     ensures recording { ReceivedPairSpeaks }
     ensures quiet { QuietPairValuesSpeak }
     ensures quiet_recording { QuietReceivedPairSpeaks }
+{}
+
+/// States that every cell with two antenna ports to which a recording is faithful is heard, part by part (`IsHeardBy`,
+/// `clean_air/specs/Heard.antt`).
+pub fn faithful_cells_are_heard()
+    ensures { FaithfulIsHeard two_ports_receiver }
 {}
