@@ -26,6 +26,7 @@ use Rattle.budget.specs.SignalPaths.{AreSignalsOver}
 use Rattle.budget.proofs.Parts.{square_in_parts}
 use Rattle.budget.proofs.SeenOver.{arriving_is_received}
 use Rattle.budget.proofs.BendsOver.{paths_leave_room, paths_are_through, paths_are_read, place-seen, pilot-seen}
+use Rattle.budget.proofs.Peaks.{primary_stands_by_rule}
 use Rattle.budget.proofs.SignalPaths.{signals_over_are_through, primary_over_is_within}
 use Rattle.cell_grid.specs.declared.antenna.Port.{Port}
 use Rattle.cell_grid.specs.Ports.{only_port}
@@ -168,7 +169,8 @@ module _ (sizes : ℕ → ℕ) (paths : Paths) (recording : List Sample) (plan :
 
   signals_stand : plan.identity ≤ 503 → ShowsSignals OnePort recording plan.identity offset
   signals_stand known = record {
-    primary = λ t half at low high. primary_over_is_within sizes paths recording t (plan.identity % 3) echoed.faint (omega arith) (primary_over t half at low high);
+    primary = λ t half at low high.
+        primary_stands_by_rule recording t (plan.identity % 3) (primary_over_is_within sizes paths recording t (plan.identity % 3) echoed.faint (omega arith) (primary_over t half at low high));
     both = λ t half at middle high.
         signals_over_are_through sizes paths normal recording t (plan.identity / 3) (plan.identity % 3) half echoed.faint (signals_over t half at (omega (arith, middle)) high known);
   }

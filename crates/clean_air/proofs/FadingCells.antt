@@ -24,7 +24,7 @@ use Rattle.clean_air.specs.Through.{ShowsSignals, IsFrameSlotThrough}
 use Rattle.clean_air.specs.Fading.{IsSlotFading, fading_bounds, by_symbol, LeaveFadingRoom, IsRead, IsFadingBy, FadingIsThrough, FaithfulIsFading}
 use Rattle.clean_air.proofs.SentSymbols.{prefix_known, IsTruePlace}
 use Rattle.clean_air.proofs.SentSlots.{slot_grid, references_stand, frame_is, symbol_with_errors, symbol_shown}
-use Rattle.clean_air.proofs.Signals.{primary_is, secondary_is, received_with, is_primary, is_secondary, signal_rows, slot_few, primary_within}
+use Rattle.clean_air.proofs.Signals.{primary_is, secondary_is, received_with, is_primary, is_secondary, signal_rows, slot_few, clean_primary_stands}
 use Rattle.clean_air.proofs.SlowGains.{fading_slot_is_through}
 
 module _ (quota bend : ℕ) (recording : List Sample) (plan : CellPlan) (grids : Port → Elements) (sfn offset : ℕ) (gains : ℕ → ℕ → ℕ → Cpx) (signal_gains : ℕ → ℕ → Cpx)
@@ -101,7 +101,7 @@ module _ (quota bend : ℕ) (recording : List Sample) (plan : CellPlan) (grids :
 
   signals_stand : plan.identity ≤ 503 → ShowsSignals OnePort recording plan.identity offset
   signals_stand known = record {
-    primary = λ t half at low high. primary_within recording t (plan.identity % 3) (primary_at t half at low high);
+    primary = λ t half at low high. clean_primary_stands recording t (plan.identity % 3) (primary_at t half at low high);
     both = λ t half at middle high. signals_are_through normal recording t (plan.identity / 3) (plan.identity % 3) half (signals_at t half at (omega (arith, middle)) high known);
   }
 

@@ -25,6 +25,8 @@ pub mod Carrying
 pub mod Taken
 -- Each symbol is received from all ports of the scheme, the synchronisation signals as from the first port alone.
 pub mod SentSymbols
+-- A hit is identified by its best pair alone.
+pub mod BestPairs
 -- A clean recording is faithful, since its errors have little energy.
 pub mod LoadedErrors
 pub mod Signals
@@ -44,11 +46,14 @@ pub mod FadingCells
 pub mod EchoCells
 -- The transport block has the plan's fields, so the cell's first even-numbered frame is decoded to them.
 pub mod SentFields
+-- So does a receiver with each frame whose values have the signs of a plan's bits.
+pub mod SpokenSystem
 pub mod SentSystem
--- A list contains each cell that the recording shows to its receiver.
+-- And it has some answer on the system information of each cell.
+pub mod SomeSystem
+-- A list holds each cell that its receiver hears.
 pub mod Held
--- Conclusion: the list contains each one-port cell that is received through channels, thus each cell of a faithful
--- recording.
+-- All together: a receiver of one port hears each cell that is received through channels, so its list holds it.
 pub mod HeldCells
 -- The entry's plan is the sent cell's plan.
 pub mod Plans

@@ -1,25 +1,24 @@
 -- SIB1 of a one-port cell whose slots have correct soft values, whatever else the cell sends: the first even-numbered
 -- frame is decoded to the plan's fields.
-use Rattle.std.proofs.Common.{◌≡◌, ℕ, ◌+◌, ◌*◌, ◌%◌, List, length, Ok, refl, ap, sym, subst, arith}
+use Rattle.std.proofs.Common.{◌≡◌, ℕ, ◌+◌, ◌%◌, ◌≤◌, List, Ok, refl, ap, subst, arith}
 use Rattle.std.proofs.Math.Path.{fun_ext}
 use Rattle.cs_num.specs.declared.Sample.{Sample}
 use Rattle.lte_types.specs.Timing.{start_of, number_at_start}
 use Rattle.soft_bits.specs.Soft.{SeenSlot}
 use Rattle.grid_map.specs.Control.{pcfich_places}
 use Rattle.sib1_reader.specs.Subframe.{one_port}
-use Rattle.sib1_reader.specs.Block.{BlockSays}
 use Rattle.sib1_reader.specs.Attempt.{Reads}
 use Rattle.pdsch.specs.Values.{shared_values}
 use Rattle.cell_grid.specs.Ports.{only_port}
 use Rattle.cell_plan.specs.declared.cell.CellPlan.{CellPlan}
 use Rattle.cell_plan.specs.Plan.{IsSendable}
-use Rattle.cell_grid.specs.Control.{version_of, grant_of, control_word, indicator_point, control_point}
+use Rattle.lte_types.specs.declared.carrier.Carrier.TheVariants.{OnePort}
+use Rattle.cell_grid.specs.Control.{grant_of, control_word, indicator_point, control_point}
 use Rattle.cell_grid.specs.Shared.{shared_places, shared_bit, shared_point}
 use Rattle.cell_grid.specs.Grid.{Elements}
 use Rattle.cell_grid.proofs.SystemPlaces.{indicator_indexed, control_indexed, assigned_bits_are}
 use Rattle.clean_air.proofs.Carrying.{indicator_carried, control_carried, shared_carried}
-use Rattle.cell_plan.proofs.WholeBlocks.{resolvable_at}
-use Rattle.cell_grid.proofs.Grants.{version-fits, grant_is}
+use Rattle.cell_grid.proofs.Grants.{grant_is}
 use Rattle.explain.specs.Frame.{frame_at, seen_slot}
 use Rattle.explain.specs.System.{even_frame}
 use Rattle.explain.proofs.Information.{even_number}
@@ -28,9 +27,12 @@ use Rattle.clean_air.specs.Subframe.{AreSlotsHeard, CarryInSubframe, shared_scra
 use Rattle.clean_air.specs.Indicator.{indicator_scrambled}
 use Rattle.clean_air.specs.Grant.{grant_places, grant_scrambled}
 use Rattle.clean_air.specs.Attempt.{IsReadWith}
-use Rattle.clean_air.proofs.Controls.{carried_grant_is_read}
-use Rattle.clean_air.proofs.Subframes.{carried_blocks_are_heard}
-use Rattle.clean_air.proofs.SentFields.{fields_said}
+use Rattle.clean_air.specs.Carried.{AreHeard}
+use Rattle.clean_air.specs.Heard.{IsSystemHeard}
+use Rattle.clean_air.proofs.Controls.{four_elements, carried_indicator_is_told, carried_grant_is_told}
+use Rattle.clean_air.proofs.Placed.{pcfich_placed, candidate_placed}
+use Rattle.clean_air.proofs.SpokenSystem.{spoken_grant_read, spoken_fields_read}
+use Rattle.clean_air.proofs.Subframes.{carried_in_slot, carried_blocks_are_heard}
 use Rattle.clean_air.proofs.SentSlots.{slot_grid}
 use Rattle.clean_air.proofs.HeardCells.{IsCellHeard}
 
@@ -72,20 +74,31 @@ module _ (recording : List Sample) (plan : CellPlan) (grid : Elements) (sfn offs
   unfolding seen_slot shared_point
   carries_block i inside = shared_carried only_port plan grid heard.carries sendable refl (omega arith) number even i inside
 
-  -- the soft values of its resource blocks give the fields
-  says_fields : BlockSays (shared_values (slot 10) (slot 11) plan.cfi plan.start plan.blocks) (grant_of plan number) (Ok plan.sib1)
+  -- so the values of subframe 5 have the signs of the plan's bits
+  pub system_heard : IsSystemHeard OnePort (one_port (slot 10) (slot 11) plan.duration plan.resource) plan number
   unfolding seen_slot
-  says_fields =
-      fields_said plan sendable number (2 * length (shared_places plan)) (shared_values (slot 10) (slot 11) plan.cfi plan.start plan.blocks)
-      (carried_blocks_are_heard (grid number 5) (slot 10) (slot 11) plan.cfi plan.start plan.blocks (shared_bit plan number) both_heard carries_block)
-      (λ row same of. resolvable_at plan (version_of number) (2 * length (shared_places plan)) row sendable.enough (version-fits number) same of.size (sym (assigned_bits_are only_port plan sendable)))
+  system_heard = record {
+    indicator = (carried_indicator_is_told (grid number 5) (slot 10) plan.cfi (omega (arith, low)) high both_heard.first_slot
+        (carried_in_slot (grid number 5) (pcfich_places (slot 10).identity) (indicator_scrambled (slot 10) plan.cfi) (pcfich_placed (slot 10).identity) carries_indicator)).speak;
+    control = (carried_grant_is_told (grid number 5) (slot 10) plan.cfi plan.duration plan.resource (grant_of plan number) low high (grant_is plan sendable number) both_heard.first_slot
+        (carried_in_slot (grid number 5) (grant_places (slot 10) plan.cfi plan.duration plan.resource) (grant_scrambled (slot 10) (grant_of plan number))
+        (candidate_placed (slot 10).identity plan.cfi plan.duration plan.resource low high) carries_grant)).speak;
+    block = subst (λ count. AreHeard 1 count (shared_bit plan number) (shared_values (slot 10) (slot 11) plan.cfi plan.start plan.blocks)) (assigned_bits_are only_port plan sendable)
+        (carried_blocks_are_heard (grid number 5) (slot 10) (slot 11) plan.cfi plan.start plan.blocks (shared_bit plan number) both_heard carries_block);
+  }
+    where
+      low : 2 ≤ plan.cfi
+      low = sendable.cfi.0
 
-  -- the frame is read with the plan's indicator and grant
+      high : plan.cfi ≤ 3
+      high = sendable.cfi.1
+
+  -- and the frame is read with the plan's indicator and grant
   pub grant_read : IsReadWith (one_port (slot 10) (slot 11) plan.duration plan.resource) plan.cfi (grant_of plan number)
-  grant_read =
-      carried_grant_is_read (grid number 5) (slot 10) (slot 11) plan.cfi plan.duration plan.resource (grant_of plan number)
-      sendable.cfi.0 sendable.cfi.1 (grant_is plan sendable number) both_heard.first_slot carries_indicator carries_grant
+  grant_read = spoken_grant_read OnePort refl (one_port (slot 10) (slot 11) plan.duration plan.resource) plan number sendable
+      (four_elements plan.identity plan.cfi plan.duration plan.resource sendable.cfi.0 sendable.cfi.1) system_heard
 
   -- the frame is decoded to the plan's fields
   pub fields_read : Reads (one_port (slot 10) (slot 11) plan.duration plan.resource) (Ok plan.sib1)
-  fields_read = grant_read.reads (Ok plan.sib1) says_fields
+  fields_read = spoken_fields_read OnePort refl (one_port (slot 10) (slot 11) plan.duration plan.resource) plan number sendable
+      (four_elements plan.identity plan.cfi plan.duration plan.resource sendable.cfi.0 sendable.cfi.1) system_heard

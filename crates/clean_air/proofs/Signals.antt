@@ -33,8 +33,9 @@ use Rattle.cell_grid.proofs.SignalSymbols.{no_channel}
 use Rattle.cell_grid.proofs.Prefixes.{with_prefix}
 use Rattle.budget.specs.Received.{in_parts, off_by, IsReceived, samples_from}
 use Rattle.budget.specs.Score.{sss_grid, AreSignals}
-use Rattle.budget.specs.Peak.{IsPrimaryAt, IsPrimaryWithin}
+use Rattle.budget.specs.Peak.{IsPrimaryAt, StandsOutBy}
 use Rattle.budget.proofs.Parts.{is_received_by_more}
+use Rattle.budget.proofs.Peaks.{primary_stands_by_rule}
 use Rattle.budget.proofs.SignalPaths.{signals_are_through}
 use Rattle.clean_air.specs.Load.{CarriesPlan, received_from}
 use Rattle.clean_air.specs.Faithful.{IsLittle, IsOfPrimary, IsOfSecondary, IsLookedAt, IsFaithfulBy, errors_from}
@@ -285,19 +286,19 @@ module _ (carrier : Carrier) (recording : List Sample) (plan : CellPlan) (grids 
         secondary = secondary_received half at low high;
       }
 
--- a clean primary signal has no larger errors than several paths may cause
-pub primary_within : (recording : List Sample) (t n2 : ℕ) → IsPrimaryAt recording t n2 → IsPrimaryWithin 14000 recording t n2
-primary_within recording t n2 primary = record {
+-- a clean primary signal stands out
+pub clean_primary_stands : (recording : List Sample) (t n2 : ℕ) → IsPrimaryAt recording t n2 → StandsOutBy 250 recording t n2
+clean_primary_stands recording t n2 primary = primary_stands_by_rule recording t n2 (record {
   gain = primary.gain;
   root = primary.root;
   received = is_received_by_more 1800 14000 primary.gain (pss_grid n2) (samples_from recording t) (omega arith) primary.received;
-}
+})
 
 -- the recording contains the synchronisation signals where the receiver reads them
 pub signals_shown : (carrier : Carrier) (recording : List Sample) (plan : CellPlan) (grids : Port → Elements) (sfn offset : ℕ) (gains : List Cpx) → IsFaithfulBy carrier recording plan grids sfn offset gains →
     plan.identity ≤ 503 → ShowsSignals carrier recording plan.identity offset
 signals_shown carrier recording plan grids sfn offset gains faithful known = record {
-  primary = λ t half at low high. primary_within recording t (plan.identity % 3) (primary_at carrier recording plan grids sfn offset gains faithful t half at low high);
+  primary = λ t half at low high. clean_primary_stands recording t (plan.identity % 3) (primary_at carrier recording plan grids sfn offset gains faithful t half at low high);
   both = λ t half at middle high.
       signals_are_through (prefix_of carrier) recording t (plan.identity / 3) (plan.identity % 3) half
       (signals_at carrier recording plan grids sfn offset gains faithful t half at (omega (arith, middle)) high known);

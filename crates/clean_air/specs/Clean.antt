@@ -26,6 +26,7 @@ use Rattle.cell_tx.specs.Emission.{IsCleanBy}
 use Rattle.clean_air.specs.Load.{IsLoadedBy}
 use Rattle.clean_air.specs.Faithful.{IsFaithfulBy}
 use Rattle.clean_air.specs.Through.{IsSeenThroughBy}
+use Rattle.clean_air.specs.Heard.{SentMaster, IsTakenBy, IsMasterHeard, IsHeardBy}
 
 -- ---- the plan that is sent
 
@@ -79,7 +80,34 @@ abbrev pub HoldsCellBy : Carrier → List Entry → CellPlan → ℕ → ℕ →
 HoldsCellBy carrier list plan first number =
     HoldsOne list plan.identity first number (IsSentEntryOf carrier plan number)
 
+-- the entry has the antenna port count and the fields of a master information block of any width in the frame with
+-- this number, whatever is reported of its system information; it was read at no cost from the first whole frame alone
+pub record IsMasterEntry (master : SentMaster) (number : ℕ) (entry : Entry) : Type 0 where
+  pub ports : entry.ports ≡ master.ports
+  pub block : HasFields entry.mib master.width master.duration master.resource (number / 4) master.spare
+  pub cost : entry.cost ≡ 0
+  pub frames : entry.frames ≡ 1
+  pub frame : entry.frame ≡ 0
+
 -- ---- the list
+
+-- the list holds each cell of the receiver's transmission scheme that the receiver hears, whatever its plan, the number
+-- of its first frame and the offset
+abbrev pub HoldsHeardBy : Receiver → List Sample → List Entry → Type 0
+HoldsHeardBy receiver recording list =
+    (plan : CellPlan) (sfn offset : ℕ) → IsKnownBy receiver.carrier plan →
+    IsHeardBy receiver recording plan sfn offset →
+    HoldsCellBy receiver.carrier list plan (start_of offset) (number_at_start sfn offset)
+
+-- the list has an entry for each cell of which the receiver hears the master information block, whatever its width, its
+-- other fields, its antenna port count and its system information; no other entry has its identity, start and frame
+-- number
+abbrev pub HoldsMasterBy : Receiver → List Sample → List Entry → Type 0
+HoldsMasterBy receiver recording list =
+    (identity : ℕ) (master : SentMaster) (sfn offset : ℕ) → IsTakenBy receiver master →
+    IsMasterHeard receiver recording identity master sfn offset →
+    HoldsOne list identity (start_of offset) (number_at_start sfn offset)
+    (IsMasterEntry master (number_at_start sfn offset))
 
 -- the list contains each cell of a scheme to which the recording is faithful, for any plan, elements sent elsewhere,
 -- first frame number, offset and gains
@@ -117,6 +145,9 @@ HoldsCleanBy carrier recording list =
 -- channels, to which the recording is faithful, or for which it is clean, whatever else the cell sends
 pub record IsListBy (receiver : Receiver) (recording : List Sample) (list : List Entry) : Type 0 where
   pub explained : IsListFor receiver recording list
+  -- all clauses after `master` follow from `heard` by laws
+  pub heard : HoldsHeardBy receiver recording list
+  pub master : HoldsMasterBy receiver recording list
   pub through : HoldsThroughBy receiver.carrier recording list
   pub faithful : HoldsFaithfulBy receiver.carrier recording list
   pub loaded : HoldsBy receiver.carrier recording list
@@ -127,13 +158,15 @@ abbrev pub IsListOfCells : List Sample → List Entry → Type 0
 IsListOfCells = IsListBy one_port_receiver
 
 -- the list contains the scheme's cells that are received through channels, and those to which the recording is faithful
-pub record HoldsSeenBy (carrier : Carrier) (recording : List Sample) (list : List Entry) : Type 0 where
-  pub through : HoldsThroughBy carrier recording list
-  pub faithful : HoldsFaithfulBy carrier recording list
+pub record HoldsSeenBy (receiver : Receiver) (recording : List Sample) (list : List Entry) : Type 0 where
+  pub heard : HoldsHeardBy receiver recording list
+  pub master : HoldsMasterBy receiver recording list
+  pub through : HoldsThroughBy receiver.carrier recording list
+  pub faithful : HoldsFaithfulBy receiver.carrier recording list
 
 -- a law: this receiver's list contains its scheme's cells that are received through channels, and those to which the
 -- recording is faithful
 abbrev pub HoldsCells : Receiver → Type 0
 HoldsCells receiver =
     (recording : List Sample) (list : List Entry) → least_samples ≤ length recording →
-    IsListFor receiver recording list → HoldsSeenBy receiver.carrier recording list
+    IsListFor receiver recording list → HoldsSeenBy receiver recording list

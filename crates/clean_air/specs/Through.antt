@@ -18,7 +18,7 @@ use Rattle.soft_bits.specs.Soft.{SeenSlot, seen_at}
 use Rattle.explain.specs.Frame.{frame_at, seen_slot}
 use Rattle.explain.specs.System.{even_frame}
 use Rattle.budget.specs.Received.{IsSeenNear}
-use Rattle.budget.specs.Peak.{IsPrimaryWithin}
+use Rattle.budget.specs.Peak.{StandsOutBy}
 use Rattle.budget.specs.SignalPaths.{AreSignalsThrough}
 use Rattle.budget.specs.Through.{Channel, Bounds, ArePilotsThrough, IsReadThrough, LeaveRoom}
 use Rattle.budget.specs.Through.{level, level_bounds}
@@ -37,12 +37,19 @@ pub record IsPrimaryPlace (offset t : ℕ) (half : Half) : Type 0 where
   pub frame : ℕ
   pub place : t + offset ≡ frame_length * frame + primary_start half
 
--- the recording contains the cell's synchronisation signals. Near the PSS search range, each primary signal is received
--- with one gain and errors, which may be later paths. If it begins in the later half frame of the range, it and the
--- secondary signal before it are received through a channel, which may differ each time (TS 36.211 section 6.11.2).
+-- the primary signals of a cell stand out: each that begins within 9 samples of the span of PSS detections, and has
+-- room before it for the secondary one, has at least a quarter of the energy of its 128 samples, and a greater ratio of
+-- it than the samples at distance 1 to 9. This is the rule of the list itself, and needs no gain.
+abbrev pub SignalsStandOut : Carrier → List Sample → ℕ → ℕ → Type 0
+SignalsStandOut carrier recording identity offset =
+    (t : ℕ) (half : Half) → IsPrimaryPlace offset t half → symbol_step (prefix_of carrier) ≤ t + 9 →
+    t ≤ last_place + 9 → StandsOutBy 250 recording t (identity % 3)
+
+-- the signals of a cell stand in a recording: near the places of hits each primary one stands out; and where it begins
+-- in their later half both, with the secondary one before it, are seen through a channel, which may be another each
+-- time (TS 36.211 section 6.11.2)
 pub record ShowsSignals (carrier : Carrier) (recording : List Sample) (identity offset : ℕ) : Type 0 where
-  pub primary : (t : ℕ) (half : Half) → IsPrimaryPlace offset t half → symbol_step (prefix_of carrier) ≤ t + 9 →
-      t ≤ last_place + 9 → IsPrimaryWithin 14000 recording t (identity % 3)
+  pub primary : SignalsStandOut carrier recording identity offset
   pub both : (t : ℕ) (half : Half) → IsPrimaryPlace offset t half → last_place < t + half_frame_length →
       t ≤ last_place → AreSignalsThrough (prefix_of carrier) recording t (identity / 3) (identity % 3) half
 

@@ -5,6 +5,8 @@
 //! amplitude units times the root of P. In a recording it is enough that each symbol's error energy is at most 7 P
 //! (`recording`).
 
+ghost use Rattle.clean_air.specs.HeardLaws.{FaithfulIsHeard};
+ghost use Rattle.four_ports.specs.Entries.{four_ports_receiver};
 ghost use Rattle.four_ports.specs.Received.{PairValuesSpeak, ReceivedPairSpeaks};
 
 /// A law: a transmit diversity pair's four soft values have the signs of its bits if the errors are small and no pair
@@ -12,4 +14,10 @@ ghost use Rattle.four_ports.specs.Received.{PairValuesSpeak, ReceivedPairSpeaks}
 pub fn pair_values_speak_for_the_sent_bits()
     ensures seen { PairValuesSpeak }
     ensures recording { ReceivedPairSpeaks }
+{}
+
+/// States that every cell with four antenna ports to which a recording is faithful is heard, part by part (`IsHeardBy`,
+/// `clean_air/specs/Heard.antt`).
+pub fn faithful_cells_are_heard()
+    ensures { FaithfulIsHeard four_ports_receiver }
 {}

@@ -19,8 +19,11 @@ use Rattle.explain.specs.Frame.{frame_at}
 use Rattle.explain.proofs.Listed.{is_sound}
 use Rattle.explain.proofs.OneFrame.{one_frame_alone}
 use Rattle.clean_air.specs.Clean.{HoldsCleanBy, HoldsCells}
-use Rattle.clean_air.proofs.Held.{ShowsCells, number_fits, shown_are_held}
-use Rattle.clean_air.proofs.SentBlock.{is_block}
+use Rattle.clean_air.specs.Carried.{SpeakOfWord}
+use Rattle.clean_air.specs.HeardLaws.{FaithfulIsHeard}
+use Rattle.clean_air.proofs.Held.{HearsCells, number_fits, heard_are_held}
+use Rattle.clean_air.proofs.HeldCells.{faithful_master_is_heard}
+use Rattle.clean_air.proofs.SentBlock.{is_block, same_word}
 use Rattle.clean_air.proofs.Speaking.{heard_bits_speak}
 use Rattle.long_prefix.specs.Entries.{long_slot, long_values, long_prefix_receiver, IsExplainedOfLong}
 use Rattle.long_prefix.specs.Clean.{HoldsPlans}
@@ -28,29 +31,35 @@ use Rattle.long_prefix.proofs.SentPlan.{same_sent, cell_with, has_plan}
 use Rattle.long_prefix.proofs.SentSignals.{slot_row, points_stand, slot_received}
 use Rattle.long_prefix.proofs.Told.{values_heard}
 
-shows_cells : ShowsCells long_prefix_receiver
+pub faithful_cell_is_heard : FaithfulIsHeard long_prefix_receiver
 unfolding long_slot port_point port_bit
-shows_cells recording plan grids sfn offset gains long known faithful =
+faithful_cell_is_heard recording plan grids sfn offset gains known faithful =
     let number : ℕ = number_at_start sfn offset in
     -- the slot of the cell's first frame that carries the broadcast channel
     let slot : SeenSlot = long_slot recording plan.identity (start_of offset) 0 in
-    let block = is_block long_port plan number known.spare (number_fits sfn offset faithful.number faithful.within) in
-    let size = block.size in
+    let size = (is_block long_port plan number known.spare (number_fits sfn offset faithful.number faithful.within)).size in
     let received = slot_received recording plan grids sfn offset gains faithful in
     record {
-      word = port_word long_port plan number;
-      block = block;
-      speaks = heard_bits_speak 1 432 (pbch_c_init plan.identity) (432 * (number % 4)) (port_word long_port plan number) (long_values slot) (omega arith) (omega (arith, size))
+      master = faithful_master_is_heard long_prefix_receiver recording plan grids sfn offset gains known.identity faithful
+          (subst (λ (word : List Bool). SpeakOfWord (pbch_c_init plan.identity) (432 * (number % 4)) word (long_values slot)) (same_word long_port plan number)
+          (heard_bits_speak 1 432 (pbch_c_init plan.identity) (432 * (number % 4)) (port_word long_port plan number) (long_values slot) (omega arith) (omega (arith, size))
           (values_heard recording (useful_start extended (frame_at (start_of offset) 0) 1) (slot_row (grids long_port) number) slot received (port_bit long_port plan number)
-          (points_stand plan (grids long_port) (faithful.carries long_port (refl, omega arith)) number));
-      single = omega arith;
-      taken = refl;
-      system = refl;
+          (points_stand plan (grids long_port) (faithful.carries long_port (refl, omega arith)) number))));
+      system = tt;
     }
+
+hears_cells : HearsCells long_prefix_receiver
+hears_cells = record {
+  single = omega arith;
+  taken = refl;
+  system = λ recording plan sfn offset long known heard. refl;
+  through = λ recording plan grids sfn offset known through. absurd through;
+  faithful = faithful_cell_is_heard;
+}
 
 -- the list contains each such cell
 pub holds_cells : HoldsCells long_prefix_receiver
-holds_cells = shown_are_held long_prefix_receiver shows_cells
+holds_cells = heard_are_held long_prefix_receiver hears_cells
 
 -- the list contains each plan for which the recording is clean
 pub holds_plans : (recording : List Sample) (list : List Entry) → HoldsCleanBy LongCarrier recording list → HoldsPlans recording list

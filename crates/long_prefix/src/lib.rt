@@ -12,7 +12,7 @@ mod reading;
 mod sending;
 
 pub use explain::Workspace as Workspace3;
-pub use listing::explain_clean;
+pub use listing::{explain_clean, faithful_cells_are_heard};
 pub use made::{LongMade, made_is_clean, make};
 pub use plan::LongPlan;
 pub use reading::{ExtendedPrefix, LongFrame, long_frame};

@@ -8,6 +8,7 @@ ghost use Rattle.std.specs.List.{AllZip};
 ghost use Rattle.lte_types.specs.declared.sib1_reason.Sib1Reason.TheVariants.{LongPrefix as IsLong};
 ghost use Rattle.lte_types.specs.Ranges.{IsValid};
 ghost use Rattle.clean_air.specs.Clean.{IsListBy};
+ghost use Rattle.clean_air.specs.HeardLaws.{FaithfulIsHeard};
 ghost use Rattle.long_prefix.specs.Clean.{HoldsPlans};
 ghost use Rattle.long_prefix.specs.Entries.{long_prefix_receiver, IsReadingOfLong};
 
@@ -32,3 +33,9 @@ pub fn explain_clean(recording: &Recording, work: &mut Workspace3, list: &mut En
 {
     explain_clean_by(&ExtendedPrefix, recording, None, work, list);
 }
+
+/// States that every cell with the extended cyclic prefix to which a recording is faithful is heard, part by part
+/// (`IsHeardBy`, `clean_air/specs/Heard.antt`).
+pub fn faithful_cells_are_heard()
+    ensures { FaithfulIsHeard long_prefix_receiver }
+{}

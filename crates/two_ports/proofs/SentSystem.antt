@@ -1,7 +1,7 @@
--- SIB1 in a recording that is faithful to both ports: the first even-numbered frame is decoded to the plan's fields.
-use Rattle.std.proofs.Common.{◌≡◌, ℕ, zero, suc, ◌+◌, ◌*◌, ◌/◌, ◌%◌, ◌<◌, ◌≤◌, inl, inr, Bool, true, false, List, length, get_or, pos, Ok, nat_eq, nat_lt, ℤ, refl, ap, ap₂, sym, subst, ◌∙◌, arith}
+-- The system information of a recording that is faithful to both ports: the values of the first frame of even number have the signs of the plan's bits.
+use Rattle.std.proofs.Common.{◌≡◌, ℕ, zero, suc, ◌+◌, ◌*◌, ◌/◌, ◌%◌, ◌<◌, ◌≤◌, inl, inr, Bool, true, false, List, length, get_or, pos, nat_eq, nat_lt, ℤ, refl, ap, ap₂, sym, subst, ◌∙◌, arith}
 use Rattle.std.specs.Prelude.{if◌then◌else◌}
-use Rattle.std.proofs.lemmas.Bool.{cases_lt, lt-ltb, le-ltb, leb-true}
+use Rattle.std.proofs.lemmas.Bool.{cases_lt, lt-ltb, le-ltb}
 use Rattle.cs_num.specs.declared.Cpx.{Cpx}
 use Rattle.cs_num.specs.declared.Sample.{Sample}
 use Rattle.cs_num.specs.Complex.{value_at}
@@ -26,31 +26,26 @@ use Rattle.pcfich.specs.Values.{indicator_values_by}
 use Rattle.pdcch.specs.Candidate.{stream_values_by, candidate_values_by}
 use Rattle.pdsch.specs.Values.{shared_values_by}
 use Rattle.sib1_reader.specs.Subframe.{subframe_by}
-use Rattle.sib1_reader.specs.Block.{BlockSays}
-use Rattle.sib1_reader.specs.Attempt.{Reads}
 use Rattle.cell_grid.specs.declared.antenna.Port.{Port}
 use Rattle.lte_types.specs.Carrier.{ports_of}
 use Rattle.cell_grid.specs.Ports.{first_port, second_port}
 use Rattle.cell_plan.specs.declared.cell.CellPlan.{CellPlan}
 use Rattle.cell_grid.specs.Ports.{has_control, sent_point}
-use Rattle.cell_plan.specs.Transport.{coded_count, assigned_bits_of, shared_word}
 use Rattle.cell_grid.specs.Block.{coded_bit}
 use Rattle.cell_grid.specs.Points.{point_of, scrambled}
-use Rattle.cell_grid.specs.Control.{version_of, grant_of, control_places, control_word, indicator_point, control_point}
+use Rattle.cell_grid.specs.Control.{grant_of, control_places, control_word, indicator_point, control_point}
 use Rattle.cell_grid.specs.Shared.{assigned_places, shared_bit, shared_point}
 use Rattle.cell_grid.specs.Grid.{Elements}
 use Rattle.cell_grid.proofs.SystemPlaces.{control_indexed, assigned_bits_are, assigned_size, indicator_stands, control_stands, assigned_stands}
 use Rattle.clean_air.proofs.Carrying.{indicator_carried, control_carried, shared_carried}
-use Rattle.erasure.proofs.Whole.{whole_block_is_resolvable}
-use Rattle.cell_grid.proofs.Grants.{version-fits, grant_is}
 use Rattle.explain.specs.Frame.{frame_at, seen_slot}
 use Rattle.explain.specs.System.{even_frame}
 use Rattle.explain.proofs.Information.{even_number}
 use Rattle.clean_air.specs.Carried.{AreHeard}
 use Rattle.clean_air.specs.Grant.{grant_word}
 use Rattle.clean_air.specs.Words.{SpeakInOrder}
-use Rattle.clean_air.proofs.Controls.{grant_parts, four_elements, spoken_grant_is_read}
-use Rattle.clean_air.proofs.SentFields.{fields_said}
+use Rattle.clean_air.specs.Heard.{IsSystemHeard}
+use Rattle.clean_air.proofs.Controls.{grant_parts}
 use Rattle.clean_air.proofs.Speaking.{descrambled_bits_are_heard}
 use Rattle.two_tx.specs.Plan.{IsSendableOfTwo}
 use Rattle.clean_air.specs.Load.{CarriesPlan}
@@ -216,21 +211,10 @@ module _ (recording : List Sample) (plan : CellPlan) (grids : Port → Elements)
       by zero i l = shared_carried first_port plan (grids first_port) (carries 0) sendable refl (omega arith) number is_even i l
       by (suc n) i l = shared_carried second_port plan (grids second_port) (carries 1) sendable refl (omega arith) number is_even i l
 
-  says_fields : BlockSays values (grant_of plan number) (Ok plan.sib1)
-  says_fields =
-      fields_said plan sendable number (2 * length places) values shared_heard
-      (λ row same of. whole_block_is_resolvable row (version_of number) (2 * length places) (shared_word plan) (inl of.is) (version-fits number)
-      (let count = assigned_bits_are first_port plan sendable in let enough = leb-true (coded_count plan) (assigned_bits_of TwoPorts plan) sendable.enough in let size = of.size in omega (arith, count, enough, size)))
-
-  -- the frame is decoded to the plan's fields
-  pub fields_read : Reads (subframe_by TwoPorts (paired_by over_two) (slot 10) (slot 11) plan.duration plan.resource) (Ok plan.sib1)
-  fields_read =
-      let read = spoken_grant_is_read (subframe_by TwoPorts (paired_by over_two) (slot 10) (slot 11) plan.duration plan.resource) plan.cfi (grant_of plan number)
-      (record {
-        range = (let low = sendable.cfi.0 in omega (arith, low), sendable.cfi.1);
-        is_grant = grant_is plan sendable number;
-        enough = four_elements plan.identity plan.cfi plan.duration plan.resource sendable.cfi.0 sendable.cfi.1;
-        of_indicator = indicator_heard;
-        of_control = control_heard;
-      }) in
-      read.reads (Ok plan.sib1) says_fields
+  -- so the values of the frame have the signs of the plan's bits
+  pub system_heard : IsSystemHeard TwoPorts (subframe_by TwoPorts (paired_by over_two) (slot 10) (slot 11) plan.duration plan.resource) plan number
+  system_heard = record {
+    indicator = indicator_heard;
+    control = control_heard;
+    block = subst (λ count. AreHeard 1 count (shared_bit plan number) values) (assigned_bits_are first_port plan sendable) shared_heard;
+  }

@@ -5,6 +5,8 @@
 //! recording it is enough that each symbol's error energy is at most 400 P (`recording`). With an error of at most 16
 //! such units, or an error energy of at most 64 P, each value's magnitude is at least 16 (`quiet`, `quiet_recording`).
 
+ghost use Rattle.clean_air.specs.HeardLaws.{FaithfulIsHeard};
+ghost use Rattle.two_ports.specs.Entries.{two_ports_receiver};
 ghost use Rattle.two_ports.specs.Received.{PairValuesSpeak, ReceivedPairSpeaks};
 ghost use Rattle.two_ports.specs.Received.{QuietPairValuesSpeak, QuietReceivedPairSpeaks};
 
@@ -15,4 +17,10 @@ pub fn pair_values_speak_for_the_sent_bits()
     ensures recording { ReceivedPairSpeaks }
     ensures quiet { QuietPairValuesSpeak }
     ensures quiet_recording { QuietReceivedPairSpeaks }
+{}
+
+/// States that every cell with two antenna ports to which a recording is faithful is heard, part by part (`IsHeardBy`,
+/// `clean_air/specs/Heard.antt`).
+pub fn faithful_cells_are_heard()
+    ensures { FaithfulIsHeard two_ports_receiver }
 {}

@@ -11,4 +11,4 @@ mod laws;
 pub use clean::explain_clean;
 pub use explain::Workspace as Workspace2;
 pub use frames::{PairSlot, TwoPorts};
-pub use laws::pair_values_speak_for_the_sent_bits;
+pub use laws::{faithful_cells_are_heard, pair_values_speak_for_the_sent_bits};
