@@ -1,5 +1,5 @@
 -- The numbers in published preconditions, stated again, independently of the called crates.
-use Rattle.std.specs.Prelude.{ℕ, ◌≤◌, nat_abs, nat_eq, if◌then◌else◌, List, [], ◌∷◌, All, IfSome}
+use Rattle.std.specs.Prelude.{ℕ, ◌≤◌, ℤ, nat_abs, nat_eq, if◌then◌else◌, List, [], ◌∷◌, All, IfSome}
 use Rattle.cs_num.specs.declared.Cpx.{Cpx}
 use Rattle.lte_types.specs.declared.mnc.Mnc.{Mnc}
 use Rattle.lte_types.specs.declared.mnc.Mnc.TheVariants.{Two, Three}
@@ -20,6 +20,10 @@ sizes_of_three =
 -- the sizes in a column
 abbrev pub sizes_of : ℕ → List ℕ
 sizes_of column = if nat_eq column 2 then sizes_of_two else sizes_of_three
+
+-- a number has at most this magnitude
+abbrev pub IsAtMost : ℕ → ℤ → Type 0
+IsAtMost bound z = nat_abs z ≤ bound
 
 -- both components have at most this magnitude
 abbrev pub IsUpTo : ℕ → Cpx → Type 0

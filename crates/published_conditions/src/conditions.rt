@@ -4,7 +4,7 @@
 ghost use Rattle.std.specs.Prelude.{◌≡◌, ◌⊎◌, ◌+◌, ◌*◌, ◌^◌, ◌<◌, ◌≤◌, false, All, IfSome, IsSome, length, slice_get};
 ghost use Rattle.std.specs.Prelude.{negsuc, pos, ◌≤ℤ◌, Some};
 ghost use Rattle.turbo_code.specs.Table.{IsRow};
-ghost use Rattle.published_conditions.specs.Numbers.{HasDecimalDigits, HasSmallCodes, IsUpTo, sizes_of};
+ghost use Rattle.published_conditions.specs.Numbers.{HasDecimalDigits, HasSmallCodes, IsAtMost, IsUpTo, sizes_of};
 
 use cs_bits::Bits;
 use cs_num::Cpx;
@@ -13,6 +13,7 @@ use grid_map::{Place, Reg};
 use lte_types::{CellId, Cfi, Sib1};
 use soft_bits::Slot;
 use turbo_code::{Coded, Combined, Row};
+use turbo_dec::{Block, Work};
 use uper::Writer;
 
 /// Calls `grid_map::pdsch` with CFI 2, which leaves 102 resource elements per resource block.
@@ -169,6 +170,54 @@ pub fn combined(values: &[i16], n: usize, rv: u8) -> Combined
     requires version { rv ≤ 3 }
 {
     turbo_code::combine(values, row_at(n), rv)
+}
+
+/// Calls `turbo_dec::half` with 1 to 1,024 values of each kind, all of magnitude up to 4,096.
+pub fn halved(
+    systematic: &[i32],
+    parity: &[i32],
+    tail: &[i32; 6],
+    prior: &[i32],
+    out: &mut [i32],
+    work: &mut Work,
+)
+    requires some { 1 ≤ length systematic.now }
+    requires most { length systematic.now ≤ 1024 }
+    requires parities { length parity.now ≡ length systematic.now }
+    requires priors { length prior.now ≡ length systematic.now }
+    requires room { length out.old ≡ length systematic.now }
+    requires small { All (IsAtMost 4096) systematic.now }
+    requires small_parity { All (IsAtMost 4096) parity.now }
+    requires small_tail { All (IsAtMost 4096) tail.now }
+    requires small_prior { All (IsAtMost 4096) prior.now }
+{
+    turbo_dec::half(systematic, parity, tail, prior, out, work);
+}
+
+/// Calls `turbo_dec::decode` with sums of a row's size, of magnitude up to 2,047.
+pub fn decoded(sums: &Combined, n: usize, work: &mut Work) -> Option<Block>
+    requires row { n < 31 }
+    requires small { All (All (IsAtMost 2047)) sums.now.d }
+{
+    let row = row_at(n);
+    if sums.k == row.k {
+        turbo_dec::decode(sums, row, work)
+    } else {
+        None
+    }
+}
+
+/// Calls `erasure::fills` with as many bits as the row has, of which up to 1,224 coded ones are sent.
+pub fn resolved(bits: &[bool], n: usize, sent: u16) -> Option<bool>
+    requires row { n < 31 }
+    requires sent { sent ≤ 1224 }
+{
+    let row = row_at(n);
+    if bits.len() == row.k as usize {
+        Some(erasure::fills(bits, row, sent))
+    } else {
+        None
+    }
 }
 
 /// Calls `sib1::write` with fields in the ranges of TS 36.331 section 6.2.2.

@@ -11,8 +11,8 @@ mod orders;
 mod outside;
 
 pub use conditions::{
-    carried, coded, combined, first_group, indication, information, later_group, row_at, sent_bit,
-    shared_point_of_three, shared_point_of_two, slot_of, written,
+    carried, coded, combined, decoded, first_group, halved, indication, information, later_group,
+    resolved, row_at, sent_bit, shared_point_of_three, shared_point_of_two, slot_of, written,
 };
 pub use listed::{grant_at, values_at};
 pub use orders::{bandwidths, cell_errors, durations, file_errors, halves, resources};
