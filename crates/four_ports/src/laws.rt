@@ -16,7 +16,7 @@ pub fn pair_values_speak_for_the_sent_bits()
     ensures recording { ReceivedPairSpeaks }
 {}
 
-/// States that every cell with four antenna ports to which a recording is faithful is heard, part by part (`IsHeardBy`,
+/// A law: a cell with four antenna ports is heard, part by part, if the recording is faithful to it (`IsHeardBy`,
 /// `clean_air/specs/Heard.antt`).
 pub fn faithful_cells_are_heard()
     ensures { FaithfulIsHeard four_ports_receiver }
