@@ -14,7 +14,8 @@ none, `cfi`, `start`, `blocks`, `mcs`, `column` and `sib1`. Of a key that is wri
 trials there are `control` (21 bits, sent in place of the grant), `block` (a transport block in hexadecimal, in place of
 the text), `noise` (the greatest error of a component, drawn by the identity) and `traffic` (the greatest size of the
 elements, 1 to 256, that are sent where the cell sends nothing that is read, but not beside the synchronisation signals,
-as the traffic of a live cell; drawn by the identity, the frame's number and the port). In Bash:
+as the traffic of a live cell; drawn by the identity, the frame's number and the port) and `width` (the code of the
+bandwidth in the master block, 0 to 5). In Bash:
 
     D='"identity": 0, "sfn": 0, "offset": 0, "samples": 57600, "gain": [20, 9],
        "duration": "normal", "resource": "one", "spare": 0, "cfi": 2, "start": 0, "blocks": 6, "mcs": 4, "column": 2,
@@ -160,6 +161,43 @@ def text(s):
     return bits + bits_of(WINDOWS.index(s["window"]), 3) + bits_of(s["tag"], 5)
 
 
+# ---- the information words of a frame
+
+
+def master_word(cell, sfn, mask):
+    """Returns the 40 bits of PBCH: the master block, and its CRC with a mask by the antenna ports (TS 36.331 section
+    6.2.2, TS 36.212 section 5.3.1.1)."""
+    bits = bits_of(cell.get("width", 0), 3) + [DURATIONS.index(cell["duration"])]
+    bits += bits_of(RESOURCES.index(cell["resource"]), 2) + bits_of(sfn // 4, 8) + bits_of(cell["spare"], 10)
+    return with_check(bits, 16, 0x11021, mask)
+
+
+def version(sfn):
+    """Returns the redundancy version of SIB1 in a frame of even number (TS 36.321 section 5.3.1)."""
+    return (0, 2, 3, 1)[sfn // 2 % 4]
+
+
+def grant_word(cell, sfn):
+    """Returns the 37 bits of PDCCH: format 1A and its CRC (TS 36.212 section 5.3.3.1.3)."""
+    start, blocks = cell["start"], cell["blocks"]
+    riv = 6 * (blocks - 1) + start if blocks - 1 <= 3 else 6 * (6 - blocks + 1) + 5 - start
+    grant = [1, 0] + bits_of(riv, 5) + bits_of(cell["mcs"], 5) + [0] * 4 + bits_of(version(sfn), 2)
+    grant = [int(bit) for bit in cell.get("control", grant + [0, cell["column"] - 2, 0])]
+    return with_check(grant, 16, 0x11021, 0xFFFF)
+
+
+def block_word(cell):
+    """Returns the transport block of PDSCH, with zeros after the text of SIB1, and its CRC."""
+    size = SIZES[cell["column"] - 2][cell["mcs"]]
+    block = bits_of(int(cell["block"], 16), 4 * len(cell["block"])) if "block" in cell else text(cell["sib1"])
+    return with_check((block + [0] * size)[:size], 24, 0x1864CFB)
+
+
+def indicator_bits(cfi):
+    """Returns the 32 bits of a control format indicator (TS 36.212 table 5.3.4-1)."""
+    return [int((i - cfi + 1) % 3 != 0) for i in range(32)]
+
+
 # ---- the grid of a frame: its symbols of 72 elements, pairs of real and imaginary part
 
 
@@ -226,9 +264,7 @@ class Frame:
     def broadcast(self):
         """TS 36.211 section 6.6: as if there were four antenna ports, a third of some symbols is left out."""
         cell, count = self.cell, self.BLOCK // 8
-        bits = [0, 0, 0, DURATIONS.index(cell["duration"])] + bits_of(RESOURCES.index(cell["resource"]), 2)
-        bits += bits_of(self.sfn // 4, 8) + bits_of(cell["spare"], 10)
-        sent = points(convolutional(with_check(bits, 16, 0x11021, self.MASK), self.BLOCK), self.identity)
+        sent = points(convolutional(master_word(cell, self.sfn, self.MASK), self.BLOCK), self.identity)
         rows = [(l, k) for l in range(4) for k in range(72) if l not in self.KEPT or (k - self.identity) % 3]
         self.send([(self.SYMBOLS + l, k) for l, k in rows], sent[count * (self.sfn % 4) :][:count])
 
@@ -240,8 +276,9 @@ class Frame:
 
     def indicator(self, subframe):
         """TS 36.211 section 6.7; gives the numbers of the groups that it takes."""
-        bits = [int((i - self.cell["cfi"] + 1) % 3 != 0) for i in range(32)]
-        sent = points(bits, (subframe + 1) * (2 * self.identity + 1) * 2**9 + self.identity)
+        sent = points(
+            indicator_bits(self.cell["cfi"]), (subframe + 1) * (2 * self.identity + 1) * 2**9 + self.identity
+        )
         mine = [(self.identity % 12 + 3 * i) % 12 for i in range(4)]
         self.send([(14 * subframe, k) for n in mine for k in self.groups(0)[n]], sent)
         return mine
@@ -264,16 +301,8 @@ class Frame:
             self.send([(70 + l, k) for k in subcarriers], sent[4 * quadruplet : 4 * quadruplet + 4])
 
     def system_information(self, indicator_groups):
-        cell, rv = self.cell, (0, 2, 3, 1)[self.sfn // 2 % 4]
-        size, start, blocks = SIZES[cell["column"] - 2][cell["mcs"]], cell["start"], cell["blocks"]
-        riv = 6 * (blocks - 1) + start if blocks - 1 <= 3 else 6 * (6 - blocks + 1) + 5 - start
-        grant = (
-            [1, 0] + bits_of(riv, 5) + bits_of(cell["mcs"], 5) + [0] * 4 + bits_of(rv, 2) + [0, cell["column"] - 2, 0]
-        )
-        grant = [int(bit) for bit in cell.get("control", grant)]
-        self.control(indicator_groups, convolutional(with_check(grant, 16, 0x11021, 0xFFFF), 288))
-        block = bits_of(int(cell["block"], 16), 4 * len(cell["block"])) if "block" in cell else text(cell["sib1"])
-        block = with_check((block + [0] * size)[:size], 24, 0x1864CFB)
+        cell, start, blocks = self.cell, self.cell["start"], self.cell["blocks"]
+        self.control(indicator_groups, convolutional(grant_word(cell, self.sfn), 288))
         places = [
             (70 + l, k)
             for l in range(cell["cfi"] + 1, 14)
@@ -281,7 +310,8 @@ class Frame:
             for k in range(12 * start, 12 * (start + blocks))
             if not self.taken[70 + l, k]
         ]
-        self.send(places, points(turbo(block, rv, 2 * len(places)), 65535 * 2**14 + 5 * 2**9 + self.identity))
+        sent = turbo(block_word(cell), version(self.sfn), 2 * len(places))
+        self.send(places, points(sent, 65535 * 2**14 + 5 * 2**9 + self.identity))
 
     def open_places(self):
         """Where nothing is sent; beside the synchronisation signals there are none."""

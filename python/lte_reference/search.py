@@ -381,10 +381,14 @@ def indicator_groups(cell):
     return [((6 * (cell % 12) + 18 * i) % 72, 0) for i in range(4)]
 
 
+def indicator_values(symbols, cell):
+    """Returns the 32 values of the control format indicator in subframe 5."""
+    scrambling = pseudo_random(6 * (2 * cell + 1) * 512 + cell, 32)
+    return values_at(symbols, elements(cell, indicator_groups(cell)), scrambling)
+
+
 def indicator(symbols, cell):
-    values = values_at(
-        symbols, elements(cell, indicator_groups(cell)), pseudo_random(6 * (2 * cell + 1) * 512 + cell, 32)
-    )
+    values = indicator_values(symbols, cell)
     return min(
         range(1, 4), key=lambda cfi: sum(abs(v) for i, v in enumerate(values) if v and (v < 0) == (i % 3 == cfi - 1))
     )
@@ -401,15 +405,20 @@ def control_groups(cell, cfi, extended, resource):
     return sorted(g for groups in left[: cfi + 1] for g in groups if g not in taken)
 
 
-def control_word(symbols, cell, groups):
-    """The 21 bits of the candidate as a number."""
+def candidate_values(symbols, cell, groups):
+    """Returns the 288 values of the first four control channel elements in subframe 5."""
     count = len(groups)
     if count // 9 < 4:
         raise Refused(f"no-search-space {count // 9}")
     order = block_order(count)
     by_quadruplet = {order[(i + cell) % count]: group for i, group in enumerate(groups)}
     places = elements(cell, [by_quadruplet[i] for i in range(36)])
-    _, word = least(added(values_at(symbols, places, pseudo_random(5 * 512 + cell, 288)), coded_reading(37)))
+    return values_at(symbols, places, pseudo_random(5 * 512 + cell, 288))
+
+
+def control_word(symbols, cell, groups):
+    """The 21 bits of the candidate as a number."""
+    _, word = least(added(candidate_values(symbols, cell, groups), coded_reading(37)))
     if crc(word >> 16, 21) ^ 0xFFFF != word & 0xFFFF:
         raise Refused("no-control")
     return word >> 16
@@ -448,6 +457,12 @@ def shared_places(cell, cfi, first, count, rule=ONE_PORT):
         for k in range(12 * first, 12 * (first + count))
         if (l, k) not in reference_places
     ]
+
+
+def block_values(symbols, cell, cfi, first, count, rule=ONE_PORT):
+    """Returns the values of these resource blocks of subframe 5."""
+    places = shared_places(cell, cfi, first, count, rule)
+    return values_at(symbols, places, pseudo_random(65_535 * 2**14 + 5 * 512 + cell, 2 * len(places)))
 
 
 def turbo_reading(k, rv):
@@ -553,17 +568,21 @@ def fields_lines(block, size):
     return "\n".join([text] + networks + schedule)
 
 
+def subframe_values(r, frame, cell, rule):
+    """Returns the symbols of subframe 5 with their channels."""
+    return slot_values(r, frame, cell, 10, rule) + slot_values(r, frame, cell, 11, rule)
+
+
 def attempt(r, frame, cell, extended, resource, trace, rule):
     """What one frame tells by its subframe 5: the bits of the block, and its lines."""
-    symbols = slot_values(r, frame, cell, 10, rule) + slot_values(r, frame, cell, 11, rule)
+    symbols = subframe_values(r, frame, cell, rule)
     cfi = indicator(symbols, cell)
     trace(f"indicator {cfi}")
     word = control_word(symbols, cell, control_groups(cell, cfi, extended, resource))
     trace(f"control {word:021b}")
     first, count, size, rv = grant(word)
     trace(f"blocks {first} to {first + count - 1} size {size} rv {rv}")
-    places = shared_places(cell, cfi, first, count, rule)
-    values = values_at(symbols, places, pseudo_random(65_535 * 2**14 + 5 * 512 + cell, 2 * len(places)))
+    values = block_values(symbols, cell, cfi, first, count, rule)
     block, iterations = decoded(added(values, turbo_reading(size + 24, rv)), size)
     trace(f"iterations {iterations}")
     return format(block, f"0{size}b"), fields_lines(block, size)

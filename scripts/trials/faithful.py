@@ -25,6 +25,7 @@ PARTS = 16_384
 UNIT = PARTS**2  # the square of a gain of 1
 LATEST = 9  # samples by which a path may be later than the first
 NUMBERS = ("identity", "at", "sfn")
+READ_BY = {"cost": 0, "frames": 1, "frame": 0}  # keys of the evidence
 GAINS = ("gain", "gain2", "gain3", "gain4")
 WORDS = {"one": (), "two": ("--ports", "2"), "long": ("--prefix", "long"), "four": ("--ports", "4")}
 EDGES = [*range(11), *range(19_189, 19_200), *range(667, 706), *range(10_267, 10_306)]  # offsets at ends of the span
@@ -216,17 +217,21 @@ def wanted(rule, told):
 def fault(carrier, told, data):
     """How the list fails to hold the cell, or nothing: one entry of its identity, start and frame number, with each
     field as it was sent, told by the first frame alone at no cost."""
-    want = wanted(second_search.RULES[WORDS[carrier]], told)
-    listed = json.loads(said(["search", *WORDS[carrier], "--json"], data))
-    same = [entry for entry in listed if all(entry[name] == want[name] for name in NUMBERS)]
+    words = WORDS[carrier]
+    listed, evidence = (json.loads(said([command, *words, "--json"], data)) for command in ("search", "evidence"))
+    return fault_of(wanted(second_search.RULES[words], told), listed, evidence)
+
+
+def fault_of(want, listed, evidence):
+    """Returns how a list and its evidence fail to hold one entry with these keys at no cost, or None."""
+    same, read = (
+        [its for its in found if all(its[name] == want[name] for name in NUMBERS)] for found in (listed, evidence)
+    )
     if len(same) != 1:
         return f"{len(same)} entries"
-    if same != [want]:
-        its = {**same[0], "sib1": same[0]["sib1"].get("none", same[0]["sib1"])}
-        return ", ".join(f"{key} {its[key]}" for key in want if same[0][key] != want[key])
-    rows = [line.split() for line in said(["evidence", *WORDS[carrier]], data).decode().splitlines()[1:]]
-    row = next(row for row in rows if row[:3] == [str(want[name]) for name in NUMBERS])
-    told_by = {name: int(value) for name, value in zip(row[3::2], row[4::2])}
-    if (told_by["cost"], told_by["frames"], told_by["frame"]) != (0, 1, 0):
-        return ", ".join(f"{name} {told_by[name]}" for name in ("cost", "frames", "frame"))
+    its = {**same[0], "sib1": same[0]["sib1"].get("none", same[0]["sib1"])}
+    if others := [f"{key} {its[key]}" for key in want if same[0][key] != want[key]]:
+        return ", ".join(others)
+    if others := [f"{name} {read[0][name]}" for name, value in READ_BY.items() if read[0][name] != value]:
+        return ", ".join(others)
     return None
