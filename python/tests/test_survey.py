@@ -11,7 +11,7 @@ import numpy as np
 import pytest
 
 import lte_tools
-from tests.conftest import CELL, TOP, as_radio, is_one_line
+from tests.conftest import CELL, EXAMPLES, TOP, as_radio, is_one_line
 from lte_tools import live, radio, surveying
 
 SHIPPED = TOP / "crates/capture_example/stdin"
@@ -50,8 +50,12 @@ def sigmf_of(tmp_path, drive):
 
 def test_shipped_recording(tool, survey_json):
     run = tool("survey", SHIPPED, "--json", "--jobs", "1")
-    found = json.loads(run.out)
-    assert {**found, "file": survey_json["file"]} == survey_json
+    found = {**json.loads(run.out), "file": survey_json["file"]}
+    if os.environ.get("LTE_RECORD"):
+        text = json.dumps(found, sort_keys=True, separators=(",", ":"))
+        (EXAMPLES / "outputs/survey.json").write_text(f"{text}\n")
+    else:
+        assert found == survey_json
 
 
 def test_table_csv_and_processes(tool):
