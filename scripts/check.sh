@@ -15,7 +15,8 @@
 #     anybody ran it;
 #   made: manual pages and completion are those made from the forms of help and the tools' parsers, mandoc accepts them,
 #     and completion offers each form's words;
-#   pytest: python/tests, over all three packages.
+#   pytest: python/tests, over all three packages, in two processes: tests/gate, and the others.
+# black, mypy and pytest run next to the other checks, and what they print follows; CHECK_JOBS=1 runs one after another.
 # Run by hand: copies counts near copies; stands lists commits that do not stand as a whole (scripts/gate.sh lists all).
 # If lte_cli is built (crates/lte_cli/out/lte_cli, or LTE_CLI), the examples are run too, and each completed form. A check
 # whose package is missing is left out, with a line that says so, here and at the end; nothing is installed. The status
@@ -27,10 +28,32 @@ python=/usr/bin/python3                 # Debian's, which has Debian's packages
 export PYTHONPATH=$PWD/python PYTHONDONTWRITEBYTECODE=1
 failed=()
 left=()
+jobs=${CHECK_JOBS:-$(nproc)}
+aside=()                                # names of commands that run next to the others
+room=$(mktemp -d)
+trap 'rm -rf "$room"' EXIT
 
 leave_out() { # leave_out WHAT WHY
     echo "left out: $1: $2"
     left+=("$1")
+}
+
+start() { # start NAME COMMAND WORD..: runs a command next to the others; its output and status are kept
+    aside+=("$1")
+    { "${@:2}"; echo $? > "$room/$1.status"; } > "$room/$1" 2>&1 &
+    if [ "$jobs" -lt 2 ]; then wait; fi
+}
+
+finish() { # waits for these commands, and prints what they wrote
+    local name
+    wait
+    for name in "${aside[@]}"; do
+        cat "$room/$name"
+        if [ "$(cat "$room/$name.status")" != 0 ]; then
+            echo "check.sh: failed: $name"
+            failed+=("$name")
+        fi
+    done
 }
 
 check() { # check PACKAGE COMMAND WORD..: runs a command of a package of Debian
@@ -47,6 +70,10 @@ gate() { # gate MODULE WORD..: runs a check of python/lte_gate
         echo "check.sh: failed: $1"
         failed+=("$1")
     fi
+}
+
+tests() { # tests WORD..: these tests of python/tests
+    (cd python && "$python" -m pytest -m 'not slow' "$@")
 }
 
 has() { # has MODULE..: whether this Python has these modules
@@ -67,15 +94,23 @@ check pyflakes3 pyflakes3 "${sources[@]}"
 check shellcheck shellcheck "${shells[@]}" .ci/run
 check shellcheck shellcheck -s bash scripts/install/completion/*.bash
 if [[ $(black --version 2> /dev/null) == *' 23.'* ]]; then
-    check black black --quiet --check --line-length 120 scripts python
+    start black black --check --quiet --diff --line-length 120 scripts python
 else
     leave_out black 'it formats by its version (Debian 12: black 23)'
 fi
-if has numpy; then
-    check mypy mypy --config-file python/pyproject.toml --cache-dir "${XDG_CACHE_HOME:-$HOME/.cache}/lte_gate/mypy" \
+if ! has numpy; then
+    leave_out mypy 'no numpy (Debian: python3-numpy)'
+elif command -v mypy > /dev/null; then
+    start mypy mypy --config-file python/pyproject.toml --cache-dir "${XDG_CACHE_HOME:-$HOME/.cache}/lte_gate/mypy" \
         python/lte_tools
 else
-    leave_out mypy 'no numpy (Debian: python3-numpy)'
+    leave_out mypy 'not installed (Debian: mypy)'
+fi
+if has pytest numpy scipy matplotlib; then
+    start pytest-gate tests tests/gate
+    start pytest-tools tests tests --ignore tests/gate
+else
+    leave_out 'python/tests' 'no pytest, numpy, scipy or matplotlib (Debian: python3-pytest and so on)'
 fi
 gate edits
 gate comments
@@ -89,14 +124,6 @@ else
     leave_out 'made' 'no numpy, scipy or matplotlib (Debian: python3-numpy, python3-scipy, python3-matplotlib)'
 fi
 check mandoc mandoc -Tlint scripts/install/man/*.1
-if has pytest numpy scipy matplotlib; then
-    if ! (cd python && "$python" -m pytest -m 'not slow'); then
-        echo 'check.sh: failed: pytest'
-        failed+=(pytest)
-    fi
-else
-    leave_out 'python/tests' 'no pytest, numpy, scipy or matplotlib (Debian: python3-pytest and so on)'
-fi
 
 program=$(realpath -m "${LTE_CLI:-crates/lte_cli/out/lte_cli}")
 export LTE_CLI=$program LTE_TUNE=${LTE_TUNE:-${program//lte_cli/lte_tune}}
@@ -106,8 +133,9 @@ if [ -x "$program" ]; then
     says '0 yes' bash scripts/examples/certify_and_check.sh
     says '9 refusals, 0 are others' bash scripts/examples/refusals.sh
 else
-    leave_out examples 'lte_cli is not built'
+    leave_out 'examples, and tests of the programs' 'lte_cli is not built'
 fi
+finish
 if [ ${#left[@]} != 0 ]; then
     echo "check.sh: LEFT OUT ${#left[@]}: $(printf '%s; ' "${left[@]}")"
 fi

@@ -56,6 +56,11 @@ for machines of those who built it.
 The programs contain code of the Rattle toolchain's libraries, under the terms
 of that toolchain.
 """
+# the interpreter writes compiled modules next to the tools' own, which no list of the package has
+SCRIPTS = {
+    "postinst": 'if [ "$1" = configure ] && command -v py3compile > /dev/null; then py3compile -p {name}; fi',
+    "prerm": "if command -v py3clean > /dev/null; then py3clean -p {name}; fi",
+}
 CHANGES = """\
 {name} ({version}) unstable; urgency=low
 
@@ -143,12 +148,15 @@ def package(folder, files, commands, library, version):
 
 
 def write_control(root, found, version):
-    """Writes the package's control file and its checksums."""
+    """Writes the package's control file, its scripts and its checksums."""
     programs = [data for path, (data, _) in found.items() if path.startswith("usr/bin/")]
     words = {"name": NAME, "version": version, "maintainer": maintainer(), "architecture": architecture()}
     size = sum((root / path).stat().st_size for path in found)
     (root / "DEBIAN").mkdir()
     text = CONTROL.format(**words, libc=libc_of(programs), size=-(-size // 1024))
     (root / "DEBIAN/control").write_text(text, encoding="utf-8")
+    for script, line in SCRIPTS.items():
+        (root / "DEBIAN" / script).write_text(f"#!/bin/sh\nset -e\n{line.format(name=NAME)}\n", encoding="utf-8")
+        (root / "DEBIAN" / script).chmod(0o755)
     sums = [f"{hashlib.md5((root / path).read_bytes()).hexdigest()}  {path}\n" for path in found]
     (root / "DEBIAN/md5sums").write_text("".join(sums), encoding="utf-8")

@@ -36,7 +36,7 @@ BUDGETS = {
     "docs/DECISIONS.md": 4200,
     "docs/DEFINITION.md": 6700,
     "docs/FORMATS.md": 9900,
-    "docs/PERFORMANCE.md": 1250,
+    "docs/PERFORMANCE.md": 1550,
     "docs/PROOF_NOTES.md": 5400,
     "docs/RECORDINGS.md": 4100,
     "scripts/README.md": 300,

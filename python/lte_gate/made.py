@@ -1,24 +1,39 @@
 """made [--write]
 
-Compares the manual pages (scripts/install/man) and the completion (scripts/install/completion) with those that are made
-now from the command forms of `help`, docs/FORMATS.md and the tools' parsers; the status is 1 if one differs. With
---write it writes them.
+Compares the manual pages (scripts/install/man), the completion (scripts/install/completion) and the table of columns in
+docs/RECORDINGS.md with those that are made now from the command forms of `help`, docs/FORMATS.md, the tools' parsers and
+the survey's columns; the status is 1 if one differs. With --write it writes them.
 
 Needs numpy, scipy and matplotlib (Debian: python3-numpy, python3-scipy, python3-matplotlib), which the tools import.
 """
 import argparse
+import itertools
+
+from lte_tools import columns
 
 from . import command_forms, completions, man_pages, tool_parsers
-from .repository import TOP, report, run
+from .repository import TOP, Refused, report, run
 
 HERE = TOP / "scripts/install"
+RECORDINGS = TOP / "docs/RECORDINGS.md"
 
 
 def made():
     """Returns each file that is made, and its text."""
     programs, tools = command_forms.programs(), tool_parsers.tools()
     found = {HERE / "man" / name: text for name, text in man_pages.pages(programs, tools).items()}
-    return found | {HERE / "completion" / name: text for name, text in completions.texts(programs, tools).items()}
+    found |= {HERE / "completion" / name: text for name, text in completions.texts(programs, tools).items()}
+    return found | {RECORDINGS: with_columns(RECORDINGS.read_text(encoding="utf-8"))}
+
+
+def with_columns(page):
+    """Returns the page with the table of the survey's columns as it is now."""
+    rows = columns.page_rows()
+    before, head, after = page.partition("\n".join(rows[:2]) + "\n")
+    if not head:
+        raise Refused(f"{RECORDINGS.relative_to(TOP)}: no table of columns")
+    rest = itertools.dropwhile(lambda line: line.startswith("|"), after.splitlines(keepends=True))
+    return "".join([before, *(f"{row}\n" for row in rows), *rest])
 
 
 def write(files):
@@ -30,7 +45,7 @@ def write(files):
 
 def different(files):
     """Yields the files that differ, and those that nothing makes."""
-    there = {path for folder in ("man", "completion") for path in (HERE / folder).glob("*")}
+    there = {path for folder in ("man", "completion") for path in (HERE / folder).glob("*")} | {RECORDINGS}
     yield from (path for path, text in files.items() if path not in there or path.read_text(encoding="utf-8") != text)
     yield from sorted(there - files.keys())
 
@@ -47,7 +62,7 @@ def main():
     if args.write:
         write(files)
     faults = [f"{path.relative_to(TOP)}: differs: scripts/gate.sh made --write" for path in different(files)]
-    return report("manual pages and completion", faults, f"{len(files)} files")
+    return report("manual pages, completion and table of columns", faults, f"{len(files)} files")
 
 
 if __name__ == "__main__":

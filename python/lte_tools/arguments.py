@@ -24,9 +24,12 @@ SHORTEST = 0.001  # seconds from one window to the next
 
 def number(text: str) -> float:
     """Returns a number whose absolute value is not above GREATEST."""
-    value = float(text)
+    try:
+        value = float(text)
+    except ValueError:
+        raise argparse.ArgumentTypeError(f"{text!r} is not a number") from None
     if not abs(value) <= GREATEST:
-        raise ValueError(text)
+        raise argparse.ArgumentTypeError(f"{text} is not a number up to {GREATEST:g}")
     return value
 
 

@@ -1,7 +1,9 @@
 """The columns of a survey: of the table, the CSV, the page with its tooltips, and docs/RECORDINGS.md, one row each here.
 
-A further column is a row of COLUMNS, its key in CSV_KEYS, a field of survey_data.SurveyCell with its line in cells.py,
-and that field's definition in report.schema.json. `python3 -m lte_tools.columns` prints the table for the page.
+A further column is a row of COLUMNS and its key in CSV_KEYS, a field of survey_data.SurveyCell with its line in cells.py,
+that field's definition in report.schema.json, and both in docs/FORMATS.md. The rest is made: the page's table and the
+manual page by `scripts/gate.sh made --write`, the example in scripts/examples/outputs by
+`LTE_RECORD=1 python3 -m pytest tests/test_survey.py` (in python/).
 """
 from __future__ import annotations
 
@@ -333,7 +335,3 @@ def page_rows() -> list[str]:
     """Returns the rows of the page's table."""
     rows = [f"| `{heading or '?'}` | {column.meaning} |" for heading, column in BY_HEADING.items()]
     return ["| Column | Meaning |", "|---|---|", *rows]
-
-
-if __name__ == "__main__":
-    print("\n".join(page_rows()))

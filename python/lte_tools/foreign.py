@@ -77,7 +77,10 @@ def parsed(data: bytes, name: str) -> Any:
     except UnicodeDecodeError:
         raise Refused(f"{name}: not JSON: the text is not UTF-8") from None
     except ValueError as fault:
-        raise Refused(f"{name}: not JSON: {fault}") from None
+        is_long = "integer string conversion" in str(fault)
+        raise Refused(
+            f"{name}: {'a number of more digits than are read' if is_long else f'not JSON: {fault}'}"
+        ) from None
 
 
 @functools.cache

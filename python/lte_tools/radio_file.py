@@ -155,23 +155,39 @@ def opened(options: FileOptions) -> RadioFile:
     """Returns the file that options name."""
     form = options.form or SUFFIXES.get(options.file.suffix[1:]) or "s16"
     checked(options)
-    file = of_sigmf(options) if form == "sigmf" else of_samples(options, form)
+    notes: list[str] = []  # printed only if the file is not refused
+    file = of_sigmf(options, notes) if form == "sigmf" else of_samples(options, form, notes)
     file = dataclasses.replace(file, is_exchanged=options.exchanged)
     is_carrier = options.carrier and options.shift is None
     for shift in {one.shift for one in file.stretches} or {file.shift}:
         file.check_holds(shift, f"{options.carrier:,.0f} Hz" if is_carrier else f"{shift:+,.0f} Hz")
     check_form(file)
+    if options.at + LEAST / radio.RATE <= file.seconds + 1e-9:  # else a window is refused
+        for text in notes:
+            note(text)
     return file
 
 
-def of_samples(options: FileOptions, form: str) -> RadioFile:
+def of_samples(options: FileOptions, form: str, notes: list[str]) -> RadioFile:
     """Returns a file of samples alone."""
-    count = whole_samples(options.file, size_of(options.file), form)
+    size = size_of(options.file)
+    if options.form is None and is_wav(options.file):
+        raise Refused(
+            f"{options.file}: a WAV file, whose header is not read: --form and --rate say what its samples are"
+        )
+    count = whole_samples(options.file, size, form, notes)
     rate = whole(options.rate or radio.RATE)
     return RadioFile(options.file, form, rate, count, options.shift or 0, options.carrier)
 
 
-def of_sigmf(options: FileOptions) -> RadioFile:
+def is_wav(path: pathlib.Path) -> bool:
+    """Returns whether a file begins with the header of WAV, or of one that is larger than 4 GB."""
+    with path.open("rb") as file:
+        head = file.read(12)
+    return head[:4] in (b"RIFF", b"RF64") and head[8:] == b"WAVE"
+
+
+def of_sigmf(options: FileOptions, notes: list[str]) -> RadioFile:
     """Returns a file that SigMF describes."""
     meta = sigmf.read(options.file)
     channel = options.channel
@@ -180,9 +196,9 @@ def of_sigmf(options: FileOptions) -> RadioFile:
     if not 0 <= (channel or 0) < meta.channels:
         raise Refused(f"{options.file}: no channel {channel} of {meta.channels}")
     size = meta.size if meta.is_archive else size_of(meta.data)
-    count = whole_samples(meta.data, size, meta.form, meta.channels)
+    count = whole_samples(meta.data, size, meta.form, notes, meta.channels)
     rate = whole(options.rate or meta.rate)
-    stretches, carrier = stretches_of(options, meta.captures, count, rate)
+    stretches, carrier = stretches_of(options, meta.captures, count, rate, notes)
     shift = stretches[0].shift
     return RadioFile(
         meta.data, meta.form, rate, count, shift, carrier, stretches, meta.begins, meta.channels, channel or 0
@@ -190,7 +206,7 @@ def of_sigmf(options: FileOptions) -> RadioFile:
 
 
 def stretches_of(
-    options: FileOptions, captures: list[sigmf.Capture], count: int, rate: float
+    options: FileOptions, captures: list[sigmf.Capture], count: int, rate: float, notes: list[str]
 ) -> tuple[tuple[Stretch, ...], float]:
     """Returns the captures that have the cell, and its carrier."""
     centres = sorted({one.centre for one in captures})
@@ -198,7 +214,7 @@ def stretches_of(
         names = " and ".join(f"{centre / 1e6:,g}" for centre in centres)
         raise Refused(f"{options.file}: captures at {names} MHz: --carrier HZ says which")
     if options.carrier and not all(centres) and options.shift is None:
-        note(f"{options.file}: no core:frequency in it, so the cell is looked for at the centre")
+        notes.append(f"{options.file}: no core:frequency in it, so the cell is looked for at the centre")
     ends = [one.first for one in captures[1:]] + [count]
     found = []
     for one, end in zip(captures, ends):
@@ -208,7 +224,7 @@ def stretches_of(
         found.append(Stretch(one.first, min(end, count), shift, one.datetime))
     held = [one for one in found if abs(one.shift) + BESIDE <= rate / 2]
     if held and len(held) < len(found):
-        note(f"{options.file}: {len(found) - len(held)} of {len(found)} captures do not have this frequency")
+        notes.append(f"{options.file}: {len(found) - len(held)} of {len(found)} captures do not have this frequency")
     return tuple(held or found[:1]), options.carrier or centres[-1]
 
 
@@ -217,11 +233,12 @@ def whole(rate: float) -> float:
     return int(rate) if rate == int(rate) else rate
 
 
-def whole_samples(path: pathlib.Path, size: int, form: str, channels: int = 1) -> int:
+def whole_samples(path: pathlib.Path, size: int, form: str, notes: list[str], channels: int = 1) -> int:
     """Returns how many samples `size` bytes are; the end of one that is cut is left out."""
     width = FORMS[form].width * channels
     if cut := size % width:
-        note(f"{path}: cut within a sample: {'the last byte is' if cut == 1 else f'the last {cut} bytes are'} left out")
+        last = "the last byte is" if cut == 1 else f"the last {cut} bytes are"
+        notes.append(f"{path}: cut within a sample: {last} left out")
     if size < width:
         raise Refused(f"{path}: no sample in it")
     return size // width

@@ -98,7 +98,7 @@ def of_text(path: pathlib.Path, text: bytes, data: pathlib.Path) -> Meta:
             raise Refused(f"{path}: samples of another file or behind headers are not read")
         form = form_of(path, whole["core:datatype"])
         rate, channels = whole["core:sample_rate"], whole.get("core:num_channels", 1)
-        stretches = [capture_of(one) for one in captures]
+        stretches = [capture_of(path, number, one) for number, one in enumerate(captures)]
     except (NoMeta, KeyError):
         raise Refused(f"{path}: no datatype, rate and captures of SigMF in it") from None
     if not is_number(rate) or rate <= 0 or not is_count(channels) or not 1 <= channels <= MOST_CHANNELS:
@@ -141,13 +141,16 @@ def is_number(value: Any) -> bool:
     return isinstance(value, (int, float)) and not isinstance(value, bool) and -FASTEST <= value <= FASTEST
 
 
-def capture_of(value: Any) -> Capture:
-    """Returns a capture."""
+def capture_of(path: pathlib.Path, number: int, value: Any) -> Capture:
+    """Returns a capture, the one of this number."""
+    where = f"{path}: captures[{number}]"
     if not isinstance(value, dict):
-        raise NoMeta("captures")
+        raise Refused(f"{where}: {foreign.shown(value)} is not an object")
     first, centre = value.get("core:sample_start", 0), value.get("core:frequency", 0)
-    if not is_count(first) or not 0 <= first < 2**62 or not is_number(centre) or centre < 0:
-        raise NoMeta("captures")
+    if not is_count(first) or not 0 <= first < 2**62:
+        raise Refused(f"{where}: core:sample_start {foreign.shown(first)} is not a sample's number")
+    if not is_number(centre) or centre < 0:
+        raise Refused(f"{where}: core:frequency {foreign.shown(centre)} is not a number of hertz")
     time = value.get("core:datetime")
     return Capture(first, centre, time if is_time(time) else None)
 

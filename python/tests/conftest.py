@@ -1,8 +1,15 @@
-"""What the tests of lte_tools share: the stored programs, recordings of cells, and tools that are run in this process."""
+"""What the tests of lte_tools share: the stored programs, recordings of cells, and tools that are run in this process.
+
+Tests with the marker `program` run the proved programs in place of the stored ones: those that LTE_CLI and LTE_TUNE name,
+or those built in crates/. If they do not exist, the tests are skipped.
+"""
+import importlib.util
 import io
 import json
 import os
 import pathlib
+import shutil
+import subprocess
 import sys
 from typing import NamedTuple
 
@@ -15,6 +22,8 @@ from lte_tools import radio
 HERE = pathlib.Path(__file__).resolve().parent
 TOP = HERE.parent.parent
 EXAMPLES = TOP / "scripts/examples"
+RECEIVER = pathlib.Path(os.environ.get("LTE_CLI") or TOP / "crates/lte_cli/out/lte_cli").absolute()
+TUNER = pathlib.Path(os.environ.get("LTE_TUNE") or str(RECEIVER).replace("lte_cli", "lte_tune")).absolute()
 CELL = {
     "identity": 217,
     "sfn": 100,
@@ -57,10 +66,32 @@ class Run(NamedTuple):
     err: str
 
 
+def pytest_collection_modifyitems(items):
+    """Skips the tests of the proved programs if these do not exist."""
+    missing = [str(path) for path in (RECEIVER, TUNER) if not os.access(path, os.X_OK)]
+    for item in items:
+        if missing and item.get_closest_marker("program"):
+            item.add_marker(pytest.mark.skip(reason=f"no program at {' and '.join(missing)}"))
+
+
+def needs(*names):
+    """Skips a test if one of these commands, or of these Python modules (`module:`), is missing."""
+    missing = [name for name in names if not is_there(*name.split(":"))]
+    return pytest.mark.skipif(bool(missing), reason=f"not installed: {', '.join(missing)}")
+
+
+def is_there(name, module=None):
+    return shutil.which(name) is not None if module is None else importlib.util.find_spec(module) is not None
+
+
 @pytest.fixture(autouse=True)
 def programs(request, tmp_path, monkeypatch):
     """The stored programs, under the names of lte_cli and lte_tune; tests of lte_gate have their own."""
     if request.path.parent == HERE / "gate":
+        return None
+    if request.node.get_closest_marker("program"):
+        monkeypatch.setenv("LTE_CLI", str(RECEIVER))
+        monkeypatch.setenv("LTE_TUNE", str(TUNER))
         return None
     folder = tmp_path / "programs"
     folder.mkdir()
@@ -88,6 +119,19 @@ def tool(monkeypatch, capfd):
             status = ended.code or 0
         done = capfd.readouterr()
         return Run(status, done.out, done.err)
+
+    return run
+
+
+@pytest.fixture
+def command():
+    """Runs a command on bytes and returns its output; it has to exit with this status."""
+
+    def run(*words, stdin=b"", status=0):
+        environment = {**os.environ, "PYTHONPATH": str(HERE.parent)}
+        done = subprocess.run(list(map(str, words)), input=stdin, capture_output=True, check=False, env=environment)
+        assert done.returncode == status, done.stderr.decode(errors="replace")
+        return done.stdout
 
     return run
 

@@ -69,6 +69,11 @@ def test_conversions_that_are_refused(tool, words, stdin):
     assert is_one_line(tool("to_ci16", *words, stdin=stdin))
 
 
+@pytest.mark.parametrize("word", ["x", "nan", "inf", "1e300"])
+def test_words_that_are_no_numbers(tool, word):
+    assert f"{word}' is not a number" in (err := tool("to_ci16", "u8", word).err) or f"{word} is not a number" in err
+
+
 def test_ratio_of_rates():
     assert to_ci16.ratio_of(2_400_000) == to_ci16.Fraction(5, 4)
     assert float(to_ci16.ratio_of(2_400_001)) == pytest.approx(2_400_001 / 1.92e6, rel=1e-6)

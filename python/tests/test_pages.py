@@ -33,12 +33,10 @@ def test_csv_keys_are_those_of_columns():
     assert sorted(columns.CSV_KEYS) == sorted(columns.BY_KEY)
 
 
-def test_page_names_each_key_and_heading():
+def test_page_names_each_key():
     formats = (TOP / "docs/FORMATS.md").read_text()
     section = formats.partition("--csv`\n")[2].partition("\n###")[0]
     assert [key for key in columns.CSV_KEYS if f"`{key}`" not in section] == []
-    recordings = (TOP / "docs/RECORDINGS.md").read_text().splitlines()
-    assert [row for row in columns.page_rows() if row not in recordings] == []
 
 
 def test_words_have_meanings():

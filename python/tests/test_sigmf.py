@@ -71,7 +71,16 @@ REFUSED = {
     "object datatype": ('{"global": {"core:datatype": {}, "core:sample_rate": 1e6}}', "datatype"),
     "other datatype": ('{"global": {"core:datatype": "rf32_be", "core:sample_rate": 1e6}}', "datatype rf32_be"),
     "captures": ('{"global": {"core:datatype": "cu8", "core:sample_rate": 1e6}, "captures": 3}', "no datatype"),
-    "capture": ('{"global": {"core:datatype": "cu8", "core:sample_rate": 1e6}, "captures": [1]}', "no datatype"),
+    "capture": (
+        '{"global": {"core:datatype": "cu8", "core:sample_rate": 1e6}, "captures": [1]}',
+        "captures[0]: 1 is not",
+    ),
+    "sample": (
+        json.dumps({"global": WHOLE, "captures": [{}, {"core:sample_start": -5}]}),
+        "captures[1]: core:sample_start -5",
+    ),
+    "hertz": (json.dumps({"global": WHOLE, "captures": [{"core:frequency": "x"}]}), "captures[0]: core:frequency 'x'"),
+    "digits": ('{"global": {"core:datatype": "cu8", "core:sample_rate": ' + "9" * 5_000 + "}}", "more digits"),
     "channels": (
         '{"global": {"core:datatype": "cu8", "core:sample_rate": 1e6, "core:num_channels": 1e20}}',
         "channels",

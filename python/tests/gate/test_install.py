@@ -163,6 +163,13 @@ class Package(unittest.TestCase):
             done = subprocess.run([self.root / "usr/bin" / name, "--help"], **how)
             self.assertEqual((done.returncode, done.stdout[: len(name) + 7]), (0, f"usage: {name}"))
 
+    def test_compiled_modules_are_removed_with_it(self):
+        control = pathlib.Path(self.enterContext(tempfile.TemporaryDirectory())) / "control"
+        subprocess.run(["dpkg-deb", "--control", self.deb, control], check=True)
+        for name, command in (("postinst", "py3compile -p lte-cli"), ("prerm", "py3clean -p lte-cli")):
+            self.assertTrue(os.access(control / name, os.X_OK), name)
+            self.assertIn(command, (control / name).read_text())
+
     @unittest.skipUnless(shutil.which("lintian"), "no lintian (Debian: lintian)")
     def test_lintian_reports_no_error(self):
         words = ["lintian", "--allow-root", "--no-tag-display-limit", self.deb]

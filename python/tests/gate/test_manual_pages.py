@@ -23,6 +23,16 @@ def test_forms_of_help():
     assert shown.sequences() == [("help",), ("--help",)]
 
 
+def test_table_of_columns():
+    page = "# Files\n\n| Column | Meaning |\n|---|---|\n| `old` | gone |\n\n| Other | Table |\n"
+    made_now = made.with_columns(page)
+    assert "old" not in made_now and "| `PCI` |" in made_now
+    assert made_now.startswith("# Files\n\n| Column |") and made_now.endswith("|\n\n| Other | Table |\n")
+    assert made.with_columns(made_now) == made_now
+    with pytest.raises(Refused, match="no table of columns"):
+        made.with_columns("# Files\n")
+
+
 def test_page_of_forms():
     page = man_pages.of_program(command_forms.program_of(HELP))
     assert ".TH LTE_CLI 1" in page and r"\\fB\\-\\-ports 2\\fR".replace("\\\\", "\\") in page
