@@ -58,9 +58,9 @@ def test_each_part_is_compared_with_what_was_sent():
 
 def test_a_promise_that_is_not_held_is_printed(capfd):
     want = {**faithful.wanted(RULES[()], CELL)}
-    told = {name: want[name] for name in faithful.NUMBERS}
-    assert faithful.fault_of(want, [want], [{**told, "cost": 0, "frames": 1, "frame": 0}]) is None
-    assert faithful.fault_of(want, [want], [{**told, "cost": 3, "frames": 1, "frame": 1}]) == "cost 3, frame 1"
+    numbers = {name: want[name] for name in faithful.NUMBERS}
+    assert faithful.fault_of(want, [want], [{**numbers, "cost": 0, "frames": 1, "frame": 0}]) is None
+    assert faithful.fault_of(want, [want], [{**numbers, "cost": 3, "frames": 1, "frame": 1}]) == "cost 3, frame 1"
     assert faithful.fault_of(want, [{**want, "spare": 6}], []) == "spare 6"
     assert faithful.fault_of(want, [], []) == "0 entries"
     row = {"kind": "field", "seed": 4, "blocks": 6, "carrier": "one", "paths": "flat 0 Hz", **FLAT._asdict()}

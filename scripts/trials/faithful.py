@@ -75,7 +75,7 @@ def looked_at(rule, sfn, offset):
 def drawn(draw, **keys):
     """A description of a random cell; a plan that `transmit` refuses may be one of them."""
     column, blocks = draw.choice((2, 3)), draw.randint(1, 6)
-    told = {
+    described = {
         **fuzz_inputs.valid_description(draw),
         "sfn": draw.choice([draw.randrange(1024), draw.randrange(1024), 0, 1023]),
         "offset": draw.choice([draw.randrange(FRAME), draw.randrange(FRAME), draw.choice(EDGES)]),
@@ -86,7 +86,7 @@ def drawn(draw, **keys):
         "mcs": draw.randrange(len(SIZES[column - 2])),
         "gain": [1, 0],
     }
-    return {**told, **keys}
+    return {**described, **keys}
 
 
 def hardly_resolved(draw, plan):
@@ -100,42 +100,42 @@ def hardly_resolved(draw, plan):
     return {"cfi": cfi, "start": start, "blocks": blocks, "mcs": mcs, "column": column, "sib1": sib1}
 
 
-def transmitted(carrier, told, load=None, gains=((1, 0),)):
+def transmitted(carrier, described, load=None, gains=((1, 0),)):
     """What `transmit` sends, or nothing where it refuses."""
-    plan = {**told, **dict(zip(GAINS, gains))}
+    plan = {**described, **dict(zip(GAINS, gains))}
     words = ["transmit", *WORDS[carrier], *([] if load is None else ["--load", str(load)])]
     data = said(words, json.dumps(plan).encode())
     return None if data is None else np.frombuffer(data, "<i2").astype(float).reshape(-1, 2) @ (1, 1j)
 
 
-def early(told):
+def early(described):
     """The description from as many samples earlier on as a path may be late, and how many these are."""
-    before = min(told["offset"], LATEST)
-    return {**told, "offset": told["offset"] - before, "samples": told["samples"] + before}, before
+    before = min(described["offset"], LATEST)
+    return {**described, "offset": described["offset"] - before, "samples": described["samples"] + before}, before
 
 
-def sent(carrier, told, load=None):
+def sent(carrier, described, load=None):
     """What each antenna port sends, from LATEST samples before the recording on, or nothing where it is refused."""
-    told, before = early(told)
+    described, before = early(described)
     count = second_search.RULES[WORDS[carrier]].ports
     first = ((1, 0),) + ((0, 0),) * (count - 1)
-    ports = [transmitted(carrier, told, load, first)]
+    ports = [transmitted(carrier, described, load, first)]
     if ports[0] is None:
         return None
     for port in range(1, count):
         both = [first[i] if i != port else (1, 0) for i in range(count)]
-        ports.append(transmitted(carrier, told, load, both) - ports[0])
+        ports.append(transmitted(carrier, described, load, both) - ports[0])
     return np.pad(ports, ((0, 0), (LATEST - before, 0)))
 
 
-def sent_by_second(carrier, told, frame=None):
+def sent_by_second(carrier, described, frame=None):
     """The same by the second transmitter, also of a description with `traffic`, and by another class of frames."""
-    told, before = early(told)
+    described, before = early(described)
     frame = frame or second_cell.CARRIERS[carrier]
-    cell = {**told, **dict.fromkeys(GAINS, (1, 0))}
-    numbers = [(told["sfn"] + j) % 1024 for j in range(-(-(told["offset"] + told["samples"]) // FRAME))]
+    cell = {**described, **dict.fromkeys(GAINS, (1, 0))}
+    numbers = [(described["sfn"] + j) % 1024 for j in range(-(-(described["offset"] + described["samples"]) // FRAME))]
     ports = [np.concatenate([frame(cell, sfn, port).samples() for sfn in numbers]) for port in range(frame.PORTS)]
-    samples = np.array(ports)[:, told["offset"] :][:, : told["samples"]] @ (1, 1j)
+    samples = np.array(ports)[:, described["offset"] :][:, : described["samples"]] @ (1, 1j)
     return np.pad(samples, ((0, 0), (LATEST - before, 0)))
 
 
@@ -198,28 +198,28 @@ def fitted(values, shape, limit):
 # ---- whether the list holds the cell
 
 
-def wanted(rule, told):
+def wanted(rule, described):
     """The cell's entry as `search --json` has it."""
-    br, spare = divmod(told["spare"], 32)
+    br, spare = divmod(described["spare"], 32)
     return {
-        "identity": told["identity"],
-        "at": -told["offset"] % FRAME,
-        "sfn": (told["sfn"] + (told["offset"] > 0)) % 1024,
+        "identity": described["identity"],
+        "at": -described["offset"] % FRAME,
+        "sfn": (described["sfn"] + (described["offset"] > 0)) % 1024,
         "ports": rule.ports,
         "bandwidth": "n6",
-        **{key: told[key] for key in ("duration", "resource")},
+        **{key: described[key] for key in ("duration", "resource")},
         "br": br,
         "spare": spare,
-        "sib1": {"none": rule.unread} if rule.unread else {**told["sib1"], "tdd": None, "extension": False},
+        "sib1": {"none": rule.unread} if rule.unread else {**described["sib1"], "tdd": None, "extension": False},
     }
 
 
-def fault(carrier, told, data):
+def fault(carrier, described, data):
     """How the list fails to hold the cell, or nothing: one entry of its identity, start and frame number, with each
-    field as it was sent, told by the first frame alone at no cost."""
+    field as it was sent, described by the first frame alone at no cost."""
     words = WORDS[carrier]
     listed, evidence = (json.loads(said([command, *words, "--json"], data)) for command in ("search", "evidence"))
-    return fault_of(wanted(second_search.RULES[words], told), listed, evidence)
+    return fault_of(wanted(second_search.RULES[words], described), listed, evidence)
 
 
 def fault_of(want, listed, evidence):

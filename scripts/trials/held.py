@@ -65,18 +65,18 @@ class Trial:
         """A random cell, what its ports send, and the symbols that the list looks at."""
         ports = None
         while ports is None:
-            self.told = faithful.drawn(self.draw)
+            self.described = faithful.drawn(self.draw)
             if self.is_beyond:
-                self.told |= faithful.hardly_resolved(self.draw, self.draw.choice(HARD[self.kind.hard]))
+                self.described |= faithful.hardly_resolved(self.draw, self.draw.choice(HARD[self.kind.hard]))
             self.load = self.draw.choice([None, self.draw.randrange(2**32), self.draw.randrange(2**32)])
-            ports = faithful.sent(self.carrier, self.told, self.load)
+            ports = faithful.sent(self.carrier, self.described, self.load)
         if self.load and not self.is_beyond and self.draw.random() < 0.5:
             traffic = self.draw.choice([256, 200, 10])
-            ports = faithful.sent_by_second(self.carrier, {**self.told, "traffic": traffic})
+            ports = faithful.sent_by_second(self.carrier, {**self.described, "traffic": traffic})
         self.ports = ports
-        self.symbols = list(faithful.looked_at(self.rule, self.told["sfn"], self.told["offset"]))
-        self.first = int(self.told["offset"] > 0)
-        self.even = self.first + (self.told["sfn"] + self.first) % 2
+        self.symbols = list(faithful.looked_at(self.rule, self.described["sfn"], self.described["offset"]))
+        self.first = int(self.described["offset"] > 0)
+        self.even = self.first + (self.described["sfn"] + self.first) % 2
 
     def received(self):
         """The samples, or nothing where whole numbers of 16 bits do not fit the premise."""
@@ -101,18 +101,18 @@ class Trial:
         return np.stack([self.samples.real, self.samples.imag], 1).astype("<i2").tobytes()
 
     def fault(self):
-        return faithful.fault(self.carrier, self.told, self.data())
+        return faithful.fault(self.carrier, self.described, self.data())
 
     # ---- what stands elsewhere
 
     def elsewhere(self):
         """What the recording holds where the list does not look."""
-        count, fill = self.told["samples"], "zeros" if self.is_beyond else self.draw.choice(FILLS)
+        count, fill = self.described["samples"], "zeros" if self.is_beyond else self.draw.choice(FILLS)
         own = np.round(self.gains @ self.ports / PARTS)[LATEST:]
         if fill == "noise":
             return self.rng.integers(-32_768, 32_768, count) + 1j * self.rng.integers(-32_768, 32_768, count)
         if fill == "another":
-            keys = {"samples": count, **self.draw.choice([{}, {"identity": self.told["identity"]}])}
+            keys = {"samples": count, **self.draw.choice([{}, {"identity": self.described["identity"]}])}
             other = None
             while other is None:
                 other = faithful.transmitted("one", faithful.drawn(self.draw, **keys), 1)
@@ -144,7 +144,7 @@ class Trial:
 
     def shape(self, style):
         if style == "tone":
-            pilot = 3 * self.rng.integers(24) + self.told["identity"] % 3
+            pilot = 3 * self.rng.integers(24) + self.described["identity"] % 3
             return TURNS[pilot] * np.exp(2j * np.pi * self.rng.random())
         if style == "burst":
             return np.eye(128)[self.rng.integers(128)] * np.exp(2j * np.pi * self.rng.random())
@@ -162,7 +162,7 @@ class Trial:
         for slot, symbols in slots.items():
             if self.rule.unread and slot != 1:
                 continue
-            view, seen, flat = Slot(self.rule, self.told, slot), *np.zeros((2, self.rule.symbols, 72), complex)
+            view, seen, flat = Slot(self.rule, self.described, slot), *np.zeros((2, self.rule.symbols, 72), complex)
             for l, symbol in symbols.items():
                 seen[l], flat[l] = elements(values[symbol]) / PARTS, elements(self.flat(symbol)) / PARTS
             signs = np.sign(view.values(flat))
@@ -210,9 +210,9 @@ def leak(trial, turns):
     for view, weights, symbols, seen in trial.attacked({s: trial.flat(s) * turns[s] for s in trial.symbols}):
         slope = view.slope(seen, weights)
         for l, s in symbols.items():
-            sfn = (trial.told["sfn"] + s.frame) % 1024
+            sfn = (trial.described["sfn"] + s.frame) % 1024
             rows[sfn, 7 * s.slot + l] = traffic_against(slope[l], turns[s], trial.gains[0] / PARTS)
-    cell = {**trial.told, "load": trial.load or 0, "rows": rows}
+    cell = {**trial.described, "load": trial.load or 0, "rows": rows}
     trial.ports = faithful.sent_by_second(trial.carrier, cell, Leaking)
 
 
@@ -315,7 +315,7 @@ HARD = {
 }
 
 
-# ---- what is told
+# ---- what is described
 
 
 def tried(name, seeds):
@@ -357,20 +357,20 @@ def main():
     parser.add_argument("--times", type=float)
     parser.add_argument("--find", type=int)
     parser.add_argument("--save", type=pathlib.Path)
-    told = parser.parse_args()
+    args = parser.parse_args()
     lost = 0
-    for name in told.kinds or KINDS:
-        if told.find:
-            first = first_lost(name, told.find, lambda fault: True)
+    for name in args.kinds or KINDS:
+        if args.find:
+            first = first_lost(name, args.find, lambda fault: True)
             if first and first.startswith("cost"):
-                first_lost(name, told.find, lambda fault: not fault.startswith("cost"))
-        elif told.times or told.save:
-            trial = Trial(name, told.first, told.times)
-            print(f"{name} {told.first} at {told.times or 1} times: {trial.fault() or 'held'}")
-            if told.save:
-                told.save.write_bytes(trial.data())
+                first_lost(name, args.find, lambda fault: not fault.startswith("cost"))
+        elif args.times or args.save:
+            trial = Trial(name, args.first, args.times)
+            print(f"{name} {args.first} at {args.times or 1} times: {trial.fault() or 'held'}")
+            if args.save:
+                args.save.write_bytes(trial.data())
         else:
-            lost += tried(name, range(told.first, told.first + told.count))
+            lost += tried(name, range(args.first, args.first + args.count))
     sys.exit(lost > 0)
 
 

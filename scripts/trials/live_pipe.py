@@ -5,7 +5,7 @@ Tries whether survey.py keeps up with a radio: a file of bytes at 2.4 million sa
 comes, so many times over, through `pv -L` at that rate into `survey.py - --follow` on two processors. Prints how many
 windows were looked at and skipped, how far behind the survey came, what was heard, its memory in the first sixth and in
 all, and the processor time. Then the stream is stopped by a signal. The status is 0 where no window was skipped, each
-sure cell was told as it came, and the signal ended it with a table.
+sure cell was printed as it came, and the signal ended it with a table.
 
 Debian: python3-numpy, python3-scipy, pv. Needs lte_cli and lte_tune.
 """
@@ -53,7 +53,7 @@ class Followed:
             self.process = subprocess.Popen(command, **keys)
         pipe.stdout.close()
 
-    def told(self):
+    def printed(self):
         return json.loads(self.table.read_text() or "{}")
 
 
@@ -64,11 +64,11 @@ def try_whole(files, room):
     while survey.process.poll() is None:
         held.append((time.monotonic() - start, memory(survey.process.pid)))
         time.sleep(0.5)
-    told, seen = survey.told(), survey.lines.read_text().count("behind\n")
-    live, cells = told["live"], {one["identity"]: one["windows"] for one in told["cells"] if not one["chance"]}
-    early = max((size for second, size in held if second <= told["seconds"] / 6), default=0)
+    printed, seen = survey.printed(), survey.lines.read_text().count("behind\n")
+    live, cells = printed["live"], {one["identity"]: one["windows"] for one in printed["cells"] if not one["chance"]}
+    early = max((size for second, size in held if second <= printed["seconds"] / 6), default=0)
     print(
-        f"{told['seconds']:.1f} s, {told['windows']} windows, {live['skipped']} skipped, {live['behind']} s behind at most"
+        f"{printed['seconds']:.1f} s, {printed['windows']} windows, {live['skipped']} skipped, {live['behind']} s behind at most"
     )
     print(f"cells and their windows: {cells}, by {seen} lines before the table")
     print(f"memory: {early:.0f} MB at most in the first sixth, {max(size for _, size in held):.0f} MB in all")
@@ -89,7 +89,7 @@ def try_signal(files, room):
     before = time.monotonic()
     survey.process.send_signal(signal.SIGINT)
     status = survey.process.wait(60)
-    windows = survey.told().get("windows", 0)
+    windows = survey.printed().get("windows", 0)
     print(f"a signal after {STOPPED} s: ended in {time.monotonic() - before:.1f} s, status {status}, {windows} windows")
     return status == 0 and windows > STOPPED
 

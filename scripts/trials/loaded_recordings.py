@@ -84,8 +84,8 @@ def entries(text):
 def is_clear(samples, place):
     """Whether `evidence` tells of the entry at a place the numbers of a clean cell."""
     lines = [line.split() for line in said(["evidence"], samples).split("\n")[1:]]
-    told = next(line for line in lines if line[:3] == place)
-    numbers = {name: int(value) for name, value in zip(told[3::2], told[4::2])}
+    listed = next(line for line in lines if line[:3] == place)
+    numbers = {name: int(value) for name, value in zip(listed[3::2], listed[4::2])}
     return (
         (numbers["cost"], numbers["frames"], numbers["frame"]) == (0, 1, 0)
         and numbers["peak"] >= 999
@@ -120,8 +120,8 @@ def main():
             if not is_good:
                 wrong += 1
                 print(f"{kind} {i}: not listed, or not clear: {cell}, {added}")
-        told = f", {clear} clear" if kind == "one" else ""
-        print(f"{kind}, {what}: {held} of {count} held, {others} other entries{told}", flush=True)
+        clear_text = f", {clear} clear" if kind == "one" else ""
+        print(f"{kind}, {what}: {held} of {count} held, {others} other entries{clear_text}", flush=True)
     return 1 if wrong else 0
 
 

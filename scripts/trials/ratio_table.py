@@ -1,7 +1,7 @@
 #!/usr/bin/python3
 """ratio_table.py LTE_CLI [CELLS]
 
-Whether the signal to noise and the level that are told of a cell are those that were put in, with an echo and with an
+Whether the signal to noise and the level that are given of a cell are those that were put in, with an echo and with an
 offset left. Spoils the recordings of CELLS random cells (10) in each row and prints a table: what was put in, the mean
 of what the numbers of `evidence` tell (docs/RECORDINGS.md, "What the numbers say") and how far the worst is off, and
 the same of the survey, which takes off what is left of the offset. What is put in is the mean of a resource element
@@ -68,7 +68,7 @@ def spoiled(sent, row, draw):
     return Put(scale * x, 20 * np.log10(scale * size / (radio.FULL + 1)))
 
 
-def told_by_evidence(program, sent, put):
+def from_evidence(program, sent, put):
     """Signal to noise and level by the program's numbers, or nothing where the cell is not listed."""
     for line in radio.ask(program, "evidence", put.samples):
         words = line.split()
@@ -78,7 +78,7 @@ def told_by_evidence(program, sent, put):
     return None
 
 
-def told_by_survey(sent, put):
+def from_survey(sent, put):
     """Those of the survey."""
     data = radio.to_bytes(put.samples)
     file = radio_file.RadioFile(pathlib.Path("-"), "s16", radio.RATE, len(put.samples), 0, 0, held=data)
@@ -88,15 +88,15 @@ def told_by_survey(sent, put):
     return None
 
 
-def text_of(told, wanted):
+def text_of(given, wanted):
     """The mean, and the greatest distance from what was put in."""
-    values = [(value, right) for value, right in zip(told, wanted) if value is not None]
+    values = [(value, right) for value, right in zip(given, wanted) if value is not None]
     if not values:
         return "- | -"
-    told, wanted = map(np.array, zip(*values))
-    worst = np.abs(told - wanted).max()
-    missing = f" ({len(values)} told)" if len(values) < len(wanted) else ""
-    return f"{told.mean():.1f} | {worst:.1f}{missing}"
+    given, wanted = map(np.array, zip(*values))
+    worst = np.abs(given - wanted).max()
+    missing = f" ({len(values)} given)" if len(values) < len(wanted) else ""
+    return f"{given.mean():.1f} | {worst:.1f}{missing}"
 
 
 def line_of(program, row, seeds):
@@ -108,9 +108,7 @@ def line_of(program, row, seeds):
         put = spoiled(sent, row, draw)
         ratios.append(row.ratio)
         levels.append(put.level)
-        found.append(
-            [told or (None, None) for told in (told_by_evidence(program, sent, put), told_by_survey(sent, put))]
-        )
+        found.append([given or (None, None) for given in (from_evidence(program, sent, put), from_survey(sent, put))])
     parts = [text_of([one[by][kind] for one in found], (ratios, levels)[kind]) for by in (0, 1) for kind in (0, 1)]
     return f"| {row.name} | {row.ratio} | {np.mean(levels):.1f} | {' | '.join(parts)} |"
 

@@ -8,7 +8,7 @@ values speak for their bits with size 1 and more where
 
     (128 kap + u)^2 / 12150 + 128 rho + (1 + rho) u + 1.0114 u + 0.0079 u^2 <= 90      (I)
 
-and the secondary signal is told where, with rho how far its gain is from that of the primary one,
+and the secondary signal is known where, with rho how far its gain is from that of the primary one,
 
     (2 + rho) u + u^2 / 126.4 < 126.4 (1 - rho)
 """
