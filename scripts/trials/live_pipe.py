@@ -68,7 +68,8 @@ def try_whole(files, room):
     live, cells = printed["live"], {one["identity"]: one["windows"] for one in printed["cells"] if not one["chance"]}
     early = max((size for second, size in held if second <= printed["seconds"] / 6), default=0)
     print(
-        f"{printed['seconds']:.1f} s, {printed['windows']} windows, {live['skipped']} skipped, {live['behind']} s behind at most"
+        f"{printed['seconds']:.1f} s, {printed['windows']} windows, {live['skipped']} skipped, "
+        f"{live['behind']} s behind at most"
     )
     print(f"cells and their windows: {cells}, by {seen} lines before the table")
     print(f"memory: {early:.0f} MB at most in the first sixth, {max(size for _, size in held):.0f} MB in all")
