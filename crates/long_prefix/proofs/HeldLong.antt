@@ -1,5 +1,5 @@
 -- A recording that is faithful to a cell shows it to a receiver for the extended cyclic prefix.
-use Rattle.std.proofs.Common.{◌≡◌, ℕ, ◌*◌, ◌%◌, arith, refl, sym, subst, List, [], ◌∷◌, get_or, None, Err}
+use Rattle.std.proofs.Common.{◌≡◌, ℕ, ◌*◌, ◌%◌, arith, refl, sym, subst, Bool, List, [], ◌∷◌, get_or, None, Err}
 use Rattle.std.specs.Prelude.{All}
 use Rattle.std.proofs.lemmas.List.Elements.{Contains-get_or}
 use Rattle.cs_num.specs.declared.Cpx.{Cpx}
