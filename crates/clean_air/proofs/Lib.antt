@@ -46,10 +46,10 @@ pub mod FadingCells
 pub mod EchoCells
 -- The transport block has the plan's fields, so the cell's first even-numbered frame is decoded to them.
 pub mod SentFields
--- So does a receiver with each frame whose values have the signs of a plan's bits.
+-- A frame whose values have the signs of a plan's bits is decoded to the plan's fields.
 pub mod SpokenSystem
 pub mod SentSystem
--- And it has some answer on the system information of each cell.
+-- A receiver has some answer on the system information of each cell.
 pub mod SomeSystem
 -- A list holds each cell that its receiver hears.
 pub mod Held

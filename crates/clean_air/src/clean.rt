@@ -1,7 +1,8 @@
-//! The cell list, and the promise that no cell with clean reception is missing from it.
+//! The cell list, and the promise that no cell that is heard is missing from it.
 //!
 //! The promise (`IsListBy`): each cell of the transmission scheme that sends a known plan (`IsKnownBy`) has exactly one
-//! entry with its identity, start and frame number, read at cost 0 from its first whole frame, if the recording
+//! entry with its identity, start and frame number, read at cost 0 from its first whole frame, if the receiver hears the
+//! cell (`heard`, `specs/Heard.antt`). An entry's MIB may have any bandwidth (`master`). A cell is heard if the recording
 //!
 //! - is faithful to the cell (`faithful`, `specs/Faithful.antt`): each symbol that the receiver reads is what the
 //!   antenna ports send, each times one gain, up to errors whose energy is small compared with the gains;
@@ -21,10 +22,9 @@ use explain::{EntryList, FrameReader, OnePort, Workspace, explain_by, explain_hi
 use lte_types::Hit;
 use sample_file::Recording;
 
-/// A receiver of one transmission scheme whose lists miss no cell with clean reception. (own)
+/// A receiver of one transmission scheme whose lists miss no cell that it hears. (own)
 pub trait CleanReader: FrameReader {
-    /// A law: this receiver's lists contain each cell of its scheme to which the recording is faithful and, with one
-    /// antenna port and the normal cyclic prefix, each cell that is received through channels.
+    /// A law: this receiver's lists contain each cell of its scheme that it hears, and each MIB of any bandwidth.
     fn holds_cells()
         ensures { HoldsCells Self.receiver };
 }
