@@ -52,3 +52,5 @@ mod texts;
 mod transmit;
 #[cfg(test)]
 mod usage;
+#[cfg(test)]
+mod why;
