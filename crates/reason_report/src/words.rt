@@ -5,7 +5,7 @@ ghost use Rattle.reason_report.specs.Words.{no_hit_word as no_hit_of, unread_by,
 
 use reasons::Attempt;
 
-/// The rule that a cell without a MIB fails.
+/// Returns the rule that a cell without a MIB fails.
 pub(crate) fn unread_word(attempt: &Attempt) -> &'static str
     ensures { result.now ≡ unread_of attempt.now }
 {
@@ -26,7 +26,7 @@ fn cost_word(cost: u32, total: u32) -> &'static str
     }
 }
 
-/// Whether a signal has less than a quarter of the energy, by its fraction in thousandths.
+/// Returns whether a signal has less than a quarter of the energy, by its fraction in thousandths.
 pub(crate) fn no_hit_word(ratio: u128) -> &'static str
     ensures { result.now ≡ no_hit_of ratio }
 {

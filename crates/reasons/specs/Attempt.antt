@@ -23,7 +23,7 @@ pub record IsAttempt (values : List (List ℤ)) (phase : ℕ) (attempt : Attempt
 abbrev pub closer : Attempt → Attempt → Attempt
 closer first second = if nat_lt (second.cost * first.total) (first.cost * second.total) then second else first
 
--- of the values at each phase of a frame these are closest to a master block
+-- an attempt is the one that comes closest to a master block, of those at the four phases of a frame
 pub record IsClosest (values : ℕ → List (List ℤ)) (attempt : Attempt) : Type 0 where
   pub first : Attempt
   pub second : Attempt

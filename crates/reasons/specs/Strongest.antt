@@ -23,7 +23,7 @@ strongest_among recording n2 (suc n) =
     then 129 + n
     else strongest_among recording n2 n
 
--- the same of all samples that decide the hits, 128 to 19,345
+-- the first sample of the greatest metric among all that decide the hits, 128 to 19,345
 abbrev pub strongest_sample : List Sample → ℕ → ℕ
 strongest_sample recording n2 = strongest_among recording n2 19217
 

@@ -17,7 +17,7 @@ use pbch::{Received, master_of, sums_of, total_of};
 use sample_file::Recording;
 use tailbite::{Trellis, least};
 
-/// The attempt to read the MIB of a cell in its first frame, at the phase that is closest to one.
+/// Returns the attempt to read the MIB of a cell in its first frame, at the phase that is closest to one.
 pub(crate) fn closest_attempt<F: FrameReader>(
     reader: &F,
     recording: &Recording,

@@ -16,7 +16,7 @@ use sample_file::Recording;
 use sss_detect::{place_with, ranking_with};
 use tailbite::Trellis;
 
-/// The first rule that the cell of an identity fails at a hit of its root, if the list has no entry with it.
+/// Returns the first rule that the cell of an identity fails at a hit of its root, if the list has no entry with it.
 pub(crate) fn first_failing<F: FrameReader>(
     reader: &F,
     recording: &Recording,
@@ -41,7 +41,7 @@ pub(crate) fn first_failing<F: FrameReader>(
     }
 }
 
-// The same at a hit with room for the secondary signal before it.
+// Returns the first rule that the cell fails at a hit with room for the secondary signal before it.
 fn failing_with_room<F: FrameReader>(
     reader: &F,
     recording: &Recording,

@@ -2,7 +2,7 @@
 
 ghost use Rattle.reasons.specs.Laws.{ListedIsInList, HasOneReason};
 
-/// The reasons for an identity in plain words: it is in the list of a recording exactly where they say `listed`, and a
+/// A law of the reasons for an identity: it is in the list of a recording exactly where they say `listed`, and a
 /// recording has one answer for it. (own)
 pub fn reasons_in_plain_words()
     ensures listed { ListedIsInList }

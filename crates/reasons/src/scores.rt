@@ -15,7 +15,7 @@ use observe::symbol;
 use sample_file::Recording;
 use sync_seq::{MIDDLE, pss, sss};
 
-/// The greater of the scores of a group at a hit, in the two halves of a frame.
+/// Returns the greater of the scores of a group at a hit, in the two halves of a frame.
 pub(crate) fn own_score(recording: &Recording, hit: &Hit, prefix: Prefix, n1: u16) -> OwnScore
     requires after { symbol_step prefix ≤ hit.now.t }
     requires within { hit.now.t + 128 ≤ length recording.now }

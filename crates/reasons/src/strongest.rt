@@ -20,7 +20,7 @@ struct Swept {
     metric: Metric,
 }
 
-/// The sample at which the primary signal of an identity within the group is strongest, 128 to 19,345. (own)
+/// Returns the sample at which the primary signal of an identity within the group is strongest, 128 to 19,345. (own)
 pub(crate) fn strongest(recording: &Recording, n2: u8) -> StrongestPlace
     requires { n2 ≤ 2 }
     ensures { result ≡ strongest_place recording.now n2 }
@@ -81,7 +81,7 @@ fn is_greater(first: &Metric, second: &Metric) -> bool
     second.energy > 0 && (first.energy == 0 || ours < theirs)
 }
 
-/// The fraction of a metric in thousandths, rounded down; 0 without energy.
+/// Returns the fraction of a metric in thousandths, rounded down; 0 without energy.
 pub(crate) fn thousandths(peak: u128, energy: u64, n2: u8) -> u128
     requires member { n2 ≤ 2 }
     requires peak { peak < 2 ^ 70 }
