@@ -8,7 +8,7 @@ from dataclasses import dataclass, field
 from .repository import TOP, Refused
 
 # the words that a word in capitals stands for, as a regular expression
-NUMBERS = {"N": "0|[1-9][0-9]*", "M": "0|-?[1-9][0-9]*"}
+NUMBERS = {"PCI": "[0-9]|[1-9][0-9]|[1-4][0-9][0-9]|50[0-3]", "N": "0|[1-9][0-9]*", "M": "0|-?[1-9][0-9]*"}
 
 
 @dataclass(frozen=True)

@@ -101,7 +101,7 @@ def sections(name):
 
 def words_of(text):
     """Returns a form's words, with those that stand for others in italics."""
-    parts = re.split(r"\b(RULE|COMMAND|INPUT|OUTPUT|[NM])\b", text)
+    parts = re.split(r"\b(RULE|COMMAND|INPUT|OUTPUT|PCI|[NM])\b", text)
     return "".join(rf"\fI{part}\fR" if i % 2 else roff.bold(part) if part else "" for i, part in enumerate(parts))
 
 

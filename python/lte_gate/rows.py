@@ -234,6 +234,7 @@ ROOM = """room=$(mktemp -d); trap 'rm -rf "$room"' EXIT; ln -s "$PWD" "$PWD/../c
 PEERS = {
     "lte_cli transmit": "$PY -m lte_reference.cell",
     "lte_cli evidence": "$PY -m lte_reference.evidence",
+    "lte_cli why": "$PY -m lte_reference.why",
     "lte_cli search --cancel": "$PY -m lte_reference.cancel",
     "lte_cli search": "$PY -m lte_reference.search",
     "lte_tune tell": "$PY -m lte_reference.tune tell",
@@ -242,7 +243,7 @@ PEERS = {
 
 
 # words that the reference implementations have too
-FURTHER = r"(?: --ports [24]| --prefix long| --load \d+)*"
+FURTHER = r"(?: \d{1,3}\b)?(?: --ports [24]| --prefix long| --load \d+)*"
 
 
 def shown(page):
@@ -352,6 +353,10 @@ def numpy_looks():
             "crates/top_tests/src/make.rt", "$PY -m lte_reference.make 0 | $PY -m lte_reference.search", lines_together
         ),
         Look(NAMED, CHANCE, lines_together),
+        *(
+            Look(TESTS + "why.rt", f"$PY -m lte_reference.cell | $PY -m lte_reference.why {words}", lines_together, described())
+            for words in ("0", "3", "1", "0 --ports 2", "503 --prefix long", "0 --json", "3 --json", "0 --ports 4 --json")
+        ),
         Look(
             NAMED,
             "$PY -m lte_reference.cell | $PY -m lte_reference.evidence",

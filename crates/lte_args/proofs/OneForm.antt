@@ -1,5 +1,5 @@
 -- An argument list has at most one command form.
-use Rattle.std.proofs.Common.{◌≡◌, inl, inr, ℕ, suc, ◌<◌, ◌^◌, ℤ, pos, negsuc, List, [], ◌∷◌, drop, ◌++◌, Option, Some, None, Bool, true, false, nat_eq, refl, ap, sym, subst, ◌∙◌, append-nil, append_assoc, arith}
+use Rattle.std.proofs.Common.{◌≡◌, inl, inr, ℕ, suc, ◌<◌, ◌≤◌, ◌^◌, ℤ, pos, negsuc, List, [], ◌∷◌, drop, ◌++◌, Option, Some, None, Bool, true, false, nat_eq, refl, ap, sym, subst, ◌∙◌, append-nil, append_assoc, arith}
 use Rattle.std.specs.Prelude.{if◌then◌else◌, neg_ℤ, codes}
 use Rattle.std.specs.Cmp.Lexicographic.{pointwise}
 use Rattle.std.specs.Fmt.{decimal, signed_decimal}
@@ -15,7 +15,7 @@ use Rattle.lte_types.specs.declared.carrier.Carrier.TheVariants.{OnePort, TwoPor
 use Rattle.lte_args.specs.declared.form.Program.{Program}
 use Rattle.lte_args.specs.declared.form.Form.{Form}
 use Rattle.lte_args.specs.declared.form.Form.TheVariants.{Report as Reports, Certify, Check, Transmit, Make, Apply, Print}
-use Rattle.lte_args.specs.declared.form.Report.TheVariants.{Hits, Ids, Search, Evidence, Tell}
+use Rattle.lte_args.specs.declared.form.Report.TheVariants.{Hits, Ids, Search, Evidence, Tell, Why}
 use Rattle.lte_args.specs.declared.form.Rule.{Rule}
 use Rattle.lte_args.specs.declared.form.Rule.TheVariants.{Of, Cancel, All}
 use Rattle.lte_args.specs.declared.form.Output.{Output}
@@ -127,6 +127,22 @@ evidence_back carrier output form =
     ap (carrier_in supported_by) (append_assoc (carrier_words carrier) (output_words output) (samples_words form))
     ∙ carrier_back supported_by carrier (output_words output ++ samples_words form) (carrier_before supported_by output form) ∙ report_back (Reports (Evidence carrier)) output form
 
+abbrev reasoned_by : ℕ → Carrier → List (List ℕ) → Form
+reasoned_by identity carrier words = report_in (Reports (Why identity carrier)) words
+
+abbrev why_in : List (List ℕ) → Form
+why_in [] = Check
+why_in (digits ∷ words) = carrier_in (reasoned_by (digits_value 10 digits)) words
+
+why_back : (carrier : Carrier) (n : ℕ) (output : Output) (form : SampleForm) → n ≤ 503 →
+    why_in (decimal n ∷ (carrier_words carrier ++ output_words output ++ samples_words form)) ≡ Reports (Why n carrier) output form
+why_back carrier n output form small =
+    let read = digits_value 10 (decimal n) in
+    ap (carrier_in (reasoned_by read)) (append_assoc (carrier_words carrier) (output_words output) (samples_words form))
+    ∙ carrier_back (reasoned_by read) carrier (output_words output ++ samples_words form) (carrier_before (reasoned_by read) output form)
+    ∙ report_back (Reports (Why read carrier)) output form
+    ∙ ap (λ k. Reports (Why k carrier) output form) (decimal_is_IsNumeral n (omega (arith, small))).1
+
 abbrev certified_by : Carrier → List (List ℕ) → Form
 certified_by carrier words = Certify carrier (samples_in words)
 
@@ -195,6 +211,7 @@ form_of program (word ∷ words) =
     else if is_word word (codes "ids") then report_in (Reports Ids) words
     else if is_word word (codes "search") then rule_in searched_by words
     else if is_word word (codes "evidence") then carrier_in supported_by words
+    else if is_word word (codes "why") then why_in words
     else if is_word word (codes "tell") then report_in (Reports Tell) words
     else if is_word word (codes "certify") then carrier_in certified_by words
     else if is_word word (codes "check") then Check
@@ -218,6 +235,7 @@ form_of_words (Reports Ids output form) words e within = ap (form_of (program_of
 form_of_words (Reports (Search rule) output form) words e within = ap (form_of (program_of (Reports (Search rule) output form))) e ∙ search_back rule output form
 form_of_words (Reports (Evidence carrier) output form) words e within = ap (form_of (program_of (Reports (Evidence carrier) output form))) e ∙ evidence_back carrier output form
 form_of_words (Reports Tell output form) words e within = ap (form_of (program_of (Reports Tell output form))) e ∙ report_back (Reports Tell) output form
+form_of_words (Reports (Why identity carrier) output form) words e within = ap (form_of (program_of (Reports (Why identity carrier) output form))) e ∙ why_back carrier identity output form within
 form_of_words (Certify carrier form) words e within = ap (form_of (program_of (Certify carrier form))) e ∙ certify_back carrier form
 form_of_words Check words e within = ap (form_of (program_of Check)) e
 form_of_words (Transmit carrier load) words e within = ap (form_of (program_of (Transmit carrier load))) e ∙ transmit_back carrier load within

@@ -1,5 +1,5 @@
 -- The arguments for each part of a command form, and for the whole form. (own)
-use Rattle.std.specs.Prelude.{◌≡◌, ◌⊎◌, ℕ, ◌^◌, ◌<◌, ℤ, pos, negsuc, ◌≤ℤ◌, Option, Some, None, List, [], ◌∷◌, ◌++◌}
+use Rattle.std.specs.Prelude.{◌≡◌, ◌⊎◌, ℕ, ◌^◌, ◌<◌, ◌≤◌, ℤ, pos, negsuc, ◌≤ℤ◌, Option, Some, None, List, [], ◌∷◌, ◌++◌}
 use Rattle.std.specs.Prelude.{codes}
 use Rattle.std.specs.Fmt.{decimal, signed_decimal}
 use Rattle.sample_file.specs.declared.form.SampleForm.{SampleForm}
@@ -12,7 +12,7 @@ use Rattle.lte_args.specs.declared.form.Form.{Form}
 use Rattle.lte_args.specs.declared.form.Form.TheVariants.{Report as Reports, Certify, Check, Transmit, Make}
 use Rattle.lte_args.specs.declared.form.Form.TheVariants.{Apply, Print}
 use Rattle.lte_args.specs.declared.form.Report.{Report}
-use Rattle.lte_args.specs.declared.form.Report.TheVariants.{Hits, Ids, Search, Evidence, Tell}
+use Rattle.lte_args.specs.declared.form.Report.TheVariants.{Hits, Ids, Search, Evidence, Tell, Why}
 use Rattle.lte_args.specs.declared.form.Rule.{Rule}
 use Rattle.lte_args.specs.declared.form.Rule.TheVariants.{Of, Cancel, All}
 use Rattle.lte_args.specs.declared.form.Output.{Output}
@@ -64,6 +64,7 @@ report_words Ids = codes "ids" ∷ []
 report_words (Search rule) = codes "search" ∷ rule_words rule
 report_words (Evidence carrier) = codes "evidence" ∷ carrier_words carrier
 report_words Tell = codes "tell" ∷ []
+report_words (Why identity carrier) = codes "why" ∷ decimal identity ∷ carrier_words carrier
 
 -- a correction: the estimated one is the default and has no words
 abbrev pub turn_words : Turn → List (List ℕ)
@@ -103,11 +104,12 @@ abbrev pub IsAskedLoad : Option ℕ → Type 0
 IsAskedLoad None = Unit {0}
 IsAskedLoad (Some n) = n < 2 ^ 32
 
--- the number in a form is below 2^32, or a permitted phase step
+-- the number of a form is one of 32 bits, a turn, or an identity
 abbrev pub IsInRange : Form → Type 0
 IsInRange (Transmit carrier load) = IsAskedLoad load
 IsInRange (Make carrier n) = n < 2 ^ 32
 IsInRange (Apply turn form) = IsAskedTurn turn
+IsInRange (Reports (Why identity carrier) output form) = identity ≤ 503
 IsInRange form = Unit {0}
 
 -- the program that has this form

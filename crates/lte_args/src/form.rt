@@ -6,10 +6,10 @@ ghost use Rattle.lte_args.specs.declared.form.Program.TheVariants.{Receiver, Tun
 
 use crate::parts::{
     apply_parts, certify_parts, evidence_parts, is_only, make_parts, page_of, report_parts,
-    search_parts, transmit_parts,
+    search_parts, transmit_parts, why_parts,
 };
 use crate::words::Words;
-use lte_types::Carrier;
+use lte_types::{Carrier, CellId};
 use sample_file::SampleForm;
 
 /// A program. Each has its own command forms.
@@ -66,6 +66,8 @@ pub enum Report {
     Evidence(Carrier),
     /// `tell`: the frequency offset.
     Tell,
+    /// `why PCI`: why an identity is in the list of a carrier, or not.
+    Why(CellId, Carrier),
 }
 
 /// Which cell list `search` writes.
@@ -133,6 +135,8 @@ fn of_receiver(words: &[String]) -> Option<Form>
         Some(Form::Report(Report::Search(rule), output, samples))
     } else if let Some((carrier, output, samples)) = evidence_parts(words) {
         Some(Form::Report(Report::Evidence(carrier), output, samples))
+    } else if let Some((id, carrier, output, samples)) = why_parts(words) {
+        Some(Form::Report(Report::Why(id, carrier), output, samples))
     } else if let Some((carrier, samples)) = certify_parts(words) {
         Some(Form::Certify(carrier, samples))
     } else if is_only(words, "check") {

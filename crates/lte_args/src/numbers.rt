@@ -1,10 +1,11 @@
 //! Decimal numbers without leading zeros.
 
-ghost use Rattle.std.specs.Prelude.{◌≡◌, ◌≢◌, ◌<◌, ◌^◌, ℕ, ℤ, IfSome, IsNone};
+ghost use Rattle.std.specs.Prelude.{◌≡◌, ◌≢◌, ◌<◌, ◌≤◌, ◌^◌, ℕ, ℤ, IfSome, IsNone};
 ghost use Rattle.std.specs.Fmt.{decimal, signed_decimal};
 ghost use Rattle.lte_args.specs.Words.{IsTurn};
 
 use itoa::Buffer;
+use lte_types::CellId;
 
 // Parses a 32-bit number without leading zeros.
 pub(crate) fn number_of(text: &str) -> Option<u32>
@@ -25,6 +26,19 @@ fn exactly(n: u32, text: &str) -> Option<u32>
     let mut digits = Buffer::new();
     if digits.format(n) == text {
         Some(n)
+    } else {
+        None
+    }
+}
+
+// The identity that is written so, without leading zero.
+pub(crate) fn identity_of(text: &str) -> Option<CellId>
+    ensures some { IfSome result (λ id. (id ≤ 503) × (text.now ≡ decimal id)) }
+    ensures none { IsNone result → (n : ℕ) → n ≤ 503 → text.now ≡ decimal n → ⊥ }
+{
+    let n = number_of(text)?;
+    if n <= 503 {
+        CellId::new(n as u16)
     } else {
         None
     }

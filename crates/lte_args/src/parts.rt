@@ -1,7 +1,7 @@
 //! Parsers for the parts of a command form. Each part is parsed from the arguments that the parts before it leave, and
 //! the last part leaves none.
 
-ghost use Rattle.std.specs.Prelude.{◌≡◌, ◌↔◌, ◌<◌, ◌^◌, ℕ, Option, Some, List, [], ◌∷◌, ◌++◌, map, IfSome};
+ghost use Rattle.std.specs.Prelude.{◌≡◌, ◌↔◌, ◌<◌, ◌≤◌, ◌^◌, ℕ, Option, Some, List, [], ◌∷◌, ◌++◌, map, IfSome};
 ghost use Rattle.std.specs.Prelude.{IsNone, IsTrue, codes, string_bytes};
 ghost use Rattle.std.specs.Fmt.{decimal};
 ghost use Rattle.sample_file.specs.declared.form.SampleForm.{SampleForm as SampleFormValue};
@@ -14,8 +14,8 @@ ghost use Rattle.lte_args.specs.Words.{samples_words, output_words, rule_words, 
 ghost use Rattle.lte_args.specs.Words.{BeginsWithNo, IsAskedLoad, IsAskedTurn, ArePageWords};
 
 use crate::form::{Output, Page, Rule, Turn};
-use crate::numbers::{number_of, steps_of};
-use lte_types::Carrier;
+use crate::numbers::{identity_of, number_of, steps_of};
+use lte_types::{Carrier, CellId};
 use sample_file::SampleForm;
 
 // ---- parts that others follow: the value, and the remaining arguments
@@ -153,6 +153,22 @@ pub(crate) fn evidence_parts(words: &[String]) -> Option<(Carrier, Output, Sampl
     let (carrier, words) = carrier_in(words);
     let (output, samples) = output_of(words)?;
     Some((carrier, output, samples))
+}
+
+// `why`: its identity, 0 to 503 without leading zero, its carrier, output and form of samples.
+pub(crate) fn why_parts(words: &[String]) -> Option<(CellId, Carrier, Output, SampleForm)>
+    ensures some { IfSome result (λ parts. (parts.0 ≤ 503) × (map string_bytes words.now ≡
+        codes "why" ∷ decimal parts.0 ∷ carrier_words parts.1 ++ output_words parts.2 ++ samples_words parts.3)) }
+    ensures none { IsNone result → (n : ℕ) (carrier : CarrierValue) (output : OutputValue) (form : SampleFormValue) →
+        n ≤ 503 → map string_bytes words.now ≡
+        codes "why" ∷ decimal n ∷ carrier_words carrier ++ output_words output ++ samples_words form → ⊥ }
+{
+    let words = after(words, "why")?;
+    let (text, words) = words.split_first()?;
+    let id = identity_of(text.as_str())?;
+    let (carrier, words) = carrier_in(words);
+    let (output, samples) = output_of(words)?;
+    Some((id, carrier, output, samples))
 }
 
 // Parses `certify`: its transmission scheme and sample format.

@@ -27,7 +27,7 @@ use Rattle.report_text.specs.Hits.{hits_text, ids_text}
 use Rattle.report_json.specs.Hits.{hits_json, ids_json}
 use Rattle.lte_args.specs.declared.form.Form.TheVariants.{Report as Reports}
 use Rattle.lte_args.specs.declared.form.Report.{Report}
-use Rattle.lte_args.specs.declared.form.Report.TheVariants.{Hits, Ids, Search, Evidence, Tell}
+use Rattle.lte_args.specs.declared.form.Report.TheVariants.{Hits, Ids, Search, Evidence, Tell, Why}
 use Rattle.lte_args.specs.declared.form.Rule.TheVariants.{Of, Cancel, All as AllLists}
 use Rattle.lte_args.specs.declared.form.Output.{Output}
 use Rattle.lte_args.specs.declared.form.Output.TheVariants.{Text, Json}
@@ -122,6 +122,7 @@ kept_report (Search AllLists) output samples text valid is =
 kept_report (Search Cancel) output samples text valid is = subst (λ (kept : List Sample). IsReport (Search Cancel) output kept text) (take_all most_samples samples valid.most) is
 kept_report (Evidence carrier) output samples text valid is = subst (λ (kept : List Sample). IsReport (Evidence carrier) output kept text) (take_all most_samples samples valid.most) is
 kept_report Tell output samples text valid is = subst (λ (kept : List Sample). IsReport Tell output kept text) (take_all most_samples samples valid.most) is
+kept_report (Why identity carrier) output samples text valid is = subst (λ (kept : List Sample). IsReport (Why identity carrier) output kept text) (take_all most_samples samples valid.most) is
 
 -- a report about the kept samples is the output
 pub kept_output : (report : Report) (output : Output) (form : SampleForm) (front : List Sample) (before now : SourceTold) (text : List ℕ) → HasReadFront form (kept_for report) front before now →

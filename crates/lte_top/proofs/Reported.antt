@@ -13,14 +13,16 @@ use Rattle.report_json.specs.Offset.{telling_json, IsTellJson}
 use Rattle.frequency_offset.specs.Candidates.{taken_of}
 use Rattle.report_text.specs.Offset.{told_text}
 use Rattle.frequency_offset.proofs.OneTold.{is_one_told, is_one_applied}
+use Rattle.reasons.proofs.OneReason.{one_reason}
 use Rattle.lte_args.specs.declared.form.Report.{Report}
-use Rattle.lte_args.specs.declared.form.Report.TheVariants.{Hits, Ids, Search, Evidence, Tell}
+use Rattle.lte_args.specs.declared.form.Report.TheVariants.{Hits, Ids, Search, Evidence, Tell, Why}
 use Rattle.lte_args.specs.declared.form.Output.{Output}
 use Rattle.lte_args.specs.declared.form.Output.TheVariants.{Text, Json}
 use Rattle.lte_args.specs.declared.form.Turn.{Turn}
 use Rattle.lte_args.specs.declared.form.Turn.TheVariants.{AsTold, Steps}
 use Rattle.lte_top.specs.Reports.{IsEvidence, IsEvidenceJson, IsEvidenceText, IsTelling, IsHits, IsIds, IsReport}
 use Rattle.evidence.specs.Receivers.{receiver_of}
+use Rattle.lte_top.specs.Why.{IsWhy, why_text}
 use Rattle.lte_top.specs.Tuning.{IsTurnedAsBytes}
 use Rattle.lte_top.proofs.Lists.{one_line, one_list, one_search}
 
@@ -56,12 +58,17 @@ one_telling : (output : Output) (samples : List Sample) (first second : List ℕ
 one_telling Text samples first second a b = a.is_text ∙ ap told_text (is_one_told samples a.told b.told a.is_told b.is_told) ∙ sym b.is_text
 one_telling Json samples first second a b = one_line (IsTellJson samples) (one_tell_json samples) first second a b
 
+one_why : (identity : ℕ) (carrier : Carrier) (output : Output) (samples : List Sample) (first second : List ℕ) → IsWhy identity carrier output samples first → IsWhy identity carrier output samples second → first ≡ second
+one_why identity carrier output samples first second a b =
+    a.text_is ∙ ap (why_text output identity carrier) (one_reason (receiver_of carrier) samples identity a.reasons b.reasons a.are b.are) ∙ sym b.text_is
+
 pub one_report : (report : Report) (output : Output) (samples : List Sample) (first second : List ℕ) → IsReport report output samples first → IsReport report output samples second → first ≡ second
 one_report Hits output samples first second a b = one_hits output samples first second a b
 one_report Ids output samples first second a b = one_ids output samples first second a b
 one_report (Search rule) output samples first second a b = one_search rule output samples first second a b
 one_report (Evidence carrier) output samples first second a b = one_evidence carrier output samples first second a b
 one_report Tell output samples first second a b = one_telling output samples first second a b
+one_report (Why identity carrier) output samples first second a b = one_why identity carrier output samples first second a b
 
 pub one_turned : (turn : Turn) (samples : List Sample) (first second : List ℕ) → IsTurnedAsBytes turn samples first → IsTurnedAsBytes turn samples second → first ≡ second
 one_turned AsTold samples first second a b = a.bytes ∙ ap bytes_of (is_one_applied samples a.samples b.samples a.are b.are) ∙ sym b.bytes

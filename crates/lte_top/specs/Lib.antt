@@ -13,3 +13,4 @@ pub mod Memory
 pub mod Run
 pub mod Found
 pub mod Applied
+pub mod Why

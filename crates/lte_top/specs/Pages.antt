@@ -32,6 +32,8 @@ help_text Receiver =
     ++ codes "and of four antenna ports\n"
     ++ codes "evidence [--ports 2 | --ports 4 | --prefix long] [--json] [--format cu8]: "
     ++ codes "what supports each cell of the list\n"
+    ++ codes "why PCI [--ports 2 | --ports 4 | --prefix long] [--json] [--format cu8]: "
+    ++ codes "why a cell is in the list or not\n"
     ++ codes "certify [--ports 2 | --ports 4 | --prefix long] [--format cu8]: a certificate for each cell of the list\n"
     ++ codes "check: whether each of the certificates that are read is accepted\n"
     ++ codes "transmit [--ports 2 | --ports 4 | --prefix long] [--load N]: the samples of the cell that is described\n"

@@ -15,7 +15,7 @@ use Rattle.report_text.specs.Hits.{hits_text, ids_text}
 use Rattle.report_json.specs.Evidence.{evidence_json}
 use Rattle.report_json.specs.Hits.{hits_json, ids_json}
 use Rattle.lte_args.specs.declared.form.Report.{Report}
-use Rattle.lte_args.specs.declared.form.Report.TheVariants.{Hits, Ids, Search, Evidence, Tell}
+use Rattle.lte_args.specs.declared.form.Report.TheVariants.{Hits, Ids, Search, Evidence, Tell, Why}
 use Rattle.lte_args.specs.declared.form.Rule.{Rule}
 use Rattle.lte_args.specs.declared.form.Rule.TheVariants.{Of, Cancel, All}
 use Rattle.lte_args.specs.declared.form.Output.{Output}
@@ -26,6 +26,7 @@ use Rattle.explain.specs.Deciding.{deciding_length}
 use Rattle.lte_top.specs.Line.{as_line, IsLine}
 use Rattle.evidence.specs.Receivers.{receiver_of}
 use Rattle.lte_top.specs.Searching.{IsListOf, IsSearch}
+use Rattle.lte_top.specs.Why.{IsWhy}
 
 -- ---- each report
 
@@ -69,6 +70,7 @@ IsReport Ids output samples text = IsIds output samples text
 IsReport (Search rule) output samples text = IsSearch rule output samples text
 IsReport (Evidence carrier) output samples text = IsEvidence carrier output samples text
 IsReport Tell output samples text = IsTelling output samples text
+IsReport (Why identity carrier) output samples text = IsWhy identity carrier output samples text
 
 -- how many samples from the start a cell list needs: a list depends on the first 17 frames only
 abbrev pub kept_for_list : Rule → ℕ
@@ -83,3 +85,4 @@ kept_for Ids = least_samples
 kept_for (Search rule) = kept_for_list rule
 kept_for (Evidence carrier) = most_samples
 kept_for Tell = most_samples
+kept_for (Why identity carrier) = most_samples

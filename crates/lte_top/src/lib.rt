@@ -8,6 +8,7 @@ mod certifying;
 mod laws;
 mod making;
 mod pages;
+mod reasoning;
 mod reporting;
 mod searching;
 mod status;

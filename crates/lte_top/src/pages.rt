@@ -20,6 +20,7 @@ search [RULE] [--json] [--format cu8]: the list of cells of a recording
   --cancel: and the lists of what is left where a cell is taken off
   --all: the lists of one antenna port, of two, of the extended cyclic prefix, and of four antenna ports
 evidence [--ports 2 | --ports 4 | --prefix long] [--json] [--format cu8]: what supports each cell of the list
+why PCI [--ports 2 | --ports 4 | --prefix long] [--json] [--format cu8]: why a cell is in the list or not
 certify [--ports 2 | --ports 4 | --prefix long] [--format cu8]: a certificate for each cell of the list
 check: whether each of the certificates that are read is accepted
 transmit [--ports 2 | --ports 4 | --prefix long] [--load N]: the samples of the cell that is described

@@ -14,6 +14,7 @@ ghost use Rattle.lte_top.specs.Reports.{kept_for_list as kept_in_list};
 ghost use Rattle.lte_top.specs.Run.{Cause, HasOutput};
 ghost use Rattle.lte_args.specs.declared.form.Form.TheVariants.{Report as Reports};
 
+use crate::reasoning::why_text;
 use crate::searching::{read_list, room_for_list, search_text};
 use crate::status::Status;
 use cs_outside::Source;
@@ -42,23 +43,24 @@ pub(crate) fn report_text<S: Source>(
     ensures err { IfErr result (Cause (recording form) (S.told source.old) (S.told source.new)) }
     ensures never_falls { (S.told source.old).faults ≤ (S.told source.new).faults }
 {
-    let front = front_of(alloc, form, kept_for(report), source)?;
+    let front = front_of(alloc, form, kept_for(&report), source)?;
     let text = text_of_report(alloc, report, output, &front)?;
     Ok(text)
 }
 
 // Returns how many samples from the start a report needs.
-fn kept_for(report: Report) -> usize
-    ensures value { result ≡ kept_in report }
+fn kept_for(report: &Report) -> usize
+    ensures value { result ≡ kept_in report.now }
     ensures some { least_samples ≤ result }
     ensures few { result ≤ most_samples }
 {
     match report {
         Report::Hits => LEAST_SAMPLES,
         Report::Ids => LEAST_SAMPLES,
-        Report::Search(rule) => kept_for_list(rule),
+        Report::Search(rule) => kept_for_list(*rule),
         Report::Evidence(_) => MOST_SAMPLES,
         Report::Tell => MOST_SAMPLES,
+        Report::Why(_, _) => MOST_SAMPLES,
     }
 }
 
@@ -124,6 +126,7 @@ fn text_of_report(
         Report::Search(rule) => search_text(alloc, rule, output, recording),
         Report::Evidence(carrier) => evidence_report(alloc, carrier, output, recording),
         Report::Tell => told_text(alloc, output, recording),
+        Report::Why(id, carrier) => why_text(alloc, id, carrier, output, recording),
     }
 }
 

@@ -53,3 +53,5 @@ mod texts;
 mod transmit;
 #[cfg(test)]
 mod usage;
+#[cfg(test)]
+mod why;

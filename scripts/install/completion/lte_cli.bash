@@ -48,6 +48,22 @@ evidence --json --format cu8
 evidence --json
 evidence --format cu8
 evidence
+why PCI --ports 2 --json --format cu8
+why PCI --ports 2 --json
+why PCI --ports 2 --format cu8
+why PCI --ports 2
+why PCI --ports 4 --json --format cu8
+why PCI --ports 4 --json
+why PCI --ports 4 --format cu8
+why PCI --ports 4
+why PCI --prefix long --json --format cu8
+why PCI --prefix long --json
+why PCI --prefix long --format cu8
+why PCI --prefix long
+why PCI --json --format cu8
+why PCI --json
+why PCI --format cu8
+why PCI
 certify --ports 2 --format cu8
 certify --ports 2
 certify --ports 4 --format cu8
@@ -91,6 +107,7 @@ _lte_cli() {
     while read -ra form; do
         for word in "${!given[@]}"; do
             case ${form[word]-} in
+                PCI) [[ ${given[word]} =~ ^([0-9]|[1-9][0-9]|[1-4][0-9][0-9]|50[0-3])$ ]] || continue 2 ;;
                 N) [[ ${given[word]} =~ ^(0|[1-9][0-9]*)$ ]] || continue 2 ;;
                 M) [[ ${given[word]} =~ ^(0|-?[1-9][0-9]*)$ ]] || continue 2 ;;
                 "${given[word]}") ;;

@@ -30,6 +30,7 @@ _lte_tune() {
     while read -ra form; do
         for word in "${!given[@]}"; do
             case ${form[word]-} in
+                PCI) [[ ${given[word]} =~ ^([0-9]|[1-9][0-9]|[1-4][0-9][0-9]|50[0-3])$ ]] || continue 2 ;;
                 N) [[ ${given[word]} =~ ^(0|[1-9][0-9]*)$ ]] || continue 2 ;;
                 M) [[ ${given[word]} =~ ^(0|-?[1-9][0-9]*)$ ]] || continue 2 ;;
                 "${given[word]}") ;;

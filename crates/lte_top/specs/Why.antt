@@ -1,0 +1,23 @@
+-- Why an identity is in the list of a carrier, or not. (own)
+use Rattle.std.specs.Prelude.{◌≡◌, ℕ, List}
+use Rattle.cs_num.specs.declared.Sample.{Sample}
+use Rattle.lte_types.specs.declared.carrier.Carrier.{Carrier}
+use Rattle.lte_args.specs.declared.form.Output.{Output}
+use Rattle.lte_args.specs.declared.form.Output.TheVariants.{Text, Json}
+use Rattle.evidence.specs.Receivers.{receiver_of}
+use Rattle.reasons.specs.declared.reason.Reason.{Reason}
+use Rattle.reasons.specs.Reason.{IsReasonFor}
+use Rattle.reason_report.specs.Json.{reasons_json}
+use Rattle.reason_report.specs.Text.{reasons_text}
+use Rattle.lte_top.specs.Line.{as_line}
+
+abbrev pub why_text : Output → ℕ → Carrier → List Reason → List ℕ
+why_text Text identity carrier reasons = reasons_text identity carrier reasons
+why_text Json identity carrier reasons = as_line (reasons_json identity carrier reasons)
+
+-- the reasons for an identity in the list of a carrier, as this text
+pub record IsWhy (identity : ℕ) (carrier : Carrier) (output : Output) (samples : List Sample) (text : List ℕ) :
+    Type 0 where
+  pub reasons : List Reason
+  pub are : IsReasonFor (receiver_of carrier) samples identity reasons
+  pub text_is : text ≡ why_text output identity carrier reasons

@@ -1,0 +1,34 @@
+//! The words that the text and the JSON share.
+
+ghost use Rattle.std.specs.Prelude.{◌≡◌, None};
+ghost use Rattle.reason_report.specs.Words.{no_hit_word as no_hit_of, unread_by, unread_word as unread_of};
+
+use reasons::Attempt;
+
+/// Returns the rule that a cell without a MIB fails.
+pub(crate) fn unread_word(attempt: &Attempt) -> &'static str
+    ensures { result.now ≡ unread_of attempt.now }
+{
+    match attempt.ports {
+        Some(_) => "ports",
+        None => cost_word(attempt.cost, attempt.total),
+    }
+}
+
+// Whether the word of minimum cost is within a quarter of the total.
+fn cost_word(cost: u32, total: u32) -> &'static str
+    ensures { result.now ≡ unread_by None cost total }
+{
+    if 0 < total && 4 * cost as u64 <= total as u64 {
+        "crc"
+    } else {
+        "cost"
+    }
+}
+
+/// Returns whether a signal has less than a quarter of the energy, by its fraction in thousandths.
+pub(crate) fn no_hit_word(ratio: u128) -> &'static str
+    ensures { result.now ≡ no_hit_of ratio }
+{
+    if ratio < 250 { "no-hit" } else { "outside" }
+}

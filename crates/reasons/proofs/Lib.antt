@@ -1,0 +1,3 @@
+pub mod OneReason
+pub mod InList
+pub mod Steps

@@ -1,0 +1,9 @@
+use Rattle.reasons.proofs.OneReason.{one_reason}
+use Rattle.reasons.proofs.InList.{listed_is_in_list}
+use Rattle.reasons.proofs.laws.reasons_in_plain_words.Goals as goal
+
+pub returns-clause-listed : goal.returns-clause-listed
+returns-clause-listed c = listed_is_in_list
+
+pub returns-clause-one : goal.returns-clause-one
+returns-clause-one c = one_reason

@@ -1,0 +1,36 @@
+-- How near a frame comes to a master block. (own)
+use Rattle.std.specs.Prelude.{◌≡◌, ℕ, ◌*◌, Bool, nat_lt, if◌then◌else◌, List, ℤ, MatchOption}
+use Rattle.conv_code.specs.Cost.{word_cost}
+use Rattle.tailbite.specs.LeastWord.{IsLeastWord}
+use Rattle.pbch.specs.Master.{total, Tells, TellsNothing}
+use Rattle.reasons.specs.declared.reason.Attempt.{Attempt}
+
+-- the values carry a master block of a cell with this count of antenna ports
+pub record HasPorts (values : List (List ℤ)) (ports : ℕ) : Type 0 where
+  pub word : List Bool
+  pub carries : Tells values word ports
+
+-- these values have this minimum cost and total, and the antenna ports of the master block that they carry, if any
+pub record IsAttempt (values : List (List ℤ)) (phase : ℕ) (attempt : Attempt) : Type 0 where
+  pub at_phase : attempt.phase ≡ phase
+  pub word : List Bool
+  pub least : IsLeastWord values word
+  pub cost : attempt.cost ≡ word_cost values word
+  pub total : attempt.total ≡ total values
+  pub ports : MatchOption attempt.ports (TellsNothing values) (HasPorts values)
+
+-- the one with the smaller ratio of cost to total, the first of equals
+abbrev pub closer : Attempt → Attempt → Attempt
+closer first second = if nat_lt (second.cost * first.total) (first.cost * second.total) then second else first
+
+-- an attempt is the one that comes closest to a master block, of those at the four phases of a frame
+pub record IsClosest (values : ℕ → List (List ℤ)) (attempt : Attempt) : Type 0 where
+  pub first : Attempt
+  pub second : Attempt
+  pub third : Attempt
+  pub fourth : Attempt
+  pub is_first : IsAttempt (values 0) 0 first
+  pub is_second : IsAttempt (values 1) 1 second
+  pub is_third : IsAttempt (values 2) 2 third
+  pub is_fourth : IsAttempt (values 3) 3 fourth
+  pub is : attempt ≡ closer (closer (closer first second) third) fourth

@@ -1,0 +1,6 @@
+pub mod Strongest
+pub mod Attempt
+pub mod Reason
+pub mod Laws
+pub mod Swept
+pub mod Terms

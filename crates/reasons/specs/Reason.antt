@@ -1,0 +1,112 @@
+-- Why an identity is in the list of a recording, or not: the first rule that fails. (own)
+use Rattle.std.specs.Prelude.{◌≡◌, ℕ, ◌/◌, ◌%◌, Bool, nat_eq, int_lt, if◌then◌else◌, MatchBool, List, [], ◌∷◌, filter, map, ℤ}
+use Rattle.std.specs.List.{AllZip}
+use Rattle.cs_num.specs.declared.Sample.{Sample}
+use Rattle.lte_types.specs.CellPlace.{Place}
+use Rattle.lte_types.specs.Frames.{frames_from}
+use Rattle.lte_types.specs.Carrier.{prefix_of}
+use Rattle.lte_types.specs.Numerology.{symbol_step}
+use Rattle.lte_types.specs.declared.carrier.Carrier.{Carrier}
+use Rattle.lte_types.specs.declared.entry.Entry.{Entry}
+use Rattle.lte_types.specs.declared.frame.Half.{Half}
+use Rattle.lte_types.specs.declared.frame.Half.TheVariants.{Zero, Five}
+use Rattle.lte_types.specs.declared.hit.Hit.{Hit}
+use Rattle.pss_search.specs.Hits.{hits_of}
+use Rattle.sss_detect.specs.Identity.{prefix_scores, prefix_identity}
+use Rattle.sss_detect.specs.Second.{choice_of}
+use Rattle.explain.specs.Receiver.{Receiver, has_step_before, place_by, sums_by}
+use Rattle.explain.specs.Entries.{IsListFor}
+use Rattle.reasons.specs.declared.reason.Reason.{Reason}
+use Rattle.reasons.specs.declared.reason.Reason.TheVariants.{Listed, NoHit, NoRoom, OtherIdentity, NoMib}
+use Rattle.reasons.specs.declared.reason.Attempt.{Attempt}
+use Rattle.reasons.specs.declared.reason.OtherCell.{OtherCell}
+use Rattle.reasons.specs.Strongest.{thousandths, strongest_place}
+use Rattle.reasons.specs.Attempt.{IsClosest}
+
+-- ---- what is listed
+
+abbrev pub has_identity : ℕ → Entry → Bool
+has_identity identity entry = nat_eq entry.id identity
+
+-- the reason of an entry of the list
+abbrev pub listed : Entry → Reason
+listed entry = Listed (record { start = entry.start; sfn = entry.sfn; ports = entry.ports })
+
+-- the reasons are those of the entries of the recording's list with this identity
+pub record AreListed (receiver : Receiver) (recording : List Sample) (identity : ℕ) (reasons : List Reason) :
+    Type 0 where
+  pub list : List Entry
+  pub is_list : IsListFor receiver recording list
+  pub each : reasons ≡ map listed (filter (has_identity identity) list)
+
+-- ---- the rules that a hit may fail, in their order
+
+abbrev pub ratio_of : Hit → ℕ
+ratio_of hit = thousandths hit.peak hit.energy hit.n2
+
+-- there is no room for the secondary signal before the hit
+abbrev pub no_room : Carrier → Hit → Reason
+no_room carrier hit = NoRoom (record {
+  t = hit.t;
+  ratio = ratio_of hit;
+  step = symbol_step (prefix_of carrier);
+})
+
+-- the greater of the scores of a group in the two halves of a frame
+abbrev pub group_score : (ℕ → Half → ℤ) → ℕ → ℤ
+group_score scores n1 = if int_lt (scores n1 Zero) (scores n1 Five) then scores n1 Five else scores n1 Zero
+
+-- the hit has another identity, with this score beside that of the identity's own group
+abbrev pub other_cell : Carrier → List Sample → ℕ → Hit → OtherCell
+other_cell carrier recording identity hit =
+    let scores = prefix_scores (prefix_of carrier) recording hit in
+    record {
+      t = hit.t;
+      ratio = ratio_of hit;
+      id = (place_by carrier recording hit).id;
+      best = choice_of scores (prefix_identity (prefix_of carrier) recording hit);
+      own = record { score = group_score scores (identity / 3) };
+    }
+
+-- the frames of the hit's cell carry no master block that the receiver takes; so near comes the first of them alone
+pub record HasNoMib (receiver : Receiver) (recording : List Sample) (hit : Hit) (reason : Reason) : Type 0 where
+  pub attempt : Attempt
+  pub closest : IsClosest
+      (λ phase. sums_by receiver recording (place_by receiver.carrier recording hit) (frames_from 1 0 phase)) attempt
+  pub is : reason ≡ NoMib (record {
+    t = hit.t;
+    ratio = ratio_of hit;
+    start = (place_by receiver.carrier recording hit).start;
+    attempt = attempt;
+  })
+
+-- the first rule that the cell of an identity fails at a hit of its root, where the list has no entry with it
+abbrev pub IsFirstFailing : Receiver → List Sample → ℕ → Hit → Reason → Type 0
+IsFirstFailing receiver recording identity hit reason =
+    MatchBool (has_step_before receiver.carrier hit)
+    (MatchBool (nat_eq (place_by receiver.carrier recording hit).id identity)
+    (HasNoMib receiver recording hit reason)
+    (reason ≡ OtherIdentity (other_cell receiver.carrier recording identity hit)))
+    (reason ≡ no_room receiver.carrier hit)
+
+-- ---- the reasons for an identity
+
+abbrev pub has_root : ℕ → Hit → Bool
+has_root n2 hit = nat_eq hit.n2 n2
+
+-- each entry with the identity; else of each hit of its root the first rule that fails there; and where there is no
+-- such hit, the sample at which its signal is strongest
+abbrev pub AreReasons : Receiver → List Sample → ℕ → List Entry → List Hit → List Reason → Type 0
+AreReasons receiver recording identity (entry ∷ entries) hits reasons = reasons ≡ map listed (entry ∷ entries)
+AreReasons receiver recording identity [] [] reasons =
+    reasons ≡ NoHit (strongest_place recording (identity % 3)) ∷ []
+AreReasons receiver recording identity [] (hit ∷ hits) reasons =
+    AllZip (IsFirstFailing receiver recording identity) (hit ∷ hits) reasons
+
+-- why an identity is in the list of a recording by a receiver, or not
+pub record IsReasonFor (receiver : Receiver) (recording : List Sample) (identity : ℕ) (reasons : List Reason) :
+    Type 0 where
+  pub list : List Entry
+  pub is_list : IsListFor receiver recording list
+  pub are : AreReasons receiver recording identity (filter (has_identity identity) list)
+      (filter (has_root (identity % 3)) (hits_of recording)) reasons

@@ -1,0 +1,127 @@
+//! The first rule that a cell fails at a hit.
+
+ghost use Rattle.std.specs.Prelude.{◌≡◌, ◌%◌, ◌≤◌, true, false};
+ghost use Rattle.lte_types.specs.CellPlace.{Place};
+ghost use Rattle.pss_search.specs.Hits.{IsInSpan, IsSmallHit};
+ghost use Rattle.explain.specs.Receiver.{HasRoom, has_step_before, place_by};
+ghost use Rattle.reasons.specs.Reason.{IsFirstFailing, HasNoMib, no_room, other_cell as other_cell_of, ratio_of as ratio_in};
+
+use crate::attempts::closest_attempt;
+use crate::reason::{EarlyHit, OtherCell, Reason, UnreadCell};
+use crate::scores::own_score;
+use crate::strongest::thousandths;
+use explain::FrameReader;
+use lte_types::{Carrier, CellId, CellPlace, Hit};
+use sample_file::Recording;
+use sss_detect::{place_with, ranking_with};
+use tailbite::Trellis;
+
+/// Returns the first rule that the cell of an identity fails at a hit of its root, if the list has no entry with it.
+pub(crate) fn first_failing<F: FrameReader>(
+    reader: &F,
+    recording: &Recording,
+    hit: &Hit,
+    id: CellId,
+    work: &mut Trellis,
+) -> Reason
+    requires span { IsInSpan hit.now }
+    requires small { IsSmallHit hit.now }
+    ensures { IsFirstFailing F.receiver recording.now id hit.now result }
+{
+    let carrier = reader.scheme().carrier;
+    let step = carrier.prefix().step();
+    if step <= hit.t as usize {
+        failing_with_room(reader, recording, hit, id, work)
+    } else {
+        Reason::NoRoom(EarlyHit {
+            t: hit.t,
+            ratio: ratio_of(hit),
+            step,
+        })
+    }
+}
+
+// Returns the first rule that the cell fails at a hit with room for the secondary signal before it.
+fn failing_with_room<F: FrameReader>(
+    reader: &F,
+    recording: &Recording,
+    hit: &Hit,
+    id: CellId,
+    work: &mut Trellis,
+) -> Reason
+    requires room { HasRoom F.receiver.carrier hit.now }
+    requires small { IsSmallHit hit.now }
+    ensures { IsFirstFailing F.receiver recording.now id hit.now result }
+{
+    let carrier = reader.scheme().carrier;
+    let place = place_of(recording, hit, carrier);
+    if place.id() == id {
+        no_mib(reader, recording, hit, place, work)
+    } else {
+        Reason::OtherIdentity(other_cell(recording, hit, carrier, id))
+    }
+}
+
+// The place of the cell of a hit.
+fn place_of(recording: &Recording, hit: &Hit, carrier: Carrier) -> CellPlace
+    requires { HasRoom carrier hit.now }
+    ensures { result ≡ place_by carrier recording.now hit.now }
+{
+    let end = recording.len();
+    prove!(hit.t as usize + 128 <= end);
+    place_with(recording, hit, carrier.prefix())
+}
+
+// How close the cell of a hit is to a MIB.
+fn no_mib<F: FrameReader>(
+    reader: &F,
+    recording: &Recording,
+    hit: &Hit,
+    place: CellPlace,
+    work: &mut Trellis,
+) -> Reason
+    requires place { place ≡ place_by F.receiver.carrier recording.now hit.now }
+    requires span { IsInSpan hit.now }
+    requires small { IsSmallHit hit.now }
+    ensures { HasNoMib F.receiver recording.now hit.now result }
+{
+    let end = recording.len();
+    let start = place.start();
+    prove!(start as usize + 19_200 <= end);
+    let attempt = closest_attempt(reader, recording, place, work);
+    Reason::NoMib(UnreadCell {
+        t: hit.t,
+        ratio: ratio_of(hit),
+        start,
+        attempt,
+    })
+}
+
+// The other cell of a hit, with its score and that of the identity.
+fn other_cell(recording: &Recording, hit: &Hit, carrier: Carrier, id: CellId) -> OtherCell
+    requires room { HasRoom carrier hit.now }
+    requires small { IsSmallHit hit.now }
+    ensures { result ≡ other_cell_of carrier recording.now id hit.now }
+{
+    let end = recording.len();
+    prove!(hit.t as usize + 128 <= end);
+    let prefix = carrier.prefix();
+    let ranking = ranking_with(recording, hit, prefix);
+    let own = own_score(recording, hit, prefix, id.n1());
+    OtherCell {
+        t: hit.t,
+        ratio: ratio_of(hit),
+        id: place_of(recording, hit, carrier).id(),
+        best: ranking.best,
+        own,
+    }
+}
+
+// The fraction of a hit in thousandths, rounded down.
+fn ratio_of(hit: &Hit) -> u128
+    requires span { IsInSpan hit.now }
+    requires small { IsSmallHit hit.now }
+    ensures { result ≡ ratio_in hit.now }
+{
+    thousandths(hit.peak, hit.energy, hit.n2)
+}

@@ -1,0 +1,16 @@
+//! Why an identity is in the list of cells of a recording or not: the first rule that fails, with its numbers.
+#![tactic(auto)]
+
+mod attempts;
+mod failing;
+mod laws;
+mod reason;
+mod reasons;
+mod scores;
+mod strongest;
+
+pub use laws::reasons_in_plain_words;
+pub use reason::{
+    Attempt, EarlyHit, ListedCell, OtherCell, OwnScore, Reason, StrongestPlace, UnreadCell,
+};
+pub use reasons::reasons_by;
