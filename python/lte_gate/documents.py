@@ -39,7 +39,7 @@ BUDGETS = {
     "docs/PERFORMANCE.md": 1550,
     "docs/PROOF_NOTES.md": 5400,
     "docs/RECORDINGS.md": 4100,
-    "scripts/README.md": 300,
+    "scripts/README.md": 340,
     "python/lte_reference/README.md": 450,
 }
 EXAMPLES = TOP / "scripts/examples/outputs"
