@@ -1,4 +1,5 @@
--- A list holds each cell that its receiver hears, and has an entry for each of which it hears the master information block.
+-- A list holds each cell that its receiver hears, and has an entry for each of which it hears the master information
+-- block.
 use Rattle.std.proofs.Common.{◌≡◌, ℕ, ◌*◌, ◌/◌, ◌%◌, ◌<◌, ◌≤◌, inl, inr, arith, refl, ap, sym, subst, ◌∙◌, append-nil, Bool, List, length, map, nat_eq, nat_le, true}
 use Rattle.std.specs.Prelude.{◌&&◌, Result}
 use Rattle.std.specs.List.{Contains}
@@ -67,8 +68,9 @@ plan_known FourPorts plan known = known
 pub number_fits : (sfn offset : ℕ) → sfn ≤ 1023 → offset < 19200 → number_at_start sfn offset ≤ 1023
 number_fits sfn offset known within = let e = (first_frame sfn offset known within).number in omega (arith, e)
 
--- a receiver whose lists hold each cell that it hears, and what it hears: it takes the blocks of its carrier, and has the plan's answer on the system information that it
--- hears; and it hears each cell that is received through channels, and each to which the recording is faithful
+-- a receiver whose lists hold each cell that it hears, and what it hears: it takes the blocks of its carrier, and has
+-- the plan's answer on the system information that it hears; and it hears each cell that is received through channels,
+-- and each to which the recording is faithful
 pub record HearsCells (receiver : Receiver) : Type 0 where
   pub single : 1 ≤ receiver.most_frames
   pub taken : is_wanted receiver.ports (ports_of receiver.carrier) ≡ true

@@ -1,4 +1,5 @@
--- A receiver of one antenna port hears each cell that is received through channels, whatever else the cell sends, and so each to which the recording is faithful.
+-- A receiver of one antenna port hears each cell that is received through channels, whatever else the cell sends, and
+-- so each to which the recording is faithful.
 use Rattle.std.proofs.Common.{ℕ, ◌*◌, ◌/◌, ◌%◌, ◌≤◌, List, Bool, arith, refl, subst}
 use Rattle.cs_num.specs.declared.Cpx.{Cpx}
 use Rattle.cs_num.specs.declared.Sample.{Sample}
@@ -67,7 +68,8 @@ through_cell_is_heard recording plan grids sfn offset sendable through =
 
 -- ---- other premises
 
--- a receiver of any carrier hears the master information block of a cell to which the recording is faithful where its values have the signs of the codeword
+-- a receiver of any carrier hears the master information block of a cell to which the recording is faithful where its
+-- values have the signs of the codeword
 pub faithful_master_is_heard : (receiver : Receiver) (recording : List Sample) (plan : CellPlan) (grids : Port → Elements) (sfn offset : ℕ) (gains : List Cpx) → plan.identity ≤ 503 →
     IsFaithfulBy receiver.carrier recording plan grids sfn offset gains →
     SpeakOfWord (pbch_c_init plan.identity) (receiver.count * (number_at_start sfn offset % 4)) (word_of_master (master_of_plan receiver.carrier plan) (number_at_start sfn offset))

@@ -1,4 +1,5 @@
--- Values of subframe 5 that have the signs of a plan's bits: they are read with its indicator and its grant, and say its fields.
+-- Values of subframe 5 that have the signs of a plan's bits: they are read with its indicator and its grant, and say
+-- its fields.
 use Rattle.std.proofs.Common.{◌≡◌, ℕ, ◌+◌, ◌%◌, ◌≤◌, inl, true, List, length, Ok, refl, arith}
 use Rattle.std.proofs.lemmas.Bool.{leb-true, false≢true}
 use Rattle.cs_num.specs.declared.Sample.{Sample}

@@ -34,8 +34,8 @@ pub fn explain_clean(recording: &Recording, work: &mut Workspace3, list: &mut En
     explain_clean_by(&ExtendedPrefix, recording, None, work, list);
 }
 
-/// A law: a cell with the extended cyclic prefix is heard, part by part, if the recording is faithful to it (`IsHeardBy`,
-/// `clean_air/specs/Heard.antt`).
+/// A law: a cell with the extended cyclic prefix is heard, part by part, if the recording is faithful to it
+/// (`IsHeardBy`, `clean_air/specs/Heard.antt`).
 pub fn faithful_cells_are_heard()
     ensures { FaithfulIsHeard long_prefix_receiver }
 {}

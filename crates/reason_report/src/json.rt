@@ -14,8 +14,8 @@ use report_parts::rule_word;
 use std::alloc::{AllocError, Global};
 use std::fmt::Write;
 
-/// Returns the `reasons` for `id` in the list of `carrier` as JSON in one line, without a line feed: an object with both
-/// and an array of objects. Fails only if an allocation fails. (own)
+/// Returns the `reasons` for `id` in the list of `carrier` as JSON in one line, without a line feed: an object with
+/// both and an array of objects. Fails only if an allocation fails. (own)
 pub fn json_of_reasons(
     alloc: Global,
     id: CellId,

@@ -15,8 +15,8 @@ use report_parts::rule_word;
 use std::alloc::{AllocError, Global};
 use std::fmt::Write;
 
-/// Returns the text of the `reasons` for `id` in the list of `carrier`: a line with both and the count of reasons, and a
-/// line for each. Fails only if an allocation fails. (own)
+/// Returns the text of the `reasons` for `id` in the list of `carrier`: a line with both and the count of reasons, and
+/// a line for each. Fails only if an allocation fails. (own)
 pub fn text_of_reasons(
     alloc: Global,
     id: CellId,

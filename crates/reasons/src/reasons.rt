@@ -17,8 +17,8 @@ use sample_file::Recording;
 use std::alloc::{AllocError, Global};
 use tailbite::Trellis;
 
-/// Returns why `id` is in the list of `recording` by `reader`, or not: its entries, or at each hit of its root the first
-/// rule that fails, or the strongest sample. Fails only if an allocation fails. (own)
+/// Returns why `id` is in the list of `recording` by `reader`, or not: its entries, or at each hit of its root the
+/// first rule that fails, or the strongest sample. Fails only if an allocation fails. (own)
 pub fn reasons_by<F: FrameReader>(
     alloc: Global,
     reader: &F,

@@ -1,4 +1,5 @@
--- The system information of a recording that is faithful to both ports: the values of the first frame of even number have the signs of the plan's bits.
+-- The system information of a recording that is faithful to both ports: the values of the first frame of even number
+-- have the signs of the plan's bits.
 use Rattle.std.proofs.Common.{◌≡◌, ℕ, zero, suc, ◌+◌, ◌*◌, ◌/◌, ◌%◌, ◌<◌, ◌≤◌, inl, inr, Bool, true, false, List, length, get_or, pos, nat_eq, nat_lt, ℤ, refl, ap, ap₂, sym, subst, ◌∙◌, arith}
 use Rattle.std.specs.Prelude.{if◌then◌else◌}
 use Rattle.std.proofs.lemmas.Bool.{cases_lt, lt-ltb, le-ltb}
