@@ -119,7 +119,7 @@ estimate_is_near eps gain samples signal seen =
         omega (arith, h, m)
 
 pub gain_is_candidate : GainIsCandidate
-gain_is_candidate eps gain samples signal seen = record { size = seen.size; near = wider (square (minus gain (estimate samples signal))) (estimate_is_near eps gain samples signal seen) }
+gain_is_candidate eps gain samples signal seen = record { range = seen.size; near = wider (square (minus gain (estimate samples signal))) (estimate_is_near eps gain samples signal seen) }
   where
     wider : (s : ℕ) → s ≤ 1 → s ≤ 4
     wider s h = omega (arith, h)

@@ -19,12 +19,12 @@ use Rattle.cancel.proofs.Found.{none_before, passed, taken, best_is_found}
 -- a number is a candidate or not
 candidate_or_not : (middle gain : Cpx) → IsCandidate middle gain ⊎ (IsCandidate middle gain → ⊥)
 candidate_or_not middle gain = elim (cases_lt (square gain) 1) [
-  | inl nothing ↦ inr (λ is. let least = is.size.least in absurd (omega (arith, nothing, least)))
+  | inl nothing ↦ inr (λ is. let least = is.range.least in absurd (omega (arith, nothing, least)))
   | inr least ↦ elim (cases_lt 784 (square gain)) [
-    | inl large ↦ inr (λ is. let most = is.size.most in absurd (omega (arith, large, most)))
+    | inl large ↦ inr (λ is. let most = is.range.most in absurd (omega (arith, large, most)))
     | inr most ↦ elim (cases_lt 4 (square (minus gain middle))) [
       | inl far ↦ inr (λ is. let near = is.near in absurd (omega (arith, far, near)))
-      | inr near ↦ inl (record { size = record { least = least; most = most }; near = near })
+      | inr near ↦ inl (record { range = record { least = least; most = most }; near = near })
     ]
   ]
 ]
@@ -70,6 +70,6 @@ some_subtraction recording plan start number = by_choice (some_choice (greatest_
         → (answer : Option Subtracted) × IsSubtraction recording plan start number answer
     by_choice (None, none) = (None, none)
     by_choice (Some choice, is) = (
-      Some (taken_with recording plan start number choice.gain is.0.candidate.size),
+      Some (taken_with recording plan start number choice.gain is.0.candidate.range),
       record { gain = is.0; greatest = refl; residue = refl; before = refl; after = refl },
     )

@@ -12,7 +12,7 @@ estimate samples signal = quotient (correlation_below 128 samples signal) (energ
 
 -- a gain of magnitude 1 to 28, at distance at most 2 from the estimate
 pub record IsCandidate (middle gain : Cpx) : Type 0 where
-  pub size : IsGain gain
+  pub range : IsGain gain
   pub near : square (minus gain middle) ≤ 4
 
 -- the largest component magnitude among f 0, .., f (n - 1)

@@ -1,5 +1,4 @@
--- Any receiver's cell list contains each cell of the receiver's transmission scheme to which the recording is faithful.
--- (own)
+-- A receiver's cell list contains each cell of its transmission scheme that it hears, and each MIB that it hears. (own)
 use Rattle.std.specs.Prelude.{◌≡◌, ℕ, ◌/◌, ◌≤◌, nat_lt, if◌then◌else◌, MatchBool, List, length, Option, Result, Ok, Err}
 use Rattle.std.specs.List.{Contains}
 use Rattle.cs_num.specs.declared.Cpx.{Cpx}
@@ -99,9 +98,9 @@ HoldsHeardBy receiver recording list =
     IsHeardBy receiver recording plan sfn offset →
     HoldsCellBy receiver.carrier list plan (start_of offset) (number_at_start sfn offset)
 
--- the list has an entry for each cell of which the receiver hears the master information block, whatever its width, its
--- other fields, its antenna port count and its system information; no other entry has its identity, start and frame
--- number
+-- the list has an entry for each cell of which the receiver hears the master information block, of any width, with an
+-- antenna port count that the receiver accepts, whatever its system information; no other entry has its identity, start
+-- and frame number
 abbrev pub HoldsMasterBy : Receiver → List Sample → List Entry → Type 0
 HoldsMasterBy receiver recording list =
     (identity : ℕ) (master : SentMaster) (sfn offset : ℕ) → IsTakenBy receiver master →
@@ -141,11 +140,12 @@ HoldsCleanBy carrier recording list =
     IsKnownBy carrier plan → IsCleanBy carrier load recording plan sfn offset gains eps →
     HoldsCellBy carrier list plan (start_of offset) (number_at_start sfn offset)
 
--- the receiver's list of a recording, which contains each cell of the receiver's scheme that is received through
--- channels, to which the recording is faithful, or for which it is clean, whatever else the cell sends
+-- the receiver's list of a recording: it is the defined one, and contains each cell of the receiver's scheme that the
+-- receiver hears, each MIB that it hears, and each cell that is received through channels, to which the recording is
+-- faithful, or for which it is clean
 pub record IsListBy (receiver : Receiver) (recording : List Sample) (list : List Entry) : Type 0 where
   pub explained : IsListFor receiver recording list
-  -- all clauses after `master` follow from `heard` by laws
+  -- for the four receivers, the clauses after `master` follow from `heard` by laws
   pub heard : HoldsHeardBy receiver recording list
   pub master : HoldsMasterBy receiver recording list
   pub through : HoldsThroughBy receiver.carrier recording list
@@ -153,19 +153,19 @@ pub record IsListBy (receiver : Receiver) (recording : List Sample) (list : List
   pub loaded : HoldsBy receiver.carrier recording list
   pub holds : HoldsCleanBy receiver.carrier recording list
 
--- the list for one antenna port, with each cell to which the recording is faithful
+-- the list for one antenna port, with each cell that is heard
 abbrev pub IsListOfCells : List Sample → List Entry → Type 0
 IsListOfCells = IsListBy one_port_receiver
 
--- the list contains the scheme's cells that are received through channels, and those to which the recording is faithful
+-- the list contains the scheme's cells that are heard, also as received through channels or faithfully
 pub record HoldsSeenBy (receiver : Receiver) (recording : List Sample) (list : List Entry) : Type 0 where
   pub heard : HoldsHeardBy receiver recording list
   pub master : HoldsMasterBy receiver recording list
   pub through : HoldsThroughBy receiver.carrier recording list
   pub faithful : HoldsFaithfulBy receiver.carrier recording list
 
--- a law: this receiver's list contains its scheme's cells that are received through channels, and those to which the
--- recording is faithful
+-- a law: this receiver's list contains its scheme's cells that it hears, also as received through channels or
+-- faithfully
 abbrev pub HoldsCells : Receiver → Type 0
 HoldsCells receiver =
     (recording : List Sample) (list : List Entry) → least_samples ≤ length recording →

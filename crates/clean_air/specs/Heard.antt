@@ -77,7 +77,7 @@ pub record IsTakenBy (receiver : Receiver) (master : SentMaster) : Type 0 where
 
 -- ---- reception up to the master information block
 
--- the identity is detected: at each primary signal of the cell in the later half of the span of PSS detections, its
+-- the identity is detected: at the primary signal of the cell in the later half of the span of PSS detections, its
 -- identity group and half frame have the greatest score of all 336 pairs, and each pair before them a smaller one
 abbrev pub IdentityIsBest : Carrier → List Sample → ℕ → ℕ → Type 0
 IdentityIsBest carrier recording identity offset =
@@ -91,7 +91,7 @@ sent_place identity offset = record { id = identity; start = start_of offset }
 -- A receiver hears the master information block of a cell in a recording that begins at this offset of the frame
 -- numbered sfn. `signals`: the primary signals stand out by the rule of the list. `identity`: the secondary signals
 -- give the cell's identity. `broadcast`: each soft value of the broadcast channel in the first whole frame has the sign
--- of its scrambled bit. Nothing is required of the other frames or of any other channel.
+-- of its scrambled bit. Nothing is required of the broadcast channel in other frames, or of any other channel.
 pub record IsMasterHeard (receiver : Receiver) (recording : List Sample) (id : ℕ) (master : SentMaster)
     (sfn offset : ℕ) : Type 0 where
   pub number : sfn ≤ 1023

@@ -1,4 +1,4 @@
--- Laws of reception: what each premise on a cell's samples gives of the parts of its reception. (own)
+-- Laws of reception: which premises on a cell's samples imply that it is heard. (own)
 use Rattle.std.specs.Prelude.{ℕ, List}
 use Rattle.cs_num.specs.declared.Cpx.{Cpx}
 use Rattle.cs_num.specs.declared.Sample.{Sample}
@@ -17,7 +17,7 @@ use Rattle.clean_air.specs.Echo.{IsEchoedBy}
 use Rattle.clean_air.specs.Clean.{IsKnownBy}
 use Rattle.clean_air.specs.Heard.{IdentityIsBest, IsHeardBy}
 
--- a primary signal with errors of at most 14,000 times its gain's square stands out by the rule of the list
+-- a primary signal with an error energy of at most 14,000 times its gain's square stands out by the rule of the list
 abbrev pub PrimaryStandsOutByRule : Type 0
 PrimaryStandsOutByRule = PrimaryStandsOutBy 14000 250
 

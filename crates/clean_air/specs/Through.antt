@@ -37,9 +37,9 @@ pub record IsPrimaryPlace (offset t : ℕ) (half : Half) : Type 0 where
   pub frame : ℕ
   pub place : t + offset ≡ frame_length * frame + primary_start half
 
--- the primary signals of a cell stand out: each that begins within 9 samples of the span of PSS detections, and has
--- room before it for the secondary one, has at least a quarter of the energy of its 128 samples, and a greater ratio of
--- it than the samples at distance 1 to 9. This is the rule of the list itself, and needs no gain.
+-- the primary signals of a cell stand out: each that begins within 9 samples of the span of PSS detections, at most 9
+-- samples before there is room for the secondary one, has at least a quarter of the energy of its 128 samples, and a
+-- greater ratio of it than the samples at distance 1 to 9. This is the rule of a hit, without ties, and needs no gain.
 abbrev pub SignalsStandOut : Carrier → List Sample → ℕ → ℕ → Type 0
 SignalsStandOut carrier recording identity offset =
     (t : ℕ) (half : Half) → IsPrimaryPlace offset t half → symbol_step (prefix_of carrier) ≤ t + 9 →

@@ -2,8 +2,8 @@
 //!
 //! The promise (`IsListBy`): each cell of the transmission scheme that sends a known plan (`IsKnownBy`) has exactly one
 //! entry with its identity, start and frame number, read at cost 0 from its first whole frame, if the receiver hears
-//! the cell (`heard`, `specs/Heard.antt`). An entry's MIB may have any bandwidth (`master`). A cell is heard if the
-//! recording
+//! the cell (`heard`, `specs/Heard.antt`). A cell of any bandwidth whose MIB is heard has an entry too (`master`). A
+//! cell is heard if the recording
 //!
 //! - is faithful to the cell (`faithful`, `specs/Faithful.antt`): each symbol that the receiver reads is what the
 //!   antenna ports send, each times one gain, up to errors whose energy is small compared with the gains;

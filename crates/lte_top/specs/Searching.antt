@@ -20,8 +20,9 @@ use Rattle.lte_top.specs.Line.{as_line, IsLine}
 
 -- ---- one transmission scheme
 
--- the list of cells with one transmission scheme: it holds every cell that the recording carries faithfully, or clean
--- whatever else the antenna ports send, and, for one antenna port, through a varying channel
+-- the list of cells with one transmission scheme: it holds every cell that is heard, also one that the recording
+-- carries faithfully, or clean whatever else the antenna ports send, and, for one antenna port, through a varying
+-- channel
 abbrev pub IsListOf : Carrier → List Sample → List Entry → Type 0
 IsListOf carrier = IsListBy (receiver_of carrier)
 

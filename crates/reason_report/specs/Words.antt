@@ -3,8 +3,8 @@ use Rattle.std.specs.Prelude.{ℕ, ◌*◌, Bool, nat_lt, nat_le, ◌&&◌, if�
 use Rattle.reasons.specs.declared.reason.Attempt.{Attempt}
 use Rattle.reasons.specs.declared.reason.StrongestPlace.{StrongestPlace}
 
--- the rule that a cell without a master block fails: it carries one for another count of antenna ports, or its word of
--- minimum cost is within a quarter of the total and fails its check, or costs more
+-- the rule that a cell without a MIB fails: `ports` if it carries one for another antenna port count, `crc` if its word
+-- of minimum cost is within a quarter of the total but fails its CRC or has no bandwidth, and `cost` if it costs more
 abbrev pub unread_by : Option ℕ → ℕ → ℕ → List ℕ
 unread_by (Some ports) cost total = codes "ports"
 unread_by None cost total = if nat_lt 0 total && nat_le (4 * cost) total then codes "crc" else codes "cost"

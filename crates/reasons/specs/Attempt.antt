@@ -1,16 +1,16 @@
--- How near a frame comes to a master block. (own)
+-- The MIB codeword with the minimum cost in a frame. (own)
 use Rattle.std.specs.Prelude.{◌≡◌, ℕ, ◌*◌, Bool, nat_lt, if◌then◌else◌, List, ℤ, MatchOption}
 use Rattle.conv_code.specs.Cost.{word_cost}
 use Rattle.tailbite.specs.LeastWord.{IsLeastWord}
 use Rattle.pbch.specs.Master.{total, Tells, TellsNothing}
 use Rattle.reasons.specs.declared.reason.Attempt.{Attempt}
 
--- the values carry a master block of a cell with this count of antenna ports
+-- the values carry a MIB for this antenna port count
 pub record HasPorts (values : List (List ℤ)) (ports : ℕ) : Type 0 where
   pub word : List Bool
   pub carries : Tells values word ports
 
--- these values have this minimum cost and total, and the antenna ports of the master block that they carry, if any
+-- these values have this minimum cost and total, and carry a MIB for these antenna ports, if any
 pub record IsAttempt (values : List (List ℤ)) (phase : ℕ) (attempt : Attempt) : Type 0 where
   pub at_phase : attempt.phase ≡ phase
   pub word : List Bool
@@ -23,7 +23,7 @@ pub record IsAttempt (values : List (List ℤ)) (phase : ℕ) (attempt : Attempt
 abbrev pub closer : Attempt → Attempt → Attempt
 closer first second = if nat_lt (second.cost * first.total) (first.cost * second.total) then second else first
 
--- an attempt is the one that comes closest to a master block, of those at the four phases of a frame
+-- an attempt has the minimum ratio of cost to total among the four phases of a frame
 pub record IsClosest (values : ℕ → List (List ℤ)) (attempt : Attempt) : Type 0 where
   pub first : Attempt
   pub second : Attempt

@@ -21,7 +21,7 @@ pub record SaysListed (reasons : List Reason) : Type 0 where
   pub cell : ListedCell
   pub inside : Contains reasons (Listed cell)
 
--- an identity is in the list of a recording exactly where the reasons for it say `listed`
+-- an identity is in the list of a recording if and only if the reasons for it say `listed`
 abbrev pub ListedIsInList : Type 0
 ListedIsInList = (receiver : Receiver) (recording : List Sample) (identity : ℕ) (reasons : List Reason)
     (list : List Entry) → IsReasonFor receiver recording identity reasons → IsListFor receiver recording list →

@@ -68,7 +68,7 @@ other_cell carrier recording identity hit =
       own = record { score = group_score scores (identity / 3) };
     }
 
--- the frames of the hit's cell carry no master block that the receiver takes; so near comes the first of them alone
+-- no frames of the hit's cell carry a MIB that the receiver takes; the numbers are those of the first frame alone
 pub record HasNoMib (receiver : Receiver) (recording : List Sample) (hit : Hit) (reason : Reason) : Type 0 where
   pub attempt : Attempt
   pub closest : IsClosest

@@ -1,4 +1,4 @@
--- The terms of a score, as the code adds them.
+-- The partial sums of a score.
 use Rattle.std.specs.Prelude.{ℕ, List, ℤ, pos, ◌*ℤ◌, slice_index_or}
 use Rattle.finite.specs.Sums.{sum_below}
 use Rattle.cs_num.specs.declared.Cpx.{Cpx}
