@@ -18,13 +18,13 @@ use Rattle.observe.specs.Seen.{seen, seen_symbol}
 use Rattle.crs.specs.declared.pattern.Pattern.{Pattern}
 use Rattle.soft_bits.specs.Estimate.{between_by, pilot_place, estimate}
 use Rattle.soft_bits.specs.Soft.{SeenSlot, seen_at, pilot_subcarrier, pattern_symbol, pattern_seen, pattern_sent}
-use Rattle.norms.specs.Sizes.{IsSized, energy_below}
+use Rattle.norms.specs.Magnitudes.{IsBounded, energy_below}
 use Rattle.norms.proofs.Naturals.{root-le}
 use Rattle.norms.proofs.Algebra.{plus-exchanges, multiple-plus, times-multiple, times-minus}
 use Rattle.norms.proofs.Squares.{square-multiple}
 use Rattle.norms.proofs.TwoTerms.{weighted_term}
-use Rattle.norms.proofs.Sized.{sized_plain, sized-plus, sized-times, sized-sum_by}
-use Rattle.norms.proofs.Products.{sized-multiple}
+use Rattle.norms.proofs.Bounded.{sized_plain, bounded-plus, bounded-times, bounded-sum_by}
+use Rattle.norms.proofs.Products.{bounded-multiple}
 use Rattle.fold128.specs.Tables.{quarter, cosine, w_at}
 use Rattle.budget.specs.Received.{received_of, IsSeenNear}
 use Rattle.budget.specs.Through.{at_pilot, BothSpeak}
@@ -42,9 +42,9 @@ minus_is x y = pair (part x.re y.re) (part x.im y.im)
     part : (a b : ℤ) → a +ℤ (pos 0 -ℤ b) ≡ a -ℤ b
     part a b = omega (arith, ints)
 
-sized-minus : (x y : Cpx) (a b n : ℕ) → IsSized a n x → IsSized b n y → IsSized (a + b) n (minus x y)
-sized-minus x y a b n p q =
-    subst (IsSized (a + b) n) (minus_is x y) (sized-plus x (minus nothing y) a b n p (record { sized = subst (λ (s : ℕ). s ≤ b * b * n) (sym (square-negated y)) q.sized }))
+bounded-minus : (x y : Cpx) (a b n : ℕ) → IsBounded a n x → IsBounded b n y → IsBounded (a + b) n (minus x y)
+bounded-minus x y a b n p q =
+    subst (IsBounded (a + b) n) (minus_is x y) (bounded-plus x (minus nothing y) a b n p (record { bounded = subst (λ (s : ℕ). s ≤ b * b * n) (sym (square-negated y)) q.bounded }))
 
 -- a number larger than p + q, plus one with magnitude at most q, is at least p in magnitude
 outweighs : (p q : ℕ) (x y : Cpx) → square y ≤ q * q → (p + q) * (p + q) < square x → p * p ≤ square (plus x y)
@@ -62,7 +62,7 @@ outweighs p q x y small large = elim (cases_lt (square (plus x y)) (p * p)) [
     below : square (plus x y) < p * p → square x ≤ (p + q) * (p + q) * 1
     below less =
         subst (λ (z : Cpx). square z ≤ (p + q) * (p + q) * 1) (pair (back x.re y.re) (back x.im y.im))
-        (sized-minus (plus x y) y p q 1 (sized_plain (plus x y) p (plain (square (plus x y)) less)) (sized_plain y q small)).sized
+        (bounded-minus (plus x y) y p q 1 (sized_plain (plus x y) p (plain (square (plus x y)) less)) (sized_plain y q small)).bounded
 
     none : (s : ℕ) → s ≤ (p + q) * (p + q) * 1 → (p + q) * (p + q) < s → ⊥
     none s h l = omega (arith, h, l)
@@ -96,23 +96,23 @@ line-times c f shift k = by (nat_lt k (pilot_place shift 0)) (nat_lt k (pilot_pl
         ap₂ plus (sym (times-multiple (3 - r) c (f i))) (sym (times-multiple r c (f (i + 1)))) ∙ sym (times-plus c (multiple (3 - r) (f i)) (multiple r (f (i + 1))))
     by false false i r = sym (times-multiple 3 c (f 23))
 
-line-sized : (t : ℕ) (f : ℕ → Cpx) → ((k : ℕ) → IsSized t 1 (f k)) → (shift k : ℕ) → IsSized (3 * t) 1 (estimate f shift k)
-line-sized t f each shift k = by (nat_lt k (pilot_place shift 0)) (nat_lt k (pilot_place shift 23)) ((k - shift) / 3) ((k - shift) % 3) (below (k - shift))
+line-bounded : (t : ℕ) (f : ℕ → Cpx) → ((k : ℕ) → IsBounded t 1 (f k)) → (shift k : ℕ) → IsBounded (3 * t) 1 (estimate f shift k)
+line-bounded t f each shift k = by (nat_lt k (pilot_place shift 0)) (nat_lt k (pilot_place shift 23)) ((k - shift) / 3) ((k - shift) % 3) (below (k - shift))
   where
     below : (n : ℕ) → n % 3 < 3
     below n = omega arith
 
-    by : (a b : Bool) (i r : ℕ) → r < 3 → IsSized (3 * t) 1 (if a then multiple 3 (f 0) else (if b then between_by 3 f i r else multiple 3 (f 23)))
-    by true b i r few = sized-multiple 3 (f 0) t 1 (each 0)
+    by : (a b : Bool) (i r : ℕ) → r < 3 → IsBounded (3 * t) 1 (if a then multiple 3 (f 0) else (if b then between_by 3 f i r else multiple 3 (f 23)))
+    by true b i r few = bounded-multiple 3 (f 0) t 1 (each 0)
     by false true i r few =
-        subst (λ (m : ℕ). IsSized m 1 (between_by 3 f i r)) (share (3 - r) r (omega (arith, few)))
-        (sized-plus (multiple (3 - r) (f i)) (multiple r (f (i + 1))) ((3 - r) * t) (r * t) 1 (sized-multiple (3 - r) (f i) t 1 (each i)) (sized-multiple r (f (i + 1)) t 1 (each (i + 1))))
+        subst (λ (m : ℕ). IsBounded m 1 (between_by 3 f i r)) (share (3 - r) r (omega (arith, few)))
+        (bounded-plus (multiple (3 - r) (f i)) (multiple r (f (i + 1))) ((3 - r) * t) (r * t) 1 (bounded-multiple (3 - r) (f i) t 1 (each i)) (bounded-multiple r (f (i + 1)) t 1 (each (i + 1))))
       where
         share : (a b : ℕ) → a + b ≡ 3 → a * t + b * t ≡ 3 * t
         share a b e =
             let whole : (a + b) * t ≡ 3 * t = ap (λ m. m * t) e in
             omega (arith, whole)
-    by false false i r few = sized-multiple 3 (f 23) t 1 (each 23)
+    by false false i r few = bounded-multiple 3 (f 23) t 1 (each 23)
 
 bent-plus : (f g : ℕ → Cpx) (shift k : ℕ) → bent (λ k. plus (f k) (g k)) shift k ≡ plus (bent f shift k) (bent g shift k)
 unfolding bent
@@ -153,11 +153,11 @@ bent-sum (suc count) gains f shift k =
     bent-plus (λ k. received_of count gains (λ path. f path k)) (λ k. times (gains count) (f count k)) shift k
     ∙ ap₂ plus (bent-sum count gains f shift k) (bent-times (gains count) (f count) shift k)
 
-bent-sized : (t : ℕ) (f : ℕ → Cpx) → ((k : ℕ) → IsSized t 1 (f k)) → (shift k : ℕ) → IsSized (3 * t + 3 * t) 1 (bent f shift k)
+bent-bounded : (t : ℕ) (f : ℕ → Cpx) → ((k : ℕ) → IsBounded t 1 (f k)) → (shift k : ℕ) → IsBounded (3 * t + 3 * t) 1 (bent f shift k)
 unfolding bent
-bent-sized t f each shift k =
-    sized-minus (estimate (λ i. f (pilot_place shift i)) shift k) (multiple 3 (f k)) (3 * t) (3 * t) 1
-    (line-sized t (λ i. f (pilot_place shift i)) (λ i. each (pilot_place shift i)) shift k) (sized-multiple 3 (f k) t 1 (each k))
+bent-bounded t f each shift k =
+    bounded-minus (estimate (λ i. f (pilot_place shift i)) shift k) (multiple 3 (f k)) (3 * t) (3 * t) 1
+    (line-bounded t (λ i. f (pilot_place shift i)) (λ i. each (pilot_place shift i)) shift k) (bounded-multiple 3 (f k) t 1 (each k))
 
 -- ---- one delay
 
@@ -179,13 +179,13 @@ delay-bends delay shift k p q r =
     (every_below_at 3 (λ shift. every_below 72 (bends_little delay shift)) (every_below_at 10 (λ delay. every_below 3 (λ shift. every_below 72 (bends_little delay shift))) all_bend_little delay p) shift q) k r)
 
 -- the sums over the later paths, by their bends and by their magnitudes
-together : (n : ℕ) (sizes bends weights : ℕ → ℕ) → ((i : ℕ) → i < n → 1000 * bends i + 2113665 ≤ 2103000 * weights i) →
-    1000 * total_below n (λ i. sizes i * bends i) + 129 * total_below n (λ i. sizes i * 16385) ≤ 2103000 * total_below n (λ i. weights i * sizes i)
+together : (n : ℕ) (magnitudes bends weights : ℕ → ℕ) → ((i : ℕ) → i < n → 1000 * bends i + 2113665 ≤ 2103000 * weights i) →
+    1000 * total_below n (λ i. magnitudes i * bends i) + 129 * total_below n (λ i. magnitudes i * 16385) ≤ 2103000 * total_below n (λ i. weights i * magnitudes i)
 unfolding total_below
-together zero sizes bends weights each = omega arith
-together (suc n) sizes bends weights each =
-    let before = together n sizes bends weights (λ i l. each i (omega (arith, l))) in
-    let here : sizes n * (1000 * bends n + 2113665) ≤ sizes n * (2103000 * weights n) = mul-le-mul_left (sizes n) (each n (omega arith)) in
+together zero magnitudes bends weights each = omega arith
+together (suc n) magnitudes bends weights each =
+    let before = together n magnitudes bends weights (λ i l. each i (omega (arith, l))) in
+    let here : magnitudes n * (1000 * bends n + 2113665) ≤ magnitudes n * (2103000 * weights n) = mul-le-mul_left (magnitudes n) (each n (omega arith)) in
     omega (arith, before, here)
 
 bend_counts : (delay : ℕ) → 1000 * bend_most delay + 2113665 ≤ 2103000 * weight delay
@@ -205,7 +205,7 @@ fits-square s n t h some few =
 
 -- ---- the channel
 
-module _ (sizes : ℕ → ℕ) (paths : Paths) (faint : AreFaint sizes paths) (sounds : 2 ^ 28 ≤ square paths.first) where
+module _ (magnitudes : ℕ → ℕ) (paths : Paths) (faint : AreFaint magnitudes paths) (sounds : 2 ^ 28 ≤ square paths.first) where
   -- 16384 times the later paths' part of the channel, without and with the rounding error
   others : ℕ → Cpx
   others k = received_of paths.later paths.gain (λ path. delayed (paths.delay path) k)
@@ -217,19 +217,19 @@ module _ (sizes : ℕ → ℕ) (paths : Paths) (faint : AreFaint sizes paths) (s
   unfolding besides others
   channel_is k = channel_whole paths k ∙ plus-associates (multiple 16384 paths.first) (others k) (channel_rest paths k)
 
-  rest-sized : (k : ℕ) → IsSized 11586 1 (channel_rest paths k)
-  rest-sized k = sized_plain (channel_rest paths k) 11586 (fits (square (channel_rest paths k)) (channel-rest_small paths k))
+  rest-bounded : (k : ℕ) → IsBounded 11586 1 (channel_rest paths k)
+  rest-bounded k = sized_plain (channel_rest paths k) 11586 (fits (square (channel_rest paths k)) (channel-rest_small paths k))
     where
       fits : (s : ℕ) → s ≤ 134217728 → s ≤ 11586 * 11586
       fits s h = omega (arith, h)
 
   -- the rest relative to the first gain
-  besides-sized : (k : ℕ) → IsSized 965 (square paths.first) (besides k)
+  besides-bounded : (k : ℕ) → IsBounded 965 (square paths.first) (besides k)
   unfolding besides others
-  besides-sized k =
-      sized-plus (others k) (channel_rest paths k) 964 1 (square paths.first)
-      (over_paths sizes paths 16385 964 (λ path. delayed (paths.delay path) k) faint (omega arith) (λ path l. delayed-small (paths.delay path) k))
-      (record { sized = fits (square (channel_rest paths k)) (square paths.first) (channel-rest_small paths k) sounds })
+  besides-bounded k =
+      bounded-plus (others k) (channel_rest paths k) 964 1 (square paths.first)
+      (over_paths magnitudes paths 16385 964 (λ path. delayed (paths.delay path) k) faint (omega arith) (λ path l. delayed-small (paths.delay path) k))
+      (record { bounded = fits (square (channel_rest paths k)) (square paths.first) (channel-rest_small paths k) sounds })
     where
       fits : (s n : ℕ) → s ≤ 134217728 → 2 ^ 28 ≤ n → s ≤ 1 * 1 * n
       fits s n h l = omega (arith, h, l)
@@ -237,7 +237,7 @@ module _ (sizes : ℕ → ℕ) (paths : Paths) (faint : AreFaint sizes paths) (s
   pub channel-least : (k : ℕ) → 940 * 940 * square paths.first ≤ 1000000 * square (channel_over paths k)
   channel-least k =
       fits (square paths.first) (square x) (square y) (square (plus x y)) (square (multiple 16384 (channel_over paths k))) (square (channel_over paths k))
-      (square-multiple 16384 paths.first) (ap (λ (z : Cpx). square z) (channel_is k)) (square-multiple 16384 (channel_over paths k)) (besides-sized k).sized (weighted_term 16 x y)
+      (square-multiple 16384 paths.first) (ap (λ (z : Cpx). square z) (channel_is k)) (square-multiple 16384 (channel_over paths k)) (besides-bounded k).bounded (weighted_term 16 x y)
     where
       x : Cpx
       x = multiple 16384 paths.first
@@ -252,7 +252,7 @@ module _ (sizes : ℕ → ℕ) (paths : Paths) (faint : AreFaint sizes paths) (s
   channel-most k =
       fits (square paths.first) (square (plus x y)) (square (multiple 16384 (channel_over paths k))) (square (channel_over paths k))
       (ap (λ (z : Cpx). square z) (channel_is k)) (square-multiple 16384 (channel_over paths k))
-      (sized-plus x y 16384 965 (square paths.first) (record { sized = exact (square x) (square paths.first) (square-multiple 16384 paths.first) }) (besides-sized k)).sized
+      (bounded-plus x y 16384 965 (square paths.first) (record { bounded = exact (square x) (square paths.first) (square-multiple 16384 paths.first) }) (besides-bounded k)).bounded
     where
       x : Cpx
       x = multiple 16384 paths.first
@@ -269,29 +269,29 @@ module _ (sizes : ℕ → ℕ) (paths : Paths) (faint : AreFaint sizes paths) (s
   -- ---- relative to the channel: sums of magnitudes
 
   bends : ℕ
-  bends = total_below paths.later (λ path. sizes path * bend_most (paths.delay path))
+  bends = total_below paths.later (λ path. magnitudes path * bend_most (paths.delay path))
 
   counts : ℕ
-  counts = total_below paths.later (λ path. sizes path * 16385)
+  counts = total_below paths.later (λ path. magnitudes path * 16385)
 
-  besides-plain : (k : ℕ) → IsSized (counts + 11586) 1 (besides k)
+  besides-plain : (k : ℕ) → IsBounded (counts + 11586) 1 (besides k)
   unfolding besides others counts
   besides-plain k =
-      sized-plus (others k) (channel_rest paths k) counts 11586 1
-      (sized-sum_by paths.later (λ path. times (paths.gain path) (delayed (paths.delay path) k)) (λ path. sizes path * 16385) 1
-      (λ path l. sized-times (paths.gain path) (delayed (paths.delay path) k) (sizes path) 16385 1 1 (sized_plain (paths.gain path) (sizes path) (faint.sized path l)) (delayed-small (paths.delay path) k)))
-      (rest-sized k)
+      bounded-plus (others k) (channel_rest paths k) counts 11586 1
+      (bounded-sum_by paths.later (λ path. times (paths.gain path) (delayed (paths.delay path) k)) (λ path. magnitudes path * 16385) 1
+      (λ path l. bounded-times (paths.gain path) (delayed (paths.delay path) k) (magnitudes path) 16385 1 1 (sized_plain (paths.gain path) (magnitudes path) (faint.bounded path l)) (delayed-small (paths.delay path) k)))
+      (rest-bounded k)
 
-  bent-besides : (shift k : ℕ) → shift < 3 → k < 72 → IsSized (bends + 69516) 1 (bent besides shift k)
+  bent-besides : (shift k : ℕ) → shift < 3 → k < 72 → IsBounded (bends + 69516) 1 (bent besides shift k)
   unfolding besides others bends
   bent-besides shift k few inside =
-      subst (IsSized (bends + 69516) 1) (sym (bent-plus others (channel_rest paths) shift k))
-      (sized-plus (bent others shift k) (bent (channel_rest paths) shift k) bends 69516 1
-      (subst (IsSized bends 1) (sym (bent-sum paths.later paths.gain (λ path. delayed (paths.delay path)) shift k))
-      (sized-sum_by paths.later (λ path. times (paths.gain path) (bent (delayed (paths.delay path)) shift k)) (λ path. sizes path * bend_most (paths.delay path)) 1
-      (λ path l. sized-times (paths.gain path) (bent (delayed (paths.delay path)) shift k) (sizes path) (bend_most (paths.delay path)) 1 1 (sized_plain (paths.gain path) (sizes path) (faint.sized path l))
+      subst (IsBounded (bends + 69516) 1) (sym (bent-plus others (channel_rest paths) shift k))
+      (bounded-plus (bent others shift k) (bent (channel_rest paths) shift k) bends 69516 1
+      (subst (IsBounded bends 1) (sym (bent-sum paths.later paths.gain (λ path. delayed (paths.delay path)) shift k))
+      (bounded-sum_by paths.later (λ path. times (paths.gain path) (bent (delayed (paths.delay path)) shift k)) (λ path. magnitudes path * bend_most (paths.delay path)) 1
+      (λ path l. bounded-times (paths.gain path) (bent (delayed (paths.delay path)) shift k) (magnitudes path) (bend_most (paths.delay path)) 1 1 (sized_plain (paths.gain path) (magnitudes path) (faint.bounded path l))
       (sized_plain (bent (delayed (paths.delay path)) shift k) (bend_most (paths.delay path)) (delay-bends (paths.delay path) shift k (up_to (paths.delay path) (faint.near path l)) few inside)))))
-      (bent-sized 11586 (channel_rest paths) rest-sized shift k))
+      (bent-bounded 11586 (channel_rest paths) rest-bounded shift k))
     where
       up_to : (d : ℕ) → d ≤ 9 → d < 10
       up_to d h = omega (arith, h)
@@ -306,15 +306,15 @@ module _ (sizes : ℕ → ℕ) (paths : Paths) (faint : AreFaint sizes paths) (s
   unfolding bends counts
   channel-bends shift k few inside =
       fits bends (square (bent (channel_over paths) shift k)) (square (multiple 16384 (bent (channel_over paths) shift k))) (square (bent besides shift k)) (square (channel_over paths k)) (square (multiple 16384 (channel_over paths k)))
-      (square (multiple 129 (multiple 16384 (channel_over paths k)))) (square (plus x y)) (square-multiple 16384 (bent (channel_over paths) shift k)) (ap (λ (z : Cpx). square z) (bent_is shift k)) (bent-besides shift k few inside).sized
+      (square (multiple 129 (multiple 16384 (channel_over paths k)))) (square (plus x y)) (square-multiple 16384 (bent (channel_over paths) shift k)) (ap (λ (z : Cpx). square z) (bent_is shift k)) (bent-besides shift k few inside).bounded
       (square-multiple 16384 (channel_over paths k)) (square-multiple 129 (multiple 16384 (channel_over paths k)))
       (ap (λ (z : Cpx). square z) (ap (multiple 129) (channel_is k) ∙ multiple-plus 129 (multiple 16384 paths.first) (besides k)))
-      (outweighs (1000 * (bends + 69516)) (129 * (counts + 11586)) x y (small counts (square y) (square (besides k)) (square-multiple 129 (besides k)) (besides-plain k).sized)
+      (outweighs (1000 * (bends + 69516)) (129 * (counts + 11586)) x y (small counts (square y) (square (besides k)) (square-multiple 129 (besides k)) (besides-plain k).bounded)
       (subst (λ (s : ℕ). (1000 * (bends + 69516) + 129 * (counts + 11586)) * (1000 * (bends + 69516) + 129 * (counts + 11586)) < s)
       (sym (square-multiple 129 (multiple 16384 paths.first) ∙ ap (λ (s : ℕ). 129 * 129 * s) (square-multiple 16384 paths.first)))
-      (fits-square (total_below paths.later (λ path. weight (paths.delay path) * sizes path)) (square paths.first) (1000 * (bends + 69516) + 129 * (counts + 11586)) faint.faint sounds
-      (summed bends counts (total_below paths.later (λ path. weight (paths.delay path) * sizes path))
-      (together paths.later sizes (λ path. bend_most (paths.delay path)) (λ path. weight (paths.delay path)) (λ path l. bend_counts (paths.delay path)))))))
+      (fits-square (total_below paths.later (λ path. weight (paths.delay path) * magnitudes path)) (square paths.first) (1000 * (bends + 69516) + 129 * (counts + 11586)) faint.faint sounds
+      (summed bends counts (total_below paths.later (λ path. weight (paths.delay path) * magnitudes path))
+      (together paths.later magnitudes (λ path. bend_most (paths.delay path)) (λ path. weight (paths.delay path)) (λ path l. bend_counts (paths.delay path)))))))
     where
       x : Cpx
       x = multiple 129 (multiple 16384 paths.first)
@@ -346,11 +346,11 @@ scaled-within (suc n) a b f each =
     omega (arith, before, here)
 
 pub paths_are_through : PathsAreThrough
-paths_are_through sizes paths pattern slot faint sounds seen = record {
+paths_are_through magnitudes paths pattern slot faint sounds seen = record {
   sounds = some (square paths.first) sounds;
   pilot = seen;
   mean = means (square paths.first) (energy_below 24 (at_pilot pattern slot (over paths)))
-      (scaled-within 24 1000000 (1060 * 1060 * square paths.first) (λ i. square (at_pilot pattern slot (over paths) i)) (λ i l. channel-most sizes paths faint sounds (pilot_subcarrier slot.identity i)));
+      (scaled-within 24 1000000 (1060 * 1060 * square paths.first) (λ i. square (at_pilot pattern slot (over paths) i)) (λ i l. channel-most magnitudes paths faint sounds (pilot_subcarrier slot.identity i)));
 }
   where
     some : (n : ℕ) → 2 ^ 28 ≤ n → 1 ≤ n
@@ -361,9 +361,9 @@ paths_are_through sizes paths pattern slot faint sounds seen = record {
 
 pub paths_are_read : PathsAreRead
 unfolding bent
-paths_are_read sizes paths pattern slot symbol k faint sounds inside = record {
-  least = channel-least sizes paths faint sounds k;
-  straight = channel-bends sizes paths faint sounds (slot.identity % 3) k (shift slot.identity) inside;
+paths_are_read magnitudes paths pattern slot symbol k faint sounds inside = record {
+  least = channel-least magnitudes paths faint sounds k;
+  straight = channel-bends magnitudes paths faint sounds (slot.identity % 3) k (shift slot.identity) inside;
 }
   where
     shift : (n : ℕ) → n % 3 < 3
@@ -371,7 +371,7 @@ paths_are_read sizes paths pattern slot symbol k faint sounds inside = record {
 
 -- ---- a received slot
 
-module _ (sizes : ℕ → ℕ) (paths : Paths) (pattern : Pattern) (count : ℕ) (recording : List Sample) (starts : ℕ → ℕ) (grids : ℕ → ℕ → Cpx) (slot : SeenSlot) (faint : AreFaint sizes paths)
+module _ (magnitudes : ℕ → ℕ) (paths : Paths) (pattern : Pattern) (count : ℕ) (recording : List Sample) (starts : ℕ → ℕ) (grids : ℕ → ℕ → Cpx) (slot : SeenSlot) (faint : AreFaint magnitudes paths)
     (later : pattern.later < count) (is : IsSlotReceivedOver paths pattern count recording starts grids slot) where
   read : (start k : ℕ) → k < 72 → value_at (seen_symbol recording start) k ≡ seen recording start k
   unfolding seen_symbol
@@ -380,7 +380,7 @@ module _ (sizes : ℕ → ℕ) (paths : Paths) (pattern : Pattern) (count : ℕ)
   pub place-seen : (symbol k : ℕ) → symbol < count → k < 72 → IsSeenNear 1880 (square paths.first) (times (channel_over paths k) (grids symbol k)) (seen_at slot symbol k)
   place-seen symbol k few inside =
       subst (λ (z : Cpx). IsSeenNear 1880 (square paths.first) (times (channel_over paths k) (grids symbol k)) z) (sym (ap (λ (xs : List Cpx). value_at xs k) (is.seen symbol few) ∙ read (starts symbol) k inside))
-      (amplitude_is_seen_over_in_recording sizes paths (grids symbol) recording (starts symbol) k (is.amplitudes symbol few) faint (is.received symbol few) inside)
+      (amplitude_is_seen_over_in_recording magnitudes paths (grids symbol) recording (starts symbol) k (is.amplitudes symbol few) faint (is.received symbol few) inside)
 
   symbol-few : (i : ℕ) → pattern_symbol pattern slot.identity i < count
   unfolding pattern_symbol
@@ -400,9 +400,9 @@ module _ (sizes : ℕ → ℕ) (paths : Paths) (pattern : Pattern) (count : ℕ)
   both-speak : (symbol k : ℕ) (first second : Bool) → symbol < count → k < 72 → grids symbol k ≡ point first second → BothSpeak 1 pattern slot k first second (seen_at slot symbol k)
   both-speak symbol k first second few inside same =
       values_speak_through 1 (square paths.first) path_bounds pattern (over paths) slot symbol k first second (seen_at slot symbol k) paths_leave_room
-      (paths_are_through sizes paths pattern slot faint (is.received symbol few).sounds pilot-seen)
-      (paths_are_read sizes paths pattern slot symbol k faint (is.received symbol few).sounds inside)
+      (paths_are_through magnitudes paths pattern slot faint (is.received symbol few).sounds pilot-seen)
+      (paths_are_read magnitudes paths pattern slot symbol k faint (is.received symbol few).sounds inside)
       (subst (λ (z : Cpx). IsSeenNear 1880 (square paths.first) (times (channel_over paths k) z) (seen_at slot symbol k)) same (place-seen symbol k few inside))
 
 pub slot_over_is_heard : SlotOverIsHeard
-slot_over_is_heard sizes paths pattern count recording starts grids slot symbol k first second faint later is = both-speak sizes paths pattern count recording starts grids slot faint later is symbol k first second
+slot_over_is_heard magnitudes paths pattern count recording starts grids slot symbol k first second faint later is = both-speak magnitudes paths pattern count recording starts grids slot faint later is symbol k first second

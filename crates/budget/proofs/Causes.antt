@@ -8,11 +8,11 @@ use Rattle.cs_num.specs.Complex.{IsWithin, plus, times, square, minus, multiple}
 use Rattle.cs_num.specs.Rounding.{rounded}
 use Rattle.cs_num.specs.Sums.{complex_sum_below}
 use Rattle.cs_num.proofs.Complex.{square-within, pair, plus-associates, times-plus}
-use Rattle.norms.specs.Sizes.{IsSized, energy_below, correlation_below}
+use Rattle.norms.specs.Magnitudes.{IsBounded, energy_below, correlation_below}
 use Rattle.norms.proofs.Algebra.{plus-minus, minus-plus, plus-exchanges, times-minus, times-multiple}
 use Rattle.norms.proofs.Squares.{square-multiple, square-times}
 use Rattle.norms.proofs.TwoTerms.{two_term_cauchy}
-use Rattle.norms.proofs.Sized.{sized_plain, sized-plus}
+use Rattle.norms.proofs.Bounded.{sized_plain, bounded-plus}
 use Rattle.norms.proofs.Cauchy.{cauchy, correlation_same, correlation_plus, correlation_times, correlation_multiple}
 use Rattle.norms.proofs.Rounding.{rounded_near}
 use Rattle.fold128.specs.Symbol.{frequency, useful_term, useful_at}
@@ -81,7 +81,7 @@ sending_has_two_causes grid k l = sending_is grid k l ∙ ap (λ (z : Cpx). plus
 
 pub leakage_is_small : LeakageIsSmall
 leakage_is_small grid k small l =
-    subst (λ (z : Cpx). 100 * square z ≤ (61 * 2 ^ 31) * (61 * 2 ^ 31)) (sym (leakage_is grid k l)) (fits (square (leak grid k)) (leak-small grid k small).sized)
+    subst (λ (z : Cpx). 100 * square z ≤ (61 * 2 ^ 31) * (61 * 2 ^ 31)) (sym (leakage_is grid k l)) (fits (square (leak grid k)) (leak-small grid k small).bounded)
   where
     fits : (s : ℕ) → s ≤ 13094092800 * 13094092800 * 1 → 100 * s ≤ (61 * 2 ^ 31) * (61 * 2 ^ 31)
     fits s h = omega (arith, h)
@@ -98,10 +98,10 @@ pub sending_is_small : SendingIsSmall
 unfolding sending spectrum_at
 sending_is_small grid k small l =
     let r : Cpx = correlation_below 128 (rounding_off grid) (tone_at k) in
-    let a : IsSized 13094092800 1 (leak grid k) = leak-small grid k small in
-    let b : IsSized 194584248320 1 r = sized_plain r 194584248320 (fits (square r) (rounding-seen_small grid k)) in
+    let a : IsBounded 13094092800 1 (leak grid k) = leak-small grid k small in
+    let b : IsBounded 194584248320 1 r = sized_plain r 194584248320 (fits (square r) (rounding-seen_small grid k)) in
     subst (λ (z : Cpx). square z ≤ (97 * 2 ^ 31) * (97 * 2 ^ 31)) (sym (sending_is grid k l))
-    (plain (square (plus (leak grid k) r)) (sized-plus (leak grid k) r 13094092800 194584248320 1 a b).sized)
+    (plain (square (plus (leak grid k) r)) (bounded-plus (leak grid k) r 13094092800 194584248320 1 a b).bounded)
   where
     fits : (s : ℕ) → s ≤ (128 * (2 * (65536 * 65536))) * (128 * 268468225) → s ≤ 194584248320 * 194584248320
     fits s h = omega (arith, h)
@@ -238,12 +238,12 @@ pub record IsSent (bound power : ℕ) (sent : ℕ → Cpx) (amplitude : Cpx) (k 
 pub sent_by_one : (g : Cpx) (grid : ℕ → Cpx) (k : ℕ) → AreAmplitudes grid → k < 72 →
     IsSent ((97 * 2 ^ 31) * (97 * 2 ^ 31)) (square g) (λ n. times g (useful_at grid n)) (times g (grid k)) k
 sent_by_one g grid k small l = record {
-  off = by_size (square (sending_off (λ n. times g (useful_at grid n)) (times g (grid k)) k)) (square g) (square (sending_off (useful_at grid) (grid k) k))
+  off = by_magnitude (square (sending_off (λ n. times g (useful_at grid n)) (times g (grid k)) k)) (square g) (square (sending_off (useful_at grid) (grid k) k))
       (ap (λ (z : Cpx). square z) (gain_out g (useful_at grid) (grid k) k) ∙ square-times g (sending_off (useful_at grid) (grid k) k)) (sending_is_small grid k small l);
 }
   where
-    by_size : (s n t : ℕ) → s ≡ n * t → t ≤ (97 * 2 ^ 31) * (97 * 2 ^ 31) → s ≤ ((97 * 2 ^ 31) * (97 * 2 ^ 31)) * n
-    by_size s n t e h =
+    by_magnitude : (s n t : ℕ) → s ≡ n * t → t ≤ (97 * 2 ^ 31) * (97 * 2 ^ 31) → s ≤ ((97 * 2 ^ 31) * (97 * 2 ^ 31)) * n
+    by_magnitude s n t e h =
         let k : n * t ≤ n * ((97 * 2 ^ 31) * (97 * 2 ^ 31)) = mul-le-mul_left n h in
         omega (arith, e, k)
 

@@ -3,7 +3,7 @@ use Rattle.std.proofs.Common.{◌≡◌, ℕ, ◌*◌, ap, sym, ◌∙◌, pos}
 use Rattle.cs_num.specs.declared.Cpx.{Cpx}
 use Rattle.cs_num.specs.Complex.{plus, times, conjugate, square, minus, multiple}
 use Rattle.cs_num.proofs.Complex.{times-plus_left}
-use Rattle.norms.specs.Sizes.{IsSized}
+use Rattle.norms.specs.Magnitudes.{IsBounded}
 use Rattle.norms.proofs.Algebra.{plus-minus, times-associates, times-multiple, multiple-times, times_real, multiple_twice}
 use Rattle.norms.proofs.Squares.{times_conjugate}
 use Rattle.budget.specs.Received.{in_parts, IsSeenNear}
@@ -17,9 +17,9 @@ seen_is gain amplitude seen =
     sym (plus-minus (in_parts seen) (multiple 64 (times gain amplitude)))
     ∙ ap (λ (z : Cpx). plus z (minus (in_parts seen) (multiple 64 (times gain amplitude)))) (sym (times-multiple 64 gain amplitude))
 
-pub deviation-sized : (most n : ℕ) (gain amplitude seen : Cpx) → IsSeenNear most n (times gain amplitude) seen → IsSized most n (deviation gain amplitude seen)
+pub deviation-bounded : (most n : ℕ) (gain amplitude seen : Cpx) → IsSeenNear most n (times gain amplitude) seen → IsBounded most n (deviation gain amplitude seen)
 unfolding deviation
-deviation-sized most n gain amplitude seen is = record { sized = is.off }
+deviation-bounded most n gain amplitude seen is = record { bounded = is.off }
 
 -- the demodulated value of a known amplitude d, times the conjugate of d, is 64 |d|^2 times the gain in parts, up to a
 -- deviation

@@ -13,9 +13,9 @@ use Rattle.finite.proofs.Ring.{var, lit, same}
 use Rattle.finite.proofs.Ring as ring
 use Rattle.cs_num.proofs.Complex.{pair, plus-commutes, times-plus, times-commutes}
 use Rattle.cs_num.proofs.Sums.{complex_sum_below_same, complex_sum_below_plus, complex_sum_below_split, complex_sum_below_swap}
-use Rattle.norms.specs.Sizes.{IsSized, correlation_below}
+use Rattle.norms.specs.Magnitudes.{IsBounded, correlation_below}
 use Rattle.norms.proofs.Algebra.{plus-minus, times-nothing, times-associates, sum-times, sum-multiple, sum_of_one, sum-times_right}
-use Rattle.norms.proofs.Sized.{sized_plain, sized-times, sized-sum, sized-sum_by}
+use Rattle.norms.proofs.Bounded.{sized_plain, bounded-times, bounded-sum, bounded-sum_by}
 use Rattle.fold128.specs.Tables.{quarter, cosine, w_at}
 use Rattle.fold128.specs.Symbol.{frequency, useful_term}
 use Rattle.fold128.proofs.Laws.{w_same, quarter_turn_is_j, backward_is_conjugate, tones_that_turn_cancel}
@@ -79,7 +79,7 @@ tone_other k l p q ne = sum-multiple 128 16384 (λ n. w_at (apart l k * n)) ∙ 
 product_off : ℕ → ℕ → Cpx
 product_off a b = minus (times (w_at a) (w_at b)) (multiple 16384 (w_at (a + b)))
 
-product-off_small : (a b : ℕ) → IsSized 22200 1 (product_off a b)
+product-off_small : (a b : ℕ) → IsBounded 22200 1 (product_off a b)
 unfolding product_off
 product-off_small a b = sized_plain (minus (times (w_at a) (w_at b)) (multiple 16384 (w_at (a + b)))) 22200 (nearly_multiplicative a b)
 
@@ -297,20 +297,20 @@ leaks_together (suc (suc (suc zero))) few = refl
 leaks_together (suc (suc (suc (suc r)))) few = absurd (omega (arith, few))
 
 leak_of : (grid : ℕ → Cpx) (k l : ℕ) → l < 72 → AreAmplitudes grid → (b : Bool) → nat_eq (frequency l % 4) (frequency k % 4) ≡ b →
-    IsSized (if b then 727449600 else 0) 1 (times (grid l) (complex_sum_below 128 (off k l)))
+    IsBounded (if b then 727449600 else 0) 1 (times (grid l) (complex_sum_below 128 (off k l)))
 unfolding off apart
 leak_of grid k l inside small true e =
-    sized-times (grid l) (complex_sum_below 128 (λ n. product_off (frequency l * n) (127 * (frequency k * n)))) 256 2841600 1 1 (sized_plain (grid l) 256 (small l inside))
-    (sized-sum 128 (λ n. product_off (frequency l * n) (127 * (frequency k * n))) 22200 1 (λ n r. product-off_small (frequency l * n) (127 * (frequency k * n))))
+    bounded-times (grid l) (complex_sum_below 128 (λ n. product_off (frequency l * n) (127 * (frequency k * n)))) 256 2841600 1 1 (sized_plain (grid l) 256 (small l inside))
+    (bounded-sum 128 (λ n. product_off (frequency l * n) (127 * (frequency k * n))) 22200 1 (λ n r. product-off_small (frequency l * n) (127 * (frequency k * n))))
 leak_of grid k l inside small false e =
-    subst (IsSized 0 1) (sym (ap (times (grid l)) (off_cancels k l (turns (frequency l) (frequency k) e)) ∙ times-nothing (grid l))) (record { sized = omega arith })
+    subst (IsBounded 0 1) (sym (ap (times (grid l)) (off_cancels k l (turns (frequency l) (frequency k) e)) ∙ times-nothing (grid l))) (record { bounded = omega arith })
   where
     turns : (f g : ℕ) → nat_eq (f % 4) (g % 4) ≡ false → 1 ≤ (f + 127 * g) % 4
     turns f g h = let other : f % 4 ≢ g % 4 = eqb-false (f % 4) (g % 4) h in omega (arith, other)
 
-pub leak-small : (grid : ℕ → Cpx) (k : ℕ) → AreAmplitudes grid → IsSized 13094092800 1 (leak grid k)
+pub leak-small : (grid : ℕ → Cpx) (k : ℕ) → AreAmplitudes grid → IsBounded 13094092800 1 (leak grid k)
 unfolding leak leaks_at
 leak-small grid k small =
-    subst (λ m. IsSized m 1 (leak grid k)) (leaks_together (frequency k % 4) (omega arith))
-    (sized-sum_by 72 (λ l. times (grid l) (complex_sum_below 128 (off k l))) (leaks_at (frequency k % 4)) 1
+    subst (λ m. IsBounded m 1 (leak grid k)) (leaks_together (frequency k % 4) (omega arith))
+    (bounded-sum_by 72 (λ l. times (grid l) (complex_sum_below 128 (off k l))) (leaks_at (frequency k % 4)) 1
     (λ l p. leak_of grid k l p small (nat_eq (frequency l % 4) (frequency k % 4)) refl))

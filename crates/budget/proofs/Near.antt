@@ -7,10 +7,10 @@ use Rattle.std.proofs.lemmas.Nat.{mod_below}
 use Rattle.std.proofs.Math.Nat.{div-lt_iff_lt-mul}
 use Rattle.cs_num.specs.declared.Cpx.{Cpx}
 use Rattle.cs_num.specs.Complex.{plus, minus, multiple, square}
-use Rattle.norms.specs.Sizes.{IsSized}
+use Rattle.norms.specs.Magnitudes.{IsBounded}
 use Rattle.norms.proofs.Algebra.{minus-plus, plus-exchanges, multiple-plus, multiple_twice, multiple_sum}
-use Rattle.norms.proofs.Sized.{sized-plus}
-use Rattle.norms.proofs.Products.{sized-multiple}
+use Rattle.norms.proofs.Bounded.{bounded-plus}
+use Rattle.norms.proofs.Products.{bounded-multiple}
 use Rattle.budget.specs.Received.{in_parts}
 use Rattle.budget.proofs.Parts.{multiple-swaps}
 use Rattle.soft_bits.specs.Estimate.{place_by, between_by, line_by, estimate}
@@ -19,24 +19,24 @@ use Rattle.soft_bits.specs.Estimate.{place_by, between_by, line_by, estimate}
 pub record IsOff (n t : ℕ) (centre z : Cpx) : Type 0 where
   pub off : Cpx
   pub is : in_parts z ≡ plus centre off
-  pub small : IsSized t n off
+  pub small : IsBounded t n off
 
 pub off-multiple : (n t m : ℕ) (centre z : Cpx) → IsOff n t centre z → IsOff n (m * t) (multiple m centre) (multiple m z)
 off-multiple n t m centre z near = record {
   off = multiple m near.off;
   is = multiple-swaps 16384 m z ∙ ap (multiple m) near.is ∙ multiple-plus m centre near.off;
-  small = sized-multiple m near.off t n near.small;
+  small = bounded-multiple m near.off t n near.small;
 }
 
 pub off-plus : (n s t : ℕ) (a b x y : Cpx) → IsOff n s a x → IsOff n t b y → IsOff n (s + t) (plus a b) (plus x y)
 off-plus n s t a b x y p q = record {
   off = plus p.off q.off;
   is = multiple-plus 16384 x y ∙ ap₂ plus p.is q.is ∙ plus-exchanges a p.off b q.off;
-  small = sized-plus p.off q.off s t n p.small q.small;
+  small = bounded-plus p.off q.off s t n p.small q.small;
 }
 
 pub off-size : (n t : ℕ) (centre z : Cpx) → IsOff n t centre z → square (minus (in_parts z) centre) ≤ t * t * n
-off-size n t centre z near = subst (λ (x : Cpx). square x ≤ t * t * n) (sym (ap (λ (x : Cpx). minus x centre) near.is ∙ minus-plus centre near.off)) near.small.sized
+off-size n t centre z near = subst (λ (x : Cpx). square x ≤ t * t * n) (sym (ap (λ (x : Cpx). minus x centre) near.is ∙ minus-plus centre near.off)) near.small.bounded
 
 -- ---- lines
 

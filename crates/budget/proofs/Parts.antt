@@ -7,7 +7,7 @@ use Rattle.cs_num.proofs.Complex.{pair, square-within}
 use Rattle.finite.proofs.Ring.{var, same}
 use Rattle.finite.proofs.Ring as ring
 use Rattle.finite.proofs.Sums.{total_below-within}
-use Rattle.norms.specs.Sizes.{energy_below}
+use Rattle.norms.specs.Magnitudes.{energy_below}
 use Rattle.norms.proofs.Algebra.{conjugate-multiple, times-multiple, multiple-times, multiple_twice}
 use Rattle.norms.proofs.Squares.{square-multiple}
 use Rattle.norms.proofs.Cauchy.{energy_same}

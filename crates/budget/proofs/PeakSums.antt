@@ -9,7 +9,7 @@ use Rattle.finite.specs.Tests.{every_below}
 use Rattle.finite.proofs.Tests.{every_below_at}
 use Rattle.cs_num.specs.declared.Cpx.{Cpx}
 use Rattle.cs_num.specs.Complex.{square}
-use Rattle.norms.specs.Sizes.{energy_below, correlation_below}
+use Rattle.norms.specs.Magnitudes.{energy_below, correlation_below}
 use Rattle.norms.proofs.Cauchy.{energy_same, correlation_same}
 use Rattle.pss_search.specs.Correlation.{wave}
 use Rattle.pss_search.proofs.SignalTables.{re_25, im_25, re_29, im_29, re_34, im_34, re_of, im_of, samples, wave_is}

@@ -5,7 +5,7 @@ use Rattle.cs_num.specs.declared.Cpx.{Cpx}
 use Rattle.cs_num.specs.declared.Sample.{Sample}
 use Rattle.cs_num.specs.Complex.{plus, times, square, sample_at, minus}
 use Rattle.cs_num.proofs.Complex.{plus-associates, plus-commutes}
-use Rattle.norms.specs.Sizes.{energy_below, correlation_below}
+use Rattle.norms.specs.Magnitudes.{energy_below, correlation_below}
 use Rattle.norms.proofs.Algebra.{plus-minus}
 use Rattle.norms.proofs.Cauchy.{energy_same, energy_split, energy_part, correlation_same, correlation_split, correlation_multiple}
 use Rattle.pss_search.specs.Correlation.{pss_grid, wave, wave_power, peak, energy}

@@ -7,7 +7,7 @@ use Rattle.crs.specs.Qpsk.{IsFull, IsPoint}
 use Rattle.crs.specs.declared.pattern.Pattern.{Pattern}
 use Rattle.crs.proofs.Values.{pattern_reference-IsPoint}
 use Rattle.soft_bits.specs.Soft.{pilot_subcarrier, pattern_symbol, pattern_sent}
-use Rattle.norms.specs.Sizes.{IsSized}
+use Rattle.norms.specs.Magnitudes.{IsBounded}
 use Rattle.norms.proofs.Squares.{square-times, square-conjugate, square-multiple}
 use Rattle.norms.proofs.TwoTerms.{weighted, weighted_term}
 use Rattle.budget.proofs.Parts.{square_in_parts}
@@ -29,7 +29,7 @@ sent-size pattern identity number i = full-size _ (pattern_reference-IsPoint pat
 -- 16200
 pub record IsPilot (t n : ℕ) (g d p : Cpx) : Type 0 where
   pub full : square d ≡ 16200
-  pub seen : IsSized t n (deviation g d p)
+  pub seen : IsBounded t n (deviation g d p)
 
 -- times the conjugate amplitude, it is near 64 * 16200 times the gain
 pub turned_pilot-near : (t n : ℕ) (g d p : Cpx) → IsPilot t n g d p → IsNear (16200 * n) g 1036800 t (times p (conjugate d))
@@ -37,7 +37,7 @@ turned_pilot-near t n g d p is = record {
   off = times (deviation g d p) (conjugate d);
   is = channel_is g d p ∙ ap (λ (m : ℕ). plus (multiple (64 * m) g) (times (deviation g d p) (conjugate d))) is.full;
   small = record {
-    sized = product (square (times (deviation g d p) (conjugate d))) (square (deviation g d p)) (square (conjugate d)) (square-times (deviation g d p) (conjugate d)) (square-conjugate d ∙ is.full) is.seen.sized;
+    bounded = product (square (times (deviation g d p) (conjugate d))) (square (deviation g d p)) (square (conjugate d)) (square-times (deviation g d p) (conjugate d)) (square-conjugate d ∙ is.full) is.seen.bounded;
   };
 }
   where
@@ -54,7 +54,7 @@ pub record IsPilotSquare (m t n w e : ℕ) : Type 0 where
 pub pilot-square : (m t n : ℕ) (g d p : Cpx) → IsPilot t n g d p → IsPilotSquare m t n (square g) (square p)
 pilot-square m t n g d p is =
     numbers (square g) (square d) (square (multiple 64 d)) (square x) (square v) (square (plus x v)) (square p) (sym (square_in_parts p) ∙ ap (λ (z : Cpx). square z) (seen_is g d p))
-    is.full (square-multiple 64 d) (square-times g (multiple 64 d)) is.seen.sized (weighted m x v) (weighted_term m x v)
+    is.full (square-multiple 64 d) (square-times g (multiple 64 d)) is.seen.bounded (weighted m x v) (weighted_term m x v)
   where
     x : Cpx
     x = times g (multiple 64 d)

@@ -17,10 +17,10 @@ use Rattle.lte_types.specs.declared.numerology.Prefix.{Prefix}
 use Rattle.lte_types.specs.declared.frame.Half.{Half}
 use Rattle.lte_types.specs.declared.frame.Half.TheVariants.{Zero, Five}
 use Rattle.lte_types.specs.Numerology.{symbol_step}
-use Rattle.norms.specs.Sizes.{IsSized}
+use Rattle.norms.specs.Magnitudes.{IsBounded}
 use Rattle.norms.proofs.Squares.{square-multiple, square-conjugate}
 use Rattle.norms.proofs.Algebra.{multiple-plus, multiple-times, multiple_twice}
-use Rattle.norms.proofs.Sized.{sized_plain, sized-times}
+use Rattle.norms.proofs.Bounded.{sized_plain, bounded-times}
 use Rattle.norms.proofs.Products.{product_near, sign-turns}
 use Rattle.norms.proofs.Sums.{terms_same}
 use Rattle.fold128.specs.Tables.{z_real, z_imaginary, z_at}
@@ -28,7 +28,7 @@ use Rattle.fold128.proofs.Laws.{z_same}
 use Rattle.sync_seq.specs.Primary.{pss_at}
 use Rattle.sync_seq.specs.Secondary.{sss_at, sss_list}
 use Rattle.sync_seq.proofs.SecondaryValues.{sss-size}
-use Rattle.sync_seq.proofs.Distinct.{secondary_tells}
+use Rattle.sync_seq.proofs.Distinct.{secondary_determines}
 use Rattle.sss_detect.specs.Scores.{agreement, score}
 use Rattle.sss_detect.specs.Identity.{IsBefore, IsBest, prefix_identity}
 use Rattle.sss_detect.proofs.Choices.{less, not_less, only_one_is_best}
@@ -40,7 +40,7 @@ use Rattle.budget.specs.Score.{LeaveTermsRoom, PairStandsAlone, SentPairStandsAl
 use Rattle.budget.specs.Through.{Bounds}
 use Rattle.sync_seq.specs.Secondary.{sss_amplitude}
 use Rattle.budget.proofs.Parts.{product-multiples, product_in_parts}
-use Rattle.budget.proofs.Deviations.{deviation, deviation-sized, channel_is}
+use Rattle.budget.proofs.Deviations.{deviation, deviation-bounded, channel_is}
 use Rattle.budget.proofs.Through.{channel-some, seen-fits, seen_part}
 use Rattle.budget.proofs.Seen.{amplitude_is_seen_in_recording}
 
@@ -53,20 +53,20 @@ all_sized : every_below 63 z_sized ≡ true
 unfolding z_real z_imaginary z_at z_sized every_below
 all_sized = refl
 
-record HasZSize (w : ℕ) : Type 0 where
+record HasZMagnitude (w : ℕ) : Type 0 where
   pub least : 16000 ≤ w
   pub most : w ≤ 128 * 128
 
-z-size : (m : ℕ) → HasZSize (square (z_at m))
-z-size m = subst (λ (z : Cpx). HasZSize (square z)) (z_same (m % 63) m (omega arith)) (low (m % 63) (omega arith))
+z-size : (m : ℕ) → HasZMagnitude (square (z_at m))
+z-size m = subst (λ (z : Cpx). HasZMagnitude (square z)) (z_same (m % 63) m (omega arith)) (low (m % 63) (omega arith))
   where
-    low : (m : ℕ) → m < 63 → HasZSize (square (z_at m))
+    low : (m : ℕ) → m < 63 → HasZMagnitude (square (z_at m))
     low m l =
         let test : (nat_le 16000 (square (z_at m)) && nat_le (square (z_at m)) 16384) ≡ true = (unfold z_sized in every_below_at 63 z_sized all_sized m l) in
         let parts = and_parts _ _ test in
         record { least = leb-true _ _ parts.0; most = leb-true _ _ parts.1 }
 
-pss-size : (n2 n : ℕ) → HasZSize (square (pss_at n2 n))
+pss-size : (n2 n : ℕ) → HasZMagnitude (square (pss_at n2 n))
 unfolding pss_at
 pss-size n2 n = z-size _
 
@@ -131,7 +131,7 @@ positive_by m s x h = less (s *ℤ x) (subst (λ y. pos 0 <ℤ y) out h)
     less (pos (suc n)) h = omega (arith, ints)
     less (negsuc n) h = absurd (omega (arith, ints))
 
-one_term : (most least n : ℕ) (g d p q : Cpx) (s : ℤ) → LeaveTermsRoom most least → 1 ≤ n → least * least * n ≤ 1000000 * square g → HasZSize (square d) → nat_abs s ≡ 1 → IsSeenNear most n (times g d) p →
+one_term : (most least n : ℕ) (g d p q : Cpx) (s : ℤ) → LeaveTermsRoom most least → 1 ≤ n → least * least * n ≤ 1000000 * square g → HasZMagnitude (square d) → nat_abs s ≡ 1 → IsSeenNear most n (times g d) p →
     IsSeenNear most n (times g (record { re = pos 127 *ℤ s; im = pos 0 })) q → pos 0 <ℤ (s *ℤ (times q (conjugate (times p (conjugate d)))).re)
 unfolding main off
 one_term most least n g d p q s room some reads size unit primary secondary =
@@ -163,10 +163,10 @@ one_term most least n g d p q s room some reads size unit primary secondary =
     least-some zero room = absurd (omega (arith, room))
     least-some (suc k) room = omega arith
 
-    seen-off : (amplitude seen : Cpx) → IsSeenNear most n (times g amplitude) seen → IsSized (1000 * most) v (multiple least (deviation g amplitude seen))
+    seen-off : (amplitude seen : Cpx) → IsSeenNear most n (times g amplitude) seen → IsBounded (1000 * most) v (multiple least (deviation g amplitude seen))
     seen-off amplitude seen is = record {
-      sized = seen-fits bounds n v reads (square (deviation g amplitude seen)) (square (multiple least (deviation g amplitude seen))) (square-multiple least (deviation g amplitude seen))
-          (deviation-sized most n g amplitude seen is).sized;
+      bounded = seen-fits bounds n v reads (square (deviation g amplitude seen)) (square (multiple least (deviation g amplitude seen))) (square-multiple least (deviation g amplitude seen))
+          (deviation-bounded most n g amplitude seen is).bounded;
     }
 
     e : Cpx
@@ -178,9 +178,9 @@ one_term most least n g d p q s room some reads size unit primary secondary =
     once : (n : ℕ) → n * 1 ≡ n
     once n = omega arith
 
-    e_sized : IsSized (128000 * most) v e
-    e_sized = subst (λ (m : ℕ). IsSized m v e) (units most) (subst (λ (n : ℕ). IsSized (1000 * most * 128) n e) (once v)
-        (sized-times (multiple least (deviation g d p)) (conjugate d) (1000 * most) 128 v 1 (seen-off d p primary)
+    e_sized : IsBounded (128000 * most) v e
+    e_sized = subst (λ (m : ℕ). IsBounded m v e) (units most) (subst (λ (n : ℕ). IsBounded (1000 * most * 128) n e) (once v)
+        (bounded-times (multiple least (deviation g d p)) (conjugate d) (1000 * most) 128 v 1 (seen-off d p primary)
         (sized_plain (conjugate d) 128 (subst (λ (n : ℕ). n ≤ 128 * 128) (sym (square-conjugate d)) size.most))))
 
     channel_part : multiple least (in_parts turned) ≡ plus (multiple (least * (64 * square d)) g) e
@@ -244,7 +244,7 @@ same_sign s o x p q = elim (sign_cases s p) [
 tells : (n1 n2 : ℕ) (half : Half) (pss_seen sss_seen : ℕ → Cpx) → n1 ≤ 167 → n2 ≤ 2 → ((n : ℕ) → n < 62 → pos 0 <ℤ (sss_at n1 n2 half n *ℤ agreement pss_seen sss_seen n2 n)) →
     (m : ℕ) (other : Half) → m ≤ 167 → score pss_seen sss_seen n2 n1 half ≤ℤ score pss_seen sss_seen n2 m other → (m ≡ n1) × (other ≡ half)
 unfolding score
-tells n1 n2 half pss_seen sss_seen group root some m other l no_less = secondary_tells n2 m n1 other half root l group lists
+tells n1 n2 half pss_seen sss_seen group root some m other l no_less = secondary_determines n2 m n1 other half root l group lists
   where
     c : ℕ → ℤ
     c n = agreement pss_seen sss_seen n2 n
@@ -273,7 +273,7 @@ sent_pair_stands_alone most least n gain n1 n2 half pss_seen sss_seen room seen 
   terms = terms;
   greatest = λ m other l apart. elim (less_or_not (points m other) (points n1 half)) [
     | inl less ↦ less
-    | inr no_less ↦ absurd (apart (told m other l no_less))
+    | inr no_less ↦ absurd (apart (decoded m other l no_less))
   ];
   best = let only = only_one_is_best points n1 half is_best in ap₂ (λ (n : ℕ) (h : Half). let pair : ℕ × Half = (n, h) in pair) (sym only.0) (sym only.1);
 }
@@ -286,8 +286,8 @@ sent_pair_stands_alone most least n gain n1 n2 half pss_seen sss_seen room seen 
         one_term most least n (gain (k + 5)) (pss_at n2 k) (pss_seen (k + 5)) (sss_seen (k + 5)) (sss_at n1 n2 half k) room seen.sounds (seen.reads k l) (pss-size n2 k) (sss-size n1 n2 half k)
         (seen.primary k l) (seen.secondary k l)
 
-    told : (m : ℕ) (other : Half) → m ≤ 167 → score pss_seen sss_seen n2 n1 half ≤ℤ score pss_seen sss_seen n2 m other → (m ≡ n1) × (other ≡ half)
-    told = tells n1 n2 half pss_seen sss_seen seen.group seen.root terms
+    decoded : (m : ℕ) (other : Half) → m ≤ 167 → score pss_seen sss_seen n2 n1 half ≤ℤ score pss_seen sss_seen n2 m other → (m ≡ n1) × (other ≡ half)
+    decoded = tells n1 n2 half pss_seen sss_seen seen.group seen.root terms
 
     itself : (a : ℤ) → a ≤ℤ a
     itself a = omega (arith, ints)
@@ -296,13 +296,13 @@ sent_pair_stands_alone most least n gain n1 n2 half pss_seen sss_seen room seen 
     is_best = record {
       known = seen.group;
       greatest = λ m other l. elim (less_or_not (points n1 half) (points m other)) [
-        | inl more ↦ absurd (let same = told m other l (lt-le (points n1 half) (points m other) more) in
+        | inl more ↦ absurd (let same = decoded m other l (lt-le (points n1 half) (points m other) more) in
             lt-not_le (points n1 half) (points m other) more (subst (λ (k : ℕ). points m other ≤ℤ points k half) same.0 (subst (λ (h : Half). points m other ≤ℤ points m h) same.1 (itself (points m other)))))
         | inr no_more ↦ no_more
       ];
       first = λ m other l before. elim (less_or_not (points m other) (points n1 half)) [
         | inl less ↦ less
-        | inr no_less ↦ absurd (let same = told m other l no_less in
+        | inr no_less ↦ absurd (let same = decoded m other l no_less in
             not_before_itself n1 half (subst (λ (k : ℕ). IsBefore k half n1 half) same.0 (subst (λ (h : Half). IsBefore m h n1 half) same.1 before)))
       ];
     }

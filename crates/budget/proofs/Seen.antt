@@ -5,9 +5,9 @@ use Rattle.finite.specs.Sums.{sum_below, total_below}
 use Rattle.cs_num.specs.declared.Cpx.{Cpx}
 use Rattle.cs_num.specs.Complex.{nothing, plus, times, square, minus, multiple}
 use Rattle.cs_num.proofs.Complex.{plus-nothing}
-use Rattle.norms.specs.Sizes.{IsSized, energy_below}
+use Rattle.norms.specs.Magnitudes.{IsBounded, energy_below}
 use Rattle.norms.proofs.Squares.{square-multiple}
-use Rattle.norms.proofs.Sized.{sized-plus}
+use Rattle.norms.proofs.Bounded.{bounded-plus}
 use Rattle.fold128.specs.Symbol.{useful_at}
 use Rattle.observe.specs.Seen.{seen}
 use Rattle.budget.specs.Received.{AreAmplitudes, in_parts, off_by, received_of, samples_from}
@@ -15,11 +15,11 @@ use Rattle.budget.specs.Budget.{AmplitudeIsSeen, AmplitudesAreSeen, AmplitudeIsS
 use Rattle.budget.proofs.Causes.{three_causes, IsSent, sent_by_one, sent-plus}
 
 -- three magnitudes in units of 2^31 times the gain, whose sum bounds 2^29 times the deviation
-pub join : (a b c n : ℕ) (d x y z : Cpx) → multiple (2 ^ 29) d ≡ plus x (plus y z) → IsSized (a * 2 ^ 31) n x → IsSized (b * 2 ^ 31) n y → IsSized (c * 2 ^ 31) n z →
+pub join : (a b c n : ℕ) (d x y z : Cpx) → multiple (2 ^ 29) d ≡ plus x (plus y z) → IsBounded (a * 2 ^ 31) n x → IsBounded (b * 2 ^ 31) n y → IsBounded (c * 2 ^ 31) n z →
     square d ≤ 16 * ((a + (b + c)) * (a + (b + c))) * n
 join a b c n d x y z e p q r =
-    let whole = sized-plus x (plus y z) (a * 2 ^ 31) (b * 2 ^ 31 + c * 2 ^ 31) n p (sized-plus y z (b * 2 ^ 31) (c * 2 ^ 31) n q r) in
-    down a b c n (square d) (square (multiple (2 ^ 29) d)) (square (plus x (plus y z))) (square-multiple (2 ^ 29) d) (ap (λ (v : Cpx). square v) e) whole.sized
+    let whole = bounded-plus x (plus y z) (a * 2 ^ 31) (b * 2 ^ 31 + c * 2 ^ 31) n p (bounded-plus y z (b * 2 ^ 31) (c * 2 ^ 31) n q r) in
+    down a b c n (square d) (square (multiple (2 ^ 29) d)) (square (plus x (plus y z))) (square-multiple (2 ^ 29) d) (ap (λ (v : Cpx). square v) e) whole.bounded
   where
     down : (a b c n s t u : ℕ) → t ≡ 2 ^ 29 * 2 ^ 29 * s → t ≡ u → u ≤ (a * 2 ^ 31 + (b * 2 ^ 31 + c * 2 ^ 31)) * (a * 2 ^ 31 + (b * 2 ^ 31 + c * 2 ^ 31)) * n → s ≤ 16 * ((a + (b + c)) * (a + (b + c))) * n
     down a b c n s t u e f h = omega (arith, e, f, h)
@@ -54,9 +54,9 @@ module _ (ports quota most a b : ℕ) (units : AreUnits ports quota most a b) wh
       let d : Cpx = minus (in_parts (seen_in samples k)) (multiple 64 amplitude) in
       units.whole n (square d)
       (join a b 1 n d (sending_off sent amplitude k) causes.errors causes.rounding causes.whole
-      (record { sized = units.sending n (square (sending_off sent amplitude k)) sending.off })
-      (record { sized = errors_in n (energy_below 128 (off_by samples sent)) (square causes.errors) quiet causes.errors_small })
-      (record { sized = rounding_in n (square causes.rounding) some causes.rounding_small }))
+      (record { bounded = units.sending n (square (sending_off sent amplitude k)) sending.off })
+      (record { bounded = errors_in n (energy_below 128 (off_by samples sent)) (square causes.errors) quiet causes.errors_small })
+      (record { bounded = rounding_in n (square causes.rounding) some causes.rounding_small }))
 
 -- ---- one gain
 

@@ -14,11 +14,11 @@ use Rattle.cs_num.specs.Rounding.{rounded}
 use Rattle.cs_num.specs.Sums.{complex_sum_below}
 use Rattle.cs_num.proofs.Complex.{pair, square-within, plus-commutes, times-plus, times-plus_left, times-commutes}
 use Rattle.cs_num.proofs.Sums.{complex_sum_below_same, complex_sum_below_split, complex_sum_below_plus}
-use Rattle.norms.specs.Sizes.{IsSized, energy_below, correlation_below}
+use Rattle.norms.specs.Magnitudes.{IsBounded, energy_below, correlation_below}
 use Rattle.norms.proofs.Algebra.{plus-minus, minus-plus, times-minus, times-nothing, times-associates, times-multiple, multiple-times, sum-times_right, conjugate-times, conjugate-plus, conjugate-multiple, multiple-plus, multiple_twice, sum-times, sum-multiple, sum_zero, plus-nothing_right}
 use Rattle.norms.proofs.Squares.{square-multiple, square-times, square-conjugate}
-use Rattle.norms.proofs.Sized.{sized_gain, sized_plain, sized_more, sized-plus, sized-times, sized-sum, sized-sum_by}
-use Rattle.norms.proofs.Products.{sized-multiple}
+use Rattle.norms.proofs.Bounded.{sized_gain, sized_plain, sized_more, bounded-plus, bounded-times, bounded-sum, bounded-sum_by}
+use Rattle.norms.proofs.Products.{bounded-multiple}
 use Rattle.norms.proofs.Cauchy.{energy_same, correlation_plus, correlation_times}
 use Rattle.norms.proofs.Rounding.{rounded_near}
 use Rattle.fold128.specs.Tables.{w_at}
@@ -123,7 +123,7 @@ one_path_is_received_over quota gain grid samples received = (
         (λ n l. ap (minus (in_parts (samples n))) (sym (plus-nothing_right (times gain (useful_at grid n))))))
         received.quiet;
   },
-  record { late = λ path l. absurd (omega (arith, l)); near = λ path l. omega arith; sized = λ path l. absurd (omega (arith, l)); faint = omega arith },
+  record { late = λ path l. absurd (omega (arith, l)); near = λ path l. omega arith; bounded = λ path l. absurd (omega (arith, l)); faint = omega arith },
 )
 
 -- ---- one path
@@ -131,7 +131,7 @@ one_path_is_received_over quota gain grid samples received = (
 -- the samples of a useful part are small
 useful-small : (grid : ℕ → Cpx) (n : ℕ) → AreAmplitudes grid → square (useful_at grid n) ≤ 2305 * 2305
 unfolding useful_at
-useful-small grid n small = down (square part) (square (multiple 131072 part)) (square-multiple 131072 part) (subst (λ (z : Cpx). square z ≤ 302101002 * 302101002 * 1) (plus-minus (multiple 131072 part) tones) whole.sized)
+useful-small grid n small = down (square part) (square (multiple 131072 part)) (square-multiple 131072 part) (subst (λ (z : Cpx). square z ≤ 302101002 * 302101002 * 1) (plus-minus (multiple 131072 part) tones) whole.bounded)
   where
     tones : Cpx
     tones = complex_sum_below 72 (useful_term grid n)
@@ -145,10 +145,10 @@ useful-small grid n small = down (square part) (square (multiple 131072 part)) (
     fits : (s : ℕ) → s ≤ 2 * (65536 * 65536) → s ≤ 92682 * 92682
     fits s h = omega (arith, h)
 
-    whole : IsSized (302008320 + 92682) 1 (plus tones off)
+    whole : IsBounded (302008320 + 92682) 1 (plus tones off)
     whole =
-        sized-plus tones off 302008320 92682 1
-        (sized-sum 72 (useful_term grid n) 4194560 1 (λ k l. sized-times (grid k) (w_at (frequency k * n)) 256 16385 1 1 (sized_plain (grid k) 256 (small k l)) (sized_plain (w_at (frequency k * n)) 16385 (w-square (frequency k * n)))))
+        bounded-plus tones off 302008320 92682 1
+        (bounded-sum 72 (useful_term grid n) 4194560 1 (λ k l. bounded-times (grid k) (w_at (frequency k * n)) 256 16385 1 1 (sized_plain (grid k) 256 (small k l)) (sized_plain (w_at (frequency k * n)) 16385 (w-square (frequency k * n)))))
         (sized_plain off 92682 (fits (square off) (square-within off 65536 (rounded_near tones 17 65536 (omega arith) refl refl))))
 
     down : (s t : ℕ) → t ≡ 131072 * 131072 * s → t ≤ 302101002 * 302101002 * 1 → s ≤ 2305 * 2305
@@ -188,15 +188,15 @@ turned_is part delay k few =
 
 moved-small : (grid : ℕ → Cpx) (delay k : ℕ) → AreAmplitudes grid → square (moved (useful_at grid) delay k) ≤ 6549888000 * 6549888000
 unfolding entry_off moved
-moved-small grid delay k small = plain (square (moved (useful_at grid) delay k)) sum.sized
+moved-small grid delay k small = plain (square (moved (useful_at grid) delay k)) sum.bounded
   where
-    entry-small : (a b : ℕ) → IsSized 22200 1 (conjugate (entry_off a b))
+    entry-small : (a b : ℕ) → IsBounded 22200 1 (conjugate (entry_off a b))
     entry-small a b = sized_plain (conjugate (entry_off a b)) 22200 (subst (λ (s : ℕ). s ≤ 22200 * 22200) (sym (square-conjugate (entry_off a b))) (nearly_multiplicative a b))
 
-    sum : IsSized (128 * 51171000) 1 (moved (useful_at grid) delay k)
+    sum : IsBounded (128 * 51171000) 1 (moved (useful_at grid) delay k)
     sum =
-        sized-sum 128 (λ n. times (useful_at grid n) (conjugate (entry_off (frequency k * n) (frequency k * delay)))) 51171000 1
-        (λ n l. sized-times (useful_at grid n) (conjugate (entry_off (frequency k * n) (frequency k * delay))) 2305 22200 1 1 (sized_plain (useful_at grid n) 2305 (useful-small grid n small)) (entry-small (frequency k * n) (frequency k * delay)))
+        bounded-sum 128 (λ n. times (useful_at grid n) (conjugate (entry_off (frequency k * n) (frequency k * delay)))) 51171000 1
+        (λ n l. bounded-times (useful_at grid n) (conjugate (entry_off (frequency k * n) (frequency k * delay))) 2305 22200 1 1 (sized_plain (useful_at grid n) 2305 (useful-small grid n small)) (entry-small (frequency k * n) (frequency k * delay)))
 
     plain : (s : ℕ) → s ≤ 128 * 51171000 * (128 * 51171000) * 1 → s ≤ 6549888000 * 6549888000
     plain s h = omega (arith, h)
@@ -280,18 +280,18 @@ apart_by sent part turn a k =
     e : Cpx
     e = minus (multiple 16384 x) (times turn y)
 
-pub delayed-small : (delay k : ℕ) → IsSized 16385 1 (delayed delay k)
+pub delayed-small : (delay k : ℕ) → IsBounded 16385 1 (delayed delay k)
 delayed-small delay k = sized_plain (delayed delay k) 16385 (subst (λ (s : ℕ). s ≤ 16385 * 16385) (sym (square-conjugate (w_at (frequency k * delay)))) (w-square (frequency k * delay)))
 
 -- 97 units for transmission and 25 for the table: 16384 times 123 of 2^31 in all
-one_path : (grid : ℕ → Cpx) (delay k : ℕ) → AreAmplitudes grid → delay ≤ 128 → k < 72 → IsSized 4327677766926336 1 (apart (turned_round delay (useful_at grid)) (times (delayed delay k) (grid k)) k)
+one_path : (grid : ℕ → Cpx) (delay k : ℕ) → AreAmplitudes grid → delay ≤ 128 → k < 72 → IsBounded 4327677766926336 1 (apart (turned_round delay (useful_at grid)) (times (delayed delay k) (grid k)) k)
 unfolding spectrum_at
 one_path grid delay k small few inside =
-    subst (IsSized 4327677766926336 1) (sym (apart_by (turned_round delay (useful_at grid)) (useful_at grid) (delayed delay k) (grid k) k))
+    subst (IsBounded 4327677766926336 1) (sym (apart_by (turned_round delay (useful_at grid)) (useful_at grid) (delayed delay k) (grid k) k))
     (sized_more (plus (times (delayed delay k) sending) (multiple 131072 e)) (16385 * 208305913856 + 131072 * 6710886400) 4327677766926336 1 (omega arith)
-    (sized-plus (times (delayed delay k) sending) (multiple 131072 e) (16385 * 208305913856) (131072 * 6710886400) 1
-    (sized-times (delayed delay k) sending 16385 208305913856 1 1 (delayed-small delay k) (sized_plain sending 208305913856 (sending_is_small grid k small inside)))
-    (sized-multiple 131072 e 6710886400 1 (sized_plain e 6710886400 (turned_part_is_seen grid delay k small few)))))
+    (bounded-plus (times (delayed delay k) sending) (multiple 131072 e) (16385 * 208305913856) (131072 * 6710886400) 1
+    (bounded-times (delayed delay k) sending 16385 208305913856 1 1 (delayed-small delay k) (sized_plain sending 208305913856 (sending_is_small grid k small inside)))
+    (bounded-multiple 131072 e 6710886400 1 (sized_plain e 6710886400 (turned_part_is_seen grid delay k small few)))))
   where
     sending : Cpx
     sending = minus (multiple 131072 (correlation_below 128 (useful_at grid) (tone_at k))) (multiple 34359738368 (grid k))
@@ -301,7 +301,7 @@ one_path grid delay k small few inside =
 
 pub turned_sending_is_small : TurnedSendingIsSmall
 unfolding spectrum_at apart
-turned_sending_is_small grid delay k small few inside = plain (square (turned_off (turned_round delay (useful_at grid)) (times (delayed delay k) (grid k)) k)) (one_path grid delay k small few inside).sized
+turned_sending_is_small grid delay k small few inside = plain (square (turned_off (turned_round delay (useful_at grid)) (times (delayed delay k) (grid k)) k)) (one_path grid delay k small few inside).bounded
   where
     plain : (s : ℕ) → s ≤ 4327677766926336 * 4327677766926336 * 1 → s ≤ (123 * 2 ^ 45) * (123 * 2 ^ 45)
     plain s h = omega (arith, h)
@@ -320,11 +320,11 @@ pub weight-least : (delay : ℕ) → 17 ≤ weight delay
 weight-least delay = grind (arith, nat_tests)
 
 -- a sum in which each later path counts b times its magnitude is at most c times the first gain's magnitude
-pub among : (sizes : ℕ → ℕ) (paths : Paths) (b c : ℕ) (z : Cpx) → AreFaint sizes paths → b ≤ 17 * c → IsSized (total_below paths.later (λ path. sizes path * b)) 1 z → IsSized c (square paths.first) z
-among sizes paths b c z faint few is = record {
-  sized = down (total_below paths.later (λ path. sizes path * b)) (total_below paths.later (λ path. weight (paths.delay path) * sizes path)) (square paths.first) (square z)
-      (shares paths.later 17 b (λ path. sizes path * b) (λ path. weight (paths.delay path) * sizes path) (λ path l. one (sizes path) (weight (paths.delay path)) (weight-least (paths.delay path))))
-      faint.faint is.sized;
+pub among : (magnitudes : ℕ → ℕ) (paths : Paths) (b c : ℕ) (z : Cpx) → AreFaint magnitudes paths → b ≤ 17 * c → IsBounded (total_below paths.later (λ path. magnitudes path * b)) 1 z → IsBounded c (square paths.first) z
+among magnitudes paths b c z faint few is = record {
+  bounded = down (total_below paths.later (λ path. magnitudes path * b)) (total_below paths.later (λ path. weight (paths.delay path) * magnitudes path)) (square paths.first) (square z)
+      (shares paths.later 17 b (λ path. magnitudes path * b) (λ path. weight (paths.delay path) * magnitudes path) (λ path l. one (magnitudes path) (weight (paths.delay path)) (weight-least (paths.delay path))))
+      faint.faint is.bounded;
 }
   where
     one : (s w : ℕ) → 17 ≤ w → 17 * (s * b) ≤ b * (w * s)
@@ -340,12 +340,12 @@ among sizes paths b c z faint few is = record {
         let four : b * b * n ≤ 17 * c * (17 * c) * n = mul-le-mul_right n three in
         omega (arith, one, two, four, h)
 
-pub over_paths : (sizes : ℕ → ℕ) (paths : Paths) (b c : ℕ) (f : ℕ → Cpx) → AreFaint sizes paths → b ≤ 17 * c → ((path : ℕ) → path < paths.later → IsSized b 1 (f path)) →
-    IsSized c (square paths.first) (received_of paths.later paths.gain f)
-over_paths sizes paths b c f faint few each =
-    among sizes paths b c (received_of paths.later paths.gain f) faint few
-    (sized-sum_by paths.later (λ path. times (paths.gain path) (f path)) (λ path. sizes path * b) 1
-    (λ path l. sized-times (paths.gain path) (f path) (sizes path) b 1 1 (sized_plain (paths.gain path) (sizes path) (faint.sized path l)) (each path l)))
+pub over_paths : (magnitudes : ℕ → ℕ) (paths : Paths) (b c : ℕ) (f : ℕ → Cpx) → AreFaint magnitudes paths → b ≤ 17 * c → ((path : ℕ) → path < paths.later → IsBounded b 1 (f path)) →
+    IsBounded c (square paths.first) (received_of paths.later paths.gain f)
+over_paths magnitudes paths b c f faint few each =
+    among magnitudes paths b c (received_of paths.later paths.gain f) faint few
+    (bounded-sum_by paths.later (λ path. times (paths.gain path) (f path)) (λ path. magnitudes path * b) 1
+    (λ path l. bounded-times (paths.gain path) (f path) (magnitudes path) b 1 1 (sized_plain (paths.gain path) (magnitudes path) (faint.bounded path l)) (each path l)))
 
 -- ---- the channel
 
@@ -391,7 +391,7 @@ square-negated z = ap₂ (λ (m n : ℕ). m * m + n * n) (negates z.re) (negates
     negates : (x : ℤ) → nat_abs (pos 0 -ℤ x) ≡ nat_abs x
     negates x = omega (arith, ints)
 
-module _ (sizes : ℕ → ℕ) (paths : Paths) (grid : ℕ → Cpx) (k : ℕ) (small : AreAmplitudes grid) (faint : AreFaint sizes paths) (sounds : 2 ^ 28 ≤ square paths.first) (inside : k < 72) where
+module _ (magnitudes : ℕ → ℕ) (paths : Paths) (grid : ℕ → Cpx) (k : ℕ) (small : AreAmplitudes grid) (faint : AreFaint magnitudes paths) (sounds : 2 ^ 28 ≤ square paths.first) (inside : k < 72) where
   one_sent : ℕ → Cpx
   one_sent path = apart (turned_round (paths.delay path) (useful_at grid)) (times (delayed (paths.delay path) k) (grid k)) k
 
@@ -429,29 +429,29 @@ module _ (sizes : ℕ → ℕ) (paths : Paths) (grid : ℕ → Cpx) (k : ℕ) (s
       ∙ apart_less (received_over paths (useful_at grid)) (times (whole_channel paths k) (grid k)) (times (channel_rest paths k) (grid k)) k
       ∙ ap (λ (z : Cpx). plus z (minus nothing (multiple 34359738368 (times (channel_rest paths k) (grid k))))) all_apart
 
-  first-sized : IsSized 3412884092616704 (square paths.first) (times paths.first (multiple 16384 sending))
+  first-bounded : IsBounded 3412884092616704 (square paths.first) (times paths.first (multiple 16384 sending))
   unfolding sending spectrum_at
-  first-sized =
-      subst (λ (n : ℕ). IsSized 3412884092616704 n (times paths.first (multiple 16384 sending))) (let e : square paths.first * 1 ≡ square paths.first = times-one (square paths.first) in e)
-      (sized-times paths.first (multiple 16384 sending) 1 3412884092616704 (square paths.first) 1 (sized_gain paths.first)
-      (sized-multiple 16384 sending 208305913856 1 (sized_plain sending 208305913856 (sending_is_small grid k small inside))))
+  first-bounded =
+      subst (λ (n : ℕ). IsBounded 3412884092616704 n (times paths.first (multiple 16384 sending))) (let e : square paths.first * 1 ≡ square paths.first = times-one (square paths.first) in e)
+      (bounded-times paths.first (multiple 16384 sending) 1 3412884092616704 (square paths.first) 1 (sized_gain paths.first)
+      (bounded-multiple 16384 sending 208305913856 1 (sized_plain sending 208305913856 (sending_is_small grid k small inside))))
     where
       times-one : (n : ℕ) → n * 1 ≡ n
       times-one n = omega arith
 
-  later-sized : IsSized 281474976710656 (square paths.first) (received_of paths.later paths.gain one_sent)
+  later-bounded : IsBounded 281474976710656 (square paths.first) (received_of paths.later paths.gain one_sent)
   unfolding one_sent
-  later-sized =
-      over_paths sizes paths 4327677766926336 281474976710656 (λ path. apart (turned_round (paths.delay path) (useful_at grid)) (times (delayed (paths.delay path) k) (grid k)) k) faint (omega arith)
+  later-bounded =
+      over_paths magnitudes paths 4327677766926336 281474976710656 (λ path. apart (turned_round (paths.delay path) (useful_at grid)) (times (delayed (paths.delay path) k) (grid k)) k) faint (omega arith)
       (λ path l. one_path grid (paths.delay path) k small (few (paths.delay path) (faint.near path l)) inside)
     where
       few : (d : ℕ) → d ≤ 9 → d ≤ 128
       few d h = omega (arith, h)
 
-  rest-sized : IsSized 35184372088832 (square paths.first) rest
+  rest-bounded : IsBounded 35184372088832 (square paths.first) rest
   unfolding rest
-  rest-sized = record {
-    sized = fits (square (minus nothing (multiple 34359738368 t))) (square (multiple 34359738368 t)) (square t) (square (channel_rest paths k)) (square (grid k)) (square paths.first)
+  rest-bounded = record {
+    bounded = fits (square (minus nothing (multiple 34359738368 t))) (square (multiple 34359738368 t)) (square t) (square (channel_rest paths k)) (square (grid k)) (square paths.first)
         (square-negated (multiple 34359738368 t)) (square-multiple 34359738368 t) (square-times (channel_rest paths k) (grid k)) (channel-rest_small paths k) (small k inside) sounds;
   }
     where
@@ -467,7 +467,7 @@ module _ (sizes : ℕ → ℕ) (paths : Paths) (grid : ℕ → Cpx) (k : ℕ) (s
       ≤ (106 * 2 ^ 31) * (106 * 2 ^ 31) * square paths.first
   over-small =
       down (square s) (square (multiple 16384 s)) (square (plus (plus a b) rest)) (square paths.first) (square-multiple 16384 s) (ap (λ (z : Cpx). square z) over_apart)
-      (sized-plus (plus a b) rest 3694359069327360 35184372088832 (square paths.first) (sized-plus a b 3412884092616704 281474976710656 (square paths.first) first-sized later-sized) rest-sized).sized
+      (bounded-plus (plus a b) rest 3694359069327360 35184372088832 (square paths.first) (bounded-plus a b 3412884092616704 281474976710656 (square paths.first) first-bounded later-bounded) rest-bounded).bounded
     where
       s : Cpx
       s = minus (multiple 131072 (correlation_below 128 (received_over paths (useful_at grid)) (tone_at k))) (multiple 34359738368 (times (channel_over paths k) (grid k)))
@@ -483,12 +483,12 @@ module _ (sizes : ℕ → ℕ) (paths : Paths) (grid : ℕ → Cpx) (k : ℕ) (s
 
 pub sending_over_is_small : SendingOverIsSmall
 unfolding spectrum_at
-sending_over_is_small sizes paths grid k small faint sounds inside = over-small sizes paths grid k small faint sounds inside
+sending_over_is_small magnitudes paths grid k small faint sounds inside = over-small magnitudes paths grid k small faint sounds inside
 
 -- ---- the demodulated value: 106 units for transmission, 363 for the errors and 1 for rounding
 
 pub amplitude_is_seen_over : AmplitudeIsSeenOver
-amplitude_is_seen_over sizes paths grid samples k small faint received inside =
+amplitude_is_seen_over magnitudes paths grid samples k small faint received inside =
     let n : ℕ = square paths.first in
     let h : Cpx = times (channel_over paths k) (grid k) in
     let sent : ℕ → Cpx = received_over paths (useful_at grid) in
@@ -496,9 +496,9 @@ amplitude_is_seen_over sizes paths grid samples k small faint received inside =
     let d : Cpx = minus (in_parts (seen_in samples k)) (multiple 64 h) in
     record {
       off = join 106 363 1 n d (sending_off sent h k) causes.errors causes.rounding causes.whole
-          (record { sized = sending_over_is_small sizes paths grid k small faint received.sounds inside })
-          (record { sized = errors n (energy_below 128 (off_by samples sent)) (square causes.errors) received.quiet causes.errors_small })
-          (record { sized = rounding_in n (square causes.rounding) received.sounds causes.rounding_small });
+          (record { bounded = sending_over_is_small magnitudes paths grid k small faint received.sounds inside })
+          (record { bounded = errors n (energy_below 128 (off_by samples sent)) (square causes.errors) received.quiet causes.errors_small })
+          (record { bounded = rounding_in n (square causes.rounding) received.sounds causes.rounding_small });
     }
   where
     errors : (n e s : ℕ) → e ≤ 1024 * n → s ≤ 2 ^ 41 * e * (16385 * 16385) → s ≤ (363 * 2 ^ 31) * (363 * 2 ^ 31) * n
@@ -506,4 +506,4 @@ amplitude_is_seen_over sizes paths grid samples k small faint received inside =
 
 pub amplitude_is_seen_over_in_recording : AmplitudeIsSeenOverInRecording
 unfolding seen
-amplitude_is_seen_over_in_recording sizes paths grid recording start k small faint received inside = amplitude_is_seen_over sizes paths grid (samples_from recording start) k small faint received inside
+amplitude_is_seen_over_in_recording magnitudes paths grid recording start k small faint received inside = amplitude_is_seen_over magnitudes paths grid (samples_from recording start) k small faint received inside

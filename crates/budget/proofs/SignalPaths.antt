@@ -9,7 +9,7 @@ use Rattle.cs_num.specs.declared.Cpx.{Cpx}
 use Rattle.cs_num.specs.declared.Sample.{Sample}
 use Rattle.cs_num.specs.Complex.{nothing, plus, times, square, minus}
 use Rattle.cs_num.proofs.Complex.{pair, plus-commutes}
-use Rattle.norms.specs.Sizes.{inner, energy_below, correlation_below}
+use Rattle.norms.specs.Magnitudes.{inner, energy_below, correlation_below}
 use Rattle.norms.proofs.Naturals.{root-le}
 use Rattle.norms.proofs.Squares.{inner-le}
 use Rattle.norms.proofs.Cauchy.{cauchy, energy_same, energy_split, energy_weighted}
@@ -42,7 +42,7 @@ signals_are_through prefix recording t n1 n2 half both = record {
 -- ---- several paths
 
 pub signals_over_are_through : SignalsOverAreThrough
-signals_over_are_through sizes paths prefix recording t n1 n2 half faint both =
+signals_over_are_through magnitudes paths prefix recording t n1 n2 half faint both =
     let before : ℕ = t - symbol_step prefix in
     record {
       most = 1880;
@@ -54,11 +54,11 @@ signals_over_are_through sizes paths prefix recording t n1 n2 half faint both =
         group = both.group;
         root = both.root;
         sounds = some (square paths.first) both.primary.sounds;
-        reads = λ k l. channel-least sizes paths faint both.primary.sounds (k + 5);
+        reads = λ k l. channel-least magnitudes paths faint both.primary.sounds (k + 5);
         primary = λ k l. subst (λ (z : Cpx). IsSeenNear 1880 (square paths.first) (times (channel_over paths (k + 5)) z) (seen recording t (k + 5))) (pss_in_grid n2 k l)
-            (amplitude_is_seen_over_in_recording sizes paths (pss_grid n2) recording t (k + 5) (pss_amplitudes n2) faint both.primary (omega (arith, l)));
+            (amplitude_is_seen_over_in_recording magnitudes paths (pss_grid n2) recording t (k + 5) (pss_amplitudes n2) faint both.primary (omega (arith, l)));
         secondary = λ k l. subst (λ (z : Cpx). IsSeenNear 1880 (square paths.first) (times (channel_over paths (k + 5)) z) (seen recording before (k + 5))) (sss_in_grid n1 n2 half k l)
-            (amplitude_is_seen_over_in_recording sizes paths (sss_grid n1 n2 half) recording before (k + 5) (sss_amplitudes n1 n2 half) faint both.secondary (omega (arith, l)));
+            (amplitude_is_seen_over_in_recording magnitudes paths (sss_grid n1 n2 half) recording before (k + 5) (sss_amplitudes n1 n2 half) faint both.secondary (omega (arith, l)));
       };
     }
   where
@@ -87,20 +87,20 @@ energy-plus n g p e s t m gain power rest =
         let most : x ≤ y + z + 2 * nat_abs i = omega (arith, ints, e) in
         omega (arith, most, h, k, l)
 
-energy-received : (count : ℕ) (gains : ℕ → Cpx) (sent : ℕ → ℕ → Cpx) (sizes : ℕ → ℕ) (m : ℕ) → ((path : ℕ) → path < count → square (gains path) ≤ sizes path * sizes path) →
+energy-received : (count : ℕ) (gains : ℕ → Cpx) (sent : ℕ → ℕ → Cpx) (magnitudes : ℕ → ℕ) (m : ℕ) → ((path : ℕ) → path < count → square (gains path) ≤ magnitudes path * magnitudes path) →
     ((path : ℕ) → path < count → energy_below 128 (sent path) ≤ m) →
-    energy_below 128 (λ n. received_of count gains (λ path. sent path n)) ≤ total_below count sizes * total_below count sizes * m
+    energy_below 128 (λ n. received_of count gains (λ path. sent path n)) ≤ total_below count magnitudes * total_below count magnitudes * m
 unfolding sum_below total_below
-energy-received zero gains sent sizes m sized powers = none (energy_below 128 (λ n. nothing)) (total_zero 128 (λ n. square nothing) (λ k l. refl))
+energy-received zero gains sent magnitudes m bounded powers = none (energy_below 128 (λ n. nothing)) (total_zero 128 (λ n. square nothing) (λ k l. refl))
   where
     none : (e : ℕ) → e ≡ 0 → e ≤ 0 * 0 * m
     none e same = omega (arith, same)
-energy-received (suc count) gains sent sizes m sized powers =
-    subst (λ (e : ℕ). e ≤ total_below (suc count) sizes * total_below (suc count) sizes * m)
+energy-received (suc count) gains sent magnitudes m bounded powers =
+    subst (λ (e : ℕ). e ≤ total_below (suc count) magnitudes * total_below (suc count) magnitudes * m)
     (energy_same 128 (λ n. plus (times (gains count) (sent count n)) (received_of count gains (λ path. sent path n))) (λ n. received_of (suc count) gains (λ path. sent path n))
     (λ n l. plus-commutes (times (gains count) (sent count n)) (received_of count gains (λ path. sent path n))))
-    (energy-plus 128 (gains count) (sent count) (λ n. received_of count gains (λ path. sent path n)) (sizes count) (total_below count sizes) m (sized count (omega arith)) (powers count (omega arith))
-    (energy-received count gains sent sizes m (λ path l. sized path (omega (arith, l))) (λ path l. powers path (omega (arith, l)))))
+    (energy-plus 128 (gains count) (sent count) (λ n. received_of count gains (λ path. sent path n)) (magnitudes count) (total_below count magnitudes) m (bounded count (omega arith)) (powers count (omega arith))
+    (energy-received count gains sent magnitudes m (λ path l. bounded path (omega (arith, l))) (λ path l. powers path (omega (arith, l)))))
 
 -- a cyclic shift keeps 128 samples' energy
 energy-turned : (delay : ℕ) (part : ℕ → Cpx) → delay ≤ 128 → energy_below 128 (turned_round delay part) ≡ energy_below 128 part
@@ -135,7 +135,7 @@ moves a b l = omega (arith, ints)
 beside_later : (a b l : Cpx) → minus a b ≡ plus l (minus a (plus b l))
 beside_later a b l = pair (moves a.re b.re l.re) (moves a.im b.im l.im)
 
-module _ (sizes : ℕ → ℕ) (paths : Paths) (recording : List Sample) (t n2 : ℕ) (faint : AreFaint sizes paths) (root : n2 ≤ 2)
+module _ (magnitudes : ℕ → ℕ) (paths : Paths) (recording : List Sample) (t n2 : ℕ) (faint : AreFaint magnitudes paths) (root : n2 ≤ 2)
     (received : IsReceivedOver 1024 paths (pss_grid n2) (samples_from recording t)) where
   part : ℕ → Cpx
   part n = useful_at (pss_grid n2) n
@@ -148,10 +148,10 @@ module _ (sizes : ℕ → ℕ) (paths : Paths) (recording : List Sample) (t n2 :
   later : ℕ → Cpx
   later n = received_of paths.later paths.gain (λ path. turned_round (paths.delay path) part n)
 
-  later-small : energy_below 128 later ≤ total_below paths.later sizes * total_below paths.later sizes * 2001665
+  later-small : energy_below 128 later ≤ total_below paths.later magnitudes * total_below paths.later magnitudes * 2001665
   unfolding later
   later-small =
-      energy-received paths.later paths.gain (λ path. turned_round (paths.delay path) part) sizes 2001665 faint.sized
+      energy-received paths.later paths.gain (λ path. turned_round (paths.delay path) part) magnitudes 2001665 faint.bounded
       (λ path l. turned (energy_below 128 (turned_round (paths.delay path) part)) (energy_below 128 part) (energy-turned (paths.delay path) part (near (paths.delay path) (faint.near path l))) power)
     where
       near : (d : ℕ) → d ≤ 9 → d ≤ 128
@@ -164,13 +164,13 @@ module _ (sizes : ℕ → ℕ) (paths : Paths) (recording : List Sample) (t n2 :
   unfolding later part
   errors-small =
       fits (energy_below 128 (off_by (samples_from recording t) (λ n. times paths.first (part n)))) (energy_below 128 (λ n. plus (later n) (off_by (samples_from recording t) (received_over paths part) n)))
-      (energy_below 128 later) (energy_below 128 (off_by (samples_from recording t) (received_over paths part))) (total_below paths.later sizes)
-      (total_below paths.later (λ path. weight (paths.delay path) * sizes path)) (square paths.first)
+      (energy_below 128 later) (energy_below 128 (off_by (samples_from recording t) (received_over paths part))) (total_below paths.later magnitudes)
+      (total_below paths.later (λ path. weight (paths.delay path) * magnitudes path)) (square paths.first)
       (energy_same 128 (off_by (samples_from recording t) (λ n. times paths.first (part n))) (λ n. plus (later n) (off_by (samples_from recording t) (received_over paths part) n))
       (λ n l. beside_later (in_parts (samples_from recording t n)) (times paths.first (part n)) (later n)))
       (energy_weighted 2 128 later (off_by (samples_from recording t) (received_over paths part)))
       later-small received.quiet
-      (shares paths.later 17 1 sizes (λ path. weight (paths.delay path) * sizes path) (λ path l. heavy (sizes path) (weight (paths.delay path)) (weight-least (paths.delay path)))) faint.faint
+      (shares paths.later 17 1 magnitudes (λ path. weight (paths.delay path) * magnitudes path) (λ path l. heavy (magnitudes path) (weight (paths.delay path)) (weight-least (paths.delay path)))) faint.faint
     where
       heavy : (s w : ℕ) → 17 ≤ w → 17 * s ≤ 1 * (w * s)
       heavy s w l =
@@ -184,8 +184,8 @@ module _ (sizes : ℕ → ℕ) (paths : Paths) (recording : List Sample) (t n2 :
 
 pub primary_over_is_within : PrimaryOverIsWithin
 unfolding part
-primary_over_is_within sizes paths recording t n2 faint root received = record {
+primary_over_is_within magnitudes paths recording t n2 faint root received = record {
   gain = paths.first;
   root = root;
-  received = record { sounds = received.sounds; quiet = errors-small sizes paths recording t n2 faint root received };
+  received = record { sounds = received.sounds; quiet = errors-small magnitudes paths recording t n2 faint root received };
 }

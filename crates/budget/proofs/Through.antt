@@ -10,11 +10,11 @@ use Rattle.finite.proofs.Ring as ring
 use Rattle.cs_num.specs.declared.Cpx.{Cpx}
 use Rattle.cs_num.specs.Complex.{IsWithin, nothing, plus, times, conjugate, square, minus, multiple}
 use Rattle.cs_num.proofs.Complex.{pair, plus-nothing, plus-associates}
-use Rattle.norms.specs.Sizes.{IsSized, inner, real, energy_below, correlation_below}
+use Rattle.norms.specs.Magnitudes.{IsBounded, inner, real, energy_below, correlation_below}
 use Rattle.norms.proofs.Naturals.{root-le}
 use Rattle.norms.proofs.Algebra.{plus-minus, multiple-plus, multiple_twice, times-multiple}
 use Rattle.norms.proofs.Squares.{square-times, square-multiple, square-conjugate, inner-le, re-le}
-use Rattle.norms.proofs.Sized.{sized-plus}
+use Rattle.norms.proofs.Bounded.{bounded-plus}
 use Rattle.norms.proofs.Products.{product_near}
 use Rattle.norms.proofs.Cauchy.{cauchy, energy_same}
 use Rattle.norms.proofs.Gram.{energy_with_errors}
@@ -26,7 +26,7 @@ use Rattle.soft_bits.specs.Soft.{SeenSlot, pattern_seen, pattern_sent, pattern_p
 use Rattle.budget.specs.Received.{in_parts}
 use Rattle.budget.specs.Through.{Channel, Bounds, at_pilot, ArePilotsThrough, estimate_off, product_off, energy_most, ValuesSpeakThrough, level, OneGainLeavesRoom, QuietGainLeavesRoom, OneGainIsThrough, OneGainIsRead}
 use Rattle.budget.proofs.Parts.{product-multiples, product_in_parts, square_in_parts, energy_in_parts}
-use Rattle.budget.proofs.Deviations.{deviation, seen_is, deviation-sized}
+use Rattle.budget.proofs.Deviations.{deviation, seen_is, deviation-bounded}
 use Rattle.budget.proofs.Near.{IsOff, line-off, line-multiple, line-level}
 use Rattle.budget.proofs.Pilots.{sent-size, turned_pilot-near}
 use Rattle.budget.proofs.Signs.{near_component_speaks}
@@ -76,7 +76,7 @@ channel-small : (pattern : Pattern) (slot : SeenSlot) (k : ℕ) → square (patt
 unfolding pattern_channel pattern_pilot pattern_energy
 channel-small pattern slot k =
     fits (square line) (square (in_parts line)) (square near.off) (total_below 24 (λ i. square (pattern_seen pattern slot i))) (square_in_parts line)
-    (ap (λ (z : Cpx). square z) (near.is ∙ ap (λ (z : Cpx). plus z near.off) (line-level 3 23 nothing (omega arith) (slot.identity % 3) k) ∙ plus-nothing near.off)) near.small.sized
+    (ap (λ (z : Cpx). square z) (near.is ∙ ap (λ (z : Cpx). plus z near.off) (line-level 3 23 nothing (omega arith) (slot.identity % 3) k) ∙ plus-nothing near.off)) near.small.bounded
   where
     pilots : ℕ → Cpx
     pilots i = times (pattern_seen pattern slot i) (conjugate (pattern_sent pattern slot.identity slot.number i))
@@ -94,7 +94,7 @@ channel-small pattern slot k =
       off = in_parts (pilots i);
       is = sym (plus-nothing (in_parts (pilots i)));
       small = record {
-        sized = product (total_below 24 (λ i. square (pattern_seen pattern slot i))) (square (in_parts (pilots i))) (square (pilots i)) (square (pattern_seen pattern slot i))
+        bounded = product (total_below 24 (λ i. square (pattern_seen pattern slot i))) (square (in_parts (pilots i))) (square (pilots i)) (square (pattern_seen pattern slot i))
             (square (conjugate (pattern_sent pattern slot.identity slot.number i))) (square_in_parts (pilots i))
             (square-times (pattern_seen pattern slot i) (conjugate (pattern_sent pattern slot.identity slot.number i)))
             (square-conjugate (pattern_sent pattern slot.identity slot.number i) ∙ sent-size pattern slot.identity slot.number i)
@@ -205,7 +205,7 @@ module _ (bounds : Bounds) (n : ℕ) (pattern : Pattern) (channel : Channel) (sl
           turned_pilot-near bounds.most n (at_pilot pattern slot channel i) (pattern_sent pattern slot.identity slot.number i) (pattern_seen pattern slot i)
           (record {
             full = sent-size pattern slot.identity slot.number i;
-            seen = deviation-sized bounds.most n (at_pilot pattern slot channel i) (pattern_sent pattern slot.identity slot.number i) (pattern_seen pattern slot i) (pilots.pilot i (omega (arith, l)));
+            seen = deviation-bounded bounds.most n (at_pilot pattern slot channel i) (pattern_sent pattern slot.identity slot.number i) (pattern_seen pattern slot i) (pilots.pilot i (omega (arith, l)));
           })
 
   energy-through : 1000000 * (268435456 * pattern_energy pattern slot) ≤ (8192 * bounds.mean + 1000 * bounds.most) * (8192 * bounds.mean + 1000 * bounds.most) * (24 * n)
@@ -217,7 +217,7 @@ module _ (bounds : Bounds) (n : ℕ) (pattern : Pattern) (channel : Channel) (sl
       (energy-triangle 24 1000000 (8192 * bounds.mean) (1000 * bounds.most) (24 * n) main off
       (mains (energy_below 24 main) (energy_below 24 h) (terms_scaled 24 66355200 (λ i. square (main i)) (λ i. square (h i)) (λ i l. main-size i)) pilots.mean)
       (offs (energy_below 24 off) (total_below-within 24 (bounds.most * bounds.most * n) (λ i. square (off i))
-      (λ i l. (deviation-sized bounds.most n (h i) (d i) (pattern_seen pattern slot i) (pilots.pilot i l)).sized))))
+      (λ i l. (deviation-bounded bounds.most n (h i) (d i) (pattern_seen pattern slot i) (pilots.pilot i l)).bounded))))
     where
       h : ℕ → Cpx
       h = at_pilot pattern slot channel
@@ -231,13 +231,13 @@ module _ (bounds : Bounds) (n : ℕ) (pattern : Pattern) (channel : Channel) (sl
       off : ℕ → Cpx
       off i = deviation (h i) (d i) (pattern_seen pattern slot i)
 
-      sized : (s w a b : ℕ) → s ≡ w * a → a ≡ 64 * 64 * b → b ≡ 16200 → s ≤ 66355200 * w
-      sized s w a b e f g =
+      bounded : (s w a b : ℕ) → s ≡ w * a → a ≡ 64 * 64 * b → b ≡ 16200 → s ≤ 66355200 * w
+      bounded s w a b e f g =
           let k : w * a ≡ w * 66355200 = ap (λ (x : ℕ). w * x) (let j : a ≡ 66355200 = omega (arith, f, g) in j) in
           omega (arith, e, k)
 
       main-size : (i : ℕ) → square (main i) ≤ 66355200 * square (h i)
-      main-size i = sized (square (main i)) (square (h i)) (square (multiple 64 (d i))) (square (d i)) (square-times (h i) (multiple 64 (d i))) (square-multiple 64 (d i)) (sent-size pattern slot.identity slot.number i)
+      main-size i = bounded (square (main i)) (square (h i)) (square (multiple 64 (d i))) (square (d i)) (square-times (h i) (multiple 64 (d i))) (square-multiple 64 (d i)) (sent-size pattern slot.identity slot.number i)
 
       mains : (s w : ℕ) → s ≤ 66355200 * w → 1000000 * w ≤ bounds.mean * bounds.mean * (24 * n) → 1000000 * s ≤ 8192 * bounds.mean * (8192 * bounds.mean) * (24 * n)
       mains s w f g = omega (arith, f, g)
@@ -298,25 +298,25 @@ values_speak_through size n bounds pattern channel slot symbol k first second se
         ap (multiple (1000 * u)) (estimate_there.is ∙ ap (λ (z : Cpx). plus (multiple 1036800 z) estimate_there.off) (sym (plus-minus line (multiple 3 h))))
         ∙ opened (1000 * u) 1036800 h bend estimate_there.off ∙ ap (λ (c : ℕ). plus (multiple c h) off) (coefficient u)
 
-    off-sized : IsSized (estimate_off bounds) v off
-    off-sized =
-        sized-plus (multiple (1000 * u * 1036800) bend) (multiple (1000 * u) estimate_there.off) (3110400 * (bounds.bend * bounds.least)) (384000000 * bounds.most) v
-        (record { sized = line-fits bounds n v read.least (square bend) (square (multiple (1000 * u * 1036800) bend)) (square-multiple (1000 * u * 1036800) bend) read.straight })
-        (record { sized = pilots-fit bounds n v read.least (square estimate_there.off) (square (multiple (1000 * u) estimate_there.off)) (square-multiple (1000 * u) estimate_there.off) estimate_there.small.sized })
+    off-bounded : IsBounded (estimate_off bounds) v off
+    off-bounded =
+        bounded-plus (multiple (1000 * u * 1036800) bend) (multiple (1000 * u) estimate_there.off) (3110400 * (bounds.bend * bounds.least)) (384000000 * bounds.most) v
+        (record { bounded = line-fits bounds n v read.least (square bend) (square (multiple (1000 * u * 1036800) bend)) (square-multiple (1000 * u * 1036800) bend) read.straight })
+        (record { bounded = pilots-fit bounds n v read.least (square estimate_there.off) (square (multiple (1000 * u) estimate_there.off)) (square-multiple (1000 * u) estimate_there.off) estimate_there.small.bounded })
 
-    seen-sized : IsSized (1000 * bounds.most) v seen_there
-    seen-sized = record {
-      sized = seen-fits bounds n v read.least (square (deviation h a seen)) (square seen_there) (square-multiple u (deviation h a seen)) (deviation-sized bounds.most n h a seen here).sized;
+    seen-bounded : IsBounded (1000 * bounds.most) v seen_there
+    seen-bounded = record {
+      bounded = seen-fits bounds n v read.least (square (deviation h a seen)) (square seen_there) (square-multiple u (deviation h a seen)) (deviation-bounded bounds.most n h a seen here).bounded;
     }
 
-    point-sized : square point_there ≤ 8192 * u * (8192 * u)
-    point-sized = point-fits bounds n v read.least (square (multiple 64 a)) (square point_there) (square-multiple u (multiple 64 a)) (point-small first second)
+    point-bounded : square point_there ≤ 8192 * u * (8192 * u)
+    point-bounded = point-fits bounds n v read.least (square (multiple 64 a)) (square point_there) (square-multiple u (multiple 64 a)) (point-small first second)
 
     product : IsWithin (product_off bounds * v) (minus (times (multiple u (in_parts seen)) (conjugate (multiple (1000 * u) (in_parts channel_there)))) (multiple (3110400000 * u * v) point_there))
     product =
         subst (λ (y : Cpx). IsWithin (product_off bounds * v) (minus y (multiple (3110400000 * u * v) point_there)))
         (ap₂ (λ (x y : Cpx). times x (conjugate y)) (sym (seen_part u h a seen)) (sym estimate_is))
-        (product_near h point_there seen_there off (3110400000 * u) (8192 * u) (1000 * bounds.most) (estimate_off bounds) point-sized seen-sized off-sized)
+        (product_near h point_there seen_there off (3110400000 * u) (8192 * u) (1000 * bounds.most) (estimate_off bounds) point-bounded seen-bounded off-bounded)
 
     scale : ℕ
     scale = u * (1000 * u) * 268435456

@@ -2,7 +2,7 @@
 use Rattle.std.proofs.Common.{◌≡◌, ℕ, ◌+◌, ◌-◌, ◌*◌, ◌<◌, ◌≤◌, arith, ap, mul-le-mul, mul-le-mul_left, mul-le-mul_right, mul-pos}
 use Rattle.cs_num.specs.declared.Cpx.{Cpx}
 use Rattle.cs_num.specs.Complex.{plus, times, square, multiple}
-use Rattle.norms.specs.Sizes.{energy_below, correlation_below}
+use Rattle.norms.specs.Magnitudes.{energy_below, correlation_below}
 use Rattle.norms.proofs.Algebra.{multiple-plus}
 use Rattle.norms.proofs.Squares.{square-times, square-multiple}
 use Rattle.norms.proofs.TwoTerms.{two_term_cauchy, weighted}

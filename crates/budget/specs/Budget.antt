@@ -5,12 +5,13 @@ use Rattle.cs_num.specs.declared.Sample.{Sample}
 use Rattle.cs_num.specs.Complex.{IsWithin, plus, times, square, minus, multiple}
 use Rattle.cs_num.specs.Rounding.{rounded}
 use Rattle.cs_num.specs.Sums.{complex_sum_below}
-use Rattle.norms.specs.Sizes.{energy_below}
+use Rattle.norms.specs.Magnitudes.{energy_below}
 use Rattle.fold128.specs.Symbol.{useful_term, useful_at}
 use Rattle.fold128.specs.Spectrum.{spectrum_at}
 use Rattle.observe.specs.Seen.{seen}
 use Rattle.budget.specs.Received.{AreAmplitudes, in_parts, off_by, IsReceived, IsReceivedBy, samples_from}
 use Rattle.budget.specs.Received.{IsSeenAs, IsSeenBy}
+use Rattle.lte_types.specs.Numerology.{subcarriers, useful_length}
 
 -- the samples' demodulated value at subcarrier k
 abbrev pub seen_in : (ℕ → Cpx) → ℕ → Cpx
@@ -24,12 +25,12 @@ sending_off sent amplitude k = minus (multiple (2 ^ 17) (spectrum_at sent k)) (m
 -- the transmit error of one symbol is at most 97 units of 2^31
 abbrev pub SendingIsSmall : Type 0
 SendingIsSmall =
-    (grid : ℕ → Cpx) (k : ℕ) → AreAmplitudes grid → k < 72 →
+    (grid : ℕ → Cpx) (k : ℕ) → AreAmplitudes grid → k < subcarriers →
     square (sending_off (useful_at grid) (grid k) k) ≤ (97 * 2 ^ 31) * (97 * 2 ^ 31)
 
 -- 2^17 times sample n of a useful part, before rounding
 abbrev pub unrounded : (ℕ → Cpx) → ℕ → Cpx
-unrounded grid n = complex_sum_below 72 (useful_term grid n)
+unrounded grid n = complex_sum_below subcarriers (useful_term grid n)
 
 -- the leakage: the unrounded useful part's demodulated value, less 2^35 times the amplitude; it is not 0 because the
 -- tables are rounded
@@ -43,13 +44,13 @@ rounding_sent grid k = spectrum_at (λ n. minus (multiple (2 ^ 17) (useful_at gr
 -- a symbol's transmit error is its leakage plus the demodulated rounding errors of its samples
 abbrev pub SendingHasTwoCauses : Type 0
 SendingHasTwoCauses =
-    (grid : ℕ → Cpx) (k : ℕ) → k < 72 →
+    (grid : ℕ → Cpx) (k : ℕ) → k < subcarriers →
     sending_off (useful_at grid) (grid k) k ≡ plus (leakage grid k) (rounding_sent grid k)
 
 -- in units of 2^31, the leakage is at most 6.1, and the demodulated rounding errors are at most 90.7
 abbrev pub LeakageIsSmall : Type 0
 LeakageIsSmall =
-    (grid : ℕ → Cpx) (k : ℕ) → AreAmplitudes grid → k < 72 →
+    (grid : ℕ → Cpx) (k : ℕ) → AreAmplitudes grid → k < subcarriers →
     100 * square (leakage grid k) ≤ (61 * 2 ^ 31) * (61 * 2 ^ 31)
 
 abbrev pub RoundingSentIsSmall : Type 0
@@ -71,7 +72,7 @@ pub record HasThreeCauses (sent samples : ℕ → Cpx) (amplitude : Cpx) (k : �
       ≡ plus (sending_off sent amplitude k) (plus errors rounding)
   pub errors_is : errors ≡ multiple (2 ^ 17) (spectrum_at (off_by samples sent) k)
   pub rounding_is : rounding ≡ multiple (2 ^ 31) (minus (multiple (2 ^ 12) (seen_in samples k)) (spectrum_at samples k))
-  pub errors_small : square errors ≤ 2 ^ 41 * energy_below 128 (off_by samples sent) * (16385 * 16385)
+  pub errors_small : square errors ≤ 2 ^ 41 * energy_below useful_length (off_by samples sent) * (16385 * 16385)
   pub rounding_small : square rounding ≤ 2 ^ 85
 
 -- a demodulated value's deviation has three causes, whatever was transmitted, gains included
@@ -93,14 +94,14 @@ pub record HasFourCauses (gain other : Cpx) (grid second_grid samples : ℕ → 
       (with_gains gain other (rounding_sent grid k) (rounding_sent second_grid k))) (plus errors rounding)
   pub errors_small : square errors ≤
       2 ^ 41
-      * energy_below 128 (off_by samples (λ n. with_gains gain other (useful_at grid n) (useful_at second_grid n)))
+      * energy_below useful_length (off_by samples (λ n. with_gains gain other (useful_at grid n) (useful_at second_grid n)))
       * (16385 * 16385)
   pub rounding_small : square rounding ≤ 2 ^ 85
 
 -- a demodulated value's deviation has four causes; one gain is the case where the other is 0
 abbrev pub DeviationHasFourCauses : Type 0
 DeviationHasFourCauses =
-    (gain other : Cpx) (grid second_grid samples : ℕ → Cpx) (k : ℕ) → k < 72 →
+    (gain other : Cpx) (grid second_grid samples : ℕ → Cpx) (k : ℕ) → k < subcarriers →
     HasFourCauses gain other grid second_grid samples k
 
 -- each amplitude is demodulated through one gain with a deviation of at most `most` times the gain's magnitude, if the
@@ -108,7 +109,7 @@ DeviationHasFourCauses =
 abbrev pub AmplitudeIsSeen : ℕ → ℕ → Type 0
 AmplitudeIsSeen quota most =
     (gain : Cpx) (grid samples : ℕ → Cpx) (k : ℕ) → AreAmplitudes grid →
-    IsReceived quota gain grid samples → k < 72 → IsSeenAs most gain (grid k) (seen_in samples k)
+    IsReceived quota gain grid samples → k < subcarriers → IsSeenAs most gain (grid k) (seen_in samples k)
 
 -- the amplitudes that several ports send are demodulated as their sum, with a deviation of at most `most` times the
 -- gains' root sum square, if the error energy is at most `quota` times the gains' summed squares
@@ -116,14 +117,14 @@ abbrev pub AmplitudesAreSeen : ℕ → ℕ → ℕ → Type 0
 AmplitudesAreSeen ports quota most =
     (gains : ℕ → Cpx) (grids : ℕ → ℕ → Cpx) (samples : ℕ → Cpx) (k : ℕ) →
     ((port : ℕ) → port < ports → AreAmplitudes (grids port)) →
-    IsReceivedBy ports quota gains grids samples → k < 72 →
+    IsReceivedBy ports quota gains grids samples → k < subcarriers →
     IsSeenBy ports most gains (λ port. grids port k) (seen_in samples k)
 
 -- the deviation bound for one gain in a recording, with the demodulated values that `observe` gives at a sample
 abbrev pub AmplitudeIsSeenInRecording : ℕ → ℕ → Type 0
 AmplitudeIsSeenInRecording quota most =
     (gain : Cpx) (grid : ℕ → Cpx) (recording : List Sample) (start k : ℕ) → AreAmplitudes grid →
-    IsReceived quota gain grid (samples_from recording start) → k < 72 →
+    IsReceived quota gain grid (samples_from recording start) → k < subcarriers →
     IsSeenAs most gain (grid k) (seen recording start k)
 
 -- error energy of `quota` times the gain's square makes a deviation of at most `most` times the gain's magnitude: 97
@@ -143,7 +144,7 @@ abbrev pub AmplitudesAreSeenInRecording : ℕ → ℕ → ℕ → Type 0
 AmplitudesAreSeenInRecording ports quota most =
     (gains : ℕ → Cpx) (grids : ℕ → ℕ → Cpx) (recording : List Sample) (start k : ℕ) →
     ((port : ℕ) → port < ports → AreAmplitudes (grids port)) →
-    IsReceivedBy ports quota gains grids (samples_from recording start) → k < 72 →
+    IsReceivedBy ports quota gains grids (samples_from recording start) → k < subcarriers →
     IsSeenBy ports most gains (λ port. grids port k) (seen recording start k)
 
 -- ---- integer gains, and errors by component
@@ -152,15 +153,15 @@ AmplitudesAreSeenInRecording ports quota most =
 -- square of eps
 abbrev pub ErrorsHaveEnergy : Type 0
 ErrorsHaveEnergy =
-    (eps : ℕ) (values samples : ℕ → Cpx) → ((n : ℕ) → n < 128 → IsWithin eps (minus (samples n) (values n))) →
-    energy_below 128 (off_by samples (λ n. in_parts (values n))) ≤ 2 ^ 36 * (eps * eps)
+    (eps : ℕ) (values samples : ℕ → Cpx) → ((n : ℕ) → n < useful_length → IsWithin eps (minus (samples n) (values n))) →
+    energy_below useful_length (off_by samples (λ n. in_parts (values n))) ≤ 2 ^ 36 * (eps * eps)
 
 -- if each component deviates by at most eps from a useful part times an integer gain that is not 0, and eps is at most
 -- twice the gain's magnitude, the useful part is received with a quota of 1024
 abbrev pub WholeGainIsReceived : Type 0
 WholeGainIsReceived =
     (eps : ℕ) (gain : Cpx) (grid samples : ℕ → Cpx) → 1 ≤ square gain → eps * eps ≤ 4 * square gain →
-    ((n : ℕ) → n < 128 → IsWithin eps (minus (samples n) (times gain (useful_at grid n)))) →
+    ((n : ℕ) → n < useful_length → IsWithin eps (minus (samples n) (times gain (useful_at grid n)))) →
     IsReceived 1024 (in_parts gain) grid samples
 
 -- reception with a quota implies reception with any greater one

@@ -10,7 +10,7 @@ use Rattle.cs_num.specs.declared.Cpx.{Cpx}
 use Rattle.cs_num.specs.declared.Sample.{Sample}
 use Rattle.cs_num.specs.Complex.{nothing, plus, times, conjugate, square, minus, multiple}
 use Rattle.cs_num.specs.Rounding.{rounded}
-use Rattle.norms.specs.Sizes.{energy_below}
+use Rattle.norms.specs.Magnitudes.{energy_below}
 use Rattle.fold128.specs.Tables.{w_at}
 use Rattle.fold128.specs.Symbol.{frequency, useful_at}
 use Rattle.fold128.specs.Spectrum.{spectrum_at}
@@ -21,6 +21,7 @@ use Rattle.observe.specs.Seen.{seen, seen_symbol}
 use Rattle.budget.specs.Received.{AreAmplitudes, IsReceived, off_by, received_of, samples_from, IsSeenNear}
 use Rattle.budget.specs.Budget.{seen_in, sending_off}
 use Rattle.budget.specs.Through.{Channel, Bounds, LeaveRoom, ArePilotsThrough, IsReadThrough, BothSpeak}
+use Rattle.lte_types.specs.Numerology.{subcarriers, useful_length}
 
 -- ---- paths
 
@@ -33,7 +34,7 @@ pub record Paths : Type 0 where
 
 -- 128 samples, cyclically shifted by a delay
 abbrev pub turned_round : ℕ → (ℕ → Cpx) → ℕ → Cpx
-turned_round delay part n = part ((n + (128 - delay)) % 128)
+turned_round delay part n = part ((n + (useful_length - delay)) % useful_length)
 
 -- a useful part as received over several paths
 abbrev pub received_over : Paths → (ℕ → Cpx) → ℕ → Cpx
@@ -45,14 +46,14 @@ received_over paths part n =
 -- times the first gain's square, which is at least 1 in magnitude
 pub record IsReceivedOver (quota : ℕ) (paths : Paths) (grid samples : ℕ → Cpx) : Type 0 where
   pub sounds : 2 ^ 28 ≤ square paths.first
-  pub quiet : energy_below 128 (off_by samples (received_over paths (useful_at grid))) ≤ quota * square paths.first
+  pub quiet : energy_below useful_length (off_by samples (received_over paths (useful_at grid))) ≤ quota * square paths.first
 
 -- ---- the cyclic prefix
 
 -- from an index, a sequence holds the last 9 samples of a useful part, followed by the part
 pub record HasPrefix (part : ℕ → Cpx) (place : ℕ) (sent : ℕ → Cpx) : Type 0 where
   pub before : (n : ℕ) → n < 9 → sent (place + n) ≡ part (119 + n)
-  pub useful : (n : ℕ) → n < 128 → sent (place + 9 + n) ≡ part n
+  pub useful : (n : ℕ) → n < useful_length → sent (place + 9 + n) ≡ part n
 
 -- a transmitted sequence as it arrives over several paths
 abbrev pub arriving : Paths → (ℕ → Cpx) → ℕ → Cpx
@@ -63,7 +64,7 @@ arriving paths sent i =
 abbrev pub PrefixTurnsRound : Type 0
 PrefixTurnsRound =
     (paths : Paths) (part sent : ℕ → Cpx) (place n : ℕ) →
-    ((path : ℕ) → path < paths.later → paths.delay path ≤ 9) → HasPrefix part place sent → n < 128 →
+    ((path : ℕ) → path < paths.later → paths.delay path ≤ 9) → HasPrefix part place sent → n < useful_length →
     arriving paths sent (place + 9 + n) ≡ received_over paths part n
 
 -- samples near the arriving sequence are received over the paths
@@ -72,7 +73,7 @@ ArrivingIsReceived =
     (quota : ℕ) (paths : Paths) (grid sent samples : ℕ → Cpx) (place : ℕ) →
     ((path : ℕ) → path < paths.later → paths.delay path ≤ 9) → HasPrefix (useful_at grid) place sent →
     2 ^ 28 ≤ square paths.first →
-    energy_below 128 (off_by samples (λ n. arriving paths sent (place + 9 + n))) ≤ quota * square paths.first →
+    energy_below useful_length (off_by samples (λ n. arriving paths sent (place + 9 + n))) ≤ quota * square paths.first →
     IsReceivedOver quota paths grid samples
 
 -- ---- faint later paths
@@ -83,13 +84,13 @@ weight delay = if nat_le delay 7 then 17 else 2 * delay + 3
 
 -- later paths are faint: each is 1 to 9 samples late, and the bounds on their magnitudes, each times its path's weight,
 -- sum to at most the first gain's magnitude
-pub record AreFaint (sizes : ℕ → ℕ) (paths : Paths) : Type 0 where
+pub record AreFaint (magnitudes : ℕ → ℕ) (paths : Paths) : Type 0 where
   pub late : (path : ℕ) → path < paths.later → 1 ≤ paths.delay path
   pub near : (path : ℕ) → path < paths.later → paths.delay path ≤ 9
-  pub sized : (path : ℕ) → path < paths.later → square (paths.gain path) ≤ sizes path * sizes path
+  pub bounded : (path : ℕ) → path < paths.later → square (paths.gain path) ≤ magnitudes path * magnitudes path
   pub faint :
-      total_below paths.later (λ path. weight (paths.delay path) * sizes path)
-      * total_below paths.later (λ path. weight (paths.delay path) * sizes path) ≤
+      total_below paths.later (λ path. weight (paths.delay path) * magnitudes path)
+      * total_below paths.later (λ path. weight (paths.delay path) * magnitudes path) ≤
       square paths.first
 
 -- one path, without later ones
@@ -127,7 +128,7 @@ over paths symbol k = channel_over paths k
 -- rotation, within 25 * 2^28: the table is not quite multiplicative
 abbrev pub TurnedPartIsSeen : Type 0
 TurnedPartIsSeen =
-    (grid : ℕ → Cpx) (delay k : ℕ) → AreAmplitudes grid → delay ≤ 128 →
+    (grid : ℕ → Cpx) (delay k : ℕ) → AreAmplitudes grid → delay ≤ useful_length →
     square (minus (multiple 16384 (spectrum_at (turned_round delay (useful_at grid)) k))
     (times (delayed delay k) (spectrum_at (useful_at grid) k))) ≤
     (25 * 2 ^ 28) * (25 * 2 ^ 28)
@@ -139,15 +140,15 @@ turned_off sent number k = minus (multiple (2 ^ 31) (spectrum_at sent k)) (multi
 -- a shifted useful part is demodulated as 64 times its amplitude times the delay's phase rotation, within 123 units
 abbrev pub TurnedSendingIsSmall : Type 0
 TurnedSendingIsSmall =
-    (grid : ℕ → Cpx) (delay k : ℕ) → AreAmplitudes grid → delay ≤ 128 → k < 72 →
+    (grid : ℕ → Cpx) (delay k : ℕ) → AreAmplitudes grid → delay ≤ useful_length → k < subcarriers →
     square (turned_off (turned_round delay (useful_at grid)) (times (delayed delay k) (grid k)) k) ≤
     (123 * 2 ^ 45) * (123 * 2 ^ 45)
 
 -- over faint paths, the transmit error is at most 106 units of 2^31 times the first gain
 abbrev pub SendingOverIsSmall : Type 0
 SendingOverIsSmall =
-    (sizes : ℕ → ℕ) (paths : Paths) (grid : ℕ → Cpx) (k : ℕ) → AreAmplitudes grid → AreFaint sizes paths →
-    2 ^ 28 ≤ square paths.first → k < 72 →
+    (magnitudes : ℕ → ℕ) (paths : Paths) (grid : ℕ → Cpx) (k : ℕ) → AreAmplitudes grid → AreFaint magnitudes paths →
+    2 ^ 28 ≤ square paths.first → k < subcarriers →
     square (sending_off (received_over paths (useful_at grid)) (times (channel_over paths k) (grid k)) k) ≤
     (106 * 2 ^ 31) * (106 * 2 ^ 31) * square paths.first
 
@@ -155,15 +156,15 @@ SendingOverIsSmall =
 -- if the error energy is at most 1024 times its square
 abbrev pub AmplitudeIsSeenOver : Type 0
 AmplitudeIsSeenOver =
-    (sizes : ℕ → ℕ) (paths : Paths) (grid samples : ℕ → Cpx) (k : ℕ) → AreAmplitudes grid →
-    AreFaint sizes paths → IsReceivedOver 1024 paths grid samples → k < 72 →
+    (magnitudes : ℕ → ℕ) (paths : Paths) (grid samples : ℕ → Cpx) (k : ℕ) → AreAmplitudes grid →
+    AreFaint magnitudes paths → IsReceivedOver 1024 paths grid samples → k < subcarriers →
     IsSeenNear 1880 (square paths.first) (times (channel_over paths k) (grid k)) (seen_in samples k)
 
 -- the bound over faint paths in a recording, with the demodulated values that `observe` gives at a sample
 abbrev pub AmplitudeIsSeenOverInRecording : Type 0
 AmplitudeIsSeenOverInRecording =
-    (sizes : ℕ → ℕ) (paths : Paths) (grid : ℕ → Cpx) (recording : List Sample) (start k : ℕ) →
-    AreAmplitudes grid → AreFaint sizes paths → IsReceivedOver 1024 paths grid (samples_from recording start) → k < 72 →
+    (magnitudes : ℕ → ℕ) (paths : Paths) (grid : ℕ → Cpx) (recording : List Sample) (start k : ℕ) →
+    AreAmplitudes grid → AreFaint magnitudes paths → IsReceivedOver 1024 paths grid (samples_from recording start) → k < subcarriers →
     IsSeenNear 1880 (square paths.first) (times (channel_over paths k) (grid k)) (seen recording start k)
 
 -- ---- a slot over faint paths
@@ -180,7 +181,7 @@ PathsLeaveRoom = LeaveRoom 1 path_bounds
 -- pilots demodulated through the channel of faint paths are within these bounds, and each resource element can be read
 abbrev pub PathsAreThrough : Type 0
 PathsAreThrough =
-    (sizes : ℕ → ℕ) (paths : Paths) (pattern : Pattern) (slot : SeenSlot) → AreFaint sizes paths →
+    (magnitudes : ℕ → ℕ) (paths : Paths) (pattern : Pattern) (slot : SeenSlot) → AreFaint magnitudes paths →
     2 ^ 28 ≤ square paths.first →
     ((i : ℕ) → i < 24 →
     IsSeenNear 1880 (square paths.first)
@@ -190,8 +191,8 @@ PathsAreThrough =
 
 abbrev pub PathsAreRead : Type 0
 PathsAreRead =
-    (sizes : ℕ → ℕ) (paths : Paths) (pattern : Pattern) (slot : SeenSlot) (symbol k : ℕ) →
-    AreFaint sizes paths → 2 ^ 28 ≤ square paths.first → k < 72 →
+    (magnitudes : ℕ → ℕ) (paths : Paths) (pattern : Pattern) (slot : SeenSlot) (symbol k : ℕ) →
+    AreFaint magnitudes paths → 2 ^ 28 ≤ square paths.first → k < subcarriers →
     IsReadThrough path_bounds (square paths.first) pattern (over paths) slot symbol k
 
 -- the first `count` symbols of a slot are received in a recording over several paths, each from its start sample, and
@@ -208,8 +209,8 @@ pub record IsSlotReceivedOver (paths : Paths) (pattern : Pattern) (count : ℕ) 
 -- if later paths are faint, each resource element that carries two bits has soft values that support them
 abbrev pub SlotOverIsHeard : Type 0
 SlotOverIsHeard =
-    (sizes : ℕ → ℕ) (paths : Paths) (pattern : Pattern) (count : ℕ) (recording : List Sample) (starts : ℕ → ℕ)
-    (grids : ℕ → ℕ → Cpx) (slot : SeenSlot) (symbol k : ℕ) (first second : Bool) → AreFaint sizes paths →
+    (magnitudes : ℕ → ℕ) (paths : Paths) (pattern : Pattern) (count : ℕ) (recording : List Sample) (starts : ℕ → ℕ)
+    (grids : ℕ → ℕ → Cpx) (slot : SeenSlot) (symbol k : ℕ) (first second : Bool) → AreFaint magnitudes paths →
     pattern.later < count → IsSlotReceivedOver paths pattern count recording starts grids slot → symbol < count →
-    k < 72 → grids symbol k ≡ point first second →
+    k < subcarriers → grids symbol k ≡ point first second →
     BothSpeak 1 pattern slot k first second (seen_at slot symbol k)

@@ -5,12 +5,13 @@ use Rattle.cs_num.specs.declared.Cpx.{Cpx}
 use Rattle.cs_num.specs.declared.Sample.{Sample}
 use Rattle.cs_num.specs.Complex.{times, square, sample_at, minus, multiple}
 use Rattle.cs_num.specs.Sums.{complex_sum_below}
-use Rattle.norms.specs.Sizes.{energy_below}
+use Rattle.norms.specs.Magnitudes.{energy_below}
 use Rattle.fold128.specs.Symbol.{useful_at}
+use Rattle.lte_types.specs.Numerology.{subcarriers, useful_length}
 
 -- the amplitudes of a grid have magnitude at most 256
 abbrev pub AreAmplitudes : (ℕ → Cpx) → Type 0
-AreAmplitudes grid = (k : ℕ) → k < 72 → square (grid k) ≤ 256 * 256
+AreAmplitudes grid = (k : ℕ) → k < subcarriers → square (grid k) ≤ 256 * 256
 
 -- a value in parts, of which 16384 are one
 abbrev pub in_parts : Cpx → Cpx
@@ -24,7 +25,7 @@ off_by samples values n = minus (in_parts (samples n)) (values n)
 -- deviations' energy is at most `quota` times the gain's square
 pub record IsReceived (quota : ℕ) (gain : Cpx) (grid samples : ℕ → Cpx) : Type 0 where
   pub sounds : 2 ^ 28 ≤ square gain
-  pub quiet : energy_below 128 (off_by samples (λ n. times gain (useful_at grid n))) ≤ quota * square gain
+  pub quiet : energy_below useful_length (off_by samples (λ n. times gain (useful_at grid n))) ≤ quota * square gain
 
 -- the sum received from several ports: each port's signal times its gain
 abbrev pub received_of : ℕ → (ℕ → Cpx) → (ℕ → Cpx) → Cpx
@@ -34,7 +35,7 @@ received_of ports gains sent = complex_sum_below ports (λ port. times (gains po
 -- `quota` times the gains' summed squares, which is at least that of a gain of 1
 pub record IsReceivedBy (ports quota : ℕ) (gains : ℕ → Cpx) (grids : ℕ → ℕ → Cpx) (samples : ℕ → Cpx) : Type 0 where
   pub sounds : 2 ^ 28 ≤ energy_below ports gains
-  pub quiet : energy_below 128 (off_by samples (λ n. received_of ports gains (λ port. useful_at (grids port) n))) ≤
+  pub quiet : energy_below useful_length (off_by samples (λ n. received_of ports gains (λ port. useful_at (grids port) n))) ≤
       quota * energy_below ports gains
 
 -- a recording's samples from an index

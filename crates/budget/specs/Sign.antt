@@ -12,14 +12,14 @@ sign true = negsuc 0
 -- a soft value supports a bit with a magnitude of 1 to 127 if six times the component, signed by the bit, is at least
 -- the magnitude times the energy
 abbrev pub LargeComponentSpeaks : Type 0
-LargeComponentSpeaks = (size energy : ℕ) (bit : Bool) (c : ℤ) → 1 ≤ size → size ≤ 127 → 1 ≤ energy →
-    pos (size * energy) ≤ℤ (pos 6 *ℤ (sign bit *ℤ c)) → Supports size bit (soft_value c energy)
+LargeComponentSpeaks = (magnitude energy : ℕ) (bit : Bool) (c : ℤ) → 1 ≤ magnitude → magnitude ≤ 127 → 1 ≤ energy →
+    pos (magnitude * energy) ≤ℤ (pos 6 *ℤ (sign bit *ℤ c)) → Supports magnitude bit (soft_value c energy)
 
 -- a soft value supports a bit if the scaled component is a multiple of the bit's own, in any unit, up to a deviation
 -- that leaves enough: six times 90 times `main` units, less six times `off`, are at least the magnitude times `most`,
 -- and the scaled energy is at most `most` units
 abbrev pub NearComponentSpeaks : Type 0
-NearComponentSpeaks = (size main off most : ℕ) → 1 ≤ size → size ≤ 127 → size * most + 6 * off ≤ 540 * main →
+NearComponentSpeaks = (magnitude main off most : ℕ) → 1 ≤ magnitude → magnitude ≤ 127 → magnitude * most + 6 * off ≤ 540 * main →
     (scale unit energy : ℕ) (bit : Bool) (c : ℤ) → 1 ≤ scale → 1 ≤ energy → scale * energy ≤ most * unit →
     nat_abs (pos scale *ℤ c -ℤ pos (main * unit) *ℤ component bit) ≤ off * unit →
-    Supports size bit (soft_value c energy)
+    Supports magnitude bit (soft_value c energy)

@@ -41,13 +41,13 @@ pub record AreSignalsOver (paths : Paths) (prefix : Prefix) (recording : List Sa
 -- signals received over the same paths are demodulated through a channel, if later paths are faint
 abbrev pub SignalsOverAreThrough : Type 0
 SignalsOverAreThrough =
-    (sizes : ℕ → ℕ) (paths : Paths) (prefix : Prefix) (recording : List Sample) (t n1 n2 : ℕ) (half : Half) →
-    AreFaint sizes paths → AreSignalsOver paths prefix recording t n1 n2 half →
+    (magnitudes : ℕ → ℕ) (paths : Paths) (prefix : Prefix) (recording : List Sample) (t n1 n2 : ℕ) (half : Half) →
+    AreFaint magnitudes paths → AreSignalsOver paths prefix recording t n1 n2 half →
     AreSignalsThrough prefix recording t n1 n2 half
 
 -- later paths may count as errors of the PSS: together with the sample errors, their energy is at most 14000 times the
 -- first gain's square
 abbrev pub PrimaryOverIsWithin : Type 0
 PrimaryOverIsWithin =
-    (sizes : ℕ → ℕ) (paths : Paths) (recording : List Sample) (t n2 : ℕ) → AreFaint sizes paths → n2 ≤ 2 →
+    (magnitudes : ℕ → ℕ) (paths : Paths) (recording : List Sample) (t n2 : ℕ) → AreFaint magnitudes paths → n2 ≤ 2 →
     IsReceivedOver 1024 paths (pss_grid n2) (samples_from recording t) → IsPrimaryWithin 14000 recording t n2

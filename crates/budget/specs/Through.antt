@@ -3,7 +3,7 @@
 use Rattle.std.specs.Prelude.{ℕ, ◌+◌, ◌*◌, ◌%◌, ◌<◌, ◌≤◌, Bool}
 use Rattle.cs_num.specs.declared.Cpx.{Cpx}
 use Rattle.cs_num.specs.Complex.{times, conjugate, square, minus, multiple}
-use Rattle.norms.specs.Sizes.{energy_below}
+use Rattle.norms.specs.Magnitudes.{energy_below}
 use Rattle.cs_bits.specs.Signs.{Supports}
 use Rattle.crs.specs.Qpsk.{point}
 use Rattle.crs.specs.declared.pattern.Pattern.{Pattern}
@@ -71,30 +71,30 @@ abbrev pub energy_most : Bounds → ℕ
 energy_most bounds = 24000 * ((8192 * bounds.mean + 1000 * bounds.most) * (8192 * bounds.mean + 1000 * bounds.most))
 
 -- the main part of a component outweighs both, for soft values with this magnitude
-pub record LeaveRoom (size : ℕ) (bounds : Bounds) : Type 0 where
-  pub some : 1 ≤ size
-  pub high : size ≤ 127
+pub record LeaveRoom (magnitude : ℕ) (bounds : Bounds) : Type 0 where
+  pub some : 1 ≤ magnitude
+  pub high : magnitude ≤ 127
   pub reads : 1 ≤ bounds.least
-  pub room : size * energy_most bounds + 6 * product_off bounds < 540 * (199065600000 * (bounds.least * bounds.least))
+  pub room : magnitude * energy_most bounds + 6 * product_off bounds < 540 * (199065600000 * (bounds.least * bounds.least))
 
 -- both soft values for a resource element at subcarrier k support two bits with this magnitude, given its demodulated
 -- value
-pub record BothSpeak (size : ℕ) (pattern : Pattern) (slot : SeenSlot) (k : ℕ) (first second : Bool) (seen : Cpx) :
+pub record BothSpeak (magnitude : ℕ) (pattern : Pattern) (slot : SeenSlot) (k : ℕ) (first second : Bool) (seen : Cpx) :
     Type 0 where
-  pub re : Supports size first
+  pub re : Supports magnitude first
       (soft_value (times seen (conjugate (pattern_channel pattern slot k))).re (pattern_energy pattern slot))
-  pub im : Supports size second
+  pub im : Supports magnitude second
       (soft_value (times seen (conjugate (pattern_channel pattern slot k))).im (pattern_energy pattern slot))
 
 -- if a resource element that carries two bits is demodulated through a channel and can be read, its soft values support
 -- them with each magnitude for which the bounds leave room
 abbrev pub ValuesSpeakThrough : Type 0
 ValuesSpeakThrough =
-    (size n : ℕ) (bounds : Bounds) (pattern : Pattern) (channel : Channel) (slot : SeenSlot) (symbol k : ℕ)
-    (first second : Bool) (seen : Cpx) → LeaveRoom size bounds →
+    (magnitude n : ℕ) (bounds : Bounds) (pattern : Pattern) (channel : Channel) (slot : SeenSlot) (symbol k : ℕ)
+    (first second : Bool) (seen : Cpx) → LeaveRoom magnitude bounds →
     ArePilotsThrough bounds n pattern channel slot → IsReadThrough bounds n pattern channel slot symbol k →
     IsSeenNear bounds.most n (times (channel symbol k) (point first second)) seen →
-    BothSpeak size pattern slot k first second seen
+    BothSpeak magnitude pattern slot k first second seen
 
 -- ---- one gain
 

@@ -2,8 +2,8 @@
 use Rattle.std.proofs.Common.{add-one, ◌≡◌, ℕ, zero, suc, ◌<◌, ◌≤◌, ◌+◌, inl, inr, arith, subst, max, refl, ap, ap₂}
 use Rattle.std.proofs.lemmas.Bool.{cases_lt}
 use Rattle.cs_num.specs.declared.Cpx.{Cpx}
-use Rattle.cs_num.specs.Complex.{IsWithin, size}
-use Rattle.cs_num.proofs.Complex.{size-le}
+use Rattle.cs_num.specs.Complex.{IsWithin, largest_part}
+use Rattle.cs_num.proofs.Complex.{largest_part-le}
 use Rattle.cancel.specs.Gain.{greatest_below, GoesBefore}
 use Rattle.cancel.specs.Laws.{BestLeavesLeast}
 
@@ -11,20 +11,20 @@ pub greatest-le : (n bound : ℕ) (f : ℕ → Cpx) → ((i : ℕ) → i < n →
 unfolding greatest_below
 greatest-le zero bound f h = omega arith
 greatest-le (suc n) bound f h =
-    both (greatest_below n f) (size (f n)) (greatest-le n bound f (λ i l. h i (omega arith))) (size-le (f n) bound (h n (omega arith)))
+    both (greatest_below n f) (largest_part (f n)) (greatest-le n bound f (λ i l. h i (omega arith))) (largest_part-le (f n) bound (h n (omega arith)))
   where
     both : (a b : ℕ) → a ≤ bound → b ≤ bound → max a b ≤ bound
     both a b p q = omega (arith, p, q)
 
-within : (bound : ℕ) (z : Cpx) → size z ≤ bound → IsWithin bound z
+within : (bound : ℕ) (z : Cpx) → largest_part z ≤ bound → IsWithin bound z
 within bound z h = record { re = omega (arith, h); im = omega (arith, h) }
 
 pub greatest-each : (n bound : ℕ) (f : ℕ → Cpx) → greatest_below n f ≤ bound → (i : ℕ) → i < n → IsWithin bound (f i)
 unfolding greatest_below
 greatest-each zero bound f h i l = absurd (omega arith)
 greatest-each (suc n) bound f h i l = elim (cases_lt i n) [
-  | inl lower ↦ greatest-each n bound f (first (greatest_below n f) (size (f n)) h) i lower
-  | inr here ↦ let e : n ≡ i = omega arith in subst (λ k. IsWithin bound (f k)) e (within bound (f n) (second (greatest_below n f) (size (f n)) h))
+  | inl lower ↦ greatest-each n bound f (first (greatest_below n f) (largest_part (f n)) h) i lower
+  | inr here ↦ let e : n ≡ i = omega arith in subst (λ k. IsWithin bound (f k)) e (within bound (f n) (second (greatest_below n f) (largest_part (f n)) h))
 ]
   where
     first : (a b : ℕ) → max a b ≤ bound → a ≤ bound
@@ -50,7 +50,7 @@ pub greatest_none : (f : ℕ → Cpx) → greatest_below 0 f ≡ 0
 unfolding greatest_below
 greatest_none f = refl
 
-pub greatest_more : (n : ℕ) (f : ℕ → Cpx) → greatest_below (n + 1) f ≡ max (greatest_below n f) (size (f n))
+pub greatest_more : (n : ℕ) (f : ℕ → Cpx) → greatest_below (n + 1) f ≡ max (greatest_below n f) (largest_part (f n))
 unfolding greatest_below
 greatest_more n f = rw add-one refl
 
@@ -59,7 +59,7 @@ unfolding greatest_below
 greatest-grows m zero f h = let e : m ≡ 0 = omega (arith, h) in rw e (omega arith)
 greatest-grows m (suc n) f h = elim (cases_lt n m) [
   | inl more ↦ let e : m ≡ suc n = omega (arith, h, more) in rw e (omega arith)
-  | inr less ↦ wider (greatest_below m f) (greatest_below n f) (size (f n)) (greatest-grows m n f less)
+  | inr less ↦ wider (greatest_below m f) (greatest_below n f) (largest_part (f n)) (greatest-grows m n f less)
 ]
   where
     wider : (a b c : ℕ) → a ≤ b → a ≤ max b c
@@ -68,4 +68,4 @@ greatest-grows m (suc n) f h = elim (cases_lt n m) [
 pub greatest_same : (n : ℕ) (f g : ℕ → Cpx) → ((i : ℕ) → i < n → f i ≡ g i) → greatest_below n f ≡ greatest_below n g
 unfolding greatest_below
 greatest_same zero f g same = refl
-greatest_same (suc n) f g same = ap₂ max (greatest_same n f g (λ i l. same i (omega (arith, l)))) (ap size (same n (omega arith)))
+greatest_same (suc n) f g same = ap₂ max (greatest_same n f g (λ i l. same i (omega (arith, l)))) (ap largest_part (same n (omega arith)))

@@ -10,7 +10,7 @@ use Rattle.cs_num.specs.Complex.{plus, times, minus, multiple, square}
 use Rattle.cs_num.specs.Rounding.{rounded_quotient, quotient}
 use Rattle.cs_num.proofs.Rounding.{quotient-near}
 use Rattle.cs_num.proofs.Complex.{pair, square-within}
-use Rattle.norms.specs.Sizes.{energy_below, correlation_below}
+use Rattle.norms.specs.Magnitudes.{energy_below, correlation_below}
 use Rattle.norms.proofs.Algebra.{plus-minus, times_real}
 use Rattle.norms.proofs.Squares.{square-multiple}
 use Rattle.norms.proofs.TwoTerms.{weighted}

@@ -4,19 +4,20 @@ use Rattle.cs_num.specs.declared.Cpx.{Cpx}
 use Rattle.cs_num.specs.declared.Sample.{Sample}
 use Rattle.cs_num.specs.Complex.{IsWithin, times, minus, square}
 use Rattle.cs_num.specs.Gain.{IsGain}
-use Rattle.norms.specs.Sizes.{energy_below}
+use Rattle.norms.specs.Magnitudes.{energy_below}
 use Rattle.sample_file.specs.Recording.{IsRecording}
 use Rattle.cell_plan.specs.declared.cell.CellPlan.{CellPlan}
 use Rattle.cancel.specs.declared.subtracted.Subtracted.{Subtracted}
 use Rattle.cancel.specs.Gain.{estimate, IsCandidate, IsBest, greatest_below}
 use Rattle.cancel.specs.Residue.{IsSubtraction, TakesLoadedOff, TakesCleanOff}
+use Rattle.lte_types.specs.Numerology.{useful_length}
 
 -- 128 samples are a signal times a gain, plus errors of at most twice the gain's magnitude in each component
 pub record IsGainSeen (eps : ℕ) (gain : Cpx) (samples signal : ℕ → Cpx) : Type 0 where
   pub size : IsGain gain
   pub quiet : eps * eps ≤ 4 * square gain
-  pub power : 1990000 ≤ energy_below 128 signal
-  pub near : (n : ℕ) → n < 128 → IsWithin eps (minus (samples n) (times gain (signal n)))
+  pub power : 1990000 ≤ energy_below useful_length signal
+  pub near : (n : ℕ) → n < useful_length → IsWithin eps (minus (samples n) (times gain (signal n)))
 
 -- if 128 samples are a signal times a gain, the estimate is the gain or one of its neighbours
 abbrev pub EstimateIsNear : Type 0

@@ -5,7 +5,7 @@ use Rattle.cs_num.specs.declared.Cpx.{Cpx}
 use Rattle.cs_num.specs.declared.Sample.{Sample}
 use Rattle.cs_num.specs.Complex.{IsWithin, sample_at, minus, times}
 use Rattle.cs_num.specs.Rounding.{nearest_sample}
-use Rattle.norms.specs.Sizes.{energy_below}
+use Rattle.norms.specs.Magnitudes.{energy_below}
 use Rattle.lte_types.specs.Numerology.{primary_start}
 use Rattle.lte_types.specs.declared.frame.Half.TheVariants.{Zero}
 use Rattle.lte_types.specs.Timing.{start_of, number_at_start, offset_of, number_before}

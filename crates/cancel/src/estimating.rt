@@ -3,15 +3,15 @@
 ghost use Rattle.std.specs.Prelude.{◌≡◌, ◌+◌, ◌%◌, ◌^◌, ◌<◌, ◌≤◌, All, length};
 ghost use Rattle.finite.specs.Lists.{values_below};
 ghost use Rattle.cs_num.specs.Complex.{IsWithin, value_of, sample_at, times, conjugate};
-ghost use Rattle.norms.specs.Sizes.{correlation_below};
-ghost use Rattle.lte_types.specs.Numerology.{frame_length};
+ghost use Rattle.norms.specs.Magnitudes.{correlation_below};
+ghost use Rattle.lte_types.specs.Numerology.{frame_length, subcarriers, useful_length};
 ghost use Rattle.pss_search.specs.Correlation.{pss_grid, wave, wave_list};
 ghost use Rattle.cancel.specs.Residue.{estimate_at};
 
 use cell_plan::Cell;
 use cs_num::{Cpx, Sample};
 use fold128::synth;
-use lte_types::Prefix;
+use lte_types::{Prefix, SUBCARRIERS, USEFUL_LENGTH};
 use pss_search::signal_power;
 use sample_file::Recording;
 use sync_seq::{in_middle, pss};
@@ -39,15 +39,15 @@ fn root_of(cell: &Cell) -> u8
 }
 
 // Returns a symbol's grid that holds only the PSS.
-fn grid_of(n2: u8) -> [Cpx; 72]
+fn grid_of(n2: u8) -> [Cpx; SUBCARRIERS]
     requires { n2 ≤ 2 }
-    ensures { result ≡ values_below 72 (pss_grid n2) }
+    ensures { result ≡ values_below subcarriers (pss_grid n2) }
 {
     in_middle(&pss(n2))
 }
 
 // Returns the useful part of a symbol that holds only the PSS.
-fn wave_of(n2: u8) -> [Cpx; 128]
+fn wave_of(n2: u8) -> [Cpx; USEFUL_LENGTH]
     requires { n2 ≤ 2 }
     ensures value { result ≡ wave_list n2 }
     ensures small { All (IsWithin 1415) result }
@@ -66,17 +66,17 @@ fn term(sample: Sample, signal: Cpx) -> Cpx
 }
 
 // Correlates the samples from index `first` with a signal.
-fn correlation(recording: &Recording, first: usize, n2: u8, signal: &[Cpx; 128]) -> Cpx
-    requires inside { first + 128 ≤ length recording.now }
+fn correlation(recording: &Recording, first: usize, n2: u8, signal: &[Cpx; USEFUL_LENGTH]) -> Cpx
+    requires inside { first + useful_length ≤ length recording.now }
     requires signal { signal.now ≡ wave_list n2 }
     requires small { All (IsWithin 1415) signal.now }
-    ensures value { result ≡ correlation_below 128 (λ n. sample_at recording.now (first + n)) (wave n2) }
+    ensures value { result ≡ correlation_below useful_length (λ n. sample_at recording.now (first + n)) (wave n2) }
     ensures small { IsWithin (2 ^ 34) result }
 {
     let count = recording.len();
     prove!(count <= 1_920_000);
     let mut sum = Cpx::ZERO;
-    for n in 0..128 {
+    for n in 0..USEFUL_LENGTH {
         sum = sum + term(recording.get(first + n), signal[n]);
     }
     sum

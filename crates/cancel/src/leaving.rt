@@ -1,7 +1,7 @@
 //! Residuals for a gain.
 
 ghost use Rattle.std.specs.Prelude.{◌≡◌, ◌^◌, ◌<◌, ◌≤◌, length, max};
-ghost use Rattle.cs_num.specs.Complex.{IsWithin, value_of, minus, times, size as greatest_part_of};
+ghost use Rattle.cs_num.specs.Complex.{IsWithin, value_of, minus, times, largest_part as greatest_part_of};
 ghost use Rattle.cs_num.specs.Rounding.{in_16_bits as in_16_bits_of, nearest_sample as nearest_sample_of};
 ghost use Rattle.cancel.specs.Gain.{greatest_below};
 ghost use Rattle.cancel.specs.Steps.{left_of, greatest_of as greatest_left};

@@ -5,16 +5,16 @@ use Rattle.std.proofs.lemmas.Bool.{cases_lt}
 use Rattle.std.proofs.lemmas.Int.{ints, unsigned_abs-mul}
 use Rattle.std.proofs.lemmas.Nat.{mul-le}
 use Rattle.cs_num.specs.declared.Cpx.{Cpx}
-use Rattle.cs_num.specs.Complex.{IsWithin, nothing, plus, times, square, size, minus, multiple}
+use Rattle.cs_num.specs.Complex.{IsWithin, nothing, plus, times, square, largest_part, minus, multiple}
 use Rattle.cs_num.specs.Rounding.{rounded}
 use Rattle.cs_num.specs.Sums.{complex_sum_below}
-use Rattle.norms.specs.Sizes.{IsSized}
+use Rattle.norms.specs.Magnitudes.{IsBounded}
 use Rattle.norms.proofs.Algebra.{plus-minus}
 use Rattle.cs_num.proofs.Complex.{square-within}
 use Rattle.cs_num.specs.Gain.{IsGain}
 use Rattle.norms.proofs.Squares.{re-le, im-le, square-multiple, square-times}
 use Rattle.norms.proofs.Rounding.{rounded_near}
-use Rattle.norms.proofs.Sized.{sized-plus, sized-times, sized-sum, sized_plain}
+use Rattle.norms.proofs.Bounded.{bounded-plus, bounded-times, bounded-sum, sized_plain}
 use Rattle.fold128.specs.Tables.{w_at}
 use Rattle.fold128.specs.Symbol.{frequency, useful_term, useful_at}
 use Rattle.fold128.proofs.EntrySizes.{w-square, z-square}

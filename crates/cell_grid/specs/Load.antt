@@ -10,6 +10,7 @@ use Rattle.cell_grid.specs.Ports.{port_symbols, port_slot, has_control, is_own_r
 use Rattle.cell_grid.specs.Points.{point_of}
 use Rattle.cell_grid.specs.Grid.{has_system_information, has_broadcast, is_indicator, is_control, is_shared, port_element}
 use Rattle.cell_grid.specs.Grid.{Elements}
+use Rattle.lte_types.specs.Numerology.{subcarriers}
 
 -- ---- occupied resource elements
 
@@ -58,7 +59,7 @@ load_c_init load port sfn subframe = (40960 * load + 10240 * port.number + 10 * 
 
 -- the load's QPSK symbol at a resource element (TS 36.211 sections 7.2 and 7.1.2)
 unfoldable pub load_point : ℕ → Port → ℕ → ℕ → ℕ → ℕ → Cpx
-load_point load port sfn subframe symbol k = point_of (gold_bit (load_c_init load port sfn subframe)) (72 * symbol + k)
+load_point load port sfn subframe symbol k = point_of (gold_bit (load_c_init load port sfn subframe)) (subcarriers * symbol + k)
 
 -- the grid values in a plan with load
 unfoldable pub loaded_element : ℕ → Port → CellPlan → Elements

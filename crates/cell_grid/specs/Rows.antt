@@ -6,7 +6,7 @@ use Rattle.cs_num.specs.declared.Cpx.{Cpx}
 use Rattle.cs_num.specs.declared.Sample.{Sample}
 use Rattle.cs_num.specs.Complex.{nothing, value_at, sample_of}
 use Rattle.lte_types.specs.declared.numerology.Prefix.{Prefix}
-use Rattle.lte_types.specs.Numerology.{frame_length, slot_length, useful_length, symbol_step}
+use Rattle.lte_types.specs.Numerology.{frame_length, slot_length, useful_length, symbol_step, subcarriers}
 use Rattle.lte_types.specs.Numerology.{symbols_of_slot, symbol_of}
 use Rattle.lte_types.specs.declared.frame.Half.TheVariants.{Zero as Start, Five as Middle}
 use Rattle.sync_seq.specs.Primary.{pss_list}
@@ -104,8 +104,8 @@ load_bits load port sfn = values_below 20160 (λ n. gold_bit (load_c_init load p
 -- the list
 pub record IsTableOf (places : List Place) (table : PlaceTable) : Type 0 where
   pub count : table.count ≡ length places
-  pub number : (symbol k : ℕ) → symbol < 14 → k < 72 →
-      slice_index_or table.numbers (72 * symbol + k) 0 ≡ index_in places (place symbol k)
+  pub number : (symbol k : ℕ) → symbol < 14 → k < subcarriers →
+      slice_index_or table.numbers (subcarriers * symbol + k) 0 ≡ index_in places (place symbol k)
 
 -- the data that all frames in a plan share at a port: the synchronisation signals, the channels' resource elements,
 -- and the PCFICH symbols

@@ -4,6 +4,7 @@ ghost use Rattle.std.specs.Prelude.{◌≡◌, ◌<◌, true};
 ghost use Rattle.cell_grid.specs.Ports.{has_control};
 ghost use Rattle.cell_grid.specs.Grid.{may_broadcast, broadcast_symbol, has_system_information};
 ghost use Rattle.cell_grid.specs.Rows.{broadcast_if, indicator_if, control_if, shared_if, system_if, channel_if};
+ghost use Rattle.lte_types.specs.Numerology.{subcarriers};
 
 use crate::Port;
 use crate::grid::Signals;
@@ -45,7 +46,7 @@ fn broadcast_symbol(port: Port, symbol: u8) -> u8
 fn broadcast_at(signals: &Signals, subframe: u8, here: Place) -> Option<Cpx>
     requires subframe { subframe < 10 }
     requires symbol { here.symbol < 14 }
-    requires k { here.k < 72 }
+    requires k { here.k < subcarriers }
     ensures { result ≡ broadcast_if signals.now.port signals.now.cell.now signals.now.sfn subframe here.symbol here.k }
 {
     if !may_broadcast(signals.port, subframe, here.symbol) {
@@ -64,7 +65,7 @@ fn broadcast_at(signals: &Signals, subframe: u8, here: Place) -> Option<Cpx>
 fn indicator_at(signals: &Signals, subframe: u8, here: Place) -> Option<Cpx>
     requires subframe { subframe < 10 }
     requires symbol { here.symbol < 14 }
-    requires k { here.k < 72 }
+    requires k { here.k < subcarriers }
     ensures { result ≡ indicator_if signals.now.port signals.now.cell.now subframe here.symbol here.k }
 {
     let points = signals.layout.indicator_of(subframe);
@@ -75,7 +76,7 @@ fn indicator_at(signals: &Signals, subframe: u8, here: Place) -> Option<Cpx>
 fn control_at(signals: &Signals, subframe: u8, here: Place) -> Option<Cpx>
     requires control { has_control signals.now.port ≡ true }
     requires symbol { here.symbol < 14 }
-    requires k { here.k < 72 }
+    requires k { here.k < subcarriers }
     ensures { result ≡ control_if signals.now.port signals.now.cell.now signals.now.sfn subframe here.symbol here.k }
 {
     if !has_system_information(signals.sfn, subframe) {
@@ -89,7 +90,7 @@ fn control_at(signals: &Signals, subframe: u8, here: Place) -> Option<Cpx>
 fn shared_at(signals: &Signals, subframe: u8, here: Place) -> Option<Cpx>
     requires control { has_control signals.now.port ≡ true }
     requires symbol { here.symbol < 14 }
-    requires k { here.k < 72 }
+    requires k { here.k < subcarriers }
     ensures { result ≡ shared_if signals.now.port signals.now.cell.now signals.now.sfn subframe here.symbol here.k }
 {
     if !has_system_information(signals.sfn, subframe) {
@@ -104,7 +105,7 @@ fn system_at(signals: &Signals, subframe: u8, here: Place) -> Option<Cpx>
     requires control { has_control signals.now.port ≡ true }
     requires subframe { subframe < 10 }
     requires symbol { here.symbol < 14 }
-    requires k { here.k < 72 }
+    requires k { here.k < subcarriers }
     ensures { result ≡ system_if signals.now.port signals.now.cell.now signals.now.sfn subframe here.symbol here.k }
 {
     if let Some(value) = indicator_at(signals, subframe, here) {
@@ -120,7 +121,7 @@ fn system_at(signals: &Signals, subframe: u8, here: Place) -> Option<Cpx>
 pub(crate) fn channel_at(signals: &Signals, subframe: u8, here: Place) -> Option<Cpx>
     requires subframe { subframe < 10 }
     requires symbol { here.symbol < 14 }
-    requires k { here.k < 72 }
+    requires k { here.k < subcarriers }
     ensures { result ≡ channel_if signals.now.port signals.now.cell.now signals.now.sfn subframe here.symbol here.k }
 {
     if let Some(value) = broadcast_at(signals, subframe, here) {

@@ -4,7 +4,7 @@ ghost use Rattle.std.specs.Prelude.{ℕ, ◌≡◌, ◌⊎◌, ◌+◌, ◌*◌,
 ghost use Rattle.std.specs.Prelude.{if◌then◌else◌, nat_eq};
 ghost use Rattle.finite.specs.Lists.{values_below};
 ghost use Rattle.cs_num.specs.Complex.{nothing};
-ghost use Rattle.lte_types.specs.Numerology.{half_of};
+ghost use Rattle.lte_types.specs.Numerology.{half_of, subcarriers};
 ghost use Rattle.sync_seq.specs.Secondary.{sss_at};
 ghost use Rattle.crs.specs.Reference.{IsPattern, pattern_list, upper_first};
 ghost use Rattle.std.specs.Option.{unwrap_or};
@@ -25,7 +25,7 @@ use cell_plan::Cell;
 use crs::{Pattern, first_of_upper, pattern_pilots, point};
 use cs_num::Cpx;
 use grid_map::Place;
-use lte_types::{Carrier, CellId, Sfn};
+use lte_types::{Carrier, CellId, SUBCARRIERS, Sfn};
 use sync_seq::{MIDDLE, amplitude, is_middle};
 
 /// One frame's channels and load at one antenna port, computed once for all its symbols.
@@ -81,7 +81,7 @@ impl<'a> Signals<'a> {
 // Returns the value at a reference position, given the symbol's twelve `pilots` at port 0. Port 1 is three subcarriers
 // higher; ports 2 and 3 have none in these symbols.
 fn reference_of(port: Port, pilots: &[(u8, Cpx); 12], k: usize) -> Option<Cpx>
-    requires { k < 72 }
+    requires { k < subcarriers }
     ensures { (identity slot symbol : ℕ) → (symbol ≡ 0) ⊎ (symbol ≡ (first_pattern port).later) →
         pilots.now ≡ pattern_list (first_pattern port) identity slot symbol →
         result ≡ port_reference_if port identity slot symbol k }
@@ -121,7 +121,7 @@ fn any_lower_test(carrier: Carrier, zero: bool, one: bool) -> bool
 // Port 3 is three subcarriers higher.
 fn upper_of(port: Port, first: usize, pilots: &[(u8, Cpx); 12], k: usize) -> Option<Cpx>
     requires first { first < 6 }
-    requires k { k < 72 }
+    requires k { k < subcarriers }
     ensures { (identity slot : ℕ) → first ≡ upper_first 2 identity slot →
         pilots.now ≡ pattern_list (first_pattern port) identity slot 1 →
         result ≡ port_reference_if port identity slot 1 k }
@@ -171,19 +171,19 @@ fn pattern_of(port: Port) -> Pattern
 }
 
 // Returns the values at a symbol's reference positions, by subcarrier.
-fn references(id: CellId, port: Port, slot: u8, symbol: u8) -> [Option<Cpx>; 72]
+fn references(id: CellId, port: Port, slot: u8, symbol: u8) -> [Option<Cpx>; SUBCARRIERS]
     requires slot { slot < 20 }
     requires symbol { symbol < 7 }
-    ensures { result ≡ values_below 72 (port_reference_if port id slot symbol) }
+    ensures { result ≡ values_below subcarriers (port_reference_if port id slot symbol) }
 {
     if symbol == 1 {
         return second_row(id, port, slot);
     }
-    let mut row = [None; 72];
+    let mut row = [None; SUBCARRIERS];
     let pattern = pattern_of(port);
     if symbol == 0 || symbol == pattern.later {
         let pilots = pattern_pilots(pattern, id, slot, symbol);
-        for k in 0..72 {
+        for k in 0..SUBCARRIERS {
             row[k] = reference_of(port, &pilots, k);
         }
     }
@@ -191,26 +191,26 @@ fn references(id: CellId, port: Port, slot: u8, symbol: u8) -> [Option<Cpx>; 72]
 }
 
 // Returns the values at the reference positions in symbol 1, which ports 2 and 3 use.
-fn second_row(id: CellId, port: Port, slot: u8) -> [Option<Cpx>; 72]
+fn second_row(id: CellId, port: Port, slot: u8) -> [Option<Cpx>; SUBCARRIERS]
     requires { slot < 20 }
-    ensures { result ≡ values_below 72 (port_reference_if port id slot 1) }
+    ensures { result ≡ values_below subcarriers (port_reference_if port id slot 1) }
 {
     if port.number < 2 && port.carrier.ports() <= 2 {
-        [None; 72]
+        [None; SUBCARRIERS]
     } else {
         upper_row(id, port, slot)
     }
 }
 
 // Returns the values at the reference positions of ports 2 and 3.
-fn upper_row(id: CellId, port: Port, slot: u8) -> [Option<Cpx>; 72]
+fn upper_row(id: CellId, port: Port, slot: u8) -> [Option<Cpx>; SUBCARRIERS]
     requires { slot < 20 }
-    ensures { result ≡ values_below 72 (port_reference_if port id slot 1) }
+    ensures { result ≡ values_below subcarriers (port_reference_if port id slot 1) }
 {
-    let mut row = [None; 72];
+    let mut row = [None; SUBCARRIERS];
     let first = first_of_upper(2, id, slot) as usize;
     let pilots = pattern_pilots(pattern_of(port), id, slot, 1);
-    for k in 0..72 {
+    for k in 0..SUBCARRIERS {
         row[k] = upper_of(port, first, &pilots, k);
     }
     row
@@ -265,11 +265,11 @@ fn is_signal_symbol(port: Port, subframe: u8, symbol: u8) -> bool
 fn load_point(bits: &[bool; LOAD_BITS], subframe: u8, symbol: u8, k: u8) -> Cpx
     requires subframe { subframe < 10 }
     requires symbol { symbol < 14 }
-    requires k { k < 72 }
+    requires k { k < subcarriers }
     ensures { (load sfn : ℕ) (port : Antenna) → bits.now ≡ bits_of_load load port sfn →
         result ≡ load_point load port sfn subframe symbol k }
 {
-    let first = 2016 * subframe as usize + 2 * (72 * symbol as usize + k as usize);
+    let first = 2016 * subframe as usize + 2 * (SUBCARRIERS * symbol as usize + k as usize);
     point(bits[first], bits[first + 1])
 }
 
@@ -277,7 +277,7 @@ fn load_point(bits: &[bool; LOAD_BITS], subframe: u8, symbol: u8, k: u8) -> Cpx
 fn open_value(signals: &Signals, subframe: u8, symbol: u8, k: u8) -> Cpx
     requires subframe { subframe < 10 }
     requires symbol { symbol < 14 }
-    requires k { k < 72 }
+    requires k { k < subcarriers }
     ensures { result ≡ open_value signals.now.load signals.now.port signals.now.sfn subframe symbol k }
 {
     match signals.load {
@@ -296,7 +296,7 @@ fn open_value(signals: &Signals, subframe: u8, symbol: u8, k: u8) -> Cpx
 fn value_beside(signals: &Signals, subframe: u8, symbol: u8, k: u8) -> Cpx
     requires subframe { subframe < 10 }
     requires symbol { symbol < 14 }
-    requires k { k < 72 }
+    requires k { k < subcarriers }
     ensures { result ≡ unwrap_or
         (channel_if signals.now.port signals.now.cell.now signals.now.sfn subframe symbol k)
         (open_value signals.now.load signals.now.port signals.now.sfn subframe symbol k) }
@@ -310,17 +310,17 @@ fn value_beside(signals: &Signals, subframe: u8, symbol: u8, k: u8) -> Cpx
 // Returns the value at a resource element.
 fn element_of(
     signals: &Signals,
-    references: &[Option<Cpx>; 72],
+    references: &[Option<Cpx>; SUBCARRIERS],
     subframe: u8,
     symbol: u8,
     k: u8,
 ) -> Cpx
-    requires references { references.now ≡ values_below 72
+    requires references { references.now ≡ values_below subcarriers
         (port_reference_if signals.now.port signals.now.cell.now.identity
         (port_slot signals.now.port subframe symbol) (symbol % port_symbols signals.now.port)) }
     requires subframe { subframe < 10 }
     requires symbol { symbol < 14 }
-    requires k { k < 72 }
+    requires k { k < subcarriers }
     ensures { result ≡ sent_element signals.now.load signals.now.port signals.now.cell.now signals.now.sfn
         subframe symbol k }
 {
@@ -337,10 +337,10 @@ fn element_of(
 }
 
 /// Returns the 72 resource elements in symbol `symbol` of `subframe`, by subcarrier (TS 36.211 section 6.2).
-pub fn grid_of(signals: &Signals, subframe: u8, symbol: u8) -> [Cpx; 72]
+pub fn grid_of(signals: &Signals, subframe: u8, symbol: u8) -> [Cpx; SUBCARRIERS]
     requires subframe { subframe < 10 }
     requires symbol { symbol < 2 * port_symbols signals.now.port }
-    ensures { result ≡ values_below 72 (sent_element signals.now.load signals.now.port signals.now.cell.now
+    ensures { result ≡ values_below subcarriers (sent_element signals.now.load signals.now.port signals.now.cell.now
         signals.now.sfn subframe symbol) }
 {
     let symbols = signals.port.symbols();
@@ -350,7 +350,7 @@ pub fn grid_of(signals: &Signals, subframe: u8, symbol: u8) -> [Cpx; 72]
         2 * subframe + symbol / symbols,
         symbol % symbols,
     );
-    let mut grid = [Cpx::ZERO; 72];
+    let mut grid = [Cpx::ZERO; SUBCARRIERS];
     for k in 0..72_u8 {
         grid[k as usize] = element_of(signals, &references, subframe, symbol, k);
     }

@@ -11,11 +11,13 @@ ghost use Rattle.cell_grid.specs.Ports.{crossed_point, paired_point, in_turn, se
 ghost use Rattle.cell_grid.specs.Rows.{value_in, IsTableOf};
 ghost use Rattle.grid_map.specs.declared.Place.{Place};
 ghost use Rattle.grid_map.specs.Place.{place};
+ghost use Rattle.lte_types.specs.Numerology.{subcarriers};
 
 use crate::Port;
 use crs::point;
 use cs_num::Cpx;
 use grid_map::Place;
+use lte_types::SUBCARRIERS;
 
 // The maximum number of bits in a channel: PDSCH over six resource blocks.
 const MOST: usize = 1224;
@@ -69,15 +71,15 @@ pub(crate) struct PlaceTable {
 
 // Writes `number` at a resource element, if the table has no index there yet.
 fn put_number(numbers: &mut [u16; PLACES], none: u16, here: Place, number: u16)
-    ensures here { (c : ℕ) → c < 1008 → place (c / 72) (c % 72) ≡ here → slice_index_or numbers.old c 0 ≡ none →
+    ensures here { (c : ℕ) → c < 1008 → place (c / subcarriers) (c % subcarriers) ≡ here → slice_index_or numbers.old c 0 ≡ none →
         slice_index_or numbers.new c 0 ≡ number }
     ensures taken { (c : ℕ) → (slice_index_or numbers.old c 0 ≡ none → ⊥) →
         slice_index_or numbers.new c 0 ≡ slice_index_or numbers.old c 0 }
-    ensures elsewhere { (c : ℕ) → (place (c / 72) (c % 72) ≡ here → ⊥) →
+    ensures elsewhere { (c : ℕ) → (place (c / subcarriers) (c % subcarriers) ≡ here → ⊥) →
         slice_index_or numbers.new c 0 ≡ slice_index_or numbers.old c 0 }
 {
     if here.symbol < 14 && here.k < 72 {
-        let cell = 72 * here.symbol as usize + here.k as usize;
+        let cell = SUBCARRIERS * here.symbol as usize + here.k as usize;
         if numbers[cell] == none {
             numbers[cell] = number;
         }
@@ -159,13 +161,13 @@ fn crossed_point(points: &[Cpx], i: usize) -> Cpx
 /// same order; `None` if the channel does not occupy it.
 pub(crate) fn value_at(port: Port, table: &PlaceTable, points: &[Cpx], here: Place) -> Option<Cpx>
     requires symbol { here.symbol < 14 }
-    requires k { here.k < 72 }
+    requires k { here.k < subcarriers }
     requires room { table.now.count ≤ length points.now }
     requires pairs { length points.now % 2 ≡ 0 }
     requires small { All (IsWithin 90) points.now }
     ensures { (places : List Place) → IsTableOf places table.now → result ≡ value_in port places points.now here }
 {
-    let number = table.numbers[72 * here.symbol as usize + here.k as usize];
+    let number = table.numbers[SUBCARRIERS * here.symbol as usize + here.k as usize];
     if number < table.count {
         Some(sent_point(port, points, number as usize))
     } else {

@@ -7,7 +7,7 @@ use Rattle.cs_num.specs.declared.Cpx.{Cpx}
 use Rattle.cs_num.specs.Complex.{square, value_at}
 use Rattle.cs_num.specs.Gain.{IsGain}
 use Rattle.finite.specs.Sums.{total_below}
-use Rattle.norms.specs.Sizes.{squares_of_four, ArePaired}
+use Rattle.norms.specs.Magnitudes.{squares_of_four, ArePaired}
 use Rattle.lte_types.specs.declared.carrier.Carrier.{Carrier}
 use Rattle.lte_types.specs.Carrier.{ports_of}
 use Rattle.lte_types.specs.Numerology.{least_samples, most_samples}

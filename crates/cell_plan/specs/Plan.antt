@@ -16,6 +16,7 @@ use Rattle.cell_plan.specs.declared.cell.CellPlan.{CellPlan}
 use Rattle.cell_plan.specs.Conditions.{Condition, condition, first_failed}
 use Rattle.cell_plan.specs.Transport.{block_size, text_fits, has_block, is_whole_of}
 use Rattle.cell_plan.specs.Transport.{is_whole, is_resolvable}
+use Rattle.lte_types.specs.Numerology.{block_count}
 
 -- a plan can be sent: the conditions that do not depend on the antenna ports hold, and `Enough`: the sent part of its
 -- block is enough. The MIB has bandwidth n6.
@@ -53,7 +54,7 @@ conditions_with enough plan =
     condition (nat_le plan.identity 503) Identity
     ∷ condition (nat_le plan.spare 1023) Spare
     ∷ condition (nat_le 2 plan.cfi && nat_le plan.cfi 3) Cfi
-    ∷ condition (nat_le 1 plan.blocks && nat_le (plan.start + plan.blocks) 6) Assignment
+    ∷ condition (nat_le 1 plan.blocks && nat_le (plan.start + plan.blocks) block_count) Assignment
     ∷ condition ((nat_eq plan.column 2 || nat_eq plan.column 3) && is_some (size_of plan.mcs plan.column)) Mcs
     ∷ condition enough Punctured
     ∷ condition (is_none plan.sib1.tdd) Duplex

@@ -10,6 +10,7 @@ ghost use Rattle.turbo_code.specs.Table.{IsSize};
 ghost use Rattle.cell_plan.specs.Parts.{assignment_of};
 ghost use Rattle.cell_plan.specs.Transport.{block_size, has_block, is_whole_of, is_resolvable};
 ghost use Rattle.cell_plan.specs.Plan.{needs_each_bit, is_enough};
+ghost use Rattle.lte_types.specs.Numerology.{block_count};
 
 use crate::CellError;
 use crate::transport::{block_fills, coded_block};
@@ -67,7 +68,7 @@ impl CellPlan {
     /// six blocks.
     pub fn assigned_places(&self, carrier: Carrier) -> usize
         ensures value { result ≡ block_places_of carrier self.now.cfi * self.now.blocks }
-        ensures bound { self.now.blocks ≤ 6 → result ≤ 612 }
+        ensures bound { self.now.blocks ≤ block_count → result ≤ 612 }
     {
         block_places(carrier, self.cfi) * self.blocks as usize
     }
@@ -89,8 +90,8 @@ fn indicator_of(plan: &CellPlan) -> Option<Cfi>
 fn assignment_of(plan: &CellPlan, cfi: Cfi) -> Option<Assignment>
     requires indicator { cfi ≡ plan.now.cfi }
     requires wide { 2 ≤ plan.now.cfi }
-    ensures { MatchOption result ((nat_le 1 plan.now.blocks && nat_le (plan.now.start + plan.now.blocks) 6) ≡ false)
-        (λ assignment. ((nat_le 1 plan.now.blocks && nat_le (plan.now.start + plan.now.blocks) 6) ≡ true)
+    ensures { MatchOption result ((nat_le 1 plan.now.blocks && nat_le (plan.now.start + plan.now.blocks) block_count) ≡ false)
+        (λ assignment. ((nat_le 1 plan.now.blocks && nat_le (plan.now.start + plan.now.blocks) block_count) ≡ true)
         × (assignment ≡ assignment_of plan.now)) }
 {
     Assignment::new(cfi, plan.start, plan.blocks)
@@ -130,7 +131,7 @@ fn text_of(fields: &Sib1, size: u16) -> Option<Writer>
 // Returns whether the assigned resource blocks carry each coded bit of the transport block and its CRC: three streams,
 // each with four tail bits.
 fn is_sent_whole(carrier: Carrier, plan: &CellPlan, size: u16) -> bool
-    requires blocks { plan.now.blocks ≤ 6 }
+    requires blocks { plan.now.blocks ≤ block_count }
     requires size { block_size plan.now ≡ size }
     ensures { result ≡ is_whole_of carrier plan.now }
 {
@@ -140,7 +141,7 @@ fn is_sent_whole(carrier: Carrier, plan: &CellPlan, size: u16) -> bool
 // Returns whether the plan has a transport block that is resolved by the bits that its resource blocks carry.
 fn has_resolvable_block(plan: &CellPlan, size: u16) -> bool
     requires valid { IsValid plan.now.sib1 }
-    requires blocks { plan.now.blocks ≤ 6 }
+    requires blocks { plan.now.blocks ≤ block_count }
     requires size { block_size plan.now ≡ size }
     requires row { IsSize (size + 24) }
     requires room { size ≤ 1000 }
@@ -169,7 +170,7 @@ fn needs_each_bit(carrier: Carrier) -> bool
 // Returns whether the transport block's bits that a transmission scheme sends are enough.
 fn is_sent_enough(carrier: Carrier, plan: &CellPlan, size: u16) -> bool
     requires valid { IsValid plan.now.sib1 }
-    requires blocks { plan.now.blocks ≤ 6 }
+    requires blocks { plan.now.blocks ≤ block_count }
     requires size { block_size plan.now ≡ size }
     requires row { IsSize (size + 24) }
     requires room { size ≤ 1000 }

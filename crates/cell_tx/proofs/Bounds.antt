@@ -5,16 +5,16 @@ use Rattle.std.proofs.lemmas.Bool.{cases_lt}
 use Rattle.std.proofs.lemmas.Int.{ints}
 use Rattle.std.proofs.lemmas.Nat.{mul-le}
 use Rattle.cs_num.specs.declared.Cpx.{Cpx}
-use Rattle.cs_num.specs.Complex.{IsWithin, plus, times, square, size, minus, multiple}
+use Rattle.cs_num.specs.Complex.{IsWithin, plus, times, square, largest_part, minus, multiple}
 use Rattle.cs_num.specs.Rounding.{rounded}
 use Rattle.cs_num.specs.Sums.{complex_sum_below}
-use Rattle.norms.specs.Sizes.{IsSized}
+use Rattle.norms.specs.Magnitudes.{IsBounded}
 use Rattle.norms.proofs.Algebra.{plus-minus}
 use Rattle.cs_num.proofs.Complex.{square-within}
 use Rattle.cs_num.specs.Gain.{IsGain}
 use Rattle.norms.proofs.Squares.{re-le, im-le, square-multiple, square-times}
 use Rattle.norms.proofs.Rounding.{rounded_near}
-use Rattle.norms.proofs.Sized.{sized-plus, sized-times, sized-sum, sized_plain}
+use Rattle.norms.proofs.Bounded.{bounded-plus, bounded-times, bounded-sum, sized_plain}
 use Rattle.fold128.specs.Tables.{w_at}
 use Rattle.fold128.specs.Symbol.{frequency, useful_term, useful_at}
 use Rattle.fold128.proofs.EntrySizes.{w-square}
@@ -33,16 +33,16 @@ use Rattle.cell_tx.specs.Sent.{prefix_slot_sample, prefix_frame_sample, prefix_s
 -- ---- samples
 
 -- a sum with magnitude at most 72 * 128 * 16385 is rounded to magnitude at most 1,153
-rounded-square : (z : Cpx) → IsSized 151004160 1 z → square (rounded z 17) ≤ 1153 * 1153
+rounded-square : (z : Cpx) → IsBounded 151004160 1 z → square (rounded z 17) ≤ 1153 * 1153
 rounded-square z small =
     let r : Cpx = rounded z 17 in
     let off : Cpx = minus (multiple 131072 r) z in
     let near : IsWithin 65536 off = rounded_near z 17 65536 (omega arith) refl refl in
-    let error : IsSized 92682 1 off = sized_plain off 92682 (omega (arith, square-within off 65536 near)) in
-    let whole : IsSized 151096842 1 (plus z off) = sized-plus z off 151004160 92682 1 small error in
+    let error : IsBounded 92682 1 off = sized_plain off 92682 (omega (arith, square-within off 65536 near)) in
+    let whole : IsBounded 151096842 1 (plus z off) = bounded-plus z off 151004160 92682 1 small error in
     let back : plus z off ≡ multiple 131072 r = plus-minus (multiple 131072 r) z in
     let law = square-multiple 131072 r in
-    let most = whole.sized in
+    let most = whole.bounded in
     omega (arith, law, ap square back, most)
 
 -- a symbol whose resource elements have magnitude at most 128 has samples with magnitude at most 1,153
@@ -50,8 +50,8 @@ pub useful-square : (grid : ℕ → Cpx) (n : ℕ) → ((k : ℕ) → k < 72 →
 unfolding useful_at
 useful-square grid n small =
     rounded-square (complex_sum_below 72 (useful_term grid n))
-    (sized-sum 72 (useful_term grid n) 2097280 1
-    (λ k inside. sized-times (grid k) (w_at (frequency k * n)) 128 16385 1 1 (sized_plain (grid k) 128 (small k inside)) (sized_plain (w_at (frequency k * n)) 16385 (w-square (frequency k * n)))))
+    (bounded-sum 72 (useful_term grid n) 2097280 1
+    (λ k inside. bounded-times (grid k) (w_at (frequency k * n)) 128 16385 1 1 (sized_plain (grid k) 128 (small k inside)) (sized_plain (w_at (frequency k * n)) 16385 (w-square (frequency k * n)))))
 
 -- all samples of a grid whose resource elements have magnitude at most 128
 module _ (prefix : Prefix) (grid : Elements) (small : (sfn subframe symbol k : ℕ) → square (grid sfn subframe symbol k) ≤ 128 * 128) where
@@ -85,17 +85,17 @@ small-within z h = record { re = omega (arith, re-le z 1153 h); im = omega (arit
 
 -- bounds on a gain, a clean sample and their product
 pub record IsAmplified (gain clean : Cpx) : Type 0 where
-  pub fits : size gain * size clean ≤ 2 ^ 61
+  pub fits : largest_part gain * largest_part clean ≤ 2 ^ 61
   pub small : IsWithin 32284 (times gain clean)
 
 pub amplified : (gain clean : Cpx) → square gain ≤ 784 → square clean ≤ 1153 * 1153 → IsAmplified gain clean
 amplified gain clean g c =
     let whole : square (times gain clean) ≤ 32284 * 32284 =
     omega (arith, square-times gain clean, mul-le (square gain) (square clean) 784 1329409 g c) in
-    let large : size gain ≤ 28 = omega (arith, re-le gain 28 g, im-le gain 28 g) in
-    let small : size clean ≤ 1153 = omega (arith, re-le clean 1153 c, im-le clean 1153 c) in
+    let large : largest_part gain ≤ 28 = omega (arith, re-le gain 28 g, im-le gain 28 g) in
+    let small : largest_part clean ≤ 1153 = omega (arith, re-le clean 1153 c, im-le clean 1153 c) in
     record {
-      fits = omega (arith, mul-le (size gain) (size clean) 28 1153 large small);
+      fits = omega (arith, mul-le (largest_part gain) (largest_part clean) 28 1153 large small);
       small = record { re = re-le (times gain clean) 32284 whole; im = im-le (times gain clean) 32284 whole };
     }
 

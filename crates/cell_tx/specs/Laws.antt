@@ -5,7 +5,7 @@ use Rattle.cs_num.specs.Complex.{IsWithin, square, plus, times, sample_of}
 use Rattle.fold128.specs.Symbol.{useful_at}
 use Rattle.lte_types.specs.declared.carrier.Carrier.{Carrier}
 use Rattle.lte_types.specs.declared.numerology.Prefix.{Prefix}
-use Rattle.lte_types.specs.Numerology.{frame_length, IsPrefix, prefix_length, symbols_of_slot, useful_start}
+use Rattle.lte_types.specs.Numerology.{frame_length, IsPrefix, prefix_length, symbols_of_slot, useful_start, useful_length}
 use Rattle.cell_plan.specs.declared.cell.CellPlan.{CellPlan}
 use Rattle.cell_grid.specs.declared.antenna.Port.{Port}
 use Rattle.cell_grid.specs.Ports.{port_prefix}
@@ -23,7 +23,7 @@ use Rattle.cell_tx.specs.Emission.{received_by, IsCleanBy}
 -- the useful part of symbol l in a slot begins at `useful_start`, for either cyclic prefix
 abbrev pub UsefulPartsStand : Type 0
 UsefulPartsStand =
-    (prefix : Prefix) (grid : Elements) (sfn slot l n : ℕ) → IsPrefix prefix → l < symbols_of_slot prefix → n < 128 →
+    (prefix : Prefix) (grid : Elements) (sfn slot l n : ℕ) → IsPrefix prefix → l < symbols_of_slot prefix → n < useful_length →
     prefix_frame_sample prefix grid sfn (useful_start prefix 0 slot l + n)
     ≡ useful_at (grid sfn (slot / 2) (symbols_of_slot prefix * (slot % 2) + l)) n
 
@@ -33,7 +33,7 @@ PrefixesRepeat =
     (prefix : Prefix) (grid : Elements) (sfn slot l d : ℕ) → IsPrefix prefix → l < symbols_of_slot prefix → 1 ≤ d →
     d ≤ prefix_length prefix l →
     prefix_frame_sample prefix grid sfn (useful_start prefix 0 slot l - d)
-    ≡ useful_at (grid sfn (slot / 2) (symbols_of_slot prefix * (slot % 2) + l)) (128 - d)
+    ≡ useful_at (grid sfn (slot / 2) (symbols_of_slot prefix * (slot % 2) + l)) (useful_length - d)
 
 -- the number of frame j in a sequence is the first frame's number plus j
 abbrev pub FramesFollow : Type 0

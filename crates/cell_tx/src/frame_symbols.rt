@@ -15,7 +15,7 @@ use crate::Port;
 use crate::useful::useful_of;
 use cell_grid::Signals;
 use cs_num::{Cpx, Sample};
-use lte_types::{Carrier, SLOT_LENGTH};
+use lte_types::{Carrier, SLOT_LENGTH, USEFUL_LENGTH};
 
 // ---- symbol ranges
 
@@ -129,7 +129,7 @@ fn first_sample_of(port: Port, symbol: usize) -> usize
 }
 
 // Returns the useful part of a symbol in a frame.
-fn useful_at(signals: &Signals, symbol: usize) -> [Cpx; 128]
+fn useful_at(signals: &Signals, symbol: usize) -> [Cpx; USEFUL_LENGTH]
     requires { symbol < 20 * port_symbols signals.now.port }
     ensures { result ≡ useful_part (elements_of signals.now signals.now.sfn (symbol / port_symbols signals.now.port / 2)
         (port_symbols signals.now.port * (symbol / port_symbols signals.now.port % 2)

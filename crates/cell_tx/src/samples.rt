@@ -56,7 +56,7 @@ fn symbol_at(port: Port, i: usize) -> u8
 }
 
 // Returns sample `i` of a slot, given the useful part of its symbol.
-fn sample_of_slot(signals: &Signals, useful: &[Cpx; 128], slot: usize, i: usize) -> Sample
+fn sample_of_slot(signals: &Signals, useful: &[Cpx; USEFUL_LENGTH], slot: usize, i: usize) -> Sample
     requires i { i < slot_length }
     requires useful { useful.now ≡ useful_part (elements_of signals.now signals.now.sfn (slot / 2)
         (port_symbols signals.now.port * (slot % 2) + symbol_of (port_prefix signals.now.port) i)) }

@@ -9,6 +9,7 @@ use crate::Port;
 use cell_grid::{Signals, grid_of};
 use cs_num::Cpx;
 use fold128::synth;
+use lte_types::USEFUL_LENGTH;
 
 // Returns the index in its subframe for a symbol of a slot.
 fn symbol_of(port: Port, slot: u8, symbol: u8) -> u8
@@ -24,7 +25,7 @@ fn symbol_of(port: Port, slot: u8, symbol: u8) -> u8
 }
 
 /// Returns the useful part of symbol `symbol` in a slot.
-pub(crate) fn useful_of(signals: &Signals, slot: u8, symbol: u8) -> [Cpx; 128]
+pub(crate) fn useful_of(signals: &Signals, slot: u8, symbol: u8) -> [Cpx; USEFUL_LENGTH]
     requires slot { slot < 20 }
     requires symbol { symbol < port_symbols signals.now.port }
     ensures { result ≡ useful_part (sent_element signals.now.load signals.now.port signals.now.cell.now signals.now.sfn

@@ -11,13 +11,13 @@ use Rattle.std.proofs.lemmas.List.Elements.{Contains-append_right}
 use Rattle.std.specs.List.{AllZip, Contains}
 use Rattle.std.proofs.lemmas.Grind.{flat_map-append}
 use Rattle.cs_num.specs.declared.Sample.{Sample}
-use Rattle.cs_outside.specs.Outside.{SinkTold}
+use Rattle.cs_outside.specs.Outside.{SinkState}
 use Rattle.cs_outside.specs.Streams.{HasWritten, HasWrittenFront, IsShortOf}
 use Rattle.cs_outside.proofs.Writing.{write_nothing, write_then, front_after, front_of_longer, short_after, short_of_more}
 use Rattle.lte_types.specs.declared.entry.Entry.{Entry}
 use Rattle.conv_code.specs.Cost.{word_cost}
 use Rattle.tailbite.specs.LeastWord.{IsLeastWord}
-use Rattle.pbch.specs.Master.{Tells, TellsMaster, Carries}
+use Rattle.pbch.specs.Master.{Decodes, DecodesMaster, Carries}
 use Rattle.tailbite.proofs.Only.{one_word}
 use Rattle.pbch.proofs.FrameSums.{count_in_frames, small_in_frames, length-summed_values, length-summed_values_row, summed_values-small}
 use Rattle.tail_cert.specs.Certificate.{Held, IsWhole, IsAccepted, IsTriple, Counted, tables_there}
@@ -71,25 +71,25 @@ values_of receiver samples entry = sums_by receiver samples (place_of entry) (fr
 -- word
 pub certifies : (receiver : Receiver) (samples : List Sample) (entry : Entry) (c : Held) → IsWhole c → IsAccepted c → IsFilled c →
     c.values ≡ values_of receiver samples entry →
-    TellsMaster (values_of receiver samples entry) (master_of entry) → IsLeastWord c.values c.word → Certifies receiver samples entry c
-certifies receiver samples entry c whole accepted filled values tells least =
-    let there : TellsMaster c.values (master_of entry) = subst (λ v. TellsMaster v (master_of entry)) (sym values) tells in
-    let same : there.word ≡ c.word = one_word c.values there.word c.word there.tells.least least in
+    DecodesMaster (values_of receiver samples entry) (master_of entry) → IsLeastWord c.values c.word → Certifies receiver samples entry c
+certifies receiver samples entry c whole accepted filled values decodes least =
+    let there : DecodesMaster c.values (master_of entry) = subst (λ v. DecodesMaster v (master_of entry)) (sym values) decodes in
+    let same : there.word ≡ c.word = one_word c.values there.word c.word there.decodes.least least in
     record {
       whole = whole;
       accepted = accepted;
       filled = filled;
       values = values;
-      word = subst (λ w. Tells c.values w entry.ports) same there.tells;
+      word = subst (λ w. Decodes c.values w entry.ports) same there.decodes;
       block = subst (λ w. Carries w entry.mib) same there.mib;
       cost = accepted.stated ∙ ap (word_cost c.values) (sym same) ∙ sym there.cost;
     }
 
 -- the same, with the values from which it was filled
 pub certifies_filled : (receiver : Receiver) (samples : List Sample) (entry : Entry) (c : Held) (v : List (List ℤ)) → IsWhole c → IsAccepted c → IsFilled c → c.values ≡ v →
-    v ≡ values_of receiver samples entry → TellsMaster v (master_of entry) → IsLeastWord v c.word → Certifies receiver samples entry c
-certifies_filled receiver samples entry c v whole accepted filled same values tells least =
-    certifies receiver samples entry c whole accepted filled (same ∙ values) (subst (λ v. TellsMaster v (master_of entry)) values tells) (subst (λ v. IsLeastWord v c.word) (sym same) least)
+    v ≡ values_of receiver samples entry → DecodesMaster v (master_of entry) → IsLeastWord v c.word → Certifies receiver samples entry c
+certifies_filled receiver samples entry c v whole accepted filled same values decodes least =
+    certifies receiver samples entry c whole accepted filled (same ∙ values) (subst (λ v. DecodesMaster v (master_of entry)) values decodes) (subst (λ v. IsLeastWord v c.word) (sym same) least)
 
 -- an entry's values have the shape and the magnitudes that a certificate requires
 values_fit : (receiver : Receiver) (samples : List Sample) (entry : Entry) → HasSmallValues receiver → entry.frames ≤ 4 → Counted 40 IsTriple (values_of receiver samples entry)
@@ -119,12 +119,12 @@ entry_has_certificate : (receiver : Receiver) (samples : List Sample) (entries :
 entry_has_certificate receiver samples entries entry within explained inside =
     let known = is_sound receiver samples entries entry explained inside in
     let values = values_of receiver samples entry in
-    let tells : TellsMaster values (master_of entry) = known.is_of.master.told in
+    let decodes : DecodesMaster values (master_of entry) = known.is_of.master.decoded in
     let fit = values_fit receiver samples entry within known.is_of.frames.inside.few in
-    let made = least_has_certificate values tells.word fit tells.tells.least in (
-      certificate_of values tells.word,
-      certifies receiver samples entry (certificate_of values tells.word) made.whole made.accepted made.filled made.values_are tells
-          (subst (λ w. IsLeastWord (certificate_of values tells.word).values w) (sym made.word_is) (subst (λ v. IsLeastWord v tells.word) (sym made.values_are) tells.tells.least)),
+    let made = least_has_certificate values decodes.word fit decodes.decodes.least in (
+      certificate_of values decodes.word,
+      certifies receiver samples entry (certificate_of values decodes.word) made.whole made.accepted made.filled made.values_are decodes
+          (subst (λ w. IsLeastWord (certificate_of values decodes.word).values w) (sym made.word_is) (subst (λ v. IsLeastWord v decodes.word) (sym made.values_are) decodes.decodes.least)),
     )
 
 -- all entries of a list have certificates
@@ -138,7 +138,7 @@ entries_have receiver samples entries (e ∷ rest) within explained inside =
 
 -- ---- one certificate is written
 
-pub certified_ok : (receiver : Receiver) (samples : List Sample) (entry : Entry) (made piece : List ℕ) (before now : SinkTold) (r : Result (Unit {0}) Failed) →
+pub certified_ok : (receiver : Receiver) (samples : List Sample) (entry : Entry) (made piece : List ℕ) (before now : SinkState) (r : Result (Unit {0}) Failed) →
     IsCertificateOf receiver samples entry made → piece ≡ made → OnOk r (HasWritten piece before now) → OnOk r (HasCertified receiver samples entry before now)
 certified_ok receiver samples entry made piece before now (Err e) h same written = tt
 certified_ok receiver samples entry made piece before now (Ok u) h same written = record {
@@ -147,7 +147,7 @@ certified_ok receiver samples entry made piece before now (Ok u) h same written 
   written = subst (λ l. HasWritten l before now) (same ∙ h.bytes_are) written;
 }
 
-pub certified_err : (receiver : Receiver) (samples : List Sample) (entry : Entry) (made piece : List ℕ) (before now : SinkTold) (r : Result (Unit {0}) Failed) →
+pub certified_err : (receiver : Receiver) (samples : List Sample) (entry : Entry) (made piece : List ℕ) (before now : SinkState) (r : Result (Unit {0}) Failed) →
     IsCertificateOf receiver samples entry made → piece ≡ made → OnErr r (HasWrittenFront piece before now) → OnErr r (IsShortOf (length piece) before) →
     OnErr r (HasCertifiedFront receiver samples entry before now)
 certified_err receiver samples entry made piece before now (Ok u) h same front full = tt
@@ -161,14 +161,14 @@ certified_err receiver samples entry made piece before now (Err e) h same front 
 -- ---- one after another
 
 -- at first no certificate is written
-pub written_none : (receiver : Receiver) (samples : List Sample) (before : SinkTold) → HasCertifiedAll receiver samples [] before before
+pub written_none : (receiver : Receiver) (samples : List Sample) (before : SinkState) → HasCertifiedAll receiver samples [] before before
 written_none receiver samples before = record { certificates = []; each = tt; written = write_nothing before }
 
 -- the bytes of certificates and one more
 bytes_and_one : (cs : List Held) (c : Held) → all_bytes (cs ++ c ∷ []) ≡ all_bytes cs ++ bytes_of c
 bytes_and_one cs c = flat_map-append bytes_of cs (c ∷ []) ∙ ap (λ l. all_bytes cs ++ l) (append-nil (bytes_of c))
 
-pub written_more : (receiver : Receiver) (samples : List Sample) (entries : List Entry) (entry : Entry) (before between now : SinkTold) →
+pub written_more : (receiver : Receiver) (samples : List Sample) (entries : List Entry) (entry : Entry) (before between now : SinkState) →
     HasCertifiedAll receiver samples entries before between → HasCertified receiver samples entry between now → HasCertifiedAll receiver samples (entries ++ entry ∷ []) before now
 written_more receiver samples entries entry before between now a h = record {
   certificates = a.certificates ++ h.certificate ∷ [];
@@ -178,7 +178,7 @@ written_more receiver samples entries entry before between now a h = record {
 }
 
 -- if a prefix of one certificate is written, a prefix of all is
-pub written_some : (receiver : Receiver) (samples : List Sample) (list entries : List Entry) (entry : Entry) (rest : List Entry) (before between now : SinkTold) →
+pub written_some : (receiver : Receiver) (samples : List Sample) (list entries : List Entry) (entry : Entry) (rest : List Entry) (before between now : SinkState) →
     HasSmallValues receiver → IsListFor receiver samples list → list ≡ (entries ++ entry ∷ []) ++ rest → HasCertifiedAll receiver samples entries before between →
     HasCertifiedFront receiver samples entry between now → HasCertifiedSome receiver samples list before now
 written_some receiver samples list entries entry rest before between now within explained split a h =
@@ -201,14 +201,14 @@ written_some receiver samples list entries entry rest before between now within 
     }
 
 -- the same, by the entry's index
-pub written_next : (receiver : Receiver) (samples : List Sample) (list : List Entry) (i : ℕ) (entry : Entry) (before between now : SinkTold) →
+pub written_next : (receiver : Receiver) (samples : List Sample) (list : List Entry) (i : ℕ) (entry : Entry) (before between now : SinkState) →
     i < length list → entry ≡ get_or list i entry → HasCertifiedAll receiver samples (take i list) before between →
     HasCertified receiver samples entry between now → HasCertifiedAll receiver samples (take (i + 1) list) before now
 written_next receiver samples list i entry before between now inside is a h =
     let next : take (i + 1) list ≡ take i list ++ entry ∷ [] = rw (add-one i) (take-suc list i entry inside ∙ ap (λ e. take i list ++ e ∷ []) (sym is)) in
     subst (λ l. HasCertifiedAll receiver samples l before now) (sym next) (written_more receiver samples (take i list) entry before between now a h)
 
-pub written_some_at : (receiver : Receiver) (samples : List Sample) (list : List Entry) (i : ℕ) (entry : Entry) (before between now : SinkTold) →
+pub written_some_at : (receiver : Receiver) (samples : List Sample) (list : List Entry) (i : ℕ) (entry : Entry) (before between now : SinkState) →
     i < length list → entry ≡ get_or list i entry → HasSmallValues receiver → IsListFor receiver samples list → HasCertifiedAll receiver samples (take i list) before between →
     HasCertifiedFront receiver samples entry between now → HasCertifiedSome receiver samples list before now
 written_some_at receiver samples list i entry before between now inside is within explained a h =

@@ -2,7 +2,7 @@
 use Rattle.std.proofs.Common.{◌≡◌, ℕ, ◌+◌, ◌<◌, ◌≤◌, ◌⊎◌, inl, inr, List, ◌++◌, length, take, drop, get_or, min, take_all, refl, sym, ap, subst, ◌∙◌, arith, length-append, length-take}
 use Rattle.std.proofs.lemmas.List.{get_or-drop, get_or_append_left, take-append-drop}
 use Rattle.std.proofs.lemmas.Bool.{cases_lt}
-use Rattle.cs_outside.specs.Outside.{SourceTold}
+use Rattle.cs_outside.specs.Outside.{SourceState}
 use Rattle.cs_outside.specs.Streams.{HasReadOn}
 use Rattle.tail_cert.specs.Certificate.{Held, IsWhole}
 use Rattle.tail_cert.specs.Form.{bytes_of, value_at, BreaksUpTo, Breaks, IsFirstBreak, IsFirstBreakUpTo, IsUnbrokenUpTo, count_of, head_count}
@@ -154,7 +154,7 @@ pub aim_fits : (part piece : List ℕ) (aim : ℕ) → IsAim part aim → length
 aim_fits part piece aim (inl head) few = let least = count_least (part ++ piece) in omega (arith, head, few, least)
 aim_fits part piece aim (inr (long, all)) few = let same = count_longer part piece long in omega (arith, all, few, same)
 
-pub read_fits : (part next : List ℕ) (aim n : ℕ) (between now : SourceTold) → IsAim part aim → HasReadOn n part next between now → length part + n ≤ aim →
+pub read_fits : (part next : List ℕ) (aim n : ℕ) (between now : SourceState) → IsAim part aim → HasReadOn n part next between now → length part + n ≤ aim →
     length next ≤ count_of next
 read_fits part next aim n between now is h few =
     subst (λ l. length l ≤ count_of l) (sym h.joined) (aim_fits part h.piece aim is (omega (arith, few, h.count, length-append part h.piece)))

@@ -5,7 +5,7 @@ use Rattle.std.proofs.lemmas.Grind.{flat_map-append}
 use Rattle.std.specs.Option.{option_map}
 use Rattle.std.proofs.lemmas.Bool.{cases_lt}
 use Rattle.cs_outside.specs.Counts.{Rose}
-use Rattle.cs_outside.specs.Outside.{SourceTold}
+use Rattle.cs_outside.specs.Outside.{SourceState}
 use Rattle.cs_outside.specs.Streams.{HasRead, HasReadOn}
 use Rattle.cs_outside.proofs.Reading.{read_nothing, read_then}
 use Rattle.tail_cert.specs.Certificate.{Held, IsWhole}
@@ -20,7 +20,7 @@ use Rattle.certificates.proofs.Parts.{cut_off, first_broken, none_however, none_
 
 -- complete certificates with `done` bytes and these answers were read, then a part of one in which no byte breaks the
 -- format
-pub record IsReadTo (answers : List Bool) (done : ℕ) (part : List ℕ) (before now : SourceTold) : Type 0 where
+pub record IsReadTo (answers : List Bool) (done : ℕ) (part : List ℕ) (before now : SourceState) : Type 0 where
   pub certificates : List Held
   pub each : AllZip IsAnswer certificates answers
   pub size : length (all_bytes certificates) ≡ done
@@ -30,17 +30,17 @@ pub record IsReadTo (answers : List Bool) (done : ℕ) (part : List ℕ) (before
 nothing_sound : IsSound []
 nothing_sound place inside b = omega (arith, inside)
 
-pub read_none : (before : SourceTold) → IsReadTo [] 0 [] before before
+pub read_none : (before : SourceState) → IsReadTo [] 0 [] before before
 read_none before = record { certificates = []; each = tt; size = refl; read = read_nothing before; sound = nothing_sound }
 
 -- a further piece extends the part
-longer : (answers : List Bool) (done : ℕ) (part piece : List ℕ) (before between now : SourceTold) (s : IsReadTo answers done part before between) → HasRead piece between now →
+longer : (answers : List Bool) (done : ℕ) (part piece : List ℕ) (before between now : SourceState) (s : IsReadTo answers done part before between) → HasRead piece between now →
     HasRead (all_bytes s.certificates ++ (part ++ piece)) before now
 longer answers done part piece before between now s more =
     subst (λ l. HasRead l before now) (append_assoc (all_bytes s.certificates) part piece) (read_then _ piece before between now s.read more)
 
 -- the same, for a piece read to an offset in the buffer
-longer_on : (answers : List Bool) (done n : ℕ) (part next : List ℕ) (before between now : SourceTold) (s : IsReadTo answers done part before between) → HasReadOn n part next between now →
+longer_on : (answers : List Bool) (done n : ℕ) (part next : List ℕ) (before between now : SourceState) (s : IsReadTo answers done part before between) → HasReadOn n part next between now →
     HasRead (all_bytes s.certificates ++ next) before now
 longer_on answers done n part next before between now s h =
     subst (λ l. HasRead (all_bytes s.certificates ++ l) before now) (sym h.joined) (longer answers done part h.piece before between now s h.read)
@@ -50,7 +50,7 @@ no_piece n [] size zero = refl
 no_piece n (x ∷ piece) size zero = absurd (omega (arith, size, zero))
 
 -- the same, for an empty piece
-ended_on : (answers : List Bool) (done n : ℕ) (part next : List ℕ) (before between now : SourceTold) (s : IsReadTo answers done part before between) → HasReadOn n part next between now →
+ended_on : (answers : List Bool) (done n : ℕ) (part next : List ℕ) (before between now : SourceState) (s : IsReadTo answers done part before between) → HasReadOn n part next between now →
     n ≡ 0 → HasRead (all_bytes s.certificates ++ part) before now
 ended_on answers done n part next before between now s h zero =
     let same : part ++ h.piece ≡ part = ap (λ l. part ++ l) (no_piece n h.piece h.count zero) ∙ append-nil part in
@@ -59,13 +59,13 @@ ended_on answers done n part next before between now s h zero =
 -- ---- the reading goes on
 
 -- the longer part is still incomplete
-pub part_on : (answers : List Bool) (done n : ℕ) (part next : List ℕ) (before between now : SourceTold) → IsReadTo answers done part before between →
+pub part_on : (answers : List Bool) (done n : ℕ) (part next : List ℕ) (before between now : SourceState) → IsReadTo answers done part before between →
     HasReadOn n part next between now → IsSound next → IsReadTo answers done next before now
 part_on answers done n part next before between now s h sound =
     record { certificates = s.certificates; each = s.each; size = s.size; read = longer_on answers done n part next before between now s h; sound = sound }
 
 -- the longer part is a whole certificate
-pub judged_on : (answers : List Bool) (done n : ℕ) (part next : List ℕ) (before between now : SourceTold) (answer : Bool) → IsReadTo answers done part before between →
+pub judged_on : (answers : List Bool) (done n : ℕ) (part next : List ℕ) (before between now : SourceState) (answer : Bool) → IsReadTo answers done part before between →
     HasReadOn n part next between now → ((certificate : Held) × IsAnswer certificate answer × (next ≡ bytes_of certificate)) →
     IsReadTo (answers ++ (answer ∷ [])) (done + length next) [] before now
 judged_on answers done n part next before between now answer s h (certificate, right, bytes) =
@@ -82,7 +82,7 @@ judged_on answers done n part next before between now answer s h (certificate, r
       sound = nothing_sound;
     }
 
-pub judged_to : (answers : List Bool) (done n m : ℕ) (part next : List ℕ) (before between now : SourceTold) (answer : Bool) → IsReadTo answers done part before between →
+pub judged_to : (answers : List Bool) (done n m : ℕ) (part next : List ℕ) (before between now : SourceState) (answer : Bool) → IsReadTo answers done part before between →
     HasReadOn n part next between now → ((certificate : Held) × IsAnswer certificate answer × (next ≡ bytes_of certificate)) → length next ≡ m →
     IsReadTo (answers ++ (answer ∷ [])) (done + m) [] before now
 judged_to answers done n m part next before between now answer s h judged size =
@@ -91,7 +91,7 @@ judged_to answers done n m part next before between now answer s h judged size =
 -- ---- how the reading ends
 
 -- at the end of the input, after complete certificates
-pub whole_on : (answers : List Bool) (done n filled : ℕ) (buffer next : List ℕ) (before between now : SourceTold) → IsReadTo answers done (take filled buffer) before between →
+pub whole_on : (answers : List Bool) (done n filled : ℕ) (buffer next : List ℕ) (before between now : SourceState) → IsReadTo answers done (take filled buffer) before between →
     HasReadOn n (take filled buffer) next between now → n ≡ 0 → filled ≡ 0 → done ≤ most_bytes → HasReadAnswers answers before now
 whole_on answers done n filled buffer next before between now s h zero empty few =
     let all : HasRead (all_bytes s.certificates ++ take filled buffer) before now = ended_on answers done n (take filled buffer) next before between now s h zero in
@@ -108,7 +108,7 @@ whole_on answers done n filled buffer next before between now s h zero empty few
     }
 
 -- at the end of the input, within a certificate
-pub early_on : (answers : List Bool) (done n : ℕ) (part next : List ℕ) (before between now : SourceTold) (place : ℕ) → IsReadTo answers done part before between →
+pub early_on : (answers : List Bool) (done n : ℕ) (part next : List ℕ) (before between now : SourceState) (place : ℕ) → IsReadTo answers done part before between →
     HasReadOn n part next between now → n ≡ 0 → 0 < length part → length part < count_of part → place ≡ done + length part → place ≤ most_bytes →
     HasReadBroken place before now
 early_on answers done n part next before between now place s h zero some few here within =
@@ -126,7 +126,7 @@ early_on answers done n part next before between now place s h zero some few her
     }
 
 -- at a byte that breaks the format
-pub broken_on : (answers : List Bool) (done n : ℕ) (part next : List ℕ) (before between now : SourceTold) (within place : ℕ) → IsReadTo answers done part before between →
+pub broken_on : (answers : List Bool) (done n : ℕ) (part next : List ℕ) (before between now : SourceState) (within place : ℕ) → IsReadTo answers done part before between →
     HasReadOn n part next between now → (within < length next) × IsFirstBreak next within → place ≡ done + within → place < most_bytes →
     length next ≤ most_count → done + length next ≤ most_bytes + 1 → HasReadBroken place before now
 broken_on answers done n part next before between now within place s h (inside, first) here below one all_few =
@@ -149,7 +149,7 @@ broken_on answers done n part next before between now within place s h (inside, 
     }
 
 -- one byte past the limit, if no byte except that one breaks the format
-pub past_on : (answers : List Bool) (done n : ℕ) (part next : List ℕ) (before between now : SourceTold) → IsReadTo answers done part before between →
+pub past_on : (answers : List Bool) (done n : ℕ) (part next : List ℕ) (before between now : SourceState) → IsReadTo answers done part before between →
     HasReadOn n part next between now → length next ≤ count_of next → ((q : ℕ) → q + 1 < length next → Breaks next q → ⊥) → done + length next ≡ most_bytes + 1 →
     HasReadTooMany before now
 past_on answers done n part next before between now s h fits sound full =
@@ -177,7 +177,7 @@ pub whole_but_last : (part : List ℕ) (c : Held) → IsWhole c → part ≡ byt
 whole_but_last part c whole bytes p inside b = whole_unbroken c whole p (subst (λ l. Breaks l p) bytes b)
 
 -- a byte breaks the format, within the limit or past it
-pub broken_or_past : (answers : List Bool) (done n : ℕ) (part next : List ℕ) (before between now : SourceTold) (within : ℕ) (error : StreamError) →
+pub broken_or_past : (answers : List Bool) (done n : ℕ) (part next : List ℕ) (before between now : SourceState) (within : ℕ) (error : StreamError) →
     IsReadTo answers done part before between → HasReadOn n part next between now → (within < length next) × IsFirstBreak next within →
     length next ≤ most_count → length next ≤ count_of next → done + length next ≤ most_bytes + 1 →
     (done + within < most_bytes → error ≡ BrokenAt (done + within)) → (most_bytes ≤ done + within → error ≡ TooLong) → IsCause before now error
@@ -188,7 +188,7 @@ broken_or_past answers done n part next before between now within error s h brok
 ]
 
 -- at a failed read
-pub fault_on : (answers : List Bool) (done : ℕ) (part : List ℕ) (before between now : SourceTold) → IsReadTo answers done part before between → now.left ≡ between.left →
+pub fault_on : (answers : List Bool) (done : ℕ) (part : List ℕ) (before between now : SourceState) → IsReadTo answers done part before between → now.left ≡ between.left →
     Rose before.faults now.faults → length part ≤ count_of part → done + length part ≤ most_bytes → HasFailedUnbroken before now
 fault_on answers done part before between now s same rose few within =
     let front : List ℕ = all_bytes s.certificates ++ part in

@@ -2,12 +2,12 @@
 use Rattle.std.specs.Prelude.{◌≡◌, ◌≤◌, ℕ, List, length}
 use Rattle.std.specs.List.{AllZip}
 use Rattle.cs_num.specs.declared.Sample.{Sample}
-use Rattle.cs_outside.specs.Outside.{SinkTold}
+use Rattle.cs_outside.specs.Outside.{SinkState}
 use Rattle.cs_outside.specs.Streams.{HasWritten, HasWrittenFront, IsShortOf}
 use Rattle.finite.specs.Sizes.{AllWithin}
 use Rattle.lte_types.specs.CellPlace.{Place}
 use Rattle.lte_types.specs.declared.entry.Entry.{Entry}
-use Rattle.pbch.specs.Master.{Tells, Carries}
+use Rattle.pbch.specs.Master.{Decodes, Carries}
 use Rattle.explain.specs.Receiver.{Receiver, sums_by}
 use Rattle.explain.specs.Entries.{place_of, frames_of}
 use Rattle.tail_cert.specs.Certificate.{Held, IsWhole, IsAccepted}
@@ -28,7 +28,7 @@ pub record Certifies (receiver : Receiver) (samples : List Sample) (entry : Entr
   pub accepted : IsAccepted c
   pub filled : IsFilled c
   pub values : c.values ≡ sums_by receiver samples (place_of entry) (frames_of entry)
-  pub word : Tells c.values c.word entry.ports
+  pub word : Decodes c.values c.word entry.ports
   pub block : Carries c.word entry.mib
   pub cost : c.cost ≡ entry.cost
 
@@ -40,14 +40,14 @@ pub record IsCertificateOf (receiver : Receiver) (samples : List Sample) (entry 
 
 -- a certificate for the entry was written
 pub record HasCertified (receiver : Receiver) (samples : List Sample) (entry : Entry)
-    (before now : SinkTold) : Type 0 where
+    (before now : SinkState) : Type 0 where
   pub certificate : Held
   pub certifies : Certifies receiver samples entry certificate
   pub written : HasWritten (bytes_of certificate) before now
 
 -- only a prefix of a certificate for the entry was written
 pub record HasCertifiedFront (receiver : Receiver) (samples : List Sample) (entry : Entry)
-    (before now : SinkTold) : Type 0 where
+    (before now : SinkState) : Type 0 where
   pub certificate : Held
   pub certifies : Certifies receiver samples entry certificate
   pub front : HasWrittenFront (bytes_of certificate) before now
@@ -55,14 +55,14 @@ pub record HasCertifiedFront (receiver : Receiver) (samples : List Sample) (entr
 
 -- certificates for all these entries were written
 pub record HasCertifiedAll (receiver : Receiver) (samples : List Sample) (entries : List Entry)
-    (before now : SinkTold) : Type 0 where
+    (before now : SinkState) : Type 0 where
   pub certificates : List Held
   pub each : AllZip (Certifies receiver samples) entries certificates
   pub written : HasWritten (all_bytes certificates) before now
 
 -- only a prefix of the certificates for these entries was written
 pub record HasCertifiedSome (receiver : Receiver) (samples : List Sample) (entries : List Entry)
-    (before now : SinkTold) : Type 0 where
+    (before now : SinkState) : Type 0 where
   pub certificates : List Held
   pub each : AllZip (Certifies receiver samples) entries certificates
   pub front : HasWrittenFront (all_bytes certificates) before now

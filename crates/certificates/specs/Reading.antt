@@ -1,6 +1,6 @@
 -- Invariants while certificates are read, and how the reading ends (own).
 use Rattle.std.specs.Prelude.{◌≡◌, ◌⊎◌, ℕ, ◌+◌, ◌<◌, ◌≤◌, ◌++◌, Bool, List, length}
-use Rattle.cs_outside.specs.Outside.{SourceTold}
+use Rattle.cs_outside.specs.Outside.{SourceState}
 use Rattle.cs_outside.specs.Streams.{HasRead, HasReadAll, HasFailedAfter, IsAtEnd}
 use Rattle.tail_cert.specs.Certificate.{Held}
 use Rattle.tail_cert.specs.Form.{most_count, head_count, count_of, bytes_of, Breaks, IsFirstBreak}
@@ -29,7 +29,7 @@ IsStep part (Broken place) = (place < length part) × IsFirstBreak part place
 -- ---- the whole input
 
 -- certificates were read to the end of the input, with these answers
-pub record HasReadAnswers (answers : List Bool) (before now : SourceTold) : Type 0 where
+pub record HasReadAnswers (answers : List Bool) (before now : SourceState) : Type 0 where
   pub bytes : List ℕ
   pub are_answers : AreAnswers bytes answers
   pub whole : HasReadAll most_bytes bytes before now
@@ -37,7 +37,7 @@ pub record HasReadAnswers (answers : List Bool) (before now : SourceTold) : Type
 -- the bytes read break the format first at this offset, and either the input ended or the same holds for any
 -- continuation; from the offset, at most the length of the longest certificate was read, and in all at most one byte
 -- past the limit
-pub record HasReadBroken (place : ℕ) (before now : SourceTold) : Type 0 where
+pub record HasReadBroken (place : ℕ) (before now : SourceState) : Type 0 where
   pub bytes : List ℕ
   pub read : HasRead bytes before now
   pub broken : IsBrokenAt bytes place
@@ -46,20 +46,20 @@ pub record HasReadBroken (place : ℕ) (before now : SourceTold) : Type 0 where
   pub settled : IsAtEnd now ⊎ ((rest : List ℕ) → IsBrokenAt (bytes ++ rest) place)
 
 -- one byte past the limit was read, and no byte within the limit breaks the format, whatever follows
-pub record HasReadTooMany (before now : SourceTold) : Type 0 where
+pub record HasReadTooMany (before now : SourceState) : Type 0 where
   pub front : List ℕ
   pub read : HasRead front before now
   pub past : length front ≡ most_bytes + 1
   pub unbroken : (rest : List ℕ) (place : ℕ) → IsFirstBroken (front ++ rest) place → most_bytes ≤ place
 
 -- a read failed within the limit, and none of the bytes read breaks the format
-pub record HasFailedUnbroken (before now : SourceTold) : Type 0 where
+pub record HasFailedUnbroken (before now : SourceState) : Type 0 where
   pub front : List ℕ
   pub failed : HasFailedAfter most_bytes front before now
   pub unbroken : IsUnbroken front
 
 -- the reason why the certificates were not answered
-abbrev pub IsCause : SourceTold → SourceTold → StreamError → Type 0
+abbrev pub IsCause : SourceState → SourceState → StreamError → Type 0
 IsCause before now (BrokenAt place) = HasReadBroken place before now
 IsCause before now TooLong = HasReadTooMany before now
 IsCause before now ReadFault = HasFailedUnbroken before now

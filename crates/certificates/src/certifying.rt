@@ -61,11 +61,11 @@ pub fn certify<K: Sink>(
     requires small { HasSmallValues receiver }
     requires list { IsListFor receiver recording.now entries.now }
     requires readings { AllZip (IsReadingFor receiver recording.now) entries.now readings.now }
-    ensures ok { OnOk result (HasCertifiedAll receiver recording.now entries.now (K.told sink.old) (K.told sink.new)) }
+    ensures ok { OnOk result (HasCertifiedAll receiver recording.now entries.now (K.state sink.old) (K.state sink.new)) }
     ensures err { OnErr result
-        (HasCertifiedSome receiver recording.now entries.now (K.told sink.old) (K.told sink.new)) }
-    ensures fault { OnErr result (Rose (K.told sink.old).faults (K.told sink.new).faults) }
-    ensures never_falls { (K.told sink.old).faults ≤ (K.told sink.new).faults }
+        (HasCertifiedSome receiver recording.now entries.now (K.state sink.old) (K.state sink.new)) }
+    ensures fault { OnErr result (Rose (K.state sink.old).faults (K.state sink.new).faults) }
+    ensures never_falls { (K.state sink.old).faults ≤ (K.state sink.new).faults }
 {
     for (i, entry) in entries.iter().enumerate() {
         certify_one(recording, entry, &readings[i], work, sink)?;
@@ -85,11 +85,11 @@ fn certify_one<K: Sink>(
     requires entry { IsEntryOfSome (IsEntryFor receiver recording.now)
         (hits_by receiver.carrier recording.now) entry.now }
     requires reading { IsReadingFor receiver recording.now entry.now reading.now }
-    ensures ok { OnOk result (HasCertified receiver recording.now entry.now (K.told sink.old) (K.told sink.new)) }
+    ensures ok { OnOk result (HasCertified receiver recording.now entry.now (K.state sink.old) (K.state sink.new)) }
     ensures err { OnErr result
-        (HasCertifiedFront receiver recording.now entry.now (K.told sink.old) (K.told sink.new)) }
-    ensures fault { OnErr result (Rose (K.told sink.old).faults (K.told sink.new).faults) }
-    ensures never_falls { (K.told sink.old).faults ≤ (K.told sink.new).faults }
+        (HasCertifiedFront receiver recording.now entry.now (K.state sink.old) (K.state sink.new)) }
+    ensures fault { OnErr result (Rose (K.state sink.old).faults (K.state sink.new).faults) }
+    ensures never_falls { (K.state sink.old).faults ≤ (K.state sink.new).faults }
 {
     make(recording, entry, reading, work);
     write_whole(sink, work.buffer.as_slice())

@@ -64,11 +64,11 @@ impl PartRead {
         requires room { end ≤ length self.old }
         ensures fits { IfOk result (λ n. at + n ≤ end) }
         ensures read { IfOk result (λ n.
-            HasReadOn n (take at self.old) (take (at + n) self.new) (S.told source.old) (S.told source.new)) }
+            HasReadOn n (take at self.old) (take (at + n) self.new) (S.state source.old) (S.state source.new)) }
         ensures same_length { length self.new ≡ length self.old }
-        ensures unchanged { OnErr result ((S.told source.new).left ≡ (S.told source.old).left) }
-        ensures cause { OnErr result (Rose (S.told source.old).faults (S.told source.new).faults) }
-        ensures never_falls { (S.told source.old).faults ≤ (S.told source.new).faults }
+        ensures unchanged { OnErr result ((S.state source.new).left ≡ (S.state source.old).left) }
+        ensures cause { OnErr result (Rose (S.state source.old).faults (S.state source.new).faults) }
+        ensures never_falls { (S.state source.old).faults ≤ (S.state source.new).faults }
     {
         read_at(source, self.bytes.as_mut_slice(), at, end)
     }

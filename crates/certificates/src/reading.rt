@@ -32,9 +32,9 @@ pub(crate) enum Step {
 /// Reads the certificates in a source to the end of the input, and returns for each whether it is accepted. If an error
 /// occurs, the answers so far are dropped. (own)
 pub fn read_answers<S: Source>(alloc: Global, source: &mut S) -> Result<Vec<bool>, StreamError>
-    ensures ok { IfOk result (λ answers. HasReadAnswers answers.items (S.told source.old) (S.told source.new)) }
-    ensures err { IfErr result (IsCause (S.told source.old) (S.told source.new)) }
-    ensures never_falls { (S.told source.old).faults ≤ (S.told source.new).faults }
+    ensures ok { IfOk result (λ answers. HasReadAnswers answers.items (S.state source.old) (S.state source.new)) }
+    ensures err { IfErr result (IsCause (S.state source.old) (S.state source.new)) }
+    ensures never_falls { (S.state source.old).faults ≤ (S.state source.new).faults }
 {
     let mut certificate = Certificate::new(alloc)?;
     let mut part = PartRead::new(alloc)?;
@@ -50,9 +50,9 @@ fn read_each<S: Source>(
     part: &mut PartRead,
 ) -> Result<Vec<bool>, StreamError>
     requires { length part.old ≡ head_count }
-    ensures ok { IfOk result (λ answers. HasReadAnswers answers.items (S.told source.old) (S.told source.new)) }
-    ensures err { IfErr result (IsCause (S.told source.old) (S.told source.new)) }
-    ensures never_falls { (S.told source.old).faults ≤ (S.told source.new).faults }
+    ensures ok { IfOk result (λ answers. HasReadAnswers answers.items (S.state source.old) (S.state source.new)) }
+    ensures err { IfErr result (IsCause (S.state source.old) (S.state source.new)) }
+    ensures never_falls { (S.state source.old).faults ≤ (S.state source.new).faults }
 {
     let mut answers = Vec::new(alloc);
     // bytes in complete certificates, bytes read of the next one, and how many of its bytes can be read

@@ -36,8 +36,8 @@ use Rattle.sib1_reader.proofs.Once.{one_grant}
 use Rattle.cell_grid.specs.Block.{coded_bit}
 use Rattle.clean_air.specs.Words.{SpeakInOrder, IsOnlyWord}
 use Rattle.clean_air.specs.Carried.{AreHeard}
-use Rattle.clean_air.specs.Indicator.{IsOnlyIndicator, SentIndicatorIsTold, TellsIndicator, indicator_scrambled, HeardIndicatorIsTold, CarriedIndicatorIsTold}
-use Rattle.clean_air.specs.Grant.{grant_word, IsOnlyGrant, SentGrantIsTold, TellsGrant, grant_places, grant_scrambled, HeardGrantIsTold, CarriedGrantIsTold}
+use Rattle.clean_air.specs.Indicator.{IsOnlyIndicator, SentIndicatorIsDecoded, DecodesIndicator, indicator_scrambled, HeardIndicatorIsDecoded, CarriedIndicatorIsDecoded}
+use Rattle.clean_air.specs.Grant.{grant_word, IsOnlyGrant, SentGrantIsDecoded, DecodesGrant, grant_places, grant_scrambled, HeardGrantIsDecoded, CarriedGrantIsDecoded}
 use Rattle.clean_air.specs.Attempt.{IsReadWith, SpokenGrantIsRead, HeardGrantIsRead, CarriedGrantIsRead}
 use Rattle.clean_air.proofs.SpokenWords.{sums_speak, spoken_word_is_only}
 use Rattle.clean_air.proofs.Speaking.{scrambled_places_are_heard, carried_places_are_heard}
@@ -46,17 +46,17 @@ use Rattle.clean_air.proofs.Subframes.{carried_in_slot}
 
 -- ---- the indicator
 
-pub sent_indicator_is_told : SentIndicatorIsTold
-sent_indicator_is_told values indicator low high speak =
+pub sent_indicator_is_decoded : SentIndicatorIsDecoded
+sent_indicator_is_decoded values indicator low high speak =
     let found = some_indicator values in
     record {
       is = subst (IsIndicator values) (spoken_indicator values indicator found.0 low high speak found.1) found.1;
-      only = λ other told. spoken_indicator values indicator other low high speak told;
+      only = λ other decoded. spoken_indicator values indicator other low high speak decoded;
     }
 
-pub heard_indicator_is_told : HeardIndicatorIsTold
+pub heard_indicator_is_decoded : HeardIndicatorIsDecoded
 unfolding indicator_values_by
-heard_indicator_is_told slot indicator low high heard = record { speak = speak; told = sent_indicator_is_told (indicator_values slot) indicator low high speak }
+heard_indicator_is_decoded slot indicator low high heard = record { speak = speak; decoded = sent_indicator_is_decoded (indicator_values slot) indicator low high speak }
   where
     all : AreHeard 1 (2 * 16) (indicator_bit indicator) (indicator_values slot)
     all = subst (λ n. AreHeard 1 (2 * n) (indicator_bit indicator) (indicator_values slot)) (length-pcfich_places slot.identity)
@@ -65,9 +65,9 @@ heard_indicator_is_told slot indicator low high heard = record { speak = speak; 
     speak : Speak (indicator_values slot) indicator
     speak i l = supports-speaks (indicator_bit indicator i) (get_or (indicator_values slot) i (pos 0)) (all.value i l)
 
-pub carried_indicator_is_told : CarriedIndicatorIsTold
-carried_indicator_is_told grids slot indicator low high heard carry =
-    heard_indicator_is_told slot indicator low high
+pub carried_indicator_is_decoded : CarriedIndicatorIsDecoded
+carried_indicator_is_decoded grids slot indicator low high heard carry =
+    heard_indicator_is_decoded slot indicator low high
     (carried_places_are_heard grids slot (pcfich_places slot.identity) (indicator_scrambled slot indicator) heard (λ k d l. (pcfich_placed slot.identity k d l).1) carry)
 
 -- ---- the grant
@@ -83,12 +83,12 @@ has_parts grant check = record { size = refl; message = refl }
 pub grant_parts : (grant : Grant) → HasParts (grant_word grant) (sent_word grant)
 grant_parts grant = has_parts grant _
 
-pub sent_grant_is_told : SentGrantIsTold
-sent_grant_is_told count candidate grant is enough speak = record {
+pub sent_grant_is_decoded : SentGrantIsDecoded
+sent_grant_is_decoded count candidate grant is enough speak = record {
   word = only;
   passes = passes;
-  told = told;
-  only = λ answer other. one_grant count candidate answer (Ok grant) other told;
+  decoded = decoded;
+  only = λ answer other. one_grant count candidate answer (Ok grant) other decoded;
 }
   where
     size : length (grant_word grant) ≡ 37
@@ -103,8 +103,8 @@ sent_grant_is_told count candidate grant is enough speak = record {
     passes : HasCheck16 system_information_rnti (grant_word grant)
     passes = checked_16 system_information_rnti (sent_word grant) (omega arith)
 
-    told : Grants count candidate (Ok grant)
-    told = record {
+    decoded : Grants count candidate (Ok grant)
+    decoded = record {
       word = grant_word grant;
       is = record { enough = enough; least = only.least };
       passes = passes;
@@ -119,12 +119,12 @@ four_elements identity indicator duration resource low high =
     enough : (n : ℕ) → 36 ≤ n → 4 ≤ n / 9
     enough n h = omega (arith, h)
 
-pub heard_grant_is_told : HeardGrantIsTold
+pub heard_grant_is_decoded : HeardGrantIsDecoded
 unfolding stream_values_by
-heard_grant_is_told slot indicator duration resource grant low high is heard = record {
+heard_grant_is_decoded slot indicator duration resource grant low high is heard = record {
   enough = elements;
   speak = speak;
-  told = sent_grant_is_told (element_count indicator duration resource) (candidate_values slot indicator duration resource) grant is elements speak;
+  decoded = sent_grant_is_decoded (element_count indicator duration resource) (candidate_values slot indicator duration resource) grant is elements speak;
 }
   where
     carry : CarryCandidate (pdcch_groups slot.identity indicator duration resource)
@@ -144,9 +144,9 @@ heard_grant_is_told slot indicator duration resource grant low high is heard = r
       value = λ i l. all.value i (let count = all.size in omega (arith, l, count));
     }
 
-pub carried_grant_is_told : CarriedGrantIsTold
-carried_grant_is_told grids slot indicator duration resource grant low high is heard carry =
-    heard_grant_is_told slot indicator duration resource grant low high is
+pub carried_grant_is_decoded : CarriedGrantIsDecoded
+carried_grant_is_decoded grids slot indicator duration resource grant low high is heard carry =
+    heard_grant_is_decoded slot indicator duration resource grant low high is
     (carried_places_are_heard grids slot (grant_places slot indicator duration resource) (grant_scrambled slot grant) heard
     (λ k d l. (candidate_placed slot.identity indicator duration resource low high k d l).1) carry)
 
@@ -161,40 +161,40 @@ by_grant values indicator grant only None (Ok fields) follows = absurd follows
 pub spoken_grant_is_read : SpokenGrantIsRead
 spoken_grant_is_read values indicator grant speak = record {
   attempt = λ attempt is.
-      let same : attempt.cfi ≡ indicator = told.only attempt.cfi is.told in
+      let same : attempt.cfi ≡ indicator = decoded.only attempt.cfi is.decoded in
       let follows : Follows values indicator attempt.grant attempt.answer = subst (λ i. Follows values i attempt.grant attempt.answer) same is.follows in
       let granted : attempt.grant ≡ Some grant = by_grant values indicator grant only attempt.grant attempt.answer follows in
       let answered : Follows values indicator (Some grant) attempt.answer = subst (λ found. Follows values indicator found attempt.answer) granted follows in
-      record { cfi = same; granted = granted; tells = answered.tells };
-  reads = λ answer tells. record {
+      record { cfi = same; granted = granted; decodes = answered.decodes };
+  reads = λ answer decodes. record {
     attempt = record { cfi = indicator; grant = Some grant; answer = answer };
-    is = record { told = told.is; follows = record { grants = only.told; tells = tells } };
+    is = record { decoded = decoded.is; follows = record { grants = only.decoded; decodes = decodes } };
     answers = refl;
   };
 }
   where
-    told : IsOnlyIndicator values.indicator indicator
-    told = sent_indicator_is_told values.indicator indicator speak.range.0 speak.range.1 speak.of_indicator
+    decoded : IsOnlyIndicator values.indicator indicator
+    decoded = sent_indicator_is_decoded values.indicator indicator speak.range.0 speak.range.1 speak.of_indicator
 
     only : IsOnlyGrant (values.elements indicator) (values.candidate indicator) grant
-    only = sent_grant_is_told (values.elements indicator) (values.candidate indicator) grant speak.is_grant speak.enough speak.of_control
+    only = sent_grant_is_decoded (values.elements indicator) (values.candidate indicator) grant speak.is_grant speak.enough speak.of_control
 
 -- an attempt returns both if the first slot determines them
-told_grant_is_read : (first second : SeenSlot) (indicator : ℕ) (duration : Duration) (resource : Resource) (grant : Grant) → 2 ≤ indicator → indicator ≤ 3 → IsGrant grant →
-    TellsIndicator first indicator → TellsGrant first indicator duration resource grant → IsReadWith (one_port first second duration resource) indicator grant
-told_grant_is_read first second indicator duration resource grant low high is told granted =
+decoded_grant_is_read : (first second : SeenSlot) (indicator : ℕ) (duration : Duration) (resource : Resource) (grant : Grant) → 2 ≤ indicator → indicator ≤ 3 → IsGrant grant →
+    DecodesIndicator first indicator → DecodesGrant first indicator duration resource grant → IsReadWith (one_port first second duration resource) indicator grant
+decoded_grant_is_read first second indicator duration resource grant low high is decoded granted =
     spoken_grant_is_read (one_port first second duration resource) indicator grant
-    (record { range = (omega (arith, low), high); is_grant = is; enough = granted.enough; of_indicator = told.speak; of_control = granted.speak })
+    (record { range = (omega (arith, low), high); is_grant = is; enough = granted.enough; of_indicator = decoded.speak; of_control = granted.speak })
 
 pub heard_grant_is_read : HeardGrantIsRead
 heard_grant_is_read first second indicator duration resource grant low high is indicator_heard grant_heard =
-    told_grant_is_read first second indicator duration resource grant low high is
-    (heard_indicator_is_told first indicator (omega (arith, low)) high indicator_heard) (heard_grant_is_told first indicator duration resource grant low high is grant_heard)
+    decoded_grant_is_read first second indicator duration resource grant low high is
+    (heard_indicator_is_decoded first indicator (omega (arith, low)) high indicator_heard) (heard_grant_is_decoded first indicator duration resource grant low high is grant_heard)
 
 pub carried_grant_is_read : CarriedGrantIsRead
 carried_grant_is_read grids first second indicator duration resource grant low high is heard indicator_carried grant_carried =
-    told_grant_is_read first second indicator duration resource grant low high is
-    (carried_indicator_is_told grids first indicator (omega (arith, low)) high heard
+    decoded_grant_is_read first second indicator duration resource grant low high is
+    (carried_indicator_is_decoded grids first indicator (omega (arith, low)) high heard
     (carried_in_slot grids (pcfich_places first.identity) (indicator_scrambled first indicator) (pcfich_placed first.identity) indicator_carried))
-    (carried_grant_is_told grids first indicator duration resource grant low high is heard
+    (carried_grant_is_decoded grids first indicator duration resource grant low high is heard
     (carried_in_slot grids (grant_places first indicator duration resource) (grant_scrambled first grant) (candidate_placed first.identity indicator duration resource low high) grant_carried))

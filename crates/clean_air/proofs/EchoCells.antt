@@ -48,15 +48,15 @@ use Rattle.clean_air.proofs.Signals.{primary_symbol, secondary_symbol, whole_slo
 -- ---- a slot
 
 pub slot_over_is_through : SlotOverIsThrough
-slot_over_is_through sizes paths recording starts grids slot faint is =
+slot_over_is_through magnitudes paths recording starts grids slot faint is =
     let sounds = (is.received 0 (omega arith)).sounds in
     record {
       room = paths_leave_room;
-      pilots = paths_are_through sizes paths port_0 slot faint sounds (pilot-seen sizes paths port_0 7 recording starts grids slot faint (omega arith) is);
-      read = λ symbol k first second few inside same. paths_are_read sizes paths port_0 slot symbol k faint sounds inside;
+      pilots = paths_are_through magnitudes paths port_0 slot faint sounds (pilot-seen magnitudes paths port_0 7 recording starts grids slot faint (omega arith) is);
+      read = λ symbol k first second few inside same. paths_are_read magnitudes paths port_0 slot symbol k faint sounds inside;
       seen = λ symbol k first second few inside same.
           subst (λ (z : Cpx). IsSeenNear 1880 (square paths.first) (times (channel_over paths k) z) (seen_at slot symbol k)) same
-          (place-seen sizes paths port_0 7 recording starts grids slot faint (omega arith) is symbol k few inside);
+          (place-seen magnitudes paths port_0 7 recording starts grids slot faint (omega arith) is symbol k few inside);
     }
 
 -- ---- a symbol
@@ -77,7 +77,7 @@ has_prefix grid sfn frame slot symbol few row =
           ∙ prefix_sent_symbol normal grid sfn frame slot symbol n (inl refl) few row l;
     }
 
-module _ (sizes : ℕ → ℕ) (paths : Paths) (recording : List Sample) (plan : CellPlan) (grids : Port → Elements) (sfn offset : ℕ) (echoed : IsEchoedBy sizes paths recording plan grids sfn offset) where
+module _ (magnitudes : ℕ → ℕ) (paths : Paths) (recording : List Sample) (plan : CellPlan) (grids : Port → Elements) (sfn offset : ℕ) (echoed : IsEchoedBy magnitudes paths recording plan grids sfn offset) where
   abbrev grid : Elements
   grid = grids only_port
 
@@ -122,7 +122,7 @@ module _ (sizes : ℕ → ℕ) (paths : Paths) (recording : List Sample) (plan :
     bounds = path_bounds;
     size = square paths.first;
     channel = over paths;
-    through = slot_over_is_through sizes paths recording (useful_start normal (frame_at (start_of offset) j) slot) (slot_grid grid ((number_at_start sfn offset + j) % 1024) slot)
+    through = slot_over_is_through magnitudes paths recording (useful_start normal (frame_at (start_of offset) j) slot) (slot_grid grid ((number_at_start sfn offset + j) % 1024) slot)
         (seen_slot recording (frame_at (start_of offset) j) slot plan.identity) echoed.faint (slot_over j slot few read);
   }
 
@@ -170,19 +170,19 @@ module _ (sizes : ℕ → ℕ) (paths : Paths) (recording : List Sample) (plan :
   signals_stand : plan.identity ≤ 503 → ShowsSignals OnePort recording plan.identity offset
   signals_stand known = record {
     primary = λ t half at low high.
-        primary_stands_by_rule recording t (plan.identity % 3) (primary_over_is_within sizes paths recording t (plan.identity % 3) echoed.faint (omega arith) (primary_over t half at low high));
+        primary_stands_by_rule recording t (plan.identity % 3) (primary_over_is_within magnitudes paths recording t (plan.identity % 3) echoed.faint (omega arith) (primary_over t half at low high));
     both = λ t half at middle high.
-        signals_over_are_through sizes paths normal recording t (plan.identity / 3) (plan.identity % 3) half echoed.faint (signals_over t half at (omega (arith, middle)) high known);
+        signals_over_are_through magnitudes paths normal recording t (plan.identity / 3) (plan.identity % 3) half echoed.faint (signals_over t half at (omega (arith, middle)) high known);
   }
 
 pub echoes_are_through : EchoesAreThrough
-echoes_are_through sizes paths recording plan grids sfn offset known echoed = record {
+echoes_are_through magnitudes paths recording plan grids sfn offset known echoed = record {
   number = echoed.number;
   within = echoed.within;
   carries = echoed.carries;
-  signals = signals_stand sizes paths recording plan grids sfn offset echoed known;
-  master = slot_through sizes paths recording plan grids sfn offset echoed 0 1 (omega arith) (inl (omega arith, refl));
-  system = λ slot five. slot_through sizes paths recording plan grids sfn offset echoed (even_frame (number_at_start sfn offset) 0) slot (omega (arith, five)) (inr (omega arith, five));
+  signals = signals_stand magnitudes paths recording plan grids sfn offset echoed known;
+  master = slot_through magnitudes paths recording plan grids sfn offset echoed 0 1 (omega arith) (inl (omega arith, refl));
+  system = λ slot five. slot_through magnitudes paths recording plan grids sfn offset echoed (even_frame (number_at_start sfn offset) 0) slot (omega (arith, five)) (inr (omega arith, five));
 }
 
 -- ---- one path
@@ -194,7 +194,7 @@ loaded_is_echoed recording plan grid sfn offset gain eps long clean = record {
   within = clean.within;
   carries = clean.carries only_port (refl, omega arith);
   sounds = some (square gain) (square (in_parts gain)) (square_in_parts gain) clean.gains_are.least;
-  faint = record { late = λ path l. absurd (omega (arith, l)); near = λ path l. omega arith; sized = λ path l. absurd (omega (arith, l)); faint = omega arith };
+  faint = record { late = λ path l. absurd (omega (arith, l)); near = λ path l. omega arith; bounded = λ path l. absurd (omega (arith, l)); faint = omega arith };
   near = λ frame slot symbol start few row place looked.
       let inside = looked_inside OnePort sfn offset frame slot symbol start few row place looked in
       quiet (square gain) (square (in_parts gain)) (eps * eps) _ (square_in_parts gain) clean.bound

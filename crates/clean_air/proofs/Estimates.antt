@@ -6,14 +6,14 @@ use Rattle.crs.specs.declared.pattern.Pattern.{Pattern}
 use Rattle.soft_bits.specs.Soft.{SeenSlot, pattern_seen, pattern_sent, pattern_pilot}
 use Rattle.clean_air.specs.Values.{ArePatternSeen}
 use Rattle.budget.proofs.Near.{IsNear}
-use Rattle.budget.proofs.Deviations.{deviation-sized}
+use Rattle.budget.proofs.Deviations.{deviation-bounded}
 use Rattle.budget.proofs.Pilots.{IsPilot, sent-size, turned_pilot-near}
 
 pub clean_pilots : (most : ℕ) (pattern : Pattern) (gain : Cpx) (slot : SeenSlot) → ArePatternSeen most pattern gain slot → (i : ℕ) → i < 24 →
     IsPilot most (square gain) gain (pattern_sent pattern slot.identity slot.number i) (pattern_seen pattern slot i)
 clean_pilots most pattern gain slot seen i l = record {
   full = sent-size pattern slot.identity slot.number i;
-  seen = deviation-sized most (square gain) gain (pattern_sent pattern slot.identity slot.number i) (pattern_seen pattern slot i) (seen.pilot i l);
+  seen = deviation-bounded most (square gain) gain (pattern_sent pattern slot.identity slot.number i) (pattern_seen pattern slot i) (seen.pilot i l);
 }
 
 -- a QPSK symbol's squared magnitude, 16200, is below 128^2
@@ -21,7 +21,7 @@ in_gain : (n : ℕ) (gain : Cpx) (c t : ℕ) (z : Cpx) → IsNear (16200 * n) ga
 in_gain n gain c t z near = record {
   off = near.off;
   is = near.is;
-  small = record { sized = wider (square near.off) near.small.sized };
+  small = record { bounded = wider (square near.off) near.small.bounded };
 }
   where
     wider : (s : ℕ) → s ≤ t * t * (16200 * n) → s ≤ 128 * t * (128 * t) * n

@@ -35,7 +35,7 @@ use Rattle.explain.specs.Window.{IsInWindow, ComeBefore}
 use Rattle.explain.specs.Masters.{entry_of}
 use Rattle.explain.specs.Laws.{IsEntryOfSome}
 use Rattle.explain.proofs.Entries.{same_entry}
-use Rattle.explain.proofs.FirstEntries.{one_told_by}
+use Rattle.explain.proofs.FirstEntries.{one_decoded_by}
 use Rattle.explain.proofs.Late.{are_taken}
 use Rattle.explain.proofs.Information.{one_system}
 use Rattle.explain.proofs.Listed.{sound_of, complete_of}
@@ -44,13 +44,13 @@ use Rattle.cell_grid.specs.Load.{sent_element}
 use Rattle.cell_plan.specs.Plan.{IsSendableBy}
 use Rattle.budget.specs.Received.{in_parts}
 use Rattle.budget.proofs.Peaks.{standing_is_listed, only_hit_near_standing}
-use Rattle.clean_air.specs.Broadcast.{TellsFreely}
+use Rattle.clean_air.specs.Broadcast.{DecodesFreely}
 use Rattle.clean_air.specs.Clean.{system_of_carrier, IsKnownPlan, IsKnownBy, HoldsOne, IsSentEntryOf, IsMasterEntry, HoldsHeardBy, HoldsMasterBy, HoldsFaithfulBy, HoldsBy, HoldsCleanBy, IsListBy, HoldsCells}
 use Rattle.clean_air.specs.Heard.{SentMaster, word_of_master, master_of_plan, IsTakenBy, sent_place, IsMasterHeard, IsSystemHeardBy}
 use Rattle.clean_air.specs.HeardLaws.{FaithfulIsHeard, ThroughIsHeard}
 use Rattle.clean_air.proofs.Carrying.{sent_elements_carry}
 use Rattle.clean_air.proofs.LoadedErrors.{loaded_is_faithful}
-use Rattle.clean_air.proofs.Masters.{sent_word_is_told}
+use Rattle.clean_air.proofs.Masters.{sent_word_is_decoded}
 use Rattle.clean_air.proofs.SentBlock.{IsMasterWord, is_master_word, counts_ports, sent_mib}
 use Rattle.clean_air.proofs.SentSymbols.{IsTruePlace, first_frame}
 use Rattle.clean_air.proofs.SomeSystem.{some_system}
@@ -86,8 +86,8 @@ record IsOneCell (m n gap : ℕ) : Type 0 where
   id : m ≡ n
   near : gap ≤ 9
 
-cell_tells : (m n gap : ℕ) → (nat_eq m n && nat_le gap 9) ≡ true → IsOneCell m n gap
-cell_tells m n gap e = record { id = grind (arith, nat_tests); near = grind (arith, nat_tests) }
+cell_is : (m n gap : ℕ) → (nat_eq m n && nat_le gap 9) ≡ true → IsOneCell m n gap
+cell_is m n gap e = record { id = grind (arith, nat_tests); near = grind (arith, nat_tests) }
 
 start_small : (t : ℕ) (half : Half) → start_by_hit t half < 19200
 start_small t Zero = omega arith
@@ -118,8 +118,8 @@ module _ (receiver : Receiver) (recording : List Sample) (identity : ℕ) (maste
   abbrev word : List Bool
   word = word_of_master master number
 
-  abbrev Tells : Place → Frames → Master → Type 0
-  Tells = IsMasterFor receiver recording
+  abbrev Decodes : Place → Frames → Master → Type 0
+  Decodes = IsMasterFor receiver recording
 
   abbrev IsOfSome : Entry → Type 0
   IsOfSome entry = IsEntryOfSome (IsEntryFor receiver recording) (hits_by receiver.carrier recording) entry
@@ -131,20 +131,20 @@ module _ (receiver : Receiver) (recording : List Sample) (identity : ℕ) (maste
   word_is = is_master_word master number takes.count takes.spare fits
 
   -- the first frame's soft values determine the word, and thus this MIB
-  word_told : TellsFreely (sums_by receiver recording place (frames_from 1 0 (number % 4))) word master.ports
+  word_decoded : DecodesFreely (sums_by receiver recording place (frames_from 1 0 (number % 4))) word master.ports
   unfolding summed_values
-  word_told =
+  word_decoded =
       let values = receiver.broadcast recording place 0 in
-      subst (λ received. TellsFreely (summed_values identity (receiver.count * (number % 4)) received) word master.ports) (sym (append-nil values))
-      (sent_word_is_told (pbch_c_init identity) (receiver.count * (number % 4)) master.ports word values word_is.size heard.broadcast word_is.check word_is.few)
+      subst (λ received. DecodesFreely (summed_values identity (receiver.count * (number % 4)) received) word master.ports) (sym (append-nil values))
+      (sent_word_is_decoded (pbch_c_init identity) (receiver.count * (number % 4)) master.ports word values word_is.size heard.broadcast word_is.check word_is.few)
 
-  block_told : Tells place (frames_from 1 0 (number % 4)) block
-  block_told = record {
+  block_decoded : Decodes place (frames_from 1 0 (number % 4)) block
+  block_decoded = record {
     few = single;
     taken = takes.taken;
-    told = record {
+    decoded = record {
       word = word;
-      tells = word_told.tells;
+      decodes = word_decoded.decodes;
       mib = record {
         bandwidth = sym word_is.width;
         duration = sym word_is.duration;
@@ -152,7 +152,7 @@ module _ (receiver : Receiver) (recording : List Sample) (identity : ℕ) (maste
         upper = sym word_is.upper;
         spare = sym word_is.spare;
       };
-      cost = sym word_told.free;
+      cost = sym word_decoded.free;
     };
   }
 
@@ -192,7 +192,7 @@ module _ (receiver : Receiver) (recording : List Sample) (identity : ℕ) (maste
             inside = record { some = omega arith; few = omega arith; known = omega arith; whole = λ m below. omega (arith, long, below) };
             first = λ few i window before. absurd (none_first few i window before);
           };
-          master = block_told;
+          master = block_decoded;
           sfn = refl;
           sib1 = subst (λ n. IsSystemFor receiver recording place n master.ports block.mib answer) (sym sent_number) system;
         };
@@ -220,8 +220,8 @@ module _ (receiver : Receiver) (recording : List Sample) (identity : ℕ) (maste
   at_place other id start = ap (λ i. record (place_of other) { id = i }) id ∙ ap (λ s. record place { start = s }) start
 
   -- the MIB of an entry with the cell's identity and start is determined by its frames
-  there : (other : Entry) → IsOfSome other → other.id ≡ identity → other.start ≡ start_of offset → Tells place (frames_of other) (master_of other)
-  there other is id start = subst (λ p. Tells p (frames_of other) (master_of other)) (at_place other id start) is.is_of.master
+  there : (other : Entry) → IsOfSome other → other.id ≡ identity → other.start ≡ start_of offset → Decodes place (frames_of other) (master_of other)
+  there other is id start = subst (λ p. Decodes p (frames_of other) (master_of other)) (at_place other id start) is.is_of.master
 
   -- an entry's frames are not after the first frame, which alone determines a MIB
   not_after : (other : Entry) → IsOfSome other → other.id ≡ identity → other.start ≡ start_of offset → ComeBefore (1, 0) (other.frames, other.frame) → ⊥
@@ -229,7 +229,7 @@ module _ (receiver : Receiver) (recording : List Sample) (identity : ℕ) (maste
       let first : start_of offset < 19200 = omega arith in
       is.is_of.frames.first 1 0 (record { some = omega arith; few = omega arith; known = omega arith; whole = λ m below. omega (arith, long, first, start, below) }) before
       (number % 4) block (omega arith)
-      (subst (λ p. Tells p (frames_from 1 0 (number % 4)) block) (sym (at_place other id start)) block_told)
+      (subst (λ p. Decodes p (frames_from 1 0 (number % 4)) block) (sym (at_place other id start)) block_decoded)
 
   -- an entry with the cell's identity, start and frame number is the cell's entry: it has the same MIB from the same
   -- frame
@@ -244,10 +244,10 @@ module _ (receiver : Receiver) (recording : List Sample) (identity : ℕ) (maste
         | inr none ↦ omega (arith, none)
       ] in
       let phase : other.phase ≡ number % 4 = omega (arith, is.is_of.sfn, is.is_of.period, frames, frame, sfn_is) in
-      let same : master_of other ≡ block = one_told_by receiver recording place (frames_from 1 0 (number % 4)) (master_of other) block
-      (subst (λ p. Tells place (frames_from 1 0 p) (master_of other)) phase
-      (subst (λ j. Tells place (frames_from 1 j other.phase) (master_of other)) frame
-      (subst (λ c. Tells place (frames_from c other.frame other.phase) (master_of other)) frames (there other is id start)))) block_told in
+      let same : master_of other ≡ block = one_decoded_by receiver recording place (frames_from 1 0 (number % 4)) (master_of other) block
+      (subst (λ p. Decodes place (frames_from 1 0 p) (master_of other)) phase
+      (subst (λ j. Decodes place (frames_from 1 j other.phase) (master_of other)) frame
+      (subst (λ c. Decodes place (frames_from c other.frame other.phase) (master_of other)) frames (there other is id start)))) block_decoded in
       let own : IsSystemFor receiver recording place number block.ports block.mib other.sib1 =
       subst (λ (m : Master). IsSystemFor receiver recording place number m.ports m.mib other.sib1) same
       (subst (λ n. IsSystemFor receiver recording place n other.ports other.mib other.sib1) sfn_is
@@ -258,7 +258,7 @@ module _ (receiver : Receiver) (recording : List Sample) (identity : ℕ) (maste
   -- an entry of the same cell is equal to it
   same_if_near : (other : Entry) → IsOfSome other → is_same_cell other sent_entry ≡ true → other ≡ sent_entry
   same_if_near other is same =
-      let cell = cell_tells other.id identity (distance (epoch other) (epoch sent_entry)) same in
+      let cell = cell_is other.id identity (distance (epoch other) (epoch sent_entry)) same in
       let small = start_small is.hit.t (prefix_identity prefix recording is.hit).1 in
       let low : other.start < 19200 = omega (arith, small, is.is_of.start) in
       let first : start_of offset < 19200 = omega arith in

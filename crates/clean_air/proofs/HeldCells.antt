@@ -93,8 +93,8 @@ fading_cell_is_heard quota bend recording plan grids sfn offset gains signal_gai
     through_cell_is_heard recording plan grids sfn offset sendable (fading_is_through quota bend recording plan grids sfn offset gains signal_gains room sendable.identity fading)
 
 pub echoed_cell_is_heard : EchoesAreHeard
-echoed_cell_is_heard sizes paths recording plan grids sfn offset sendable echoed =
-    through_cell_is_heard recording plan grids sfn offset sendable (echoes_are_through sizes paths recording plan grids sfn offset sendable.identity echoed)
+echoed_cell_is_heard magnitudes paths recording plan grids sfn offset sendable echoed =
+    through_cell_is_heard recording plan grids sfn offset sendable (echoes_are_through magnitudes paths recording plan grids sfn offset sendable.identity echoed)
 
 -- ---- the list
 

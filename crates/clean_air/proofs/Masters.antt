@@ -25,7 +25,7 @@ use Rattle.pbch.specs.Master.{total}
 use Rattle.cell_grid.specs.Block.{scrambled_bit}
 use Rattle.clean_air.specs.Values.{IsSlotHeard}
 use Rattle.clean_air.specs.Carried.{SpeakOfWord, sums_of, CarryWord}
-use Rattle.clean_air.specs.Broadcast.{TellsFreely, SpokenWordIsTold, SentWordIsTold, HeardSlotTells}
+use Rattle.clean_air.specs.Broadcast.{DecodesFreely, SpokenWordIsDecoded, SentWordIsDecoded, HeardSlotDecodes}
 use Rattle.clean_air.proofs.Speaking.{heard_bits_speak, sums_speak_all, carried_bits_are_heard}
 use Rattle.clean_air.proofs.SpokenWords.{spoken_word_is_only}
 
@@ -38,11 +38,11 @@ heard values word size speaks =
     (total_some 3 0 (λ t. nat_abs (sum_at values 0 t)) (omega arith) (speaks_with_size (sum_at values 0 0) (tapped_bit taps_0 word 0) (speaks.place 0 (omega (arith, size))).first))
 
 -- soft values that all have the signs of a 40-bit word determine it
-pub spoken_word_is_told : SpokenWordIsTold
-spoken_word_is_told ports word sums size many speaks passes width =
+pub spoken_word_is_decoded : SpokenWordIsDecoded
+spoken_word_is_decoded ports word sums size many speaks passes width =
     let only = spoken_word_is_only sums word (omega (arith, many)) (size ∙ sym many) speaks in
     record {
-      tells = record {
+      decodes = record {
         least = only.least;
         heard = heard sums word many speaks;
         clear = nothing (word_cost sums word) (total sums) only.free;
@@ -55,19 +55,19 @@ spoken_word_is_told ports word sums size many speaks passes width =
     nothing : (a b : ℕ) → a ≡ 0 → 4 * a ≤ b
     nothing a b e = omega (arith, e)
 
-pub sent_word_is_told : SentWordIsTold
-sent_word_is_told c_init first ports word values size speaks passes width =
-    spoken_word_is_told ports word (sums_of c_init first 40 values) size (length-summed_by (λ i. item_of 40 (first + i)) 40 (descrambled c_init first values))
+pub sent_word_is_decoded : SentWordIsDecoded
+sent_word_is_decoded c_init first ports word values size speaks passes width =
+    spoken_word_is_decoded ports word (sums_of c_init first 40 values) size (length-summed_by (λ i. item_of 40 (first + i)) 40 (descrambled c_init first values))
     (subst (λ n. Speaks (sums_of c_init first n values) word) size (sums_speak_all c_init first word values (omega (arith, size)) (omega (arith, size)) speaks)) passes width
 
 -- ---- in a slot
 
 below_72 : (identity i : ℕ) → i < 240 → (pbch_place identity i).k < 72
 unfolding is_pbch
-below_72 identity i l = tells (pbch_place identity i) (identity % 3) (places_inside identity i l)
+below_72 identity i l = decodes (pbch_place identity i) (identity % 3) (places_inside identity i l)
   where
-    tells : (p : Place) (shift : ℕ) → (nat_le 7 p.symbol && nat_lt p.symbol 11 && nat_lt p.k 72 && not (nat_lt p.symbol 9 && nat_eq (p.k % 3) shift)) ≡ true → p.k < 72
-    tells p shift e = grind (arith, nat_tests)
+    decodes : (p : Place) (shift : ℕ) → (nat_le 7 p.symbol && nat_lt p.symbol 11 && nat_lt p.k 72 && not (nat_lt p.symbol 9 && nat_eq (p.k % 3) shift)) ≡ true → p.k < 72
+    decodes p shift e = grind (arith, nat_tests)
 
 all_below_72 : (identity : ℕ) → All (λ p. p.k < 72) (pbch_places identity)
 unfolding pbch_place
@@ -82,8 +82,8 @@ slot_speaks grids slot phase word heard size carry =
     heard_bits_speak 1 (2 * length (pbch_places slot.identity)) (pbch_c_init slot.identity) (480 * phase) word (received_values slot) (omega arith) (omega (arith, size, places))
     (carried_bits_are_heard grids slot (pbch_places slot.identity) (λ n. scrambled_bit (pbch_c_init slot.identity) word (480 * phase + n)) heard (all_below_72 slot.identity) carry)
 
-pub heard_slot_tells : HeardSlotTells
+pub heard_slot_decodes : HeardSlotDecodes
 unfolding coded_values summed_values
-heard_slot_tells grids slot phase ports word heard size carry passes width =
-    subst (λ values. TellsFreely (sums_of (pbch_c_init slot.identity) (480 * phase) 40 values) word ports) (sym (append-nil (received_values slot)))
-    (sent_word_is_told (pbch_c_init slot.identity) (480 * phase) ports word (received_values slot) size (slot_speaks grids slot phase word heard size carry) passes width)
+heard_slot_decodes grids slot phase ports word heard size carry passes width =
+    subst (λ values. DecodesFreely (sums_of (pbch_c_init slot.identity) (480 * phase) 40 values) word ports) (sym (append-nil (received_values slot)))
+    (sent_word_is_decoded (pbch_c_init slot.identity) (480 * phase) ports word (received_values slot) size (slot_speaks grids slot phase word heard size carry) passes width)

@@ -16,7 +16,7 @@ use Rattle.cell_grid.specs.Shared.{shared_bit}
 use Rattle.cell_grid.proofs.Grants.{version-fits}
 use Rattle.clean_air.specs.Block.{matched_bit}
 use Rattle.clean_air.specs.Carried.{AreHeard}
-use Rattle.clean_air.proofs.SharedBlocks.{heard_block_is_told}
+use Rattle.clean_air.proofs.SharedBlocks.{heard_block_is_decoded}
 
 module _ {Enough : Type 0} (plan : CellPlan) (sendable : IsSendableWith Enough plan) (number count : ℕ) (values : List ℤ) (heard : AreHeard 1 count (shared_bit plan number) values) where
   -- the bits are the word's after rate matching
@@ -32,11 +32,11 @@ module _ {Enough : Type 0} (plan : CellPlan) (sendable : IsSendableWith Enough p
   fields_said enough =
       let of = row_is plan sendable in
       let row : Row = row_with (checked_size plan) in
-      let told = heard_block_is_told row (version_of number) count (shared_word plan) values
+      let decoded = heard_block_is_decoded row (version_of number) count (shared_word plan) values
       (record { is_row = inl of.is; version = version-fits number; size = word_size plan sendable ∙ sym of.size; passes = word_checked plan sendable; resolvable = enough row refl of })
       (matched_heard row refl of.size) in
       record {
         bits = message_of 24 (shared_word plan);
-        is = record { row = row; is_row = of.is; size = of.size; tells = told.told };
+        is = record { row = row; is_row = of.is; size = of.size; decodes = decoded.decoded };
         says = word_says plan sendable;
       }

@@ -29,7 +29,7 @@ use Rattle.clean_air.specs.Grant.{grant_places, grant_scrambled}
 use Rattle.clean_air.specs.Attempt.{IsReadWith}
 use Rattle.clean_air.specs.Carried.{AreHeard}
 use Rattle.clean_air.specs.Heard.{IsSystemHeard}
-use Rattle.clean_air.proofs.Controls.{four_elements, carried_indicator_is_told, carried_grant_is_told}
+use Rattle.clean_air.proofs.Controls.{four_elements, carried_indicator_is_decoded, carried_grant_is_decoded}
 use Rattle.clean_air.proofs.Placed.{pcfich_placed, candidate_placed}
 use Rattle.clean_air.proofs.SpokenSystem.{spoken_grant_read, spoken_fields_read}
 use Rattle.clean_air.proofs.Subframes.{carried_in_slot, carried_blocks_are_heard}
@@ -78,9 +78,9 @@ module _ (recording : List Sample) (plan : CellPlan) (grid : Elements) (sfn offs
   pub system_heard : IsSystemHeard OnePort (one_port (slot 10) (slot 11) plan.duration plan.resource) plan number
   unfolding seen_slot
   system_heard = record {
-    indicator = (carried_indicator_is_told (grid number 5) (slot 10) plan.cfi (omega (arith, low)) high both_heard.first_slot
+    indicator = (carried_indicator_is_decoded (grid number 5) (slot 10) plan.cfi (omega (arith, low)) high both_heard.first_slot
         (carried_in_slot (grid number 5) (pcfich_places (slot 10).identity) (indicator_scrambled (slot 10) plan.cfi) (pcfich_placed (slot 10).identity) carries_indicator)).speak;
-    control = (carried_grant_is_told (grid number 5) (slot 10) plan.cfi plan.duration plan.resource (grant_of plan number) low high (grant_is plan sendable number) both_heard.first_slot
+    control = (carried_grant_is_decoded (grid number 5) (slot 10) plan.cfi plan.duration plan.resource (grant_of plan number) low high (grant_is plan sendable number) both_heard.first_slot
         (carried_in_slot (grid number 5) (grant_places (slot 10) plan.cfi plan.duration plan.resource) (grant_scrambled (slot 10) (grant_of plan number))
         (candidate_placed (slot 10).identity plan.cfi plan.duration plan.resource low high) carries_grant)).speak;
     block = subst (λ count. AreHeard 1 count (shared_bit plan number) (shared_values (slot 10) (slot 11) plan.cfi plan.start plan.blocks)) (assigned_bits_are only_port plan sendable)

@@ -5,11 +5,11 @@ use Rattle.finite.specs.Sums.{total_below}
 use Rattle.cs_num.specs.declared.Cpx.{Cpx}
 use Rattle.cs_num.specs.declared.Sample.{Sample}
 use Rattle.cs_num.specs.Complex.{plus, times, square, minus, multiple}
-use Rattle.norms.specs.Sizes.{IsSized, energy_below}
+use Rattle.norms.specs.Magnitudes.{IsBounded, energy_below}
 use Rattle.norms.proofs.Algebra.{plus-minus, minus-plus, multiple-plus}
 use Rattle.norms.proofs.Squares.{square-multiple}
-use Rattle.norms.proofs.Sized.{sized-plus}
-use Rattle.norms.proofs.Products.{sized-multiple}
+use Rattle.norms.proofs.Bounded.{bounded-plus}
+use Rattle.norms.proofs.Products.{bounded-multiple}
 use Rattle.crs.specs.Reference.{port_0}
 use Rattle.soft_bits.specs.Estimate.{estimate}
 use Rattle.soft_bits.specs.Soft.{SeenSlot, seen_at, pilot_subcarrier, pattern_symbol, pattern_seen}
@@ -76,9 +76,9 @@ module _ (bend : ℕ) (g h : Cpx) (slow : 1000000 * square (minus g h) ≤ bend 
   unfolding difference
   is-other = ap (multiple 1000) (sym (plus-minus g h)) ∙ multiple-plus 1000 h (minus g h)
 
-  difference-sized : IsSized bend (square h) difference
+  difference-bounded : IsBounded bend (square h) difference
   unfolding difference
-  difference-sized = record { sized = fits (square (minus g h)) (square (multiple 1000 (minus g h))) (square-multiple 1000 (minus g h)) slow }
+  difference-bounded = record { bounded = fits (square (minus g h)) (square (multiple 1000 (minus g h))) (square-multiple 1000 (minus g h)) slow }
     where
       fits : (s t : ℕ) → t ≡ 1000 * 1000 * s → 1000000 * s ≤ bend * bend * square h → t ≤ bend * bend * square h
       fits s t same l = omega (arith, same, l)
@@ -88,7 +88,7 @@ module _ (bend : ℕ) (g h : Cpx) (slow : 1000000 * square (minus g h) ≤ bend 
   not-much-greater =
       back (square g) (square (multiple 1000 g)) (square-multiple 1000 g)
       (subst (λ (z : Cpx). square z ≤ (1000 + bend) * (1000 + bend) * square h) (sym is-other)
-      (sized-plus (multiple 1000 h) difference 1000 bend (square h) (record { sized = thousand (square h) (square (multiple 1000 h)) (square-multiple 1000 h) }) difference-sized).sized)
+      (bounded-plus (multiple 1000 h) difference 1000 bend (square h) (record { bounded = thousand (square h) (square (multiple 1000 h)) (square-multiple 1000 h) }) difference-bounded).bounded)
     where
       thousand : (s t : ℕ) → t ≡ 1000 * 1000 * s → t ≤ 1000 * 1000 * s
       thousand s t same = omega (arith, same)
@@ -100,7 +100,7 @@ module _ (bend : ℕ) (g h : Cpx) (slow : 1000000 * square (minus g h) ≤ bend 
   off-other = record {
     off = in_parts difference;
     is = ap in_parts is-other ∙ multiple-plus 16384 (multiple 1000 h) difference;
-    small = sized-multiple 16384 difference bend (square h) difference-sized;
+    small = bounded-multiple 16384 difference bend (square h) difference-bounded;
   }
 
 -- ---- the line through the gains of pilots

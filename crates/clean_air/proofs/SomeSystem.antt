@@ -107,11 +107,11 @@ some_with carrier (Ok values) recording place sfn ports mib long early = elim (s
         let (sib1, read) = some_read values recording place mib sfn long early in (
           sib1,
           searched (FrameAnswers values recording place mib) (one_of_frame values recording place mib) recording place.start sfn carrier
-              (λ j told reads. never_ports _ told reads) (λ j told reads. never_width _ told reads) ports mib same six sib1 read,
+              (λ j decoded reads. never_ports _ decoded reads) (λ j decoded reads. never_width _ decoded reads) ports mib same six sib1 read,
         )
-    | inr other ↦ (Err (OtherWidth mib.bandwidth), record { as_wanted = same; told_is = refl; other = other })
+    | inr other ↦ (Err (OtherWidth mib.bandwidth), record { as_wanted = same; reported_is = refl; other = other })
   ]
-  | inr other ↦ (Err (NotOnePort ports), record { told_is = refl; other = other })
+  | inr other ↦ (Err (NotOnePort ports), record { reported_is = refl; other = other })
 ]
 
 pub some_system : (receiver : Receiver) (recording : List Sample) (place : Place) (sfn ports : ℕ) (mib : Mib) → 57600 ≤ length recording → place.start < 19200 →

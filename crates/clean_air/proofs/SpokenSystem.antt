@@ -16,7 +16,7 @@ use Rattle.sib1_reader.specs.Block.{BlockSays}
 use Rattle.sib1_reader.specs.Attempt.{Reads}
 use Rattle.explain.specs.Receiver.{subframes_by}
 use Rattle.explain.specs.System.{even_frame, IsSystemWith}
-use Rattle.explain.proofs.Information.{told_at_first}
+use Rattle.explain.proofs.Information.{decoded_at_first}
 use Rattle.cell_plan.specs.declared.cell.CellPlan.{CellPlan}
 use Rattle.cell_plan.specs.Plan.{IsSendableBy}
 use Rattle.cell_plan.specs.Transport.{checked_size, coded_count, assigned_bits_of, assigned_bits, row_with, shared_word}
@@ -70,5 +70,5 @@ slots_are_read carrier control by recording plan sfn offset long sendable heard 
     let first : ℕ = number_at_start sfn offset in
     let j : ℕ = even_frame first 0 in
     let elements = four_elements plan.identity plan.cfi plan.duration plan.resource sendable.cfi.0 sendable.cfi.1 in
-    told_at_first carrier (subframes_by carrier by) recording (sent_place plan.identity offset) first (sent_mib (master_of_plan carrier plan) sendable.spare first) plan.sib1 long (omega arith) refl
+    decoded_at_first carrier (subframes_by carrier by) recording (sent_place plan.identity offset) first (sent_mib (master_of_plan carrier plan) sendable.spare first) plan.sib1 long (omega arith) refl
     (spoken_fields_read carrier control (subframes_by carrier by recording (sent_place plan.identity offset) j plan.duration plan.resource) plan ((first + j) % 1024) sendable elements heard)

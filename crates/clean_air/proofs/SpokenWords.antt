@@ -29,8 +29,8 @@ use Rattle.cs_bits.proofs.Signs.{supports-speaks}
 use Rattle.tailbite.specs.Clean.{Speaks}
 use Rattle.tailbite.proofs.Only.{free_place, same_place}
 use Rattle.cs_bits.specs.Signs.{Supports}
-use Rattle.turbo_convergence.specs.Tells.{Tells}
-use Rattle.turbo_convergence.proofs.ReceivedSums.{item_tells}
+use Rattle.turbo_convergence.specs.Conveys.{Conveys}
+use Rattle.turbo_convergence.proofs.ReceivedSums.{item_conveys}
 use Rattle.clean_air.specs.Words.{FourSpeakTogether, DescramblingKeeps, SpeakByReading, SpeakInTurn, SumsSpeakFrom, SumsSpeak, SpokenWordIsOnly}
 
 -- ---- single values
@@ -58,8 +58,8 @@ module _ (reading : ℕ → Item) (word : List Bool) (values : List ℤ) (speak 
       let (i, below, is) = speak.enough k t inside stream in
       let there : any_below (length values) (λ m. is_at t k (reading m) && true) ≡ true =
       any_below_at (length values) i (λ m. is_at t k (reading m) && true) below (and-true (is_at t k (reading i)) ∙ ap (is_at t k) is ∙ at_itself (item t k)) in
-      subst (λ some. Tells some (bit_of_item (coded_word word) (item t k)) (summed_at reading values (length values) t k)) there
-      (item_tells reading values (bit_of_item (coded_word word)) (λ _. true) t k (length values) speak.value)
+      subst (λ some. Conveys some (bit_of_item (coded_word word) (item t k)) (summed_at reading values (length values) t k)) there
+      (item_conveys reading values (bit_of_item (coded_word word)) (λ _. true) t k (length values) speak.value)
 
   pub sums_speak_by_reading : Speaks (summed_by reading (length word) values) word
   sums_speak_by_reading = record {

@@ -12,7 +12,7 @@ use Rattle.soft_bits.specs.Soft.{SeenSlot}
 use Rattle.pcfich.specs.Indicator.{Speak}
 use Rattle.sib1_reader.specs.declared.reading.Attempt.{Attempt}
 use Rattle.sib1_reader.specs.Subframe.{Subframe, one_port}
-use Rattle.sib1_reader.specs.Block.{Tells}
+use Rattle.sib1_reader.specs.Block.{Decodes}
 use Rattle.sib1_reader.specs.Attempt.{IsAttempt, Reads}
 use Rattle.clean_air.specs.Values.{IsSlotHeard}
 use Rattle.clean_air.specs.Words.{SpeakInOrder}
@@ -33,14 +33,14 @@ pub record SpeakOfGrant (values : Subframe) (indicator : ℕ) (grant : Grant) : 
 pub record HasGrant (values : Subframe) (indicator : ℕ) (grant : Grant) (attempt : Attempt) : Type 0 where
   pub cfi : attempt.cfi ≡ indicator
   pub granted : attempt.grant ≡ Some grant
-  pub tells : Tells (values.shared indicator grant.start grant.blocks) grant attempt.answer
+  pub decodes : Decodes (values.shared indicator grant.start grant.blocks) grant attempt.answer
 
 -- the subframe is read with an indicator and a grant: each attempt on it has both, and returns the answer that is
 -- decoded from the grant's resource blocks
 pub record IsReadWith (values : Subframe) (indicator : ℕ) (grant : Grant) : Type 0 where
   pub attempt : (attempt : Attempt) → IsAttempt values attempt → HasGrant values indicator grant attempt
   pub reads : (answer : Result Sib1 Sib1Reason) →
-      Tells (values.shared indicator grant.start grant.blocks) grant answer → Reads values answer
+      Decodes (values.shared indicator grant.start grant.blocks) grant answer → Reads values answer
 
 -- a law: a subframe is read with the indicator and the grant if the subframe's soft values have the signs of their bits
 abbrev pub SpokenGrantIsRead : Type 0

@@ -13,7 +13,7 @@ use Rattle.grid_map.specs.Shared.{shared_places_of}
 use Rattle.soft_bits.specs.Soft.{SeenSlot}
 use Rattle.pdsch.specs.Values.{shared_values}
 use Rattle.erasure.specs.Known.{resolvable, sent_of}
-use Rattle.turbo_convergence.specs.Tells.{SumsSupport, SumsTell}
+use Rattle.turbo_convergence.specs.Conveys.{SumsSupport, SumsConvey}
 use Rattle.clean_air.specs.Carried.{AreHeard}
 use Rattle.clean_air.specs.Subframe.{IsSubframeHeard, shared_scrambled, AreSlotsHeard, CarryInSubframe}
 
@@ -32,32 +32,32 @@ pub record IsSentBlock (row : Row) (rv count : ℕ) (word : List Bool) : Type 0 
 
 -- soft values determine a word: the sums of the sent coded bits have their signs, and the other sums are 0. If there
 -- are at least as many values as coded bits, no sum is 0. The decoded block is the word without its CRC.
-pub record TellsBlock (row : Row) (rv : ℕ) (word : List Bool) (values : List ℤ) : Type 0 where
-  pub sums : SumsTell row word (sent_of row.k rv (length values)) (summed row.k rv values)
+pub record DecodesBlock (row : Row) (rv : ℕ) (word : List Bool) (values : List ℤ) : Type 0 where
+  pub sums : SumsConvey row word (sent_of row.k rv (length values)) (summed row.k rv values)
   pub whole : 3 * (row.k + 4) ≤ length values → SumsSupport 1 row word (summed row.k rv values)
-  pub told : block row (summed row.k rv values) ≡ Some (message_of 24 word)
+  pub decoded : block row (summed row.k rv values) ≡ Some (message_of 24 word)
 
 -- a law: soft values determine the word if each has the sign of the coded bit that was sent at its position
-abbrev pub HeardBlockIsTold : Type 0
-HeardBlockIsTold = (row : Row) (rv count : ℕ) (word : List Bool) (values : List ℤ) → IsSentBlock row rv count word →
-    AreHeard 1 count (matched_bit row rv word) values → TellsBlock row rv word values
+abbrev pub HeardBlockIsDecoded : Type 0
+HeardBlockIsDecoded = (row : Row) (rv count : ℕ) (word : List Bool) (values : List ℤ) → IsSentBlock row rv count word →
+    AreHeard 1 count (matched_bit row rv word) values → DecodesBlock row rv word values
 
 -- a law: the soft values of a subframe's resource blocks determine the word if the values of each resource element have
 -- the signs of its scrambled bits
-abbrev pub HeardSubframeTells : Type 0
-HeardSubframeTells =
+abbrev pub HeardSubframeDecodes : Type 0
+HeardSubframeDecodes =
     (first second : SeenSlot) (cfi start blocks : ℕ) (row : Row) (rv : ℕ) (word : List Bool) →
     let places = shared_places_of OnePort first.identity cfi start blocks in
     IsSentBlock row rv (2 * length places) word →
     IsSubframeHeard first second places (shared_scrambled first (matched_bit row rv word)) →
-    TellsBlock row rv word (shared_values first second cfi start blocks)
+    DecodesBlock row rv word (shared_values first second cfi start blocks)
 
 -- a law: the soft values of resource blocks determine the word if both slots are received and the blocks' resource
 -- elements carry its scrambled bits
-abbrev pub CarriedBlockIsTold : Type 0
-CarriedBlockIsTold =
+abbrev pub CarriedBlockIsDecoded : Type 0
+CarriedBlockIsDecoded =
     (grids : ℕ → ℕ → Cpx) (first second : SeenSlot) (cfi start blocks : ℕ) (row : Row) (rv : ℕ) (word : List Bool) →
     let places = shared_places_of OnePort first.identity cfi start blocks in
     IsSentBlock row rv (2 * length places) word → AreSlotsHeard grids first second →
     CarryInSubframe grids places (shared_scrambled first (matched_bit row rv word)) →
-    TellsBlock row rv word (shared_values first second cfi start blocks)
+    DecodesBlock row rv word (shared_values first second cfi start blocks)

@@ -9,35 +9,35 @@ use Rattle.soft_bits.specs.Soft.{SeenSlot}
 use Rattle.conv_code.specs.Cost.{word_cost}
 use Rattle.tailbite.specs.Clean.{Speaks}
 use Rattle.pbch.specs.Values.{coded_values}
-use Rattle.pbch.specs.Master.{PassesWith, Tells}
+use Rattle.pbch.specs.Master.{PassesWith, Decodes}
 use Rattle.clean_air.specs.Values.{IsSlotHeard}
 use Rattle.clean_air.specs.Carried.{SpeakOfWord, sums_of, CarryWord}
 
 -- sums determine a word with an antenna port count, at cost 0
-pub record TellsFreely (sums : List (List ℤ)) (word : List Bool) (ports : ℕ) : Type 0 where
-  pub tells : Tells sums word ports
+pub record DecodesFreely (sums : List (List ℤ)) (word : List Bool) (ports : ℕ) : Type 0 where
+  pub decodes : Decodes sums word ports
   pub free : word_cost sums word ≡ 0
 
 -- a law: sums determine a 40-bit word, at cost 0, if all have the signs of its coded bits, its CRC passes with the port
 -- count's mask, and its bandwidth code is valid
-abbrev pub SpokenWordIsTold : Type 0
-SpokenWordIsTold =
+abbrev pub SpokenWordIsDecoded : Type 0
+SpokenWordIsDecoded =
     (ports : ℕ) (word : List Bool) (sums : List (List ℤ)) → length word ≡ 40 → length sums ≡ 40 → Speaks sums word →
     PassesWith ports word → field word 0 3 ≤ 5 →
-    TellsFreely sums word ports
+    DecodesFreely sums word ports
 
 -- a law: soft values with the signs of a MIB's coded bits determine its word, at cost 0
-abbrev pub SentWordIsTold : Type 0
-SentWordIsTold =
+abbrev pub SentWordIsDecoded : Type 0
+SentWordIsDecoded =
     (c_init first ports : ℕ) (word : List Bool) (values : List ℤ) → length word ≡ 40 →
     SpeakOfWord c_init first word values → PassesWith ports word → field word 0 3 ≤ 5 →
-    TellsFreely (sums_of c_init first 40 values) word ports
+    DecodesFreely (sums_of c_init first 40 values) word ports
 
 -- a law: a slot with correct soft values whose broadcast channel carries a MIB's word, in a frame of this phase,
 -- determines this word only
-abbrev pub HeardSlotTells : Type 0
-HeardSlotTells =
+abbrev pub HeardSlotDecodes : Type 0
+HeardSlotDecodes =
     (grids : ℕ → ℕ → Cpx) (slot : SeenSlot) (phase ports : ℕ) (word : List Bool) → IsSlotHeard grids slot →
     length word ≡ 40 → CarryWord grids (pbch_places slot.identity) (pbch_c_init slot.identity) (480 * phase) word →
     PassesWith ports word → field word 0 3 ≤ 5 →
-    TellsFreely (coded_values (slot ∷ []) phase) word ports
+    DecodesFreely (coded_values (slot ∷ []) phase) word ports

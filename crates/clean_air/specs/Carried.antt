@@ -13,6 +13,7 @@ use Rattle.cell_grid.specs.Points.{scrambled, point_of}
 use Rattle.cell_grid.specs.Block.{scrambled_bit}
 use Rattle.clean_air.specs.Values.{SupportBoth, IsSlotHeard}
 use Rattle.clean_air.specs.Words.{IsOnlyWord}
+use Rattle.lte_types.specs.Numerology.{subcarriers}
 
 -- ---- words
 
@@ -77,5 +78,5 @@ CarryWord grids places c_init first word = CarryBits grids places (λ n. scrambl
 abbrev pub CarriedBitsAreHeard : Type 0
 CarriedBitsAreHeard =
     (grids : ℕ → ℕ → Cpx) (slot : SeenSlot) (places : List Place) (bits : ℕ → Bool) → IsSlotHeard grids slot →
-    All (λ p. p.k < 72) places → CarryBits grids places bits →
+    All (λ p. p.k < subcarriers) places → CarryBits grids places bits →
     AreHeard 1 (2 * length places) bits (soft_values_of slot places)

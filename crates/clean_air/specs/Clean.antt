@@ -60,11 +60,11 @@ pub record HoldsOne (list : List Entry) (identity first number : ℕ) (is_sent :
 -- the entry has this antenna port count (TS 36.212 section 5.3.1.1), this SIB1 result, and the fields of the cell's MIB
 -- in the frame with this number, of which the MIB holds the upper 8 bits (TS 36.331 section 6.2.2). It was read from
 -- the cell's first whole frame alone, at cost 0.
-pub record IsSentEntryBy (count : ℕ) (lasting : Duration) (share : Resource) (bits : ℕ) (told : Result Sib1 Sib1Reason)
+pub record IsSentEntryBy (count : ℕ) (lasting : Duration) (share : Resource) (bits : ℕ) (answer : Result Sib1 Sib1Reason)
     (number : ℕ) (entry : Entry) : Type 0 where
   pub ports : entry.ports ≡ count
   pub block : HasFields entry.mib N6 lasting share (number / 4) bits
-  pub sib1 : entry.sib1 ≡ told
+  pub sib1 : entry.sib1 ≡ answer
   pub cost : entry.cost ≡ 0
   pub frames : entry.frames ≡ 1
   pub frame : entry.frame ≡ 0

@@ -4,10 +4,10 @@ use Rattle.std.specs.Prelude.{◌≡◌, ℕ, ◌+◌, ◌*◌, ◌^◌, ◌<◌
 use Rattle.cs_num.specs.declared.Cpx.{Cpx}
 use Rattle.cs_num.specs.declared.Sample.{Sample}
 use Rattle.cs_num.specs.Complex.{square}
-use Rattle.norms.specs.Sizes.{energy_below}
+use Rattle.norms.specs.Magnitudes.{energy_below}
 use Rattle.crs.specs.Reference.{port_0}
 use Rattle.lte_types.specs.declared.carrier.Carrier.TheVariants.{OnePort}
-use Rattle.lte_types.specs.Numerology.{frame_length, least_samples, normal, useful_start}
+use Rattle.lte_types.specs.Numerology.{frame_length, least_samples, normal, useful_start, useful_length}
 use Rattle.lte_types.specs.Timing.{IsOffset}
 use Rattle.soft_bits.specs.Soft.{SeenSlot}
 use Rattle.budget.specs.Received.{in_parts, off_by, samples_from}
@@ -25,26 +25,26 @@ use Rattle.clean_air.specs.Through.{IsSlotThrough, IsSeenThroughBy}
 -- paths are faint
 abbrev pub SlotOverIsThrough : Type 0
 SlotOverIsThrough =
-    (sizes : ℕ → ℕ) (paths : Paths) (recording : List Sample) (starts : ℕ → ℕ) (grids : ℕ → ℕ → Cpx)
-    (slot : SeenSlot) → AreFaint sizes paths → IsSlotReceivedOver paths port_0 7 recording starts grids slot →
+    (magnitudes : ℕ → ℕ) (paths : Paths) (recording : List Sample) (starts : ℕ → ℕ) (grids : ℕ → ℕ → Cpx)
+    (slot : SeenSlot) → AreFaint magnitudes paths → IsSlotReceivedOver paths port_0 7 recording starts grids slot →
     IsSlotThrough path_bounds (square paths.first) (over paths) grids slot
 
 -- the energy of the difference between the 128 samples from `start` and the elements' signal over these paths
 abbrev pub errors_over : List Sample → Elements → ℕ → ℕ → Paths → ℕ → ℕ
 errors_over recording grid sfn offset paths start =
-    energy_below 128
+    energy_below useful_length
     (off_by (samples_from recording start) (λ n. arriving paths (λ i. sent grid sfn i) (start + n + offset)))
 
 -- elements of a cell's only port carry the plan and are received over several paths, of which the later ones are faint,
 -- from frame number `sfn`: in each symbol that the receiver reads, whose useful part begins at sample `start`, the
 -- error energy is small compared with the first path. Other samples are unconstrained.
-pub record IsEchoedBy (sizes : ℕ → ℕ) (paths : Paths) (recording : List Sample) (plan : CellPlan)
+pub record IsEchoedBy (magnitudes : ℕ → ℕ) (paths : Paths) (recording : List Sample) (plan : CellPlan)
     (grids : Port → Elements) (sfn offset : ℕ) : Type 0 where
   pub number : sfn ≤ 1023
   pub within : IsOffset offset
   pub carries : CarriesPlan only_port plan (grids only_port)
   pub sounds : 2 ^ 28 ≤ square paths.first
-  pub faint : AreFaint sizes paths
+  pub faint : AreFaint magnitudes paths
   pub near : (frame slot symbol start : ℕ) → slot < 20 → symbol < 7 →
       start + offset ≡ frame_length * frame + useful_start normal 0 slot symbol →
       IsLookedAt OnePort sfn offset frame slot symbol start →
@@ -53,8 +53,8 @@ pub record IsEchoedBy (sizes : ℕ → ℕ) (paths : Paths) (recording : List Sa
 -- a law: a cell that arrives over several paths is received through channels
 abbrev pub EchoesAreThrough : Type 0
 EchoesAreThrough =
-    (sizes : ℕ → ℕ) (paths : Paths) (recording : List Sample) (plan : CellPlan) (grids : Port → Elements)
-    (sfn offset : ℕ) → plan.identity ≤ 503 → IsEchoedBy sizes paths recording plan grids sfn offset →
+    (magnitudes : ℕ → ℕ) (paths : Paths) (recording : List Sample) (plan : CellPlan) (grids : Port → Elements)
+    (sfn offset : ℕ) → plan.identity ≤ 503 → IsEchoedBy magnitudes paths recording plan grids sfn offset →
     IsSeenThroughBy OnePort recording plan grids sfn offset
 
 -- a law: in a clean recording, the cell arrives over one path, with the gain in units of 2^-14

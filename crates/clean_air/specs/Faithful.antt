@@ -7,12 +7,12 @@ use Rattle.std.specs.Prelude.{List, [], ◌∷◌, length, map}
 use Rattle.cs_num.specs.declared.Cpx.{Cpx}
 use Rattle.cs_num.specs.declared.Sample.{Sample}
 use Rattle.cs_num.specs.Complex.{square, value_at}
-use Rattle.norms.specs.Sizes.{squares_of_four, energy_below}
+use Rattle.norms.specs.Magnitudes.{squares_of_four, energy_below}
 use Rattle.lte_types.specs.declared.carrier.Carrier.{Carrier}
 use Rattle.lte_types.specs.declared.carrier.Carrier.TheVariants.{OnePort}
 use Rattle.lte_types.specs.declared.frame.Half.{Half}
 use Rattle.lte_types.specs.Carrier.{prefix_of, ports_of, has_control_by}
-use Rattle.lte_types.specs.Numerology.{frame_length, half_frame_length, least_samples, subframe_of}
+use Rattle.lte_types.specs.Numerology.{frame_length, half_frame_length, least_samples, subframe_of, useful_length}
 use Rattle.lte_types.specs.Numerology.{symbols_of_slot, symbol_step, useful_start}
 use Rattle.lte_types.specs.Timing.{IsOffset, number_at_start}
 use Rattle.pss_search.specs.Hits.{last_place}
@@ -93,7 +93,7 @@ IsLookedAt carrier sfn offset frame slot symbol start =
 -- the energy of the difference between the 128 samples from `start` and the sum of all ports' signals times their gains
 abbrev pub errors_from : Carrier → List Sample → (Port → Elements) → ℕ → ℕ → List Cpx → ℕ → ℕ
 errors_from carrier recording grids sfn offset gains start =
-    energy_below 128
+    energy_below useful_length
     (off_by (samples_from recording start) (λ n. received_from carrier grids sfn offset gains (start + n)))
 
 -- a recording is faithful to elements of each port that carry the plan, from frame number `sfn`: in each symbol that
@@ -122,7 +122,7 @@ abbrev pub LoadedHasLittleErrors : Type 0
 LoadedHasLittleErrors =
     (carrier : Carrier) (recording : List Sample) (plan : CellPlan) (grids : Port → Elements) (sfn offset : ℕ)
     (gains : List Cpx) (eps start : ℕ) → IsLoadedBy carrier recording plan grids sfn offset gains eps →
-    start + 128 ≤ length recording →
+    start + useful_length ≤ length recording →
     errors_from carrier recording grids sfn offset (map in_parts gains) start ≤ 2 ^ 36 * (eps * eps)
 
 -- a law: a recording that is clean for a cell is faithful to it, whatever else the cell sends

@@ -31,22 +31,22 @@ grant_word grant = with_check_16 system_information_rnti (sent_word grant)
 pub record IsOnlyGrant (count : ℕ) (candidate : List ℤ) (grant : Grant) : Type 0 where
   pub word : IsOnlyWord (summed 37 candidate) (grant_word grant)
   pub passes : HasCheck16 system_information_rnti (grant_word grant)
-  pub told : Grants count candidate (Ok grant)
+  pub decoded : Grants count candidate (Ok grant)
   pub only : (answer : Result Grant Sib1Reason) → Grants count candidate answer → answer ≡ Ok grant
 
 -- a law: at least 111 soft values before scrambling, each with the sign of its coded bit of the grant's word, determine
 -- the grant
-abbrev pub SentGrantIsTold : Type 0
-SentGrantIsTold = (count : ℕ) (candidate : List ℤ) (grant : Grant) → IsGrant grant → 4 ≤ count →
+abbrev pub SentGrantIsDecoded : Type 0
+SentGrantIsDecoded = (count : ℕ) (candidate : List ℤ) (grant : Grant) → IsGrant grant → 4 ≤ count →
     SpeakInOrder (grant_word grant) candidate → IsOnlyGrant count candidate grant
 
 -- a slot determines a grant, for this indicator and PHICH: there are at least four control channel elements, and the
 -- 288 soft values of the first four determine it
-pub record TellsGrant (slot : SeenSlot) (indicator : ℕ) (duration : Duration) (resource : Resource) (grant : Grant)
+pub record DecodesGrant (slot : SeenSlot) (indicator : ℕ) (duration : Duration) (resource : Resource) (grant : Grant)
     : Type 0 where
   pub enough : 4 ≤ element_count indicator duration resource
   pub speak : SpeakInOrder (grant_word grant) (candidate_values slot indicator duration resource)
-  pub told : IsOnlyGrant (element_count indicator duration resource)
+  pub decoded : IsOnlyGrant (element_count indicator duration resource)
       (candidate_values slot indicator duration resource) grant
 
 -- resource elements of the first four control channel elements in the subframe that begins with this slot, and the
@@ -60,17 +60,17 @@ grant_scrambled slot grant = scrambled_bit (pdcch_c_init slot.identity slot.numb
 
 -- a law: a slot determines a grant if the soft values of the first four control channel elements have the signs of its
 -- bits and the indicator is 2 or 3
-abbrev pub HeardGrantIsTold : Type 0
-HeardGrantIsTold =
+abbrev pub HeardGrantIsDecoded : Type 0
+HeardGrantIsDecoded =
     (slot : SeenSlot) (indicator : ℕ) (duration : Duration) (resource : Resource) (grant : Grant) →
     2 ≤ indicator → indicator ≤ 3 → IsGrant grant →
     ArePlacesHeard slot (grant_places slot indicator duration resource) (grant_scrambled slot grant) →
-    TellsGrant slot indicator duration resource grant
+    DecodesGrant slot indicator duration resource grant
 
 -- a law: a slot determines a grant if its soft values are correct and its control channel carries the grant
-abbrev pub CarriedGrantIsTold : Type 0
-CarriedGrantIsTold =
+abbrev pub CarriedGrantIsDecoded : Type 0
+CarriedGrantIsDecoded =
     (grids : ℕ → ℕ → Cpx) (slot : SeenSlot) (indicator : ℕ) (duration : Duration) (resource : Resource)
     (grant : Grant) → 2 ≤ indicator → indicator ≤ 3 → IsGrant grant → IsSlotHeard grids slot →
     CarryBits grids (grant_places slot indicator duration resource) (grant_scrambled slot grant) →
-    TellsGrant slot indicator duration resource grant
+    DecodesGrant slot indicator duration resource grant

@@ -52,6 +52,6 @@ FadingIsHeard =
 -- each cell of one antenna port that arrives over several paths is heard, if the later ones are faint
 abbrev pub EchoesAreHeard : Type 0
 EchoesAreHeard =
-    (sizes : ℕ → ℕ) (paths : Paths) (recording : List Sample) (plan : CellPlan) (grids : Port → Elements)
-    (sfn offset : ℕ) → IsSendable plan → IsEchoedBy sizes paths recording plan grids sfn offset →
+    (magnitudes : ℕ → ℕ) (paths : Paths) (recording : List Sample) (plan : CellPlan) (grids : Port → Elements)
+    (sfn offset : ℕ) → IsSendable plan → IsEchoedBy magnitudes paths recording plan grids sfn offset →
     IsHeardBy one_port_receiver recording plan sfn offset

@@ -16,14 +16,14 @@ pub record IsOnlyIndicator (values : List ℤ) (indicator : ℕ) : Type 0 where
   pub only : (other : ℕ) → IsIndicator values other → other ≡ indicator
 
 -- a law: soft values determine an indicator, 1 to 3, if each has the sign of its bit
-abbrev pub SentIndicatorIsTold : Type 0
-SentIndicatorIsTold = (values : List ℤ) (indicator : ℕ) → 1 ≤ indicator → indicator ≤ 3 → Speak values indicator →
+abbrev pub SentIndicatorIsDecoded : Type 0
+SentIndicatorIsDecoded = (values : List ℤ) (indicator : ℕ) → 1 ≤ indicator → indicator ≤ 3 → Speak values indicator →
     IsOnlyIndicator values indicator
 
 -- a slot determines an indicator: each of its 32 soft values has the sign of the indicator's bit
-pub record TellsIndicator (slot : SeenSlot) (indicator : ℕ) : Type 0 where
+pub record DecodesIndicator (slot : SeenSlot) (indicator : ℕ) : Type 0 where
   pub speak : Speak (indicator_values slot) indicator
-  pub told : IsOnlyIndicator (indicator_values slot) indicator
+  pub decoded : IsOnlyIndicator (indicator_values slot) indicator
 
 -- the scrambled bits of an indicator in the subframe that begins with this slot
 abbrev pub indicator_scrambled : SeenSlot → ℕ → ℕ → Bool
@@ -31,14 +31,14 @@ indicator_scrambled slot indicator = scrambled (pcfich_c_init slot.identity slot
 
 -- a law: a slot determines an indicator if the soft values of the channel's 16 resource elements have the signs of its
 -- bits
-abbrev pub HeardIndicatorIsTold : Type 0
-HeardIndicatorIsTold = (slot : SeenSlot) (indicator : ℕ) → 1 ≤ indicator → indicator ≤ 3 →
+abbrev pub HeardIndicatorIsDecoded : Type 0
+HeardIndicatorIsDecoded = (slot : SeenSlot) (indicator : ℕ) → 1 ≤ indicator → indicator ≤ 3 →
     ArePlacesHeard slot (pcfich_places slot.identity) (indicator_scrambled slot indicator) →
-    TellsIndicator slot indicator
+    DecodesIndicator slot indicator
 
 -- a law: a slot determines an indicator if its soft values are correct and its channel carries the indicator
-abbrev pub CarriedIndicatorIsTold : Type 0
-CarriedIndicatorIsTold =
+abbrev pub CarriedIndicatorIsDecoded : Type 0
+CarriedIndicatorIsDecoded =
     (grids : ℕ → ℕ → Cpx) (slot : SeenSlot) (indicator : ℕ) → 1 ≤ indicator → indicator ≤ 3 →
     IsSlotHeard grids slot →
-    CarryBits grids (pcfich_places slot.identity) (indicator_scrambled slot indicator) → TellsIndicator slot indicator
+    CarryBits grids (pcfich_places slot.identity) (indicator_scrambled slot indicator) → DecodesIndicator slot indicator

@@ -13,6 +13,7 @@ use Rattle.pdsch.specs.Values.{shared_values}
 use Rattle.cell_grid.specs.Points.{scrambled, point_of}
 use Rattle.clean_air.specs.Values.{IsSlotHeard}
 use Rattle.clean_air.specs.Carried.{AreHeard, ArePlacesHeardIn}
+use Rattle.lte_types.specs.Numerology.{subcarriers}
 
 -- ---- resource elements and their soft values
 
@@ -49,7 +50,7 @@ CarryInSubframe grids places bits = (i : ℕ) → i < length places →
 abbrev pub CarriedSubframeIsHeard : Type 0
 CarriedSubframeIsHeard =
     (grids : ℕ → ℕ → Cpx) (first second : SeenSlot) (places : List Place) (bits : ℕ → Bool) →
-    AreSlotsHeard grids first second → All (λ p. (p.symbol < 14) × (p.k < 72)) places →
+    AreSlotsHeard grids first second → All (λ p. (p.symbol < 14) × (p.k < subcarriers)) places →
     CarryInSubframe grids places bits →
     AreHeard 1 (2 * length places) bits (placed_values (in_subframe first second) places)
 

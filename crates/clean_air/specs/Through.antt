@@ -11,7 +11,7 @@ use Rattle.lte_types.specs.declared.carrier.Carrier.{Carrier}
 use Rattle.lte_types.specs.declared.carrier.Carrier.TheVariants.{OnePort}
 use Rattle.lte_types.specs.declared.frame.Half.{Half}
 use Rattle.lte_types.specs.Carrier.{prefix_of, ports_of}
-use Rattle.lte_types.specs.Numerology.{frame_length, half_frame_length, symbol_step, primary_start, is_extended}
+use Rattle.lte_types.specs.Numerology.{frame_length, half_frame_length, symbol_step, primary_start, is_extended, subcarriers}
 use Rattle.lte_types.specs.Timing.{IsOffset, start_of, number_at_start}
 use Rattle.pss_search.specs.Hits.{last_place}
 use Rattle.soft_bits.specs.Soft.{SeenSlot, seen_at}
@@ -66,9 +66,9 @@ pub record IsSlotThrough (bounds : Bounds) (n : ℕ) (channel : Channel) (grids 
     Type 0 where
   pub room : LeaveRoom 1 bounds
   pub pilots : ArePilotsThrough bounds n port_0 channel slot
-  pub read : (symbol k : ℕ) (first second : Bool) → symbol < 7 → k < 72 → grids symbol k ≡ point first second →
+  pub read : (symbol k : ℕ) (first second : Bool) → symbol < 7 → k < subcarriers → grids symbol k ≡ point first second →
       IsReadThrough bounds n port_0 channel slot symbol k
-  pub seen : (symbol k : ℕ) (first second : Bool) → symbol < 7 → k < 72 → grids symbol k ≡ point first second →
+  pub seen : (symbol k : ℕ) (first second : Bool) → symbol < 7 → k < subcarriers → grids symbol k ≡ point first second →
       IsSeenNear bounds.most n (times (channel symbol k) (point first second)) (seen_at slot symbol k)
 
 -- a law: a slot that is received through a channel has correct soft values

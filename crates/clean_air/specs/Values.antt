@@ -11,6 +11,7 @@ use Rattle.observe.specs.Seen.{seen_symbol}
 use Rattle.soft_bits.specs.Soft.{SeenSlot, seen_at, pilot_subcarrier, pattern_symbol, pattern_seen, pattern_sent}
 use Rattle.soft_bits.specs.Soft.{pattern_channel, pattern_energy, soft_pair, soft_values}
 use Rattle.budget.specs.Received.{AreAmplitudes, IsReceived, IsSeenAs, samples_from}
+use Rattle.lte_types.specs.Numerology.{subcarriers}
 
 -- both soft values of a resource element have the signs of two bits
 pub record SupportBoth (least : ℕ) (first second : Bool) (values : List ℤ) : Type 0 where
@@ -29,22 +30,22 @@ abbrev pub ArePilotsSeen : ℕ → Cpx → SeenSlot → Type 0
 ArePilotsSeen most gain slot = ArePatternSeen most port_0 gain slot
 
 -- a law: if a QPSK symbol is demodulated with the gain of the slot's pilots, each off by at most `most` times the
--- gain's magnitude, its soft values have the signs of the bits and a magnitude of at least `size`
+-- gain's magnitude, its soft values have the signs of the bits and a magnitude of at least `magnitude`
 abbrev pub SeenPairSupportsBits : ℕ → ℕ → Type 0
-SeenPairSupportsBits most size =
+SeenPairSupportsBits most magnitude =
     (pattern : Pattern) (gain : Cpx) (slot : SeenSlot) (seen : Cpx) (k : ℕ) (first second : Bool) →
     ArePatternSeen most pattern gain slot →
     IsSeenAs most gain (point first second) seen →
-    SupportBoth size first second
+    SupportBoth magnitude first second
     (soft_pair (times seen (conjugate (pattern_channel pattern slot k))) (pattern_energy pattern slot))
 
 -- a law: if a resource element carries two bits and is observed with the gain of the slot's pilots, its soft values
 -- have their signs
 abbrev pub ValuesSupportBits : ℕ → ℕ → Type 0
-ValuesSupportBits most size =
+ValuesSupportBits most magnitude =
     (gain : Cpx) (slot : SeenSlot) (symbol k : ℕ) (first second : Bool) → ArePilotsSeen most gain slot →
     IsSeenAs most gain (point first second) (seen_at slot symbol k) →
-    SupportBoth size first second (soft_values slot symbol k)
+    SupportBoth magnitude first second (soft_values slot symbol k)
 
 -- the slot's first `count` symbols are received with one gain, each from its first sample, and contain the reference
 -- signals of the slot's identity and number
@@ -63,10 +64,10 @@ abbrev pub IsSlotReceived : List Sample → (ℕ → ℕ) → (ℕ → ℕ → C
 IsSlotReceived recording starts grids slot = IsPatternReceived 1800 port_0 7 recording starts grids slot
 
 -- in each resource element that carries two bits, the slot's soft values have their signs and a magnitude of at least
--- `size`
+-- `magnitude`
 abbrev pub SpeaksFor : ℕ → (ℕ → ℕ → Cpx) → SeenSlot → Type 0
-SpeaksFor size grids slot = (symbol k : ℕ) (first second : Bool) → symbol < 7 → k < 72 →
-    grids symbol k ≡ point first second → SupportBoth size first second (soft_values slot symbol k)
+SpeaksFor magnitude grids slot = (symbol k : ℕ) (first second : Bool) → symbol < 7 → k < subcarriers →
+    grids symbol k ≡ point first second → SupportBoth magnitude first second (soft_values slot symbol k)
 
 -- a slot with correct soft values: each has the sign of the bit that the grid carries
 abbrev pub IsSlotHeard : (ℕ → ℕ → Cpx) → SeenSlot → Type 0

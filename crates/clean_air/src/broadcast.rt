@@ -2,12 +2,12 @@
 //!
 //! The law also holds for a slot that is received and whose broadcast channel carries the word (`slot`).
 
-ghost use Rattle.clean_air.specs.Broadcast.{SpokenWordIsTold, SentWordIsTold, HeardSlotTells};
+ghost use Rattle.clean_air.specs.Broadcast.{SpokenWordIsDecoded, SentWordIsDecoded, HeardSlotDecodes};
 
 /// A law: the broadcast channel's decoder returns the sent 40-bit word, a MIB and its CRC, if each soft value has the
 /// sign of its coded bit and the word's bandwidth code is valid.
-pub fn sent_master_is_told()
-    ensures spoken { SpokenWordIsTold }
-    ensures told { SentWordIsTold }
-    ensures slot { HeardSlotTells }
+pub fn sent_master_is_decoded()
+    ensures spoken { SpokenWordIsDecoded }
+    ensures decoded { SentWordIsDecoded }
+    ensures slot { HeardSlotDecodes }
 {}

@@ -19,11 +19,11 @@ mod through;
 mod values;
 mod words;
 
-pub use block::sent_block_is_told;
-pub use broadcast::sent_master_is_told;
+pub use block::sent_block_is_decoded;
+pub use broadcast::sent_master_is_decoded;
 pub use carried::carried_word_is_heard;
 pub use clean::{CleanReader, explain_clean, explain_clean_by};
-pub use control::{sent_grant_is_read, sent_grant_is_told, sent_indicator_is_told};
+pub use control::{sent_grant_is_decoded, sent_grant_is_read, sent_indicator_is_decoded};
 pub use heard::cells_are_heard;
 pub use load::{loaded_is_faithful, open_places_are_silent};
 pub use planning::{faithful_entry_has_plan, one_plan, plan_granted, plan_of, sent_entry_has_plan};

@@ -45,17 +45,17 @@ pub fn plan_granted(
 {
     let count = recording.len();
     prove!(57_600 <= count);
-    told_plan(recording, entry, granted)
+    decoded_plan(recording, entry, granted)
 }
 
 // Returns the result of `plan_granted`, without its promises on faithful and clean recordings, which follow from this
 // clause.
-fn told_plan(recording: &Recording, entry: &Entry, granted: Option<(Cfi, Grant)>) -> Option<Cell>
+fn decoded_plan(recording: &Recording, entry: &Entry, granted: Option<(Cfi, Grant)>) -> Option<Cell>
     requires listed { IsInList recording.now entry.now }
     requires granted { IsGrantOf recording.now entry.now granted }
     ensures { IsPlanOf recording.now entry.now result }
 {
-    let Some(told) = granted else {
+    let Some(decoded) = granted else {
         return None;
     };
     let Ok(sib1) = &entry.sib1 else {
@@ -64,7 +64,7 @@ fn told_plan(recording: &Recording, entry: &Entry, granted: Option<(Cfi, Grant)>
     if !is_plain(entry) {
         return None;
     }
-    match Cell::new(plan_by(entry, told.0, &told.1, sib1)) {
+    match Cell::new(plan_by(entry, decoded.0, &decoded.1, sib1)) {
         Ok(cell) => Some(cell),
         Err(_) => None,
     }

@@ -3,7 +3,7 @@ ghost use Rattle.finite.specs.Sizes.{RowsWithin};
 
 use crate::shared::{number_of, triple};
 use std::test::Fail;
-use tailbite::{Trellis, least, values_tell_the_word};
+use tailbite::{Trellis, least, values_determine_the_word};
 
 // A linear congruential generator.
 #[derive(Drop)]
@@ -171,6 +171,6 @@ fn longer_cases_agree_with_a_search_of_all_words(rt: HostRuntime) -> Result<(), 
         (5, 3, 1330, 11),
     ];
     assert!(rt; are_least::<12>(&rows, work));
-    values_tell_the_word();
+    values_determine_the_word();
     Ok(())
 }

@@ -211,7 +211,7 @@ fn all_that_may_be_there_is_read_and_written(rt: HostRuntime) -> Result<(), Fail
 }
 
 #[test]
-fn an_extension_is_told_and_not_read(rt: HostRuntime) -> Result<(), Fail> {
+fn an_extension_is_reported_and_not_read(rt: HostRuntime) -> Result<(), Fail> {
     let mut block = full_block();
     block[4] = true;
     let fields = read(&block).ok().ok_or("the block is read")?;

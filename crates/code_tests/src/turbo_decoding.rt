@@ -271,7 +271,7 @@ fn is_sent(reception: &Reception, block: &[bool]) -> bool {
 }
 
 // Decodes a reception.
-fn told(alloc: Global, reception: &Reception) -> Result<Answer, AllocError> {
+fn decoded(alloc: Global, reception: &Reception) -> Result<Answer, AllocError> {
     let mut work = Work::new(alloc)?;
     let word = sent_word(alloc, reception)?;
     let Some(row) = row_of(reception.size) else {
@@ -316,7 +316,7 @@ fn short_blocks(rt: HostRuntime) -> Result<(), Fail> {
         (0x0bad_cafe, 1800, 3700, 24_847, 273_106, Answer::Sent),
     ] {
         let reception = short(block, gain, spread, seed, sizes);
-        assert!(rt; told(alloc, &reception)? == answer, "seed {seed}");
+        assert!(rt; decoded(alloc, &reception)? == answer, "seed {seed}");
     }
     Ok(())
 }
@@ -331,7 +331,7 @@ fn longer_blocks(rt: HostRuntime) -> Result<(), Fail> {
         seed: 1089,
         sizes: 4517,
     };
-    assert!(rt; told(rt.alloc(), &first)? == Answer::Sent);
+    assert!(rt; decoded(rt.alloc(), &first)? == Answer::Sent);
     let second = Reception {
         size: 176,
         block: [
@@ -347,13 +347,13 @@ fn longer_blocks(rt: HostRuntime) -> Result<(), Fail> {
         seed: 443,
         sizes: 7131,
     };
-    assert!(rt; told(rt.alloc(), &second)? == Answer::Sent);
+    assert!(rt; decoded(rt.alloc(), &second)? == Answer::Sent);
     orders_undo_each_other();
     Ok(())
 }
 
 // Decodes sums that all have one value, except for the first; zeros were sent.
-fn told_of(alloc: Global, first: i32, value: i32) -> Result<Answer, AllocError> {
+fn decoded_of(alloc: Global, first: i32, value: i32) -> Result<Answer, AllocError> {
     let mut work = Work::new(alloc)?;
     let Some(row) = row_of(32) else {
         return Ok(Answer::Unfit);
@@ -381,7 +381,7 @@ fn blocks_of_sums_that_are_all_the_same(rt: HostRuntime) -> Result<(), Fail> {
         (0, -4097, Answer::Unfit),
     ] {
         assert!(rt;
-            told_of(alloc, first, value)? == answer,
+            decoded_of(alloc, first, value)? == answer,
             "{first} and {value}"
         );
     }

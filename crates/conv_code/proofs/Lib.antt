@@ -6,7 +6,7 @@ pub mod Sums
 pub mod Costs
 pub mod OneToOne
 pub mod Rows
-pub mod Sizes
+pub mod Magnitudes
 pub mod Walk
 pub mod Runs
 pub mod ByIndex

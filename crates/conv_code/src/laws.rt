@@ -3,7 +3,7 @@
 ghost use Rattle.conv_code.specs.Laws.{IsOneToOne, IsPermuting};
 
 /// A law: different words of equal length, at least 6, have different codewords.
-pub fn coded_words_tell_words()
+pub fn codewords_determine_words()
     ensures { IsOneToOne }
 {}
 

@@ -10,5 +10,5 @@ mod matching;
 
 pub use cost::against;
 pub use encoder::encode;
-pub use laws::{coded_words_tell_words, reading_permutes};
+pub use laws::{codewords_determine_words, reading_permutes};
 pub use matching::{combine, combine_from, match_out, stream_index};

@@ -64,7 +64,7 @@ pub fn combine_from<const N: usize>(first: usize, values: &[i16]) -> [[i32; 3]; 
     requires first { first < 2 ^ 32 }
     requires count { length values.now ≤ 1920 }
     ensures sums { result ≡ summed_from first N values.now }
-    ensures sizes { (bound : ℕ) → AllWithin bound values.now → RowsWithin (length values.now * bound) result }
+    ensures magnitudes { (bound : ℕ) → AllWithin bound values.now → RowsWithin (length values.now * bound) result }
 {
     by_index(&by_place(first, values))
 }
@@ -76,7 +76,7 @@ pub fn combine<const N: usize>(values: &[i16]) -> [[i32; 3]; N]
     requires high { N ≤ 64 }
     requires count { length values.now ≤ 1920 }
     ensures sums { result ≡ summed N values.now }
-    ensures sizes { (bound rounds : ℕ) → AllWithin bound values.now →
+    ensures magnitudes { (bound rounds : ℕ) → AllWithin bound values.now →
         length values.now ≤ rounds * (3 * N) →
         RowsWithin (rounds * bound) result }
 {

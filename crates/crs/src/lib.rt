@@ -11,6 +11,7 @@ ghost use Rattle.crs.specs.Reference.{IsPattern, pattern_c_init, pattern_first, 
 ghost use Rattle.crs.specs.Reference.{value_by, value_of_width, reference, reference_list};
 ghost use Rattle.crs.specs.Reference.{port_0, has_pilots, subcarrier, is_reference};
 ghost use Rattle.crs.specs.Reference.{is_second_reference, reference_at};
+ghost use Rattle.lte_types.specs.Numerology.{subcarriers};
 
 mod pattern;
 mod qpsk;
@@ -108,7 +109,7 @@ pub fn pilots(id: CellId, slot: u8, symbol: u8) -> [(u8, Cpx); 12]
 /// A law: the twelve subcarriers of a symbol are its reference signal positions. In symbols 0 and 4 of a slot
 /// together, they are every third subcarrier from the identity modulo 3.
 pub fn reference_places()
-    ensures inside { (identity symbol m : ℕ) → m < 12 → subcarrier identity symbol m < 72 }
+    ensures inside { (identity symbol m : ℕ) → m < 12 → subcarrier identity symbol m < subcarriers }
     ensures each { (identity symbol m : ℕ) → (symbol ≡ 0) ⊎ (symbol ≡ 4) →
         IsTrue (is_reference identity symbol (subcarrier identity symbol m)) }
     ensures found { (identity symbol k : ℕ) → IsTrue (is_reference identity symbol k) →

@@ -7,7 +7,7 @@ use Rattle.finite.proofs.Integers.{abs-sum, abs-difference, product_within}
 use Rattle.finite.proofs.Ring.{Is, var, lit, same}
 use Rattle.finite.proofs.Ring as ring
 use Rattle.cs_num.specs.declared.Cpx.{Cpx}
-use Rattle.cs_num.specs.Complex.{IsWithin, size, nothing, plus, minus, multiple, times, times_j, conjugate, square}
+use Rattle.cs_num.specs.Complex.{IsWithin, largest_part, nothing, plus, minus, multiple, times, times_j, conjugate, square}
 
 -- complex numbers with equal components are equal
 pub pair : {x y u v : ℤ} → x ≡ y → u ≡ v → ◌≡◌ {A = Cpx} (record { re = x; im = u }) (record { re = y; im = v })
@@ -15,8 +15,8 @@ pair e f = cc
 
 -- ---- bounds on components
 
-pub size-le : (a : Cpx) (bound : ℕ) → IsWithin bound a → size a ≤ bound
-size-le a bound h = omega arith
+pub largest_part-le : (a : Cpx) (bound : ℕ) → IsWithin bound a → largest_part a ≤ bound
+largest_part-le a bound h = omega arith
 
 pub within_more : (a : Cpx) (m n : ℕ) → IsWithin m a → m ≤ n → IsWithin n a
 within_more a m n p h = record { re = omega arith; im = omega arith }

@@ -1,7 +1,7 @@
 -- Signed machine arithmetic used in this crate.
 use Rattle.std.proofs.Common.{◌≡◌, ℕ, ◌+◌, ◌*◌, ◌-◌, ◌^◌, ◌%◌, ◌<◌, ◌≤◌, min, arith, refl, ◌∙◌, to_z, of_z, ℤ, pos, negsuc, ◌+ℤ◌, ◌-ℤ◌, ◌*ℤ◌, ◌≤ℤ◌, FitsSigned, w64}
 use Rattle.cs_num.specs.declared.Cpx.{Cpx}
-use Rattle.cs_num.specs.Complex.{size}
+use Rattle.cs_num.specs.Complex.{largest_part}
 use Rattle.cs_num.specs.Rounding.{floor_div, clamped, round_shifted}
 use Rattle.finite.proofs.Integers.{abs-sum, abs-difference, product_within, one_part}
 use Rattle.std.specs.Int.{int_max, int_min}
@@ -21,12 +21,12 @@ pub record Products (a b : Cpx) : Type 0 where
   pub difference : FitsSigned w64 (a.re *ℤ b.re -ℤ a.im *ℤ b.im)
   pub total : FitsSigned w64 (a.re *ℤ b.im +ℤ a.im *ℤ b.re)
 
-pub products_fit : (a b : Cpx) → size a * size b ≤ 2 ^ 61 → Products a b
+pub products_fit : (a b : Cpx) → largest_part a * largest_part b ≤ 2 ^ 61 → Products a b
 products_fit a b h =
-    let rr = product_within a.re b.re (size a) (size b) (2 ^ 61) (omega arith) (omega arith) h in
-    let ii = product_within a.im b.im (size a) (size b) (2 ^ 61) (omega arith) (omega arith) h in
-    let ri = product_within a.re b.im (size a) (size b) (2 ^ 61) (omega arith) (omega arith) h in
-    let ir = product_within a.im b.re (size a) (size b) (2 ^ 61) (omega arith) (omega arith) h in
+    let rr = product_within a.re b.re (largest_part a) (largest_part b) (2 ^ 61) (omega arith) (omega arith) h in
+    let ii = product_within a.im b.im (largest_part a) (largest_part b) (2 ^ 61) (omega arith) (omega arith) h in
+    let ri = product_within a.re b.im (largest_part a) (largest_part b) (2 ^ 61) (omega arith) (omega arith) h in
+    let ir = product_within a.im b.re (largest_part a) (largest_part b) (2 ^ 61) (omega arith) (omega arith) h in
     record {
       re_re = fits_signed_from_abs w64 _ (omega arith);
       im_im = fits_signed_from_abs w64 _ (omega arith);
@@ -41,10 +41,10 @@ pub record Multiples (n : ℕ) (a : Cpx) : Type 0 where
   pub re : FitsSigned w64 (pos n *ℤ a.re)
   pub im : FitsSigned w64 (pos n *ℤ a.im)
 
-pub multiples_fit : (n : ℕ) (a : Cpx) → n * size a < 2 ^ 63 → Multiples n a
+pub multiples_fit : (n : ℕ) (a : Cpx) → n * largest_part a < 2 ^ 63 → Multiples n a
 multiples_fit n a h = record {
-  re = fits_signed_from_abs w64 _ (omega (arith, h, product_within (pos n) a.re n (size a) (n * size a) (omega arith) (omega arith) (omega arith)));
-  im = fits_signed_from_abs w64 _ (omega (arith, h, product_within (pos n) a.im n (size a) (n * size a) (omega arith) (omega arith) (omega arith)));
+  re = fits_signed_from_abs w64 _ (omega (arith, h, product_within (pos n) a.re n (largest_part a) (n * largest_part a) (omega arith) (omega arith) (omega arith)));
+  im = fits_signed_from_abs w64 _ (omega (arith, h, product_within (pos n) a.im n (largest_part a) (n * largest_part a) (omega arith) (omega arith) (omega arith)));
 }
 
 -- 1 << (bits - 1)

@@ -1,9 +1,9 @@
 -- Partial sums of complex integers in a loop, with their bound.
 use Rattle.std.proofs.Common.{◌≡◌, ℕ, ◌+◌, ◌*◌, ◌^◌, ◌<◌, arith, ap, ap₂, sym, subst, ◌∙◌}
 use Rattle.cs_num.specs.declared.Cpx.{Cpx}
-use Rattle.cs_num.specs.Complex.{IsWithin, nothing, plus, size}
+use Rattle.cs_num.specs.Complex.{IsWithin, nothing, plus, largest_part}
 use Rattle.cs_num.specs.Sums.{complex_sum_below}
-use Rattle.cs_num.proofs.Complex.{size-le, plus-within}
+use Rattle.cs_num.proofs.Complex.{largest_part-le, plus-within}
 use Rattle.cs_num.proofs.Sums.{complex_sum_below_none, complex_sum_below_more}
 
 pub record SoFar (bound n : ℕ) (f : ℕ → Cpx) (sum : Cpx) : Type 0 where
@@ -22,8 +22,8 @@ one_more bound n f sum term new s t h e =
       small = subst (IsWithin ((n + 1) * bound)) (sym e) small;
     }
 
-pub has_room : (bound n : ℕ) (f : ℕ → Cpx) (sum term : Cpx) → SoFar bound n f sum → IsWithin bound term → (n + 1) * bound < 2 ^ 63 → size sum + size term < 2 ^ 63
-has_room bound n f sum term s h room = omega (arith, room, size-le sum (n * bound) s.small, size-le term bound h)
+pub has_room : (bound n : ℕ) (f : ℕ → Cpx) (sum term : Cpx) → SoFar bound n f sum → IsWithin bound term → (n + 1) * bound < 2 ^ 63 → largest_part sum + largest_part term < 2 ^ 63
+has_room bound n f sum term s h room = omega (arith, room, largest_part-le sum (n * bound) s.small, largest_part-le term bound h)
 
 -- after all terms, the partial sum is the complete sum, with its bound
 pub all_so_far : (bound n count : ℕ) (f : ℕ → Cpx) (sum : Cpx) → SoFar bound n f sum → n ≡ count → (sum ≡ complex_sum_below count f) × IsWithin (count * bound) sum

@@ -43,8 +43,8 @@ abbrev pub square : Cpx → ℕ
 square a = nat_abs a.re * nat_abs a.re + nat_abs a.im * nat_abs a.im
 
 -- the maximum of the components' magnitudes
-abbrev pub size : Cpx → ℕ
-size a = max (nat_abs a.re) (nat_abs a.im)
+abbrev pub largest_part : Cpx → ℕ
+largest_part a = max (nat_abs a.re) (nat_abs a.im)
 
 -- both components have at most this magnitude
 pub record IsWithin (bound : ℕ) (a : Cpx) : Type 0 where

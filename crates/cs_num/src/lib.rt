@@ -4,7 +4,7 @@
 #![tactic(auto)]
 
 ghost use Rattle.std.specs.Prelude.{◌≡◌, ◌+◌, ◌*◌, ◌^◌, ◌<◌, ◌≤◌, pos, ◌≤ℤ◌, ◌<ℤ◌, nat_abs, int_div};
-ghost use Rattle.cs_num.specs.Complex.{IsWithin, value_of, sample_of, plus, minus, negated, multiple, times, times_j as times_j_of, times_minus_j as times_minus_j_of, conjugate, square, size};
+ghost use Rattle.cs_num.specs.Complex.{IsWithin, value_of, sample_of, plus, minus, negated, multiple, times, times_j as times_j_of, times_minus_j as times_minus_j_of, conjugate, square, largest_part};
 ghost use Rattle.cs_num.specs.Rounding.{clamped, round_shifted, rounded, rounded_quotient as rounded_quotient_of, quotient as quotient_of, in_16_bits as in_16_bits_of, nearest_sample as nearest_sample_of};
 
 mod gain;
@@ -42,7 +42,7 @@ impl From<Sample> for Cpx {
 impl Add for Cpx {
     type Output = Cpx;
 
-    ghost can_add = { λ a b. size a + size b < 2 ^ 63 };
+    ghost can_add = { λ a b. largest_part a + largest_part b < 2 ^ 63 };
 
     ghost add_gives = { λ a b z. z ≡ plus a b };
 
@@ -58,7 +58,7 @@ impl Add for Cpx {
 impl Sub for Cpx {
     type Output = Cpx;
 
-    ghost can_sub = { λ a b. size a + size b < 2 ^ 63 };
+    ghost can_sub = { λ a b. largest_part a + largest_part b < 2 ^ 63 };
 
     ghost sub_gives = { λ a b z. z ≡ minus a b };
 
@@ -74,7 +74,7 @@ impl Sub for Cpx {
 impl Neg for Cpx {
     type Output = Cpx;
 
-    ghost can_neg = { λ a. size a < 2 ^ 63 };
+    ghost can_neg = { λ a. largest_part a < 2 ^ 63 };
 
     ghost neg_gives = { λ a z. z ≡ negated a };
 
@@ -90,7 +90,7 @@ impl Cpx {
 
     /// Multiplies two numbers. The product of their maximum component magnitudes is at most 2^61.
     pub fn mul(self, other: Cpx) -> Cpx
-        requires { size self * size other ≤ 2 ^ 61 }
+        requires { largest_part self * largest_part other ≤ 2 ^ 61 }
         ensures { result ≡ times self other }
     {
         Cpx {
@@ -134,7 +134,7 @@ impl Cpx {
 
     /// Multiplies by `n`. The maximum component magnitude times `n` is below 2^63.
     pub fn scaled(self, n: u8) -> Cpx
-        requires { n * size self < 2 ^ 63 }
+        requires { n * largest_part self < 2 ^ 63 }
         ensures { result ≡ multiple n self }
     {
         Cpx {
@@ -156,7 +156,7 @@ impl Cpx {
     /// magnitude at most 2^62.
     pub fn round_shift(self, bits: u32) -> Cpx
         requires bits { (1 ≤ bits) × (bits ≤ 40) }
-        requires size { size self ≤ 2 ^ 62 }
+        requires size { largest_part self ≤ 2 ^ 62 }
         ensures { result ≡ rounded self bits }
     {
         Cpx {

@@ -5,7 +5,7 @@ use Rattle.std.specs.Option.{option_map}
 use Rattle.std.proofs.Math.Seq.{take-append-add}
 use Rattle.std.proofs.lemmas.List.{take-append-le}
 use Rattle.cs_outside.specs.declared.Failed.{Failed}
-use Rattle.cs_outside.specs.Outside.{SourceTold}
+use Rattle.cs_outside.specs.Outside.{SourceState}
 use Rattle.cs_outside.specs.Streams.{HasRead, HasReadOn, IsAtEnd}
 
 -- the first a + n bytes, after n new bytes were put at index a
@@ -22,7 +22,7 @@ front_stays a buffer more inside =
     take-append-le a (take a buffer) more (omega (arith, size)) ∙ take_all a (take a buffer) (omega (arith, size))
 
 -- a read that returns no bytes is at the end of the input
-at_end : (n : ℕ) (piece : List ℕ) (before now : SourceTold) → length piece ≡ n → HasRead piece before now → IfSome before.left (λ input. (n ≡ 0) ↔ (input ≡ [])) → n ≡ 0 → IsAtEnd now
+at_end : (n : ℕ) (piece : List ℕ) (before now : SourceState) → length piece ≡ n → HasRead piece before now → IfSome before.left (λ input. (n ≡ 0) ↔ (input ≡ [])) → n ≡ 0 → IsAtEnd now
 at_end n piece before now size read end zero = by_left before.left now.left read.in_order end
   where
     no_bytes : (l : List ℕ) → length l ≡ 0 → l ≡ []
@@ -36,7 +36,7 @@ at_end n piece before now size read end zero = by_left before.left now.left read
         let split : input ≡ piece ++ rest = cc e in
         no_bytes rest (omega (arith, ap length (empty.0 zero), ap length split, length-append piece rest))
 
-pub read_at_place : (a : ℕ) (buffer into rest : List ℕ) (before now : SourceTold) → a ≤ length buffer → (r : Result ℕ Failed) → IfOk r (λ n. n ≤ length into) →
+pub read_at_place : (a : ℕ) (buffer into rest : List ℕ) (before now : SourceState) → a ≤ length buffer → (r : Result ℕ Failed) → IfOk r (λ n. n ≤ length into) →
     IfOk r (λ n. HasRead (take n into) before now) → IfOk r (λ n. IfSome before.left (λ input. (n ≡ 0) ↔ (input ≡ []))) →
     IfOk r (λ n. HasReadOn n (take a buffer) (take (a + n) (take a buffer ++ (into ++ rest))) before now)
 read_at_place a buffer into rest before now inside (Err e) few read end = tt

@@ -35,7 +35,7 @@ impl<R: Read> StdSource<R> {
 }
 
 impl<R: Read> Source for StdSource<R> {
-    ghost told = { λ s. record { left = None; faults = s.faults } };
+    ghost state = { λ s. record { left = None; faults = s.faults } };
 
     /// Reads from the inner reader, and counts each `Err` as a fault.
     fn read(&mut self, into: &mut [u8]) -> Result<usize, Failed>
@@ -85,7 +85,7 @@ impl<W: Write> StdSink<W> {
 }
 
 impl<W: Write> Sink for StdSink<W> {
-    ghost told = { λ s. record { taken = None; room = None; faults = s.faults } };
+    ghost state = { λ s. record { taken = None; room = None; faults = s.faults } };
 
     /// Writes to the inner writer, and counts each `Err` and each `Ok(0)` as a fault.
     fn write(&mut self, piece: &[u8]) -> Result<usize, Failed>

@@ -74,7 +74,7 @@ impl FailSource {
 }
 
 impl Source for FailSource {
-    ghost told = { λ s. record { left = Some s.left; faults = s.faults } };
+    ghost state = { λ s. record { left = Some s.left; faults = s.faults } };
 
     /// Fails in the listed calls only. Any other call returns as many bytes as `most`, `into` and the rest of the
     /// input allow.
@@ -159,7 +159,7 @@ impl FailSink {
 }
 
 impl Sink for FailSink {
-    ghost told = { λ s. record { taken = Some s.taken; room = None; faults = s.faults } };
+    ghost state = { λ s. record { taken = Some s.taken; room = None; faults = s.faults } };
 
     /// Fails in the listed calls and when no space is left. Any other call takes as many bytes as `piece`, `most` and
     /// the free space allow.

@@ -5,7 +5,7 @@
 
 ghost use Rattle.std.specs.Prelude.{◌≡◌, ◌↔◌, ◌<◌, ◌≤◌, [], length, take, IfOk, IfSome, OnErr};
 ghost use Rattle.cs_outside.specs.Counts.{last_count, Rose};
-ghost use Rattle.cs_outside.specs.Outside.{SourceTold, SinkTold};
+ghost use Rattle.cs_outside.specs.Outside.{SourceState, SinkState};
 ghost use Rattle.cs_outside.specs.Streams.{HasRead, HasWritten};
 
 mod adapters;
@@ -28,7 +28,7 @@ pub struct Failed;
 /// A source of bytes.
 pub trait Source {
     /// The known state: the remaining bytes, or `None`, and a fault count that saturates at `u64::MAX`.
-    ghost told: { Self → SourceTold };
+    ghost state: { Self → SourceState };
 
     /// Reads the next bytes into the start of `into`, which is not empty, and returns their number: 0 at the end of
     /// the input. The rest of `into` is unspecified. Each `Failed` is counted as a fault.
@@ -36,19 +36,19 @@ pub trait Source {
         requires { 0 < length into.old }
         ensures same_length { length into.new ≡ length into.old }
         ensures fits { IfOk result (λ n. n ≤ length into.new) }
-        ensures next { IfOk result (λ n. HasRead (take n into.new) (told self.old) (told self.new)) }
-        ensures end { IfOk result (λ n. IfSome (told self.old).left (λ input. (n ≡ 0) ↔ (input ≡ []))) }
-        ensures unchanged { OnErr result ((told self.new).left ≡ (told self.old).left) }
-        ensures cause { OnErr result (Rose (told self.old).faults (told self.new).faults) }
-        ensures never_falls { (told self.old).faults ≤ (told self.new).faults }
-        ensures counted { (told self.new).faults ≤ last_count };
+        ensures next { IfOk result (λ n. HasRead (take n into.new) (state self.old) (state self.new)) }
+        ensures end { IfOk result (λ n. IfSome (state self.old).left (λ input. (n ≡ 0) ↔ (input ≡ []))) }
+        ensures unchanged { OnErr result ((state self.new).left ≡ (state self.old).left) }
+        ensures cause { OnErr result (Rose (state self.old).faults (state self.new).faults) }
+        ensures never_falls { (state self.old).faults ≤ (state self.new).faults }
+        ensures counted { (state self.new).faults ≤ last_count };
 }
 
 /// A sink of bytes.
 pub trait Sink {
     /// The known state: the bytes written and the free space, or `None`, and a fault count that saturates at
     /// `u64::MAX`.
-    ghost told: { Self → SinkTold };
+    ghost state: { Self → SinkState };
 
     /// Writes at least one byte from the start of `piece`, which is not empty, and returns their number. Each
     /// `Failed` is counted as a fault; if the free space is known, it is then 0.
@@ -56,11 +56,11 @@ pub trait Sink {
         requires { 0 < length piece.now }
         ensures some { IfOk result (λ n. 0 < n) }
         ensures fits { IfOk result (λ n. n ≤ length piece.now) }
-        ensures written { IfOk result (λ n. HasWritten (take n piece.now) (told self.old) (told self.new)) }
-        ensures unchanged { OnErr result ((told self.new).taken ≡ (told self.old).taken) }
-        ensures full { OnErr result (IfSome (told self.old).room (λ left. left ≡ 0)) }
-        ensures still_full { OnErr result ((told self.new).room ≡ (told self.old).room) }
-        ensures cause { OnErr result (Rose (told self.old).faults (told self.new).faults) }
-        ensures never_falls { (told self.old).faults ≤ (told self.new).faults }
-        ensures counted { (told self.new).faults ≤ last_count };
+        ensures written { IfOk result (λ n. HasWritten (take n piece.now) (state self.old) (state self.new)) }
+        ensures unchanged { OnErr result ((state self.new).taken ≡ (state self.old).taken) }
+        ensures full { OnErr result (IfSome (state self.old).room (λ left. left ≡ 0)) }
+        ensures still_full { OnErr result ((state self.new).room ≡ (state self.old).room) }
+        ensures cause { OnErr result (Rose (state self.old).faults (state self.new).faults) }
+        ensures never_falls { (state self.old).faults ≤ (state self.new).faults }
+        ensures counted { (state self.new).faults ≤ last_count };
 }

@@ -34,7 +34,7 @@ impl MemSource {
 }
 
 impl Source for MemSource {
-    ghost told = { λ s. record { left = Some s; faults = 0 } };
+    ghost state = { λ s. record { left = Some s; faults = 0 } };
 
     /// Reads as many bytes as `into` and the rest of the input allow.
     fn read(&mut self, into: &mut [u8]) -> Result<usize, Failed>
@@ -98,7 +98,7 @@ impl MemSink {
 }
 
 impl Sink for MemSink {
-    ghost told = { λ s. record { taken = Some s.taken; room = Some s.room; faults = s.faults } };
+    ghost state = { λ s. record { taken = Some s.taken; room = Some s.room; faults = s.faults } };
 
     /// Writes as many bytes as `piece` and the free space allow. Fails if and only if no space is left.
     fn write(&mut self, piece: &[u8]) -> Result<usize, Failed>

@@ -33,14 +33,14 @@ pub fn read_to_end<S: Source>(
 ) -> Result<Vec<u8>, ReadError>
     requires { limit < usize.MAX }
     ensures ok { IfOk result (λ bytes.
-        HasReadAll limit bytes.items (S.told source.old) (S.told source.new)) }
+        HasReadAll limit bytes.items (S.state source.old) (S.state source.new)) }
     ensures too_long { IsErrOf result ReadError.TooLong →
-        HasReadPast limit (S.told source.old) (S.told source.new) }
+        HasReadPast limit (S.state source.old) (S.state source.new) }
     ensures fault { IsErrOf result ReadError.ReadFault →
-        HasReadFault limit (S.told source.old) (S.told source.new) }
+        HasReadFault limit (S.state source.old) (S.state source.new) }
     ensures memory { IsErrOf result ReadError.OutOfMemory →
-        HasReadPart limit (S.told source.old) (S.told source.new) }
-    ensures never_falls { (S.told source.old).faults ≤ (S.told source.new).faults }
+        HasReadPart limit (S.state source.old) (S.state source.new) }
+    ensures never_falls { (S.state source.old).faults ≤ (S.state source.new).faults }
 {
     let mut bytes = Vec::new(alloc);
     let mut buffer = [0u8; PIECE];
@@ -73,23 +73,23 @@ pub fn read_at<S: Source>(
     requires room { end ≤ length buffer.old }
     ensures fits { IfOk result (λ n. at + n ≤ end) }
     ensures read { IfOk result (λ n.
-        HasReadOn n (take at buffer.old) (take (at + n) buffer.new) (S.told source.old) (S.told source.new)) }
+        HasReadOn n (take at buffer.old) (take (at + n) buffer.new) (S.state source.old) (S.state source.new)) }
     ensures front { take at buffer.new ≡ take at buffer.old }
     ensures same_length { length buffer.new ≡ length buffer.old }
-    ensures unchanged { OnErr result ((S.told source.new).left ≡ (S.told source.old).left) }
-    ensures cause { OnErr result (Rose (S.told source.old).faults (S.told source.new).faults) }
-    ensures never_falls { (S.told source.old).faults ≤ (S.told source.new).faults }
+    ensures unchanged { OnErr result ((S.state source.new).left ≡ (S.state source.old).left) }
+    ensures cause { OnErr result (Rose (S.state source.old).faults (S.state source.new).faults) }
+    ensures never_falls { (S.state source.old).faults ≤ (S.state source.new).faults }
 {
     source.read(&mut buffer[at..end])
 }
 
 /// Writes all of `piece`, and offers everything that is still unwritten in each call to the sink.
 pub fn write_whole<K: Sink>(sink: &mut K, piece: &[u8]) -> Result<(), Failed>
-    ensures ok { OnOk result (HasWritten piece.now (K.told sink.old) (K.told sink.new)) }
-    ensures front { OnErr result (HasWrittenFront piece.now (K.told sink.old) (K.told sink.new)) }
-    ensures full { OnErr result (IsShortOf (length piece.now) (K.told sink.old)) }
-    ensures fault { OnErr result (Rose (K.told sink.old).faults (K.told sink.new).faults) }
-    ensures never_falls { (K.told sink.old).faults ≤ (K.told sink.new).faults }
+    ensures ok { OnOk result (HasWritten piece.now (K.state sink.old) (K.state sink.new)) }
+    ensures front { OnErr result (HasWrittenFront piece.now (K.state sink.old) (K.state sink.new)) }
+    ensures full { OnErr result (IsShortOf (length piece.now) (K.state sink.old)) }
+    ensures fault { OnErr result (Rose (K.state sink.old).faults (K.state sink.new).faults) }
+    ensures never_falls { (K.state sink.old).faults ≤ (K.state sink.new).faults }
 {
     let mut rest = piece;
     while !rest.is_empty() {

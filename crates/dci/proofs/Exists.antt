@@ -12,19 +12,19 @@ use Rattle.dci.proofs.Blocks.{blocks_with}
 abbrev Answer : List Bool → Type 0
 Answer bits = (answer : Result Grant Sib1Reason) × Says bits answer
 
-by_size : (bits : List Bool) → is_1a bits ≡ true → is_distributed bits ≡ false → assignment bits ≤ 20 → mcs bits ≤ 26 →
+by_magnitude : (bits : List Bool) → is_1a bits ≡ true → is_distributed bits ≡ false → assignment bits ≤ 20 → mcs bits ≤ 26 →
     (size : Option ℕ) → size_of (mcs bits) (column_of (tpc_low bits)) ≡ size → Answer bits
-by_size bits format localised assigned valid None e = (Err BlockTooLarge, record { format = format; localised = localised; assigned = assigned; mcs_valid = valid; none = e })
-by_size bits format localised assigned valid (Some size) e =
+by_magnitude bits format localised assigned valid None e = (Err BlockTooLarge, record { format = format; localised = localised; assigned = assigned; mcs_valid = valid; none = e })
+by_magnitude bits format localised assigned valid (Some size) e =
     let (start, found) = blocks_with (assignment bits) assigned in
-    let (blocks, are, told) = found in
+    let (blocks, are, reported) = found in
     let grant : Grant = record { start = start; blocks = blocks; mcs = mcs bits; column = column_of (tpc_low bits); rv = rv bits; size = size } in (
       Ok grant,
       record {
         format = format;
         localised = localised;
         blocks = are;
-        assigned = sym told;
+        assigned = sym reported;
         mcs_is = refl;
         mcs_valid = valid;
         rv_is = refl;
@@ -38,7 +38,7 @@ localised_answer bits format localised = elim (cases_lt 20 (assignment bits)) [
   | inl above ↦ (Err (BadRiv (assignment bits)), record { format = format; localised = localised; value = refl; above = above })
   | inr assigned ↦ elim (cases_lt 26 (mcs bits)) [
     | inl above ↦ (Err (ReservedMcs (mcs bits)), record { format = format; localised = localised; assigned = assigned; value = refl; above = above })
-    | inr valid ↦ by_size bits format localised assigned valid (size_of (mcs bits) (column_of (tpc_low bits))) refl
+    | inr valid ↦ by_magnitude bits format localised assigned valid (size_of (mcs bits) (column_of (tpc_low bits))) refl
   ]
 ]
 

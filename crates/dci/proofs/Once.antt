@@ -31,14 +31,14 @@ same_fields a b start blocks mcs column rv size =
 
 one_grant : (bits : List Bool) (a b : Grant) → Carries bits a → Carries bits b → a ≡ b
 one_grant bits a b s t =
-    let told = sym s.assigned ∙ t.assigned in
+    let reported = sym s.assigned ∙ t.assigned in
     let mcs = sym s.mcs_is ∙ t.mcs_is in
     let column = s.column_is ∙ sym t.column_is in
-    let sized : Some a.size ≡ Some b.size = sym s.size_is ∙ ap₂ size_of mcs column ∙ t.size_is in
+    let bounded : Some a.size ≡ Some b.size = sym s.size_is ∙ ap₂ size_of mcs column ∙ t.size_is in
     same_fields a b
-    (same_start a.start a.blocks b.start b.blocks s.blocks t.blocks told)
-    (same_count a.start a.blocks b.start b.blocks s.blocks t.blocks told)
-    mcs column (sym s.rv_is ∙ t.rv_is) (ap (λ o. unwrap_or o 0) sized)
+    (same_start a.start a.blocks b.start b.blocks s.blocks t.blocks reported)
+    (same_count a.start a.blocks b.start b.blocks s.blocks t.blocks reported)
+    mcs column (sym s.rv_is ∙ t.rv_is) (ap (λ o. unwrap_or o 0) bounded)
 
 -- ---- one reason
 
@@ -66,15 +66,15 @@ reason_is : (bits : List Bool) (answer : Result Grant Sib1Reason) → Says bits 
 unfolding reason given no_size
 reason_is bits (Ok grant) s =
     let low = riv_low grant.start grant.blocks s.blocks in
-    let told = s.assigned in
+    let reported = s.assigned in
     let valid = s.mcs_valid in
     let scheme = s.mcs_is in
-    let sized = ap₂ size_of scheme (sym s.column_is) ∙ s.size_is in
-    sym (rw (s.format, s.localised, le-ltb 20 (assignment bits) (omega (arith, low, told)), le-ltb 26 (mcs bits) (omega (arith, valid, scheme)), sized) refl)
+    let bounded = ap₂ size_of scheme (sym s.column_is) ∙ s.size_is in
+    sym (rw (s.format, s.localised, le-ltb 20 (assignment bits) (omega (arith, low, reported)), le-ltb 26 (mcs bits) (omega (arith, valid, scheme)), bounded) refl)
 reason_is bits (Err NotFormat1A) s = sym (rw s.format refl)
 reason_is bits (Err Distributed) s = sym (rw (s.format, s.distributed) refl)
-reason_is bits (Err (BadRiv told)) s = ap (λ t. Some (BadRiv t)) s.value ∙ sym (rw (s.format, s.localised, lt-ltb 20 (assignment bits) (let a = s.above in let v = s.value in omega (arith, a, v))) refl)
-reason_is bits (Err (ReservedMcs told)) s =
+reason_is bits (Err (BadRiv reported)) s = ap (λ t. Some (BadRiv t)) s.value ∙ sym (rw (s.format, s.localised, lt-ltb 20 (assignment bits) (let a = s.above in let v = s.value in omega (arith, a, v))) refl)
+reason_is bits (Err (ReservedMcs reported)) s =
     ap (λ t. Some (ReservedMcs t)) s.value
     ∙ sym (rw (s.format, s.localised, le-ltb 20 (assignment bits) s.assigned, lt-ltb 26 (mcs bits) (let a = s.above in let v = s.value in omega (arith, a, v))) refl)
 reason_is bits (Err BlockTooLarge) s =

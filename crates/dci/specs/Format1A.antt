@@ -41,18 +41,18 @@ pub record IsDistributed (bits : List Bool) : Type 0 where
   pub format : is_1a bits ≡ true
   pub distributed : is_distributed bits ≡ true
 
-pub record HasBadRiv (bits : List Bool) (told : ℕ) : Type 0 where
+pub record HasBadRiv (bits : List Bool) (reported : ℕ) : Type 0 where
   pub format : is_1a bits ≡ true
   pub localised : is_distributed bits ≡ false
-  pub value : told ≡ assignment bits
-  pub above : 20 < told
+  pub value : reported ≡ assignment bits
+  pub above : 20 < reported
 
-pub record HasReservedMcs (bits : List Bool) (told : ℕ) : Type 0 where
+pub record HasReservedMcs (bits : List Bool) (reported : ℕ) : Type 0 where
   pub format : is_1a bits ≡ true
   pub localised : is_distributed bits ≡ false
   pub assigned : assignment bits ≤ 20
-  pub value : told ≡ mcs bits
-  pub above : 26 < told
+  pub value : reported ≡ mcs bits
+  pub above : 26 < reported
 
 pub record HasNoSize (bits : List Bool) : Type 0 where
   pub format : is_1a bits ≡ true
@@ -65,8 +65,8 @@ pub record HasNoSize (bits : List Bool) : Type 0 where
 abbrev pub IsRefused : List Bool → Sib1Reason → Type 0
 IsRefused bits NotFormat1A = IsOther bits
 IsRefused bits Distributed = IsDistributed bits
-IsRefused bits (BadRiv told) = HasBadRiv bits told
-IsRefused bits (ReservedMcs told) = HasReservedMcs bits told
+IsRefused bits (BadRiv reported) = HasBadRiv bits reported
+IsRefused bits (ReservedMcs reported) = HasReservedMcs bits reported
 IsRefused bits BlockTooLarge = HasNoSize bits
 IsRefused bits _ = ⊥
 

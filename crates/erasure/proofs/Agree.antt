@@ -188,11 +188,11 @@ filled_is row sent n second all front now size is =
     ap (λ m. every_below m (bit_at front)) size
     ∙ every_below_same row.k (bit_at front) (settled row sent n) (λ k inside. ap (λ xs. get_or xs k false) is ∙ get_or-take row.k all k false inside ∙ now.settles k inside)
 
-pub told_is : (row : Row) (sent : ℕ → ℕ → Bool) (word : List Bool) (n : ℕ) (second all told front : List Bool) → IsAnyRow row → length word ≡ row.k → IsIteration row sent n second all → length told ≡ 1024 →
-    ((k : ℕ) → k < length word → get_or told k false ≡ (bit_at word k && get_or all k false)) → front ≡ take row.k told → front ≡ word_after row sent word n
-told_is row sent word n second all told front is_row size now long each is =
+pub decoded_is : (row : Row) (sent : ℕ → ℕ → Bool) (word : List Bool) (n : ℕ) (second all decoded front : List Bool) → IsAnyRow row → length word ≡ row.k → IsIteration row sent n second all → length decoded ≡ 1024 →
+    ((k : ℕ) → k < length word → get_or decoded k false ≡ (bit_at word k && get_or all k false)) → front ≡ take row.k decoded → front ≡ word_after row sent word n
+decoded_is row sent word n second all decoded front is_row size now long each is =
     let high = (is_small row is_row).high in
-    is ∙ front_is false row.k (λ k. bit_at word k && settled row sent n k) told (omega (arith, high, long))
+    is ∙ front_is false row.k (λ k. bit_at word k && settled row sent n k) decoded (omega (arith, high, long))
     (λ k inside. each k (omega (arith, inside, size)) ∙ ap (λ s. bit_at word k && s) (now.settles k inside))
 
 pub after_more : (row : Row) (sent : ℕ → ℕ → Bool) (word known second all : List Bool) (n : ℕ) → IsAfter row sent word known n → IsIteration row sent n second all →

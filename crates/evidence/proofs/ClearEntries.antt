@@ -28,11 +28,11 @@ use Rattle.evidence.proofs.PilotDifferences.{AreSteady, are_steady, AreQuiet, ar
 use Rattle.evidence.proofs.SeenPilots.{pilots_seen}
 
 -- a multiple of the noise is at most a multiple of the power, as reported
-told_share : (whole part m noise e power : ℕ) → noise ≡ m → power ≡ e → whole * m ≤ part * e → whole * noise ≤ part * power
-told_share whole part m noise e power h k q = subst (λ n. whole * n ≤ part * power) (sym h) (subst (λ n. whole * m ≤ part * n) (sym k) q)
+detected_ratio : (whole part m noise e power : ℕ) → noise ≡ m → power ≡ e → whole * m ≤ part * e → whole * noise ≤ part * power
+detected_ratio whole part m noise e power h k q = subst (λ n. whole * n ≤ part * power) (sym h) (subst (λ n. whole * m ≤ part * n) (sym k) q)
 
-module _ (recording : List Sample) (entry : Entry) (told : Evidence) (plan : CellPlan) (grid : Elements) (sfn offset : ℕ) (gain : Cpx) (long : 57600 ≤ length recording)
-    (listed : IsInList recording entry) (evidence : IsEvidence recording entry told) (sendable : IsSendable plan) (faithful : IsFaithful recording plan grid sfn offset gain)
+module _ (recording : List Sample) (entry : Entry) (detected : Evidence) (plan : CellPlan) (grid : Elements) (sfn offset : ℕ) (gain : Cpx) (long : 57600 ≤ length recording)
+    (listed : IsInList recording entry) (evidence : IsEvidence recording entry detected) (sendable : IsSendable plan) (faithful : IsFaithful recording plan grid sfn offset gain)
     (id : entry.id ≡ plan.identity) (start : entry.start ≡ start_of offset) (number : entry.sfn ≡ number_at_start sfn offset) where
   -- the entry is the cell's
   is_sent : IsSentEntryOf OnePort plan (number_at_start sfn offset) entry
@@ -40,12 +40,12 @@ module _ (recording : List Sample) (entry : Entry) (told : Evidence) (plan : Cel
       let held = (holds_cells recording listed.list long listed.explained).faithful plan (λ port. grid) sfn offset (gain ∷ []) sendable faithful in
       subst (λ (e : Entry). IsSentEntryOf OnePort plan (number_at_start sfn offset) e) (sym (held.only entry listed.inside id start number)) held.sent
 
-  certain : IsCertain told
+  certain : IsCertain detected
   certain = record {
     cost = evidence.cost ∙ is_sent.cost;
     frames = evidence.frames ∙ is_sent.frames;
     frame = evidence.frame ∙ is_sent.frame;
-    peak = subst (λ n. 999 ≤ n) (sym evidence.peak) (peak_is_high recording plan grid sfn offset gain entry told.t faithful id start evidence.t.told);
+    peak = subst (λ n. 999 ≤ n) (sym evidence.peak) (peak_is_high recording plan grid sfn offset gain entry detected.t faithful id start evidence.t.detected);
   }
 
   -- a statement on the first frame's slot holds for the entry's slot
@@ -56,35 +56,35 @@ module _ (recording : List Sample) (entry : Entry) (told : Evidence) (plan : Cel
       (subst (λ n. Is (broadcast_slot recording plan.identity (start_of offset) n)) (sym is_sent.frame) is))
 
   -- the noise and the power are computed from the pilots of the entry's slot
-  noise_is : told.noise ≡ noise_of (differences 24 2 (pilot (broadcast_slot recording entry.id entry.start entry.frame)))
+  noise_is : detected.noise ≡ noise_of (differences 24 2 (pilot (broadcast_slot recording entry.id entry.start entry.frame)))
   noise_is = evidence.noise ∙ ap noise_of (differences_of_one (broadcast_slot recording entry.id entry.start entry.frame))
 
-  power_is : told.power ≡ pilot_energy (broadcast_slot recording entry.id entry.start entry.frame)
+  power_is : detected.power ≡ pilot_energy (broadcast_slot recording entry.id entry.start entry.frame)
   power_is = evidence.power ∙ energy_of_one OnePort (broadcast_slot recording entry.id entry.start entry.frame) refl
 
 pub faithful_entries_are_supported : FaithfulEntriesAreSupported
-faithful_entries_are_supported recording entry told plan grid sfn offset gain long listed evidence sendable faithful id start number =
-    let steady = of_entry recording entry told plan grid sfn offset gain long listed evidence sendable faithful id start number (AreSteady gain)
+faithful_entries_are_supported recording entry detected plan grid sfn offset gain long listed evidence sendable faithful id start number =
+    let steady = of_entry recording entry detected plan grid sfn offset gain long listed evidence sendable faithful id start number (AreSteady gain)
     (are_steady gain _ (pilots_seen recording plan grid sfn offset gain faithful)) in
-    let noise = noise_is recording entry told plan grid sfn offset gain long listed evidence sendable faithful id start number in
-    let power = power_is recording entry told plan grid sfn offset gain long listed evidence sendable faithful id start number in
+    let noise = noise_is recording entry detected plan grid sfn offset gain long listed evidence sendable faithful id start number in
+    let power = power_is recording entry detected plan grid sfn offset gain long listed evidence sendable faithful id start number in
     record {
-      certain = certain recording entry told plan grid sfn offset gain long listed evidence sendable faithful id start number;
+      certain = certain recording entry detected plan grid sfn offset gain long listed evidence sendable faithful id start number;
       noise = subst (λ n. 2 ^ 28 * n ≤ 289321537 * square gain) (sym noise) steady.small;
-      quiet = told_share 8 3 (noise_of (differences 24 2 _)) told.noise (pilot_energy _) told.power noise power steady.quiet;
+      quiet = detected_ratio 8 3 (noise_of (differences 24 2 _)) detected.noise (pilot_energy _) detected.power noise power steady.quiet;
     }
 
 pub clean_entries_are_clear : CleanEntriesAreClear
-clean_entries_are_clear recording entry told plan grid sfn offset gain eps long listed evidence sendable clean id start number =
+clean_entries_are_clear recording entry detected plan grid sfn offset gain eps long listed evidence sendable clean id start number =
     let faithful : IsFaithful recording plan grid sfn offset (in_parts gain) = loaded_is_faithful OnePort recording plan (λ port. grid) sfn offset (gain ∷ []) eps long clean in
-    let quiet = of_entry recording entry told plan grid sfn offset (in_parts gain) long listed evidence sendable faithful id start number (AreQuiet gain)
+    let quiet = of_entry recording entry detected plan grid sfn offset (in_parts gain) long listed evidence sendable faithful id start number (AreQuiet gain)
     (are_quiet gain _ (loaded_pilots_seen recording plan grid sfn offset gain eps clean 0 1 (omega (arith, long)) (omega arith))) in
-    let noise = noise_is recording entry told plan grid sfn offset (in_parts gain) long listed evidence sendable faithful id start number in
-    let power = power_is recording entry told plan grid sfn offset (in_parts gain) long listed evidence sendable faithful id start number in
+    let noise = noise_is recording entry detected plan grid sfn offset (in_parts gain) long listed evidence sendable faithful id start number in
+    let power = power_is recording entry detected plan grid sfn offset (in_parts gain) long listed evidence sendable faithful id start number in
     record {
-      certain = certain recording entry told plan grid sfn offset (in_parts gain) long listed evidence sendable faithful id start number;
+      certain = certain recording entry detected plan grid sfn offset (in_parts gain) long listed evidence sendable faithful id start number;
       noise = subst (λ n. n ≤ 198841079 * square gain) (sym noise) quiet.small;
-      quiet = two (noise_of (differences 24 2 _)) told.noise (pilot_energy _) told.power noise power quiet.quiet;
+      quiet = two (noise_of (differences 24 2 _)) detected.noise (pilot_energy _) detected.power noise power quiet.quiet;
     }
   where
     two : (m noise e power : ℕ) → noise ≡ m → power ≡ e → 4 * m ≤ e → 4 * noise ≤ power

@@ -13,11 +13,11 @@ use Rattle.explain.specs.Laws.{IsEntryOfSome}
 use Rattle.explain.specs.Readings.{IsReadingFor}
 use Rattle.explain.proofs.Listed.{AllZip-more, is_sound}
 
-pub each_more : {A B : Type 0} (R : A → B → Type 0) (list : List A) (i : ℕ) (x : A) (told : List B) (one : B) → i < length list → x ≡ get_or list i x →
-    AllZip R (take i list) told → R x one → AllZip R (take (i + 1) list) (told ++ one ∷ [])
-each_more R list i x told one inside is before more =
+pub each_more : {A B : Type 0} (R : A → B → Type 0) (list : List A) (i : ℕ) (x : A) (detected : List B) (one : B) → i < length list → x ≡ get_or list i x →
+    AllZip R (take i list) detected → R x one → AllZip R (take (i + 1) list) (detected ++ one ∷ [])
+each_more R list i x detected one inside is before more =
     let next : take (i + 1) list ≡ take i list ++ x ∷ [] = take_more list i x inside ∙ ap (λ e. take i list ++ e ∷ []) (sym is) in
-    subst (λ l. AllZip R l (told ++ one ∷ [])) (sym next) (AllZip-more R (take i list) told x one before more)
+    subst (λ l. AllZip R l (detected ++ one ∷ [])) (sym next) (AllZip-more R (take i list) detected x one before more)
 
 module _ (receiver : Receiver) (recording : List Sample) (entries : List Entry) (readings : List Reading) (read : AllZip (IsReadingFor receiver recording) entries readings) (i : ℕ) (inside : i < length entries) where
   -- each entry has a reading

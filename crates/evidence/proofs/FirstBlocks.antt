@@ -24,20 +24,20 @@ use Rattle.evidence.specs.Blocks.{HasNoBlock, IsBlockRead, IsBlockWith, IsBlockA
 -- ---- in a subframe
 
 abbrev read_attempt : ℕ × Grant → Sib1 → Attempt
-read_attempt told fields = record { cfi = told.0; grant = Some told.1; answer = Ok fields }
+read_attempt detected fields = record { cfi = detected.0; grant = Some detected.1; answer = Ok fields }
 
 -- if fields were read, the grant's soft values decode to a block
-told_at : (values : Subframe) (told : ℕ × Grant) (fields : Sib1) → IsAttempt values (read_attempt told fields) → (found : Option (List Bool)) →
-    IsBlock (values.shared told.0 told.1.start told.1.blocks) told.1 found → IsBlockAt values found
-told_at values told fields is (Some bits) b = record { cfi = told.0; grant = told.1; fields = fields; attempt = is; block = b }
-told_at values told fields is None b =
-    absurd (let e : ◌≡◌ {A = Result Sib1 Sib1Reason} (Err NotDecoded) (Ok fields) = one_text (values.shared told.0 told.1.start told.1.blocks) told.1 (Err NotDecoded) (Ok fields) b is.follows.tells in cc)
+detected_at : (values : Subframe) (detected : ℕ × Grant) (fields : Sib1) → IsAttempt values (read_attempt detected fields) → (found : Option (List Bool)) →
+    IsBlock (values.shared detected.0 detected.1.start detected.1.blocks) detected.1 found → IsBlockAt values found
+detected_at values detected fields is (Some bits) b = record { cfi = detected.0; grant = detected.1; fields = fields; attempt = is; block = b }
+detected_at values detected fields is None b =
+    absurd (let e : ◌≡◌ {A = Result Sib1 Sib1Reason} (Err NotDecoded) (Ok fields) = one_text (values.shared detected.0 detected.1.start detected.1.blocks) detected.1 (Err NotDecoded) (Ok fields) b is.follows.decodes in cc)
 
 module _ (values : Subframe) (attempt : Attempt) (is : IsAttempt values attempt) where
-  pub block_at : (told : ℕ × Grant) → granted_by attempt ≡ Some told → (found : Option (List Bool)) → IsBlock (values.shared told.0 told.1.start told.1.blocks) told.1 found → IsBlockAt values found
-  block_at told e found b =
-      let read = has_read attempt.cfi attempt.grant attempt.answer told e in
-      told_at values told read.fields (subst (λ (a : Attempt). IsAttempt values a) read.is is) found b
+  pub block_at : (detected : ℕ × Grant) → granted_by attempt ≡ Some detected → (found : Option (List Bool)) → IsBlock (values.shared detected.0 detected.1.start detected.1.blocks) detected.1 found → IsBlockAt values found
+  block_at detected e found b =
+      let read = has_read attempt.cfi attempt.grant attempt.answer detected e in
+      detected_at values detected read.fields (subst (λ (a : Attempt). IsAttempt values a) read.is is) found b
 
   pub no_block_at : granted_by attempt ≡ None → HasNoBlock values
   no_block_at e fields reads =
@@ -45,9 +45,9 @@ module _ (values : Subframe) (attempt : Attempt) (is : IsAttempt values attempt)
       (ap (λ (a : Attempt). a.answer) (one_attempt values attempt reads.attempt is reads.is) ∙ reads.answers)
 
 -- the grant is a valid DCI grant
-pub grant_of_attempt : (attempt : Attempt) (told : ℕ × Grant) → IfSome attempt.grant IsGrant → granted_by attempt ≡ Some told → IsGrant told.1
-grant_of_attempt attempt told is e =
-    let read = has_read attempt.cfi attempt.grant attempt.answer told e in subst (λ (a : Attempt). IfSome a.grant IsGrant) read.is is
+pub grant_of_attempt : (attempt : Attempt) (detected : ℕ × Grant) → IfSome attempt.grant IsGrant → granted_by attempt ≡ Some detected → IsGrant detected.1
+grant_of_attempt attempt detected is e =
+    let read = has_read attempt.cfi attempt.grant attempt.answer detected e in subst (λ (a : Attempt). IfSome a.grant IsGrant) read.is is
 
 -- ---- in a frame
 

@@ -13,10 +13,10 @@ use Rattle.pss_search.specs.Hits.{hits_of}
 use Rattle.pss_search.specs.Laws.{IsHitOf, IsEarlier}
 use Rattle.pss_search.proofs.Listed.{list_is_right, list_is_in_order}
 use Rattle.explain.specs.Entries.{place_of}
-use Rattle.explain.specs.Readings.{IsFirstTelling}
+use Rattle.explain.specs.Readings.{IsFirstAt}
 use Rattle.explain.specs.Receiver.{has_step_before, hits_by, place_by}
 use Rattle.explain.proofs.Late.{taken_are_late, are_taken}
-use Rattle.evidence.specs.Evidence.{IsToldBy, IsHitOfEntry}
+use Rattle.evidence.specs.Evidence.{IsDetectedBy, IsHitOfEntry}
 
 -- ---- the PSS detections that the receiver takes
 
@@ -36,9 +36,9 @@ same_place : (place : Place) (entry : Entry) → place.id ≡ entry.id → place
 same_place place entry id start i = record { id = id i; start = start i }
 
 -- the first detection with an entry's identity and start is the entry's
-pub first_tells : (carrier : Carrier) (recording : List Sample) (entry : Entry) (hit : Hit) → IsFirstTelling (place_by carrier recording) (hits_by carrier recording) (place_of entry) hit →
+pub first_decodes : (carrier : Carrier) (recording : List Sample) (entry : Entry) (hit : Hit) → IsFirstAt (place_by carrier recording) (hits_by carrier recording) (place_of entry) hit →
     IsHitOfEntry carrier recording entry hit
-first_tells carrier recording entry hit f = record { is_hit = hit_is; first = record { told = told; least = least }; root = root }
+first_decodes carrier recording entry hit f = record { is_hit = hit_is; first = record { detected = detected; least = least }; root = root }
   where
     hits : List Hit
     hits = hits_by carrier recording
@@ -56,16 +56,16 @@ first_tells carrier recording entry hit f = record { is_hit = hit_is; first = re
     hit_is = taken_is_hit carrier recording hit listed
 
     identity : (place_by carrier recording hit).id ≡ entry.id
-    identity = ap (λ (p : Place). p.id) f.tells
+    identity = ap (λ (p : Place). p.id) f.decodes
 
-    told : IsToldBy carrier recording entry hit.t
-    told = record { hit = hit; listed = listed; place = refl; identity = identity; start = ap (λ (p : Place). p.start) f.tells }
+    detected : IsDetectedBy carrier recording entry hit.t
+    detected = record { hit = hit; listed = listed; place = refl; identity = identity; start = ap (λ (p : Place). p.start) f.decodes }
 
     root : hit.n2 ≡ entry.id % 3
     root = let third = hit_is.root in omega (arith, identity, third)
 
     -- no earlier detection has the entry's identity and start
-    not_before : (u : ℕ) (other : IsToldBy carrier recording entry u) (k : ℕ) → k < length hits → get_or hits k other.hit ≡ other.hit → f.at ≤ k
+    not_before : (u : ℕ) (other : IsDetectedBy carrier recording entry u) (k : ℕ) → k < length hits → get_or hits k other.hit ≡ other.hit → f.at ≤ k
     not_before u other k within is = elim (cases_lt k f.at) [
       | inl earlier ↦ absurd (f.first k other.hit earlier (slice_get_read hits (length hits) k other.hit refl within (sym is)) (same_place (place_by carrier recording other.hit) entry other.identity other.start))
       | inr not_earlier ↦ not_earlier
@@ -81,7 +81,7 @@ first_tells carrier recording entry hit f = record { is_hit = hit_is; first = re
           omega (arith, ap (λ (h : Hit). h.t) one)
     ]
 
-    least : (u : ℕ) → IsToldBy carrier recording entry u → hit.t ≤ u
+    least : (u : ℕ) → IsDetectedBy carrier recording entry u → hit.t ≤ u
     least u other =
         let (k, within, is) = other.listed in
         let later = in_order k other.hit (not_before u other k within is) within is (taken_is_hit carrier recording other.hit other.listed).root in

@@ -11,13 +11,13 @@ use Rattle.explain.specs.Readings.{IsReadingFor}
 use Rattle.explain.specs.Receiver.{Receiver, hits_by, sums_by}
 use Rattle.evidence.specs.Evidence.{SlotShown, shown_in, noise_of, numbers_by, IsEvidenceFor, IsInRange, IsHitOfEntry, HasFraction}
 use Rattle.evidence.proofs.Fractions.{at_most_whole, hit_sounds, hit_within, hit_is_clear, hit_fraction}
-use Rattle.evidence.proofs.Least.{first_tells}
+use Rattle.evidence.proofs.Least.{first_decodes}
 
 module _ (receiver : Receiver) (recording : List Sample) (entry : Entry) (reading : Reading) (e : IsEntryOfSome (IsEntryFor receiver recording) (hits_by receiver.carrier recording) entry)
     (r : IsReadingFor receiver recording entry reading) where
   -- the reading's PSS detection is the first with the entry's identity and start
   hit_is : IsHitOfEntry receiver.carrier recording entry reading.hit
-  hit_is = first_tells receiver.carrier recording entry reading.hit r.hit
+  hit_is = first_decodes receiver.carrier recording entry reading.hit r.hit
 
   pub has_fraction : HasFraction reading.hit
   has_fraction = record {
@@ -46,9 +46,9 @@ module _ (receiver : Receiver) (recording : List Sample) (entry : Entry) (readin
   -- the numbers are in their ranges
   pub are_in_range : (shown : SlotShown) → IsInRange (numbers_by entry reading shown)
   are_in_range shown =
-      let master = e.is_of.master.told in
-      let heard = master.tells.heard in
-      let clear = master.tells.clear in
+      let master = e.is_of.master.decoded in
+      let heard = master.decodes.heard in
+      let clear = master.decodes.clear in
       let all : total reading.sums ≡ total (sums_by receiver recording (place_of entry) (frames_of entry)) = ap total r.sums in
       record {
         from_first = hit_is.is_hit.is_hit.from_first;

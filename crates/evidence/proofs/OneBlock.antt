@@ -18,7 +18,7 @@ use Rattle.sib1_reader.proofs.Once.{one_attempt, one_block}
 use Rattle.explain.specs.Receiver.{Subframes}
 use Rattle.explain.specs.System.{even_frame}
 use Rattle.explain.specs.Entries.{place_of}
-use Rattle.evidence.specs.Blocks.{HasBlock, IsFirstBlock, IsBlockRead, IsBlockWith, IsToldWith, IsSystemBlock}
+use Rattle.evidence.specs.Blocks.{HasBlock, IsFirstBlock, IsBlockRead, IsBlockWith, IsDecodedWith, IsSystemBlock}
 use Rattle.evidence.specs.Receivers.{receiver_of}
 
 one_of_subframe : (values : Subframe) (a b : List Bool) → HasBlock values a → HasBlock values b → a ≡ b
@@ -56,11 +56,11 @@ one_with : (subframes : Result Subframes Sib1Reason) (recording : List Sample) (
 one_with (Ok values) recording place sfn mib a b p q = one_read (λ j. values recording place j mib.duration mib.resource) recording place.start sfn a b p q
 one_with (Err reason) recording place sfn mib a b p q = p ∙ sym q
 
-one_where_told : (sib1 : Result Sib1 Sib1Reason) (Is : List Bool → Type 0) (a b : List Bool) → (Is a → Is b → a ≡ b) → IsToldWith sib1 Is a → IsToldWith sib1 Is b → a ≡ b
-one_where_told (Ok fields) Is a b once p q = once p q
-one_where_told (Err reason) Is a b once p q = p ∙ sym q
+one_where_decoded : (sib1 : Result Sib1 Sib1Reason) (Is : List Bool → Type 0) (a b : List Bool) → (Is a → Is b → a ≡ b) → IsDecodedWith sib1 Is a → IsDecodedWith sib1 Is b → a ≡ b
+one_where_decoded (Ok fields) Is a b once p q = once p q
+one_where_decoded (Err reason) Is a b once p q = p ∙ sym q
 
 pub one_system_block : (carrier : Carrier) (recording : List Sample) (entry : Entry) (a b : List Bool) → IsSystemBlock carrier recording entry a → IsSystemBlock carrier recording entry b → a ≡ b
 one_system_block carrier recording entry a b =
-    one_where_told entry.sib1 (IsBlockWith (receiver_of carrier).subframe recording (place_of entry) entry.sfn entry.mib) a b
+    one_where_decoded entry.sib1 (IsBlockWith (receiver_of carrier).subframe recording (place_of entry) entry.sfn entry.mib) a b
     (one_with (receiver_of carrier).subframe recording (place_of entry) entry.sfn entry.mib a b)

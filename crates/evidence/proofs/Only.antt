@@ -17,7 +17,7 @@ same_evidence a b id start sfn t peak cost total frames frame phase power noise 
 -- an entry's measurements are unique
 one_evidence : (receiver : Receiver) (recording : List Sample) (entry : Entry) (a b : Evidence) → IsEvidenceFor receiver recording entry a → IsEvidenceFor receiver recording entry b → a ≡ b
 one_evidence receiver recording entry a b p q =
-    let t : a.t ≡ b.t = omega (arith, p.t.least b.t q.t.told, q.t.least a.t p.t.told) in
+    let t : a.t ≡ b.t = omega (arith, p.t.least b.t q.t.detected, q.t.least a.t p.t.detected) in
     same_evidence a b (p.id ∙ sym q.id) (p.start ∙ sym q.start) (p.sfn ∙ sym q.sfn) t
     (p.peak ∙ ap (thousandths recording (entry.id % 3)) t ∙ sym q.peak) (p.cost ∙ sym q.cost) (p.total ∙ sym q.total) (p.frames ∙ sym q.frames)
     (p.frame ∙ sym q.frame) (p.phase ∙ sym q.phase) (p.power ∙ sym q.power) (p.noise ∙ sym q.noise)

@@ -34,7 +34,7 @@ near_step n gain c t x y p q =
     let m : Cpx = multiple c gain in
     let s : Cpx = minus (plus m q.off) (plus m p.off) in
     subst (λ (z : Cpx). square z ≤ 4 * (t * t * n)) (sym (difference_in_parts x y ∙ ap₂ minus q.is p.is))
-    (numbers (square s) (square (plus s p.off)) (square p.off) (square q.off) (t * t * n) (weighted_term 1 s p.off) (ap (λ (z : Cpx). square z) (rest m p.off q.off)) p.small.sized q.small.sized)
+    (numbers (square s) (square (plus s p.off)) (square p.off) (square q.off) (t * t * n) (weighted_term 1 s p.off) (ap (λ (z : Cpx). square z) (rest m p.off q.off)) p.small.bounded q.small.bounded)
   where
     numbers : (s v a b k : ℕ) → 1 * s ≤ (1 + 1) * v + 1 * (1 + 1) * a → v ≡ b → a ≤ k → b ≤ k → s ≤ 4 * k
     numbers s v a b k h same p q = omega (arith, h, same, p, q)

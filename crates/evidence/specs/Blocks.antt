@@ -73,14 +73,14 @@ IsBlockWith (Err reason) recording place sfn mib bits = bits ≡ []
 -- ---- an entry's transport block
 
 -- there are bits if there are fields, and none otherwise
-abbrev pub IsToldWith : Result Sib1 Sib1Reason → (List Bool → Type 0) → List Bool → Type 0
-IsToldWith (Ok fields) Is bits = Is bits
-IsToldWith (Err reason) Is bits = bits ≡ []
+abbrev pub IsDecodedWith : Result Sib1 Sib1Reason → (List Bool → Type 0) → List Bool → Type 0
+IsDecodedWith (Ok fields) Is bits = Is bits
+IsDecodedWith (Err reason) Is bits = bits ≡ []
 
 -- the bits of the transport block that carried an entry's SIB1, without its CRC; no bits if the entry has no SIB1
 abbrev pub IsSystemBlock : Carrier → List Sample → Entry → List Bool → Type 0
 IsSystemBlock carrier recording entry =
-    IsToldWith entry.sib1 (IsBlockWith (receiver_of carrier).subframe recording (place_of entry) entry.sfn entry.mib)
+    IsDecodedWith entry.sib1 (IsBlockWith (receiver_of carrier).subframe recording (place_of entry) entry.sfn entry.mib)
 
 -- ---- the program's computation
 

@@ -19,26 +19,26 @@ use Rattle.clean_air.specs.Faithful.{IsFaithful}
 
 -- the MIB was read at cost 0 from the first whole frame alone, and the PSS explains at least 0.999 of the energy at its
 -- detection
-pub record IsCertain (told : Evidence) : Type 0 where
-  pub cost : told.cost ≡ 0
-  pub frames : told.frames ≡ 1
-  pub frame : told.frame ≡ 0
-  pub peak : 999 ≤ told.peak
+pub record IsCertain (numbers : Evidence) : Type 0 where
+  pub cost : numbers.cost ≡ 0
+  pub frames : numbers.frames ≡ 1
+  pub frame : numbers.frame ≡ 0
+  pub peak : 999 ≤ numbers.peak
 
 -- The noise is small compared with the gain, which is in units of 2^-14, and at most 3/8 of the power. The bound is 20
 -- times the square of 4 * 128 * 2316, divided by 97200, rounded up: three pilots are off by less than 37 amplitude
 -- units each, and the middle one counts twice.
-pub record IsSupported (gain : Cpx) (told : Evidence) : Type 0 where
-  pub certain : IsCertain told
-  pub noise : 2 ^ 28 * told.noise ≤ 289321537 * square gain
-  pub quiet : 8 * told.noise ≤ 3 * told.power
+pub record IsSupported (gain : Cpx) (numbers : Evidence) : Type 0 where
+  pub certain : IsCertain numbers
+  pub noise : 2 ^ 28 * numbers.noise ≤ 289321537 * square gain
+  pub quiet : 8 * numbers.noise ≤ 3 * numbers.power
 
 -- The noise is smaller compared with an integer gain, and at most a quarter of the power: the pilots are off by at most
 -- 30 units, so 1920 replaces 2316.
-pub record IsClear (gain : Cpx) (told : Evidence) : Type 0 where
-  pub certain : IsCertain told
-  pub noise : told.noise ≤ 198841079 * square gain
-  pub quiet : 4 * told.noise ≤ told.power
+pub record IsClear (gain : Cpx) (numbers : Evidence) : Type 0 where
+  pub certain : IsCertain numbers
+  pub noise : numbers.noise ≤ 198841079 * square gain
+  pub quiet : 4 * numbers.noise ≤ numbers.power
 
 -- ---- laws
 
@@ -46,20 +46,20 @@ pub record IsClear (gain : Cpx) (told : Evidence) : Type 0 where
 -- frame number, offset, gain and errors
 abbrev pub FaithfulEntriesAreSupported : Type 0
 FaithfulEntriesAreSupported =
-    (recording : List Sample) (entry : Entry) (told : Evidence) (plan : CellPlan) (grid : Elements) (sfn offset : ℕ)
+    (recording : List Sample) (entry : Entry) (numbers : Evidence) (plan : CellPlan) (grid : Elements) (sfn offset : ℕ)
     (gain : Cpx) → least_samples ≤ length recording → IsInList recording entry →
-    IsEvidence recording entry told →
+    IsEvidence recording entry numbers →
     IsSendable plan → IsFaithful recording plan grid sfn offset gain →
     entry.id ≡ plan.identity → entry.start ≡ start_of offset → entry.sfn ≡ number_at_start sfn offset →
-    IsSupported gain told
+    IsSupported gain numbers
 
 -- a law: each entry of a cell for which the recording is clean is clear, for any plan, elements sent elsewhere, frame
 -- number, offset, gain and errors
 abbrev pub CleanEntriesAreClear : Type 0
 CleanEntriesAreClear =
-    (recording : List Sample) (entry : Entry) (told : Evidence) (plan : CellPlan) (grid : Elements) (sfn offset : ℕ)
+    (recording : List Sample) (entry : Entry) (numbers : Evidence) (plan : CellPlan) (grid : Elements) (sfn offset : ℕ)
     (gain : Cpx) (eps : ℕ) → least_samples ≤ length recording → IsInList recording entry →
-    IsEvidence recording entry told →
+    IsEvidence recording entry numbers →
     IsSendable plan → IsLoaded recording plan grid sfn offset gain eps →
     entry.id ≡ plan.identity → entry.start ≡ start_of offset → entry.sfn ≡ number_at_start sfn offset →
-    IsClear gain told
+    IsClear gain numbers

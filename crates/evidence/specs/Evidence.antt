@@ -30,7 +30,7 @@ use Rattle.evidence.specs.Receivers.{receiver_of}
 -- ---- the PSS detection
 
 -- a PSS detection at sample t has the entry's identity and start, computed for this scheme
-pub record IsToldBy (carrier : Carrier) (recording : List Sample) (entry : Entry) (t : ℕ) : Type 0 where
+pub record IsDetectedBy (carrier : Carrier) (recording : List Sample) (entry : Entry) (t : ℕ) : Type 0 where
   pub hit : Hit
   pub listed : Contains (hits_by carrier recording) hit
   pub place : hit.t ≡ t
@@ -38,9 +38,9 @@ pub record IsToldBy (carrier : Carrier) (recording : List Sample) (entry : Entry
   pub start : (place_by carrier recording hit).start ≡ entry.start
 
 -- the earliest sample of a PSS detection with the entry's identity and start
-pub record IsFirstToldBy (carrier : Carrier) (recording : List Sample) (entry : Entry) (t : ℕ) : Type 0 where
-  pub told : IsToldBy carrier recording entry t
-  pub least : (u : ℕ) → IsToldBy carrier recording entry u → t ≤ u
+pub record IsFirstDetectedBy (carrier : Carrier) (recording : List Sample) (entry : Entry) (t : ℕ) : Type 0 where
+  pub detected : IsDetectedBy carrier recording entry t
+  pub least : (u : ℕ) → IsDetectedBy carrier recording entry u → t ≤ u
 
 -- the energy fraction at sample t that the PSS with n2 explains, in thousandths, rounded down: 1000 C / (E P), with
 -- correlation C, energy E and signal power P
@@ -110,40 +110,40 @@ shown_in carrier recording place j =
 -- ---- an entry's measurements
 
 -- an entry's measurements by this receiver
-pub record IsEvidenceFor (receiver : Receiver) (recording : List Sample) (entry : Entry) (told : Evidence) :
+pub record IsEvidenceFor (receiver : Receiver) (recording : List Sample) (entry : Entry) (numbers : Evidence) :
     Type 0 where
-  pub id : told.id ≡ entry.id
-  pub start : told.start ≡ entry.start
-  pub sfn : told.sfn ≡ entry.sfn
-  pub t : IsFirstToldBy receiver.carrier recording entry told.t
-  pub peak : told.peak ≡ thousandths recording (entry.id % 3) told.t
-  pub cost : told.cost ≡ entry.cost
-  pub total : told.total ≡ total (sums_by receiver recording (place_of entry) (frames_of entry))
-  pub frames : told.frames ≡ entry.frames
-  pub frame : told.frame ≡ entry.frame
-  pub phase : told.phase ≡ entry.phase
-  pub power : told.power ≡ (shown_in receiver.carrier recording (place_of entry) entry.frame).power
-  pub noise : told.noise ≡ noise_of (shown_in receiver.carrier recording (place_of entry) entry.frame).differences
+  pub id : numbers.id ≡ entry.id
+  pub start : numbers.start ≡ entry.start
+  pub sfn : numbers.sfn ≡ entry.sfn
+  pub t : IsFirstDetectedBy receiver.carrier recording entry numbers.t
+  pub peak : numbers.peak ≡ thousandths recording (entry.id % 3) numbers.t
+  pub cost : numbers.cost ≡ entry.cost
+  pub total : numbers.total ≡ total (sums_by receiver recording (place_of entry) (frames_of entry))
+  pub frames : numbers.frames ≡ entry.frames
+  pub frame : numbers.frame ≡ entry.frame
+  pub phase : numbers.phase ≡ entry.phase
+  pub power : numbers.power ≡ (shown_in receiver.carrier recording (place_of entry) entry.frame).power
+  pub noise : numbers.noise ≡ noise_of (shown_in receiver.carrier recording (place_of entry) entry.frame).differences
 
 -- an entry's measurements by the one-port receiver
 abbrev pub IsEvidence : List Sample → Entry → Evidence → Type 0
 IsEvidence = IsEvidenceFor one_port_receiver
 
 -- the ranges of an entry's measurements
-pub record IsInRange (told : Evidence) : Type 0 where
-  pub from_first : first_place ≤ told.t
-  pub to_last : told.t ≤ last_place
-  pub quarter : 250 ≤ told.peak
-  pub whole : told.peak ≤ 1000
-  pub heard : 0 < told.total
-  pub clear : 4 * told.cost ≤ told.total
+pub record IsInRange (numbers : Evidence) : Type 0 where
+  pub from_first : first_place ≤ numbers.t
+  pub to_last : numbers.t ≤ last_place
+  pub quarter : 250 ≤ numbers.peak
+  pub whole : numbers.peak ≤ 1000
+  pub heard : 0 < numbers.total
+  pub clear : 4 * numbers.cost ≤ numbers.total
 
 -- ---- the program's computation
 
 -- the first PSS detection with the entry's identity and start, as it was measured
 pub record IsHitOfEntry (carrier : Carrier) (recording : List Sample) (entry : Entry) (hit : Hit) : Type 0 where
   pub is_hit : IsHitOf recording hit
-  pub first : IsFirstToldBy carrier recording entry hit.t
+  pub first : IsFirstDetectedBy carrier recording entry hit.t
   pub root : hit.n2 ≡ entry.id % 3
 
 -- a PSS detection explains at most all the energy, which is not 0

@@ -100,7 +100,7 @@ fn block_in<S: ReadSlot>(first: &S, second: &S, mib: Mib, work: &mut Decoders) -
 {
     let attempt = attempt_in(first, second, mib, work);
     match attempt.granted() {
-        Some(told) => block_granted(first, second, told, &mut work.turbo),
+        Some(detected) => block_granted(first, second, detected, &mut work.turbo),
         None => None,
     }
 }
@@ -110,18 +110,18 @@ fn block_in<S: ReadSlot>(first: &S, second: &S, mib: Mib, work: &mut Decoders) -
 fn block_granted<S: ReadSlot>(
     first: &S,
     second: &S,
-    told: (Cfi, Grant),
+    detected: (Cfi, Grant),
     turbo: &mut Work,
 ) -> Option<Block>
     requires first { (S.seen_as first.now).number ≡ 10 }
     requires second { (S.seen_as second.now).number ≡ 11 }
     requires cell { (S.seen_as second.now).identity ≡ (S.seen_as first.now).identity }
-    requires cfi { 2 ≤ told.0 }
-    requires grant { IsGrant told.1 }
+    requires cfi { 2 ≤ detected.0 }
+    requires grant { IsGrant detected.1 }
     ensures { IsBlock (shared_values_by S.carrier S.values_by (S.seen_as first.now) (S.seen_as second.now)
-        told.0 told.1.start told.1.blocks) told.1 (option_map (λ block. block.items) result) }
+        detected.0 detected.1.start detected.1.blocks) detected.1 (option_map (λ block. block.items) result) }
 {
-    let (cfi, grant) = told;
+    let (cfi, grant) = detected;
     let mut values = [0; MOST_VALUES];
     let count = pdsch::values(first, second, cfi, &grant, &mut values);
     block_of(&values[..count], &grant, turbo)

@@ -14,11 +14,11 @@ use Rattle.lte_types.specs.CellPlace.{Place}
 use Rattle.lte_types.specs.Frames.{Frames}
 use Rattle.pbch.specs.declared.master.Master.{Master}
 use Rattle.explain.specs.declared.readings.Reading.{Reading}
-use Rattle.explain.specs.Told.{Granting}
+use Rattle.explain.specs.Decoded.{Granting}
 use Rattle.explain.specs.Entries.{place_of, frames_of}
 use Rattle.explain.specs.Masters.{entry_of}
 use Rattle.explain.specs.Places.{is_same_place, is_met}
-use Rattle.explain.specs.Readings.{IsFirstTelling, IsReadingBy, AddsBeside, KeepsReadings}
+use Rattle.explain.specs.Readings.{IsFirstAt, IsReadingBy, AddsBeside, KeepsReadings}
 
 -- an entry that is added with its reading
 pub keeps : (Is : Entry → Reading → Type 0) (entry : Entry) (reading : Reading) (old new : List Entry) (before after : List Reading) →
@@ -31,11 +31,11 @@ keeps Is entry reading old new before after (inr put) is all =
 -- the reading of the entry for a MIB, with the sums and the grant found with it
 module _ (summed : Place → Frames → List (List ℤ)) (IsGrant : Granting) (place_by : Hit → Place) (hits : List Hit) where
   pub reads_so : (place : Place) (frames : Frames) (master : Master) (entry : Entry) (reading : Reading) → entry ≡ entry_of place frames master entry.sib1 →
-      IsFirstTelling place_by hits place reading.hit → reading.sums ≡ summed place frames → IsGrant place entry.sfn master.mib entry.sib1 reading.granted →
+      IsFirstAt place_by hits place reading.hit → reading.sums ≡ summed place frames → IsGrant place entry.sfn master.mib entry.sib1 reading.granted →
       IsReadingBy summed IsGrant place_by hits entry reading
-  reads_so place frames master entry reading whole first told granted = record {
-    hit = subst (λ p. IsFirstTelling place_by hits p reading.hit) (sym here) first;
-    sums = told ∙ sym (ap₂ summed here (ap frames_of whole));
+  reads_so place frames master entry reading whole first decoded granted = record {
+    hit = subst (λ p. IsFirstAt place_by hits p reading.hit) (sym here) first;
+    sums = decoded ∙ sym (ap₂ summed here (ap frames_of whole));
     granted = subst (λ (p : Place). IsGrant p entry.sfn entry.mib entry.sib1 reading.granted) (sym here)
         (subst (λ (mib : Mib). IsGrant place entry.sfn mib entry.sib1 reading.granted) (sym (ap (λ (e : Entry). e.mib) whole)) granted);
   }
@@ -59,11 +59,11 @@ AllMet place_by hits k places = (h : ℕ) (other : Hit) → h < k → slice_get 
 
 module _ (place_by : Hit → Place) (hits : List Hit) (k : ℕ) (hit : Hit) (is : slice_get hits k ≡ Some hit) (places : List Place) (met : AllMet place_by hits k places) where
   -- if the next hit's place is new, it is the first that gives it
-  pub first_telling : is_met places (place_by hit) ≡ false → IsFirstTelling place_by hits (place_by hit) hit
-  first_telling new = record {
+  pub first_at : is_met places (place_by hit) ≡ false → IsFirstAt place_by hits (place_by hit) hit
+  first_at new = record {
     at = k;
     is = is;
-    tells = refl;
+    decodes = refl;
     first = λ h other less at same. false≢true (sym new ∙ subst (λ (p : Place). is_met places p ≡ true) same (met h other less at));
   }
 

@@ -27,7 +27,7 @@ use Rattle.soft_bits.specs.Soft.{SeenSlot}
 use Rattle.soft_bits.specs.Places.{Valuing, placed_values}
 use Rattle.pbch.specs.declared.master.Master.{Master}
 use Rattle.pbch.specs.Values.{received_values_by, summed_values}
-use Rattle.pbch.specs.Master.{TellsMaster}
+use Rattle.pbch.specs.Master.{DecodesMaster}
 use Rattle.lte_types.specs.Frames.{Frames, frames_from}
 use Rattle.lte_types.specs.declared.carrier.Carrier.TheVariants.{OnePort}
 use Rattle.explain.specs.Frame.{frame_at, seen_slot}
@@ -114,8 +114,8 @@ read_agrees values a b place sfn mib (Err reason) on back long_a long_b early re
 searched_agrees : (carrier : Carrier) (values : Subframes) (a b : List Sample) (place : Place) (sfn ports : ℕ) (mib : Mib) (sib1 : Result Sib1 Sib1Reason) →
     AreSameBefore16 values a b place → AreSameBefore16 values b a place → deciding_length ≤ length a → deciding_length ≤ length b → place.start < frame_length →
     IsSystemBy carrier (FrameAnswers values a place mib) a place.start sfn ports mib sib1 → IsSystemBy carrier (FrameAnswers values b place mib) b place.start sfn ports mib sib1
-searched_agrees carrier values a b place sfn ports mib (Err (NotOnePort told)) on back long_a long_b early s = s
-searched_agrees carrier values a b place sfn ports mib (Err (OtherWidth told)) on back long_a long_b early s = s
+searched_agrees carrier values a b place sfn ports mib (Err (NotOnePort decoded)) on back long_a long_b early s = s
+searched_agrees carrier values a b place sfn ports mib (Err (OtherWidth decoded)) on back long_a long_b early s = s
 searched_agrees carrier values a b place sfn ports mib sib1 on back long_a long_b early s =
     record { as_wanted = s.as_wanted; six_blocks = s.six_blocks; read = read_agrees values a b place sfn mib sib1 on back long_a long_b early s.read }
 
@@ -139,7 +139,7 @@ module _ (receiver : Receiver) (look : LooksAtFirstFrames receiver) where
   master_agrees : (a b : List Sample) (place : Place) (frames : Frames) (master : Master) → AgreeBefore deciding_length a b → place.start < frame_length → frames.first + frames.count ≤ 8 →
       IsMasterFor receiver a place frames master → IsMasterFor receiver b place frames master
   master_agrees a b place frames master agree early few m =
-      record { few = m.few; taken = m.taken; told = subst (λ (sums : List (List ℤ)). TellsMaster sums master) (sums_agree a b place frames agree early few) m.told }
+      record { few = m.few; taken = m.taken; decoded = subst (λ (sums : List (List ℤ)). DecodesMaster sums master) (sums_agree a b place frames agree early few) m.decoded }
 
   -- ---- the entries of a hit
 
@@ -155,10 +155,10 @@ module _ (receiver : Receiver) (look : LooksAtFirstFrames receiver) where
     period = is.period;
     frames = record {
       inside = record { some = is.frames.inside.some; few = is.frames.inside.few; known = known; whole = λ m below. omega (arith, long_b, early, known, below) };
-      first = λ few i window before phase master period told.
+      first = λ few i window before phase master period decoded.
           is.frames.first few i
           (record { some = window.some; few = window.few; known = window.known; whole = λ m below. let last = window.known in omega (arith, long_a, early, last, below) })
-          before phase master period (master_agrees b a (place_of entry) (frames_from few i phase) master (sym agree) early window.known told);
+          before phase master period (master_agrees b a (place_of entry) (frames_from few i phase) master (sym agree) early window.known decoded);
     };
     master = master_agrees a b (place_of entry) (frames_of entry) (master_of entry) agree early known is.master;
     sfn = is.sfn;

@@ -12,14 +12,14 @@ use Rattle.cs_num.specs.declared.Sample.{Sample}
 use Rattle.lte_types.specs.CellPlace.{Place}
 use Rattle.lte_types.specs.Frames.{Frames, frames_from}
 use Rattle.pbch.specs.declared.master.Master.{Master}
-use Rattle.pbch.specs.Master.{TellsMaster, TellsNothing, master_at, IsTold, AreMasters}
+use Rattle.pbch.specs.Master.{DecodesMaster, DecodesNothing, master_at, IsDecoded, AreMasters}
 use Rattle.pbch.proofs.Words.{one_master}
 use Rattle.explain.specs.Frame.{IsWhole, seen_slot, values_in}
-use Rattle.explain.specs.Told.{Telling}
-use Rattle.explain.specs.Window.{TellNone}
+use Rattle.explain.specs.Decoded.{Decoding}
+use Rattle.explain.specs.Window.{NoneIsDecoded}
 use Rattle.explain.specs.Receiver.{Receiver, is_wanted, sums_by}
 use Rattle.explain.specs.Entries.{IsMasterFor}
-use Rattle.explain.specs.Masters.{HasMaster, IsToldAt, AreTold}
+use Rattle.explain.specs.Masters.{HasMaster, IsDecodedAt, AreDecoded}
 use Rattle.explain.specs.Received.{AreReceived, taken_of}
 use Rattle.explain.proofs.Entries.{same_master}
 
@@ -80,24 +80,24 @@ module _ (values : ℕ → List ℤ) where
 
 -- ---- MIBs by phase
 
-told_at : (identity size count : ℕ) (received : List ℤ) (masters : List (Option Master)) (phase : ℕ) → AreMasters identity size count received masters → phase < 4 →
-    IsTold identity size count received masters phase
-told_at identity size count received masters zero m l = m.first
-told_at identity size count received masters (suc zero) m l = m.second
-told_at identity size count received masters (suc (suc zero)) m l = m.third
-told_at identity size count received masters (suc (suc (suc zero))) m l = m.fourth
-told_at identity size count received masters (suc (suc (suc (suc n)))) m l = absurd (omega (arith, l))
+decoded_at : (identity size count : ℕ) (received : List ℤ) (masters : List (Option Master)) (phase : ℕ) → AreMasters identity size count received masters → phase < 4 →
+    IsDecoded identity size count received masters phase
+decoded_at identity size count received masters zero m l = m.first
+decoded_at identity size count received masters (suc zero) m l = m.second
+decoded_at identity size count received masters (suc (suc zero)) m l = m.third
+decoded_at identity size count received masters (suc (suc (suc zero))) m l = m.fourth
+decoded_at identity size count received masters (suc (suc (suc (suc n)))) m l = absurd (omega (arith, l))
 
-none_of : (Tells : Telling) (place : Place) (frames : Frames) (o : Option Master) → IsToldAt Tells place frames o →
-    is_some o ≡ false → (master : Master) → Tells place frames master → ⊥
-none_of Tells place frames None h e = h
-none_of Tells place frames (Some master) h e = absurd (cc e)
+none_of : (Decodes : Decoding) (place : Place) (frames : Frames) (o : Option Master) → IsDecodedAt Decodes place frames o →
+    is_some o ≡ false → (master : Master) → Decodes place frames master → ⊥
+none_of Decodes place frames None h e = h
+none_of Decodes place frames (Some master) h e = absurd (cc e)
 
 -- if no phase has a MIB, the frames have none
-pub no_master : (Tells : Telling) (place : Place) (count frame : ℕ) (masters : List (Option Master)) → 1 ≤ count →
-    AreTold Tells place count frame masters → any_below 4 (λ phase. is_some (master_at masters phase)) ≡ false → TellNone Tells place count frame
-no_master Tells place count frame masters some told e phase master period =
-    none_of Tells place (frames_from count frame phase) (master_at masters phase) (told phase period)
+pub no_master : (Decodes : Decoding) (place : Place) (count frame : ℕ) (masters : List (Option Master)) → 1 ≤ count →
+    AreDecoded Decodes place count frame masters → any_below 4 (λ phase. is_some (master_at masters phase)) ≡ false → NoneIsDecoded Decodes place count frame
+no_master Decodes place count frame masters some decoded e phase master period =
+    none_of Decodes place (frames_from count frame phase) (master_at masters phase) (decoded phase period)
     (any_below_none 4 phase (λ p. is_some (master_at masters p)) e (omega (arith, some, period))) master
 
 some_below : (n : ℕ) (p : ℕ → Bool) → any_below n p ≡ true → (k : ℕ) × (k < n) × (p k ≡ true)
@@ -144,28 +144,28 @@ module _ (receiver : Receiver) (recording : List Sample) where
       (each : (phase : ℕ) → phase < 4 → master_at masters phase ≡ taken_of (is_wanted receiver.ports) (master_at all phase))
       (m : AreMasters place.id receiver.count count (values_in (receiver.broadcast recording place) count j) all) where
     -- the accepted MIBs are those that frames carry for the receiver
-    pub told_in_frames : 1 ≤ count → count ≤ receiver.most_frames → AreTold (IsMasterFor receiver recording) place count j masters
-    told_in_frames some adds phase period =
-        subst (IsToldAt (IsMasterFor receiver recording) place (frames_from count j phase)) (sym (each phase (omega (arith, some, period))))
-        (by_option (master_at all phase) ((told_at place.id receiver.count count _ all phase m (omega (arith, some, period))).told period))
+    pub decoded_in_frames : 1 ≤ count → count ≤ receiver.most_frames → AreDecoded (IsMasterFor receiver recording) place count j masters
+    decoded_in_frames some adds phase period =
+        subst (IsDecodedAt (IsMasterFor receiver recording) place (frames_from count j phase)) (sym (each phase (omega (arith, some, period))))
+        (by_option (master_at all phase) ((decoded_at place.id receiver.count count _ all phase m (omega (arith, some, period))).decoded period))
       where
         sums : List (List ℤ)
         sums = sums_by receiver recording place (frames_from count j phase)
 
-        by_option : (o : Option Master) → MatchOption o (TellsNothing sums) (TellsMaster sums) →
-            IsToldAt (IsMasterFor receiver recording) place (frames_from count j phase) (taken_of (is_wanted receiver.ports) o)
-        by_option None none = λ master told. none told.told.word master.ports told.told.tells
-        by_option (Some master) told = settle (is_wanted receiver.ports master.ports) refl
+        by_option : (o : Option Master) → MatchOption o (DecodesNothing sums) (DecodesMaster sums) →
+            IsDecodedAt (IsMasterFor receiver recording) place (frames_from count j phase) (taken_of (is_wanted receiver.ports) o)
+        by_option None none = λ master decoded. none decoded.decoded.word master.ports decoded.decoded.decodes
+        by_option (Some master) decoded = settle (is_wanted receiver.ports master.ports) refl
           where
             settle : (b : Bool) → is_wanted receiver.ports master.ports ≡ b →
-                IsToldAt (IsMasterFor receiver recording) place (frames_from count j phase) (if b then Some master else None)
-            settle true e = record { few = adds; taken = e; told = told }
+                IsDecodedAt (IsMasterFor receiver recording) place (frames_from count j phase) (if b then Some master else None)
+            settle true e = record { few = adds; taken = e; decoded = decoded }
             settle false e = λ other t.
-                let same : other ≡ master = same_master other master (one_master sums other master t.told told) in
+                let same : other ≡ master = same_master other master (one_master sums other master t.decoded decoded) in
                 let taken : is_wanted receiver.ports master.ports ≡ true = subst (λ (m : Master). is_wanted receiver.ports m.ports ≡ true) same t.taken in
                 cc (e, taken)
 
     -- past a period no MIB is accepted
     pub none_beyond : (phase : ℕ) → phase < 4 → 4 < phase + count → master_at masters phase ≡ None
     none_beyond phase below beyond =
-        each phase below ∙ ap (taken_of (is_wanted receiver.ports)) ((told_at place.id receiver.count count _ all phase m below).beyond beyond)
+        each phase below ∙ ap (taken_of (is_wanted receiver.ports)) ((decoded_at place.id receiver.count count _ all phase m below).beyond beyond)

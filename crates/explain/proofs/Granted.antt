@@ -16,7 +16,7 @@ use Rattle.sib1_reader.specs.Subframe.{Subframe}
 use Rattle.sib1_reader.specs.Attempt.{IsAttempt, granted_with, granted_by}
 use Rattle.sib1_reader.proofs.Once.{one_attempt}
 use Rattle.sib1_reader.proofs.GrantRead.{has_read, none_read}
-use Rattle.explain.specs.Told.{Attempting, Answering}
+use Rattle.explain.specs.Decoded.{Attempting, Answering}
 use Rattle.explain.proofs.Once.{AnswersOnce}
 use Rattle.explain.specs.Receiver.{Subframes, one_port_receiver}
 use Rattle.explain.specs.System.{even_frame, IsTried, IsReadFrom, FrameAnswers, IsSystemFor}
@@ -50,8 +50,8 @@ module _ (Attempts : Attempting) (Answers : Answering) (are : AreAttempts Attemp
     where
       settle : (o : Option (ℕ × Grant)) → granted_by attempt ≡ o → IsGrantBy Attempts recording start sfn (Ok fields) o
       settle None e = absurd (are.granted (even_frame sfn i) attempt fields at reads e)
-      settle (Some told) e =
-          let read = has_read attempt.cfi attempt.grant attempt.answer told e in
+      settle (Some decoded) e =
+          let read = has_read attempt.cfi attempt.grant attempt.answer decoded e in
           record {
             i = i;
             tried = tried;
@@ -63,11 +63,11 @@ module _ (Attempts : Attempting) (Answers : Answering) (are : AreAttempts Attemp
           }
 
   -- if an attempt has fields, and no tried frame before it has any, they are the answer, read with its grant
-  pub told_fields : (i : ℕ) (attempt : Attempt) (sib1 : Result Sib1 Sib1Reason) (granted : Option (ℕ × Grant)) → IsTried recording start sfn i →
+  pub decoded_fields : (i : ℕ) (attempt : Attempt) (sib1 : Result Sib1 Sib1Reason) (granted : Option (ℕ × Grant)) → IsTried recording start sfn i →
       Attempts (even_frame sfn i) attempt → sib1 ≡ attempt.answer → granted ≡ granted_by attempt → is_ok sib1 ≡ true →
       ((h : ℕ) (other : Sib1) → h < i → Answers (even_frame sfn h) (Ok other) → ⊥) →
       IsReadFrom Answers recording start sfn sib1 × IsGrantBy Attempts recording start sfn sib1 granted
-  told_fields i attempt sib1 granted tried at is by ok none =
+  decoded_fields i attempt sib1 granted tried at is by ok none =
       let (fields, same) = ok_fields sib1 ok in
       let reads : attempt.answer ≡ Ok fields = sym is ∙ same in
       subst (λ (answer : Result Sib1 Sib1Reason). IsReadFrom Answers recording start sfn answer × IsGrantBy Attempts recording start sfn answer granted) (sym same) (
@@ -90,9 +90,9 @@ module _ (Attempts : Attempting) (Answers : Answering) (are : AreAttempts Attemp
       (subst (λ (answer : Result Sib1 Sib1Reason). Answers (even_frame sfn i) answer) (sym is ∙ same) (are.answers (even_frame sfn i) attempt at))
 
   -- if no tried frame has fields, the answer is the first frame's reason
-  pub told_reason : (sib1 : Result Sib1 Sib1Reason) → is_ok sib1 ≡ false → Answers (even_frame sfn 0) sib1 →
+  pub reported_reason : (sib1 : Result Sib1 Sib1Reason) → is_ok sib1 ≡ false → Answers (even_frame sfn 0) sib1 →
       ((i : ℕ) (fields : Sib1) → IsTried recording start sfn i → Answers (even_frame sfn i) (Ok fields) → ⊥) → IsReadFrom Answers recording start sfn sib1
-  told_reason sib1 not refused none =
+  reported_reason sib1 not refused none =
       let (reason, same) = err_reason sib1 not in
       subst (λ (answer : Result Sib1 Sib1Reason). IsReadFrom Answers recording start sfn answer) (sym same)
       (record { none = none; refused = subst (λ (answer : Result Sib1 Sib1Reason). Answers (even_frame sfn 0) answer) same refused })
@@ -115,7 +115,7 @@ are_attempts values recording place mib = record {
 -- ---- one grant
 
 abbrev attempt_with : ℕ × Grant → Sib1 → Attempt
-attempt_with told f = record { cfi = told.0; grant = Some told.1; answer = Ok f }
+attempt_with decoded f = record { cfi = decoded.0; grant = Some decoded.1; answer = Ok f }
 
 -- for the soft values of the frames' subframes
 module _ (values : ℕ → Subframe) (recording : List Sample) (start sfn : ℕ) (sib1 : Result Sib1 Sib1Reason) where
@@ -154,10 +154,10 @@ one_grant_of receiver recording place sfn mib sib1 a b p q = one_grant_with rece
 -- ---- the grant of an entry
 
 -- reading a listed entry again gives the same grant
-pub grant_told : (recording : List Sample) (entry : Entry) (place : Place) (master : Master) (sib1 : Result Sib1 Sib1Reason) (granted : Option (ℕ × Grant)) →
+pub grant_decoded : (recording : List Sample) (entry : Entry) (place : Place) (master : Master) (sib1 : Result Sib1 Sib1Reason) (granted : Option (ℕ × Grant)) →
     IsInList recording entry → place ≡ place_of entry → master ≡ master_of entry → IsSystemFor one_port_receiver recording place entry.sfn master.ports master.mib sib1 →
     IsGrantFor one_port_receiver recording place entry.sfn master.mib sib1 granted → IsGrantOf recording entry granted
-grant_told recording entry place master sib1 granted listed p m system grant =
+grant_decoded recording entry place master sib1 granted listed p m system grant =
     subst (λ (answer : Result Sib1 Sib1Reason). IsGrantFor one_port_receiver recording (place_of entry) entry.sfn entry.mib answer granted)
     (one_system one_port_receiver recording (place_of entry) entry.sfn entry.ports entry.mib sib1 entry.sib1
     (subst (λ (master : Master). IsSystemFor one_port_receiver recording (place_of entry) entry.sfn master.ports master.mib sib1) m (subst (λ (place : Place). IsSystemFor one_port_receiver recording place entry.sfn master.ports master.mib sib1) p system))
@@ -172,6 +172,6 @@ error_without : (sib1 : Result Sib1 Sib1Reason) → ((fields : Sib1) → sib1 �
 error_without (Ok fields) none = absurd (none fields refl)
 error_without (Err reason) none = cc
 
-pub none_told : (recording : List Sample) (entry : Entry) (granted : Option (ℕ × Grant)) → IsGrantOf recording entry granted → IsNone granted ↔ IsErr entry.sib1
-none_told recording entry None grant = (λ none. error_without entry.sib1 grant, λ err. cc)
-none_told recording entry (Some told) grant = (λ none. absurd cc, λ err. absurd (no_error entry.sib1 grant.fields grant.answers err))
+pub none_decoded : (recording : List Sample) (entry : Entry) (granted : Option (ℕ × Grant)) → IsGrantOf recording entry granted → IsNone granted ↔ IsErr entry.sib1
+none_decoded recording entry None grant = (λ none. error_without entry.sib1 grant, λ err. cc)
+none_decoded recording entry (Some decoded) grant = (λ none. absurd cc, λ err. absurd (no_error entry.sib1 grant.fields grant.answers err))

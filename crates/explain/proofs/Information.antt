@@ -15,7 +15,7 @@ use Rattle.sib1_reader.proofs.Exists.{read_is_valid, never_long}
 use Rattle.lte_types.specs.CellPlace.{Place}
 use Rattle.lte_types.specs.declared.carrier.Carrier.{Carrier}
 use Rattle.lte_types.specs.Carrier.{ports_of}
-use Rattle.explain.specs.Told.{Answering}
+use Rattle.explain.specs.Decoded.{Answering}
 use Rattle.explain.specs.Receiver.{Receiver, Subframes}
 use Rattle.explain.proofs.Once.{AnswersOnce, HasOneSystem}
 use Rattle.explain.specs.System.{even_frame, IsTried, IsFirstRead, IsReadFrom, HasOtherPorts, HasOtherWidth, IsSearched, IsSystemBy, FrameAnswers, IsSystemWith, IsSystemFor}
@@ -57,25 +57,25 @@ module _ (Answers : Answering) (one : (j : ℕ) (a b : Result Sib1 Sib1Reason) �
 
   -- the rule that gives an answer
   rule : (ports : ℕ) (mib : Mib) (sib1 : Result Sib1 Sib1Reason) → IsSystemBy carrier Answers recording start sfn ports mib sib1 →
-      ((told : ℕ) × (sib1 ≡ Err (NotOnePort told)) × HasOtherPorts (ports_of carrier) ports told)
-      ⊎ (((told : Bandwidth) × (sib1 ≡ Err (OtherWidth told)) × HasOtherWidth (ports_of carrier) ports mib.bandwidth told)
+      ((decoded : ℕ) × (sib1 ≡ Err (NotOnePort decoded)) × HasOtherPorts (ports_of carrier) ports decoded)
+      ⊎ (((decoded : Bandwidth) × (sib1 ≡ Err (OtherWidth decoded)) × HasOtherWidth (ports_of carrier) ports mib.bandwidth decoded)
       ⊎ IsSearched Answers recording start sfn carrier ports mib.bandwidth sib1)
-  rule ports mib (Err (NotOnePort told)) s = inl (told, refl, s)
-  rule ports mib (Err (OtherWidth told)) s = inr (inl (told, refl, s))
+  rule ports mib (Err (NotOnePort decoded)) s = inl (decoded, refl, s)
+  rule ports mib (Err (OtherWidth decoded)) s = inr (inl (decoded, refl, s))
   rule ports mib sib1 s = inr (inr s)
 
   pub one_by : (ports : ℕ) (mib : Mib) (a b : Result Sib1 Sib1Reason) → IsSystemBy carrier Answers recording start sfn ports mib a → IsSystemBy carrier Answers recording start sfn ports mib b → a ≡ b
   one_by ports mib a b s t = cases (rule ports mib a s) (rule ports mib b t)
     where
-      cases : ((told : ℕ) × (a ≡ Err (NotOnePort told)) × HasOtherPorts (ports_of carrier) ports told)
-          ⊎ (((told : Bandwidth) × (a ≡ Err (OtherWidth told)) × HasOtherWidth (ports_of carrier) ports mib.bandwidth told) ⊎ IsSearched Answers recording start sfn carrier ports mib.bandwidth a) →
-          ((told : ℕ) × (b ≡ Err (NotOnePort told)) × HasOtherPorts (ports_of carrier) ports told)
-          ⊎ (((told : Bandwidth) × (b ≡ Err (OtherWidth told)) × HasOtherWidth (ports_of carrier) ports mib.bandwidth told) ⊎ IsSearched Answers recording start sfn carrier ports mib.bandwidth b) → a ≡ b
-      cases (inl n) (inl m) = n.1 ∙ ap (λ told. Err (NotOnePort told)) (n.2.told_is ∙ sym m.2.told_is) ∙ sym m.1
+      cases : ((decoded : ℕ) × (a ≡ Err (NotOnePort decoded)) × HasOtherPorts (ports_of carrier) ports decoded)
+          ⊎ (((decoded : Bandwidth) × (a ≡ Err (OtherWidth decoded)) × HasOtherWidth (ports_of carrier) ports mib.bandwidth decoded) ⊎ IsSearched Answers recording start sfn carrier ports mib.bandwidth a) →
+          ((decoded : ℕ) × (b ≡ Err (NotOnePort decoded)) × HasOtherPorts (ports_of carrier) ports decoded)
+          ⊎ (((decoded : Bandwidth) × (b ≡ Err (OtherWidth decoded)) × HasOtherWidth (ports_of carrier) ports mib.bandwidth decoded) ⊎ IsSearched Answers recording start sfn carrier ports mib.bandwidth b) → a ≡ b
+      cases (inl n) (inl m) = n.1 ∙ ap (λ decoded. Err (NotOnePort decoded)) (n.2.reported_is ∙ sym m.2.reported_is) ∙ sym m.1
       cases (inl n) (inr (inl m)) = absurd (n.2.other m.2.as_wanted)
       cases (inl n) (inr (inr m)) = absurd (n.2.other m.as_wanted)
       cases (inr (inl n)) (inl m) = absurd (m.2.other n.2.as_wanted)
-      cases (inr (inl n)) (inr (inl m)) = n.1 ∙ ap (λ (told : Bandwidth). Err (OtherWidth told)) (n.2.told_is ∙ sym m.2.told_is) ∙ sym m.1
+      cases (inr (inl n)) (inr (inl m)) = n.1 ∙ ap (λ (decoded : Bandwidth). Err (OtherWidth decoded)) (n.2.reported_is ∙ sym m.2.reported_is) ∙ sym m.1
       cases (inr (inl n)) (inr (inr m)) = absurd (n.2.other m.six_blocks)
       cases (inr (inr n)) (inl m) = absurd (m.2.other n.as_wanted)
       cases (inr (inr n)) (inr (inl m)) = absurd (m.2.other n.six_blocks)
@@ -93,9 +93,9 @@ module _ (Answers : Answering) (one : (j : ℕ) (a b : Result Sib1 Sib1Reason) �
   ]
 
   -- if the first even-numbered frame has fields, they are the answer
-  pub told_first : (mib : Mib) (fields : Sib1) → 57600 ≤ length recording → start < 19200 → mib.bandwidth ≡ N6 → Answers (even_frame sfn 0) (Ok fields) →
+  pub decoded_first : (mib : Mib) (fields : Sib1) → 57600 ≤ length recording → start < 19200 → mib.bandwidth ≡ N6 → Answers (even_frame sfn 0) (Ok fields) →
       IsSystemBy carrier Answers recording start sfn (ports_of carrier) mib (Ok fields)
-  told_first mib fields long early six answers = record {
+  decoded_first mib fields long early six answers = record {
     as_wanted = refl;
     six_blocks = six;
     read = record { i = 0; tried = first_tried recording start sfn long early; answers = answers; first = λ h other before a. absurd (omega (arith, before)) };
@@ -113,11 +113,11 @@ module _ (Answers : Answering) (one : (j : ℕ) (a b : Result Sib1 Sib1Reason) �
 
   -- if the port count and the bandwidth are right, the answer is the frames' answer, which is never one of these two
   -- reasons
-  pub searched : ((j told : ℕ) → Answers j (Err (NotOnePort told)) → ⊥) → ((j : ℕ) (told : Bandwidth) → Answers j (Err (OtherWidth told)) → ⊥) →
+  pub searched : ((j decoded : ℕ) → Answers j (Err (NotOnePort decoded)) → ⊥) → ((j : ℕ) (decoded : Bandwidth) → Answers j (Err (OtherWidth decoded)) → ⊥) →
       (ports : ℕ) (mib : Mib) → ports ≡ ports_of carrier → mib.bandwidth ≡ N6 → (sib1 : Result Sib1 Sib1Reason) → IsReadFrom Answers recording start sfn sib1 →
       IsSystemBy carrier Answers recording start sfn ports mib sib1
-  searched never_ports never_width ports mib as_wanted six (Err (NotOnePort told)) read = absurd (never_ports (even_frame sfn 0) told read.refused)
-  searched never_ports never_width ports mib as_wanted six (Err (OtherWidth told)) read = absurd (never_width (even_frame sfn 0) told read.refused)
+  searched never_ports never_width ports mib as_wanted six (Err (NotOnePort decoded)) read = absurd (never_ports (even_frame sfn 0) decoded read.refused)
+  searched never_ports never_width ports mib as_wanted six (Err (OtherWidth decoded)) read = absurd (never_width (even_frame sfn 0) decoded read.refused)
   searched never_ports never_width ports mib as_wanted six sib1 read = record { as_wanted = as_wanted; six_blocks = six; read = read }
 
 -- ---- from the soft values of subframe 5
@@ -127,11 +127,11 @@ pub one_of_frame : (values : Subframes) (recording : List Sample) (place : Place
 one_of_frame values recording place mib j a b p q = one_reading _ a b p q
 
 -- if the first even-numbered frame has fields, they are the answer
-pub told_at_first : (carrier : Carrier) (values : Subframes) (recording : List Sample) (place : Place) (sfn : ℕ) (mib : Mib) (fields : Sib1) → 57600 ≤ length recording →
+pub decoded_at_first : (carrier : Carrier) (values : Subframes) (recording : List Sample) (place : Place) (sfn : ℕ) (mib : Mib) (fields : Sib1) → 57600 ≤ length recording →
     place.start < 19200 → mib.bandwidth ≡ N6 → FrameAnswers values recording place mib (even_frame sfn 0) (Ok fields) →
     IsSystemWith carrier (Ok values) recording place sfn (ports_of carrier) mib (Ok fields)
-told_at_first carrier values recording place sfn mib fields long early six answers =
-    told_first (FrameAnswers values recording place mib) (one_of_frame values recording place mib) recording place.start sfn carrier mib fields long early six answers
+decoded_at_first carrier values recording place sfn mib fields long early six answers =
+    decoded_first (FrameAnswers values recording place mib) (one_of_frame values recording place mib) recording place.start sfn carrier mib fields long early six answers
 
 -- there is at most one answer
 one_with : (carrier : Carrier) (values : Result Subframes Sib1Reason) (recording : List Sample) → HasOneSystem (IsSystemWith carrier values recording)

@@ -150,10 +150,10 @@ other_before a b apart not_before = by_start (cases_lt a.start b.start) (cases_l
 
 -- ---- a list with one more entry
 
-pub told_already : (before list : List Entry) (entry : Entry) → IsListOf before list → list_any (λ other. is_same_cell other entry) list ≡ true → IsListOf (before ++ entry ∷ []) list
-told_already before list entry h e =
-    let told = list_any-IsPermutation (λ other. is_same_cell other entry) (kept before) list h.same ∙ e in
-    let same : kept (before ++ entry ∷ []) ≡ kept before = kept_more before entry ∙ ap (λ b. if b then kept before else kept before ++ entry ∷ []) told in
+pub decoded_already : (before list : List Entry) (entry : Entry) → IsListOf before list → list_any (λ other. is_same_cell other entry) list ≡ true → IsListOf (before ++ entry ∷ []) list
+decoded_already before list entry h e =
+    let decoded = list_any-IsPermutation (λ other. is_same_cell other entry) (kept before) list h.same ∙ e in
+    let same : kept (before ++ entry ∷ []) ≡ kept before = kept_more before entry ∙ ap (λ b. if b then kept before else kept before ++ entry ∷ []) decoded in
     record { same = subst (λ l. IsPermutation l list) (sym same) h.same; in_order = h.in_order }
 
 inserted_in_order : (list : List Entry) (entry : Entry) (at : ℕ) → AllPairs IsBefore list → at ≤ length list →
@@ -202,12 +202,12 @@ inserted_in_order list entry at order within before after i j d below inside =
     place (inr high) (inl low) = absurd (omega (arith, high, low, below))
     place (inr high) (inr above) = both_above (above_at i high (omega (arith, long, inside, below))) (above_at j above (omega (arith, long, inside)))
 
-pub told_now : (before list : List Entry) (entry : Entry) (at : ℕ) → IsListOf before list → list_any (λ other. is_same_cell other entry) list ≡ false →
+pub decoded_now : (before list : List Entry) (entry : Entry) (at : ℕ) → IsListOf before list → list_any (λ other. is_same_cell other entry) list ≡ false →
     at ≤ length list → AllWithin (λ other. IsBefore other entry) list 0 at → (at < length list → HoldsAt (λ other. ¬ IsBefore other entry) list at) →
     IsListOf (before ++ entry ∷ []) (insert list at entry)
-told_now before list entry at h e within front back =
-    let told = list_any-IsPermutation (λ other. is_same_cell other entry) (kept before) list h.same ∙ e in
-    let same : kept (before ++ entry ∷ []) ≡ kept before ++ entry ∷ [] = kept_more before entry ∙ ap (λ b. if b then kept before else kept before ++ entry ∷ []) told in
+decoded_now before list entry at h e within front back =
+    let decoded = list_any-IsPermutation (λ other. is_same_cell other entry) (kept before) list h.same ∙ e in
+    let same : kept (before ++ entry ∷ []) ≡ kept before ++ entry ∷ [] = kept_more before entry ∙ ap (λ b. if b then kept before else kept before ++ entry ∷ []) decoded in
     let moved : IsPermutation (kept before ++ entry ∷ []) (insert list at entry) =
     IsPermutation-trans _ (entry ∷ kept before) _ (IsPermutation-to_front (kept before) entry)
     (IsPermutation-trans _ (entry ∷ list) _ (IsPermutation-cons entry (kept before) list h.same) (IsPermutation-insert list at entry)) in
@@ -229,7 +229,7 @@ adds_more first second a b d p q before h = subst (λ l. IsListOf l d) (append_a
 pub adds_again : (entries list : List Entry) → ((entry : Entry) → Contains entries entry → list_any (λ other. is_same_cell other entry) list ≡ true) → Adds entries list list
 adds_again [] list each = adds_none list
 adds_again (e ∷ es) list each =
-    adds_more (e ∷ []) es list list list (λ before h. told_already before list e h (each e (Contains-here e es))) (adds_again es list (λ x h. each x (Contains-later e es x h)))
+    adds_more (e ∷ []) es list list list (λ before h. decoded_already before list e h (each e (Contains-here e es))) (adds_again es list (λ x h. each x (Contains-later e es x h)))
 
 -- for each entry from which a list is made, an entry of its cell is in the list
 pub stands_in : (entries list : List Entry) (entry : Entry) → IsListOf entries list → Contains entries entry → list_any (λ other. is_same_cell other entry) list ≡ true

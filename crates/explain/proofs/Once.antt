@@ -6,11 +6,11 @@ use Rattle.lte_types.specs.declared.mib.Mib.{Mib}
 use Rattle.lte_types.specs.declared.sib1.Sib1.{Sib1}
 use Rattle.lte_types.specs.declared.sib1_reason.Sib1Reason.{Sib1Reason}
 use Rattle.pbch.specs.declared.master.Master.{Master}
-use Rattle.explain.specs.Told.{Telling, Informing, Answering}
+use Rattle.explain.specs.Decoded.{Decoding, Informing, Answering}
 
 -- frames carry at most one MIB at a phase
-abbrev pub TellsOne : Telling → Type 0
-TellsOne Tells = (place : Place) (frames : Frames) (a b : Master) → Tells place frames a → Tells place frames b → a ≡ b
+abbrev pub DecodesOne : Decoding → Type 0
+DecodesOne Decodes = (place : Place) (frames : Frames) (a b : Master) → Decodes place frames a → Decodes place frames b → a ≡ b
 
 -- a cell has at most one answer on its system information
 abbrev pub HasOneSystem : Informing → Type 0

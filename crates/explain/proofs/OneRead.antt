@@ -6,19 +6,19 @@ use Rattle.lte_types.specs.declared.hit.Hit.{Hit}
 use Rattle.lte_types.specs.CellPlace.{Place}
 use Rattle.explain.specs.Receiver.{hits_by, place_by}
 use Rattle.explain.specs.Entries.{place_of}
-use Rattle.explain.specs.Readings.{IsFirstTelling, IsOneReading}
+use Rattle.explain.specs.Readings.{IsFirstAt, IsOneReading}
 use Rattle.explain.proofs.Granted.{one_grant_of}
 
 -- at most one hit is the first that gives a place
-one_first : (place : Hit → Place) (hits : List Hit) (told : Place) (a b : Hit) → IsFirstTelling place hits told a → IsFirstTelling place hits told b → a ≡ b
-one_first place hits told a b s t = by_order (cases_lt s.at t.at) (cases_lt t.at s.at)
+one_first : (place : Hit → Place) (hits : List Hit) (decoded : Place) (a b : Hit) → IsFirstAt place hits decoded a → IsFirstAt place hits decoded b → a ≡ b
+one_first place hits decoded a b s t = by_order (cases_lt s.at t.at) (cases_lt t.at s.at)
   where
     same_hit : ◌≡◌ {A = Option Hit} (Some a) (Some b) → a ≡ b
     same_hit e = cc
 
     by_order : (s.at < t.at) ⊎ (t.at ≤ s.at) → (t.at < s.at) ⊎ (s.at ≤ t.at) → a ≡ b
-    by_order (inl before) other = absurd (t.first s.at a before s.is s.tells)
-    by_order (inr low) (inl before) = absurd (s.first t.at b before t.is t.tells)
+    by_order (inl before) other = absurd (t.first s.at a before s.is s.decodes)
+    by_order (inr low) (inl before) = absurd (s.first t.at b before t.is t.decodes)
     by_order (inr low) (inr high) =
         let same : s.at ≡ t.at = omega (arith, low, high) in
         same_hit (sym s.is ∙ ap (λ k. slice_get hits k) same ∙ t.is)

@@ -11,10 +11,10 @@ use Rattle.lte_types.specs.CellPlace.{Place}
 use Rattle.lte_types.specs.Frames.{Frames, first_number}
 use Rattle.lte_types.specs.Numerology.{cycle_length, frame_length}
 use Rattle.pbch.specs.declared.master.Master.{Master}
-use Rattle.pbch.specs.Master.{TellsMaster}
+use Rattle.pbch.specs.Master.{DecodesMaster}
 use Rattle.explain.specs.Receiver.{Receiver, one_port_receiver, is_wanted, hits_by, place_by, sums_by}
 use Rattle.explain.specs.System.{IsSystemFor}
-use Rattle.explain.specs.Told.{Telling, Informing}
+use Rattle.explain.specs.Decoded.{Decoding, Informing}
 use Rattle.explain.specs.Window.{AreFirstFrames}
 
 -- ---- the entries of a hit
@@ -42,15 +42,15 @@ sums_of = sums_by one_port_receiver
 abbrev pub values_of_entry : List Sample → Entry → List (List ℤ)
 values_of_entry recording entry = sums_of recording (place_of entry) (frames_of entry)
 
--- the entry reports a MIB for the cell at this place, from the first of its frames that carry any; `Tells` says which
+-- the entry reports a MIB for the cell at this place, from the first of its frames that carry any; `Decodes` says which
 -- MIB frames carry, and `IsSystem` which system information the cell has
-pub record IsEntryAt (Tells : Telling) (IsSystem : Informing) (recording : List Sample) (place : Place)
+pub record IsEntryAt (Decodes : Decoding) (IsSystem : Informing) (recording : List Sample) (place : Place)
     (entry : Entry) : Type 0 where
   pub id : entry.id ≡ place.id
   pub start : entry.start ≡ place.start
   pub period : entry.phase + entry.frames ≤ 4
-  pub frames : AreFirstFrames Tells recording (place_of entry) entry.frames entry.frame
-  pub master : Tells (place_of entry) (frames_of entry) (master_of entry)
+  pub frames : AreFirstFrames Decodes recording (place_of entry) entry.frames entry.frame
+  pub master : Decodes (place_of entry) (frames_of entry) (master_of entry)
   pub sfn : entry.sfn ≡ first_number entry.mib.upper (frames_of entry)
   pub sib1 : IsSystem (place_of entry) entry.sfn entry.ports entry.mib entry.sib1
 
@@ -59,7 +59,7 @@ pub record IsMasterFor (receiver : Receiver) (recording : List Sample) (place : 
     (master : Master) : Type 0 where
   pub few : frames.count ≤ receiver.most_frames
   pub taken : is_wanted receiver.ports master.ports ≡ true
-  pub told : TellsMaster (sums_by receiver recording place frames) master
+  pub decoded : DecodesMaster (sums_by receiver recording place frames) master
 
 -- the entry reports a MIB of the hit
 abbrev pub IsEntryFor : Receiver → List Sample → Hit → Entry → Type 0

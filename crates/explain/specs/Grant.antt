@@ -10,7 +10,7 @@ use Rattle.dci.specs.declared.grant.Grant.{Grant}
 use Rattle.sib1_reader.specs.declared.reading.Attempt.{Attempt}
 use Rattle.sib1_reader.specs.Attempt.{IsAttempt, granted_by}
 use Rattle.explain.specs.Receiver.{Receiver, Subframes, one_port_receiver}
-use Rattle.explain.specs.Told.{Answering, Attempting, Granting}
+use Rattle.explain.specs.Decoded.{Answering, Attempting, Granting}
 use Rattle.explain.specs.System.{even_frame, IsTried}
 use Rattle.explain.specs.Entries.{place_of}
 
@@ -18,18 +18,18 @@ use Rattle.explain.specs.Entries.{place_of}
 
 -- the first tried frame that answers with fields has this indicator and this grant, and the answer is its fields
 pub record IsReadBy (Attempts : Attempting) (recording : List Sample) (start sfn : ℕ) (sib1 : Result Sib1 Sib1Reason)
-    (told : ℕ × Grant) : Type 0 where
+    (found : ℕ × Grant) : Type 0 where
   pub i : ℕ
   pub tried : IsTried recording start sfn i
   pub fields : Sib1
-  pub attempt : Attempts (even_frame sfn i) (record { cfi = told.0; grant = Some told.1; answer = Ok fields })
+  pub attempt : Attempts (even_frame sfn i) (record { cfi = found.0; grant = Some found.1; answer = Ok fields })
   pub first : (h : ℕ) (attempt : Attempt) (other : Sib1) → h < i → Attempts (even_frame sfn h) attempt →
       attempt.answer ≡ Ok other → ⊥
   pub answers : sib1 ≡ Ok fields
 
 -- the indicator and the grant with which an answer was read, or none if it has no fields
 abbrev pub IsGrantBy : Attempting → List Sample → ℕ → ℕ → Result Sib1 Sib1Reason → Option (ℕ × Grant) → Type 0
-IsGrantBy Attempts recording start sfn sib1 (Some told) = IsReadBy Attempts recording start sfn sib1 told
+IsGrantBy Attempts recording start sfn sib1 (Some found) = IsReadBy Attempts recording start sfn sib1 found
 IsGrantBy Attempts recording start sfn sib1 None = (fields : Sib1) → sib1 ≡ Ok fields → ⊥
 
 -- a frame answers as its attempt does, and an attempt with fields has a grant
@@ -47,9 +47,9 @@ IsFrameAttempt values recording place mib j attempt =
 
 -- the indicator and the grant for system information from these soft values; none if there are no values
 abbrev pub IsGrantWith : Result Subframes Sib1Reason → List Sample → Granting
-IsGrantWith (Ok values) recording place sfn mib sib1 told =
-    IsGrantBy (IsFrameAttempt values recording place mib) recording place.start sfn sib1 told
-IsGrantWith (Err reason) recording place sfn mib sib1 told = told ≡ None
+IsGrantWith (Ok values) recording place sfn mib sib1 found =
+    IsGrantBy (IsFrameAttempt values recording place mib) recording place.start sfn sib1 found
+IsGrantWith (Err reason) recording place sfn mib sib1 found = found ≡ None
 
 -- the indicator and the grant with which a receiver reads the system information for the cell at a place
 abbrev pub IsGrantFor : Receiver → List Sample → Granting
@@ -57,8 +57,8 @@ IsGrantFor receiver = IsGrantWith receiver.subframe
 
 -- the indicator and the grant with which an entry's system information was read, with one antenna port
 abbrev pub IsGrantOf : List Sample → Entry → Option (ℕ × Grant) → Type 0
-IsGrantOf recording entry told =
-    IsGrantFor one_port_receiver recording (place_of entry) entry.sfn entry.mib entry.sib1 told
+IsGrantOf recording entry found =
+    IsGrantFor one_port_receiver recording (place_of entry) entry.sfn entry.mib entry.sib1 found
 
 -- a law: for any receiver, the indicator and the grant with which system information was read are unique
 abbrev pub IsOneGrant : Type 0

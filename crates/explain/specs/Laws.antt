@@ -93,8 +93,8 @@ pub record IsEntryOfOneFrame (receiver : Receiver) (recording : List Sample) (hi
   pub sib1 : IsSystemFor receiver recording (place_of entry) entry.sfn entry.ports entry.mib entry.sib1
 
 -- an entry from one frame of a hit is an entry of the hit
-abbrev pub OneFrameTells : Type 0
-OneFrameTells = (receiver : Receiver) (recording : List Sample) (hit : Hit) (entry : Entry) →
+abbrev pub OneFrameDecodes : Type 0
+OneFrameDecodes = (receiver : Receiver) (recording : List Sample) (hit : Hit) (entry : Entry) →
     IsEntryOfOneFrame receiver recording hit entry → IsEntryFor receiver recording hit entry
 
 -- if the receiver does not combine frames, each entry of a hit is from one frame

@@ -1,6 +1,6 @@
 pub mod Frame
 pub mod Receiver
-pub mod Told
+pub mod Decoded
 pub mod System
 pub mod Window
 pub mod Entries

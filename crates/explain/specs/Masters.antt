@@ -1,4 +1,4 @@
--- The MIBs in frames, and the entries made from them. `Tells` says which MIB frames carry, and `IsSystem` which system
+-- The MIBs in frames, and the entries made from them. `Decodes` says which MIB frames carry, and `IsSystem` which system
 -- information the cell has. (own)
 use Rattle.std.specs.Prelude.{◌≡◌, ℕ, ◌+◌, ◌<◌, ◌≤◌, List, [], ◌∷◌, Option, None, Some, MatchOption, IfSome, Result}
 use Rattle.finite.specs.Lists.{joined_below}
@@ -10,18 +10,18 @@ use Rattle.lte_types.specs.declared.sib1.Sib1.{Sib1}
 use Rattle.lte_types.specs.declared.sib1_reason.Sib1Reason.{Sib1Reason}
 use Rattle.pbch.specs.declared.master.Master.{Master}
 use Rattle.pbch.specs.Master.{master_at}
-use Rattle.explain.specs.Told.{Telling, Informing}
+use Rattle.explain.specs.Decoded.{Decoding, Informing}
 use Rattle.explain.specs.Window.{AreFirstFrames}
 use Rattle.explain.specs.Entries.{Adds}
 
 -- frames carry this MIB at a phase, or none
-abbrev pub IsToldAt : Telling → Place → Frames → Option Master → Type 0
-IsToldAt Tells place frames o = MatchOption o ((master : Master) → Tells place frames master → ⊥) (Tells place frames)
+abbrev pub IsDecodedAt : Decoding → Place → Frames → Option Master → Type 0
+IsDecodedAt Decodes place frames o = MatchOption o ((master : Master) → Decodes place frames master → ⊥) (Decodes place frames)
 
 -- the MIBs that frames carry, by phase
-abbrev pub AreTold : Telling → Place → ℕ → ℕ → List (Option Master) → Type 0
-AreTold Tells place count j masters =
-    (phase : ℕ) → phase + count ≤ 4 → IsToldAt Tells place (frames_from count j phase) (master_at masters phase)
+abbrev pub AreDecoded : Decoding → Place → ℕ → ℕ → List (Option Master) → Type 0
+AreDecoded Decodes place count j masters =
+    (phase : ℕ) → phase + count ≤ 4 → IsDecodedAt Decodes place (frames_from count j phase) (master_at masters phase)
 
 -- some phase of a count of frames has a MIB
 pub record HasMaster (count : ℕ) (masters : List (Option Master)) : Type 0 where
@@ -31,15 +31,15 @@ pub record HasMaster (count : ℕ) (masters : List (Option Master)) : Type 0 whe
   pub is : master_at masters phase ≡ Some master
 
 -- `count` frames from frame j carry a MIB, and these are their MIBs
-pub record HaveMasters (Tells : Telling) (place : Place) (count j : ℕ) (masters : List (Option Master)) : Type 0 where
-  pub are : AreTold Tells place count j masters
+pub record HaveMasters (Decodes : Decoding) (place : Place) (count j : ℕ) (masters : List (Option Master)) : Type 0 where
+  pub are : AreDecoded Decodes place count j masters
   pub some : HasMaster count masters
 
 -- `count` frames from frame j are the first that carry a MIB, and these are their MIBs
-pub record AreFirstWith (Tells : Telling) (recording : List Sample) (place : Place) (count j : ℕ)
+pub record AreFirstWith (Decodes : Decoding) (recording : List Sample) (place : Place) (count j : ℕ)
     (masters : List (Option Master)) : Type 0 where
-  pub frames : AreFirstFrames Tells recording place count j
-  pub have : HaveMasters Tells place count j masters
+  pub frames : AreFirstFrames Decodes recording place count j
+  pub have : HaveMasters Decodes place count j masters
 
 -- ---- entries
 
@@ -79,13 +79,13 @@ IsSystemAt IsSystem place frames o sib1 =
 pub record AddsPhase (IsSystem : Informing) (place : Place) (frames : Frames) (o : Option Master)
     (old new : List Entry) : Type 0 where
   pub sib1 : Result Sib1 Sib1Reason
-  pub told : IsSystemAt IsSystem place frames o sib1
+  pub decoded : IsSystemAt IsSystem place frames o sib1
   pub adds : Adds (entry_at place frames o sib1) old new
 
 -- the list gains the entries for the first `phases` phases
 pub record AddsPhases (IsSystem : Informing) (place : Place) (count j : ℕ) (masters : List (Option Master)) (phases : ℕ)
     (old new : List Entry) : Type 0 where
   pub systems : ℕ → Result Sib1 Sib1Reason
-  pub told : (phase : ℕ) → phase < phases →
+  pub decoded : (phase : ℕ) → phase < phases →
       IsSystemAt IsSystem place (frames_from count j phase) (master_at masters phase) (systems phase)
   pub adds : Adds (entries_of place count j masters systems phases) old new

@@ -8,23 +8,23 @@ use Rattle.lte_types.specs.CellPlace.{Place}
 use Rattle.lte_types.specs.Frames.{Frames, frames_from}
 use Rattle.pbch.specs.Master.{sums_at}
 use Rattle.explain.specs.declared.readings.Reading.{Reading}
-use Rattle.explain.specs.Told.{Granting}
+use Rattle.explain.specs.Decoded.{Granting}
 use Rattle.explain.specs.Receiver.{Receiver, one_port_receiver, hits_by, place_by, sums_by}
 use Rattle.explain.specs.Entries.{place_of, frames_of}
 use Rattle.explain.specs.Grant.{IsGrantFor}
 
 -- a hit is the first in a list of hits that gives a place, where `place` says which place a hit gives
-pub record IsFirstTelling (place : Hit → Place) (hits : List Hit) (told : Place) (hit : Hit) : Type 0 where
+pub record IsFirstAt (place : Hit → Place) (hits : List Hit) (wanted : Place) (hit : Hit) : Type 0 where
   pub at : ℕ
   pub is : slice_get hits at ≡ Some hit
-  pub tells : place hit ≡ told
-  pub first : (h : ℕ) (other : Hit) → h < at → slice_get hits h ≡ Some other → place other ≢ told
+  pub decodes : place hit ≡ wanted
+  pub first : (h : ℕ) (other : Hit) → h < at → slice_get hits h ≡ Some other → place other ≢ wanted
 
 -- the reading of an entry of these hits, where `summed` gives the combined soft values for frames, and `IsGrant` the
 -- indicator and the grant for system information
 pub record IsReadingBy (summed : Place → Frames → List (List ℤ)) (IsGrant : Granting) (place : Hit → Place)
     (hits : List Hit) (entry : Entry) (reading : Reading) : Type 0 where
-  pub hit : IsFirstTelling place hits (place_of entry) reading.hit
+  pub hit : IsFirstAt place hits (place_of entry) reading.hit
   pub sums : reading.sums ≡ summed (place_of entry) (frames_of entry)
   pub granted : IsGrant (place_of entry) entry.sfn entry.mib entry.sib1 reading.granted
 

@@ -3,8 +3,8 @@ use Rattle.std.specs.Prelude.{◌≡◌, ℕ, ◌+◌, ◌<◌, ◌≤◌, Bool,
 use Rattle.finite.specs.Lists.{values_below}
 use Rattle.lte_types.specs.CellPlace.{Place}
 use Rattle.pbch.specs.declared.master.Master.{Master}
-use Rattle.explain.specs.Told.{Telling}
-use Rattle.explain.specs.Window.{TellNone}
+use Rattle.explain.specs.Decoded.{Decoding}
+use Rattle.explain.specs.Window.{NoneIsDecoded}
 use Rattle.explain.specs.Masters.{HaveMasters}
 
 -- the MIB that is accepted, if there is one
@@ -17,13 +17,13 @@ abbrev pub AreReceived : (ℕ → List ℤ) → ℕ → List (List ℤ) → Type
 AreReceived values j frames = frames ≡ values_below (length frames) (λ m. values (j + m))
 
 -- no `count` consecutive frames among the first `whole` ones carry a MIB
-abbrev pub NoneTell : Telling → Place → ℕ → ℕ → Type 0
-NoneTell Tells place whole count = (j : ℕ) → j + count ≤ whole → TellNone Tells place count j
+abbrev pub NoneDecodes : Decoding → Place → ℕ → ℕ → Type 0
+NoneDecodes Decodes place whole count = (j : ℕ) → j + count ≤ whole → NoneIsDecoded Decodes place count j
 
 -- the frames from frame j are the first `count` consecutive ones among the first `whole` that carry a MIB, and these
 -- are their MIBs
-pub record AreFirstOf (Tells : Telling) (place : Place) (whole count j : ℕ)
+pub record AreFirstOf (Decodes : Decoding) (place : Place) (whole count j : ℕ)
     (masters : List (Option Master)) : Type 0 where
   pub within : j + count ≤ whole
-  pub first : (i : ℕ) → i < j → TellNone Tells place count i
-  pub have : HaveMasters Tells place count j masters
+  pub first : (i : ℕ) → i < j → NoneIsDecoded Decodes place count i
+  pub have : HaveMasters Decodes place count j masters

@@ -14,7 +14,7 @@ use Rattle.lte_types.specs.declared.sib1_reason.Sib1Reason.TheVariants.{NotOnePo
 use Rattle.sib1_reader.specs.Attempt.{Reads}
 use Rattle.explain.specs.Frame.{IsWhole}
 use Rattle.explain.specs.Receiver.{Receiver, Subframes}
-use Rattle.explain.specs.Told.{Answering, Informing}
+use Rattle.explain.specs.Decoded.{Answering, Informing}
 
 -- ---- the frames that are tried; `Answers` gives each answer, by its frame counted from the first
 
@@ -48,14 +48,14 @@ IsReadFrom Answers recording start sfn (Err reason) = IsNoneRead Answers recordi
 -- ---- the first rule that applies
 
 -- a cell's antenna port count is not the transmission scheme's
-pub record HasOtherPorts (wanted ports told : ℕ) : Type 0 where
-  pub told_is : told ≡ ports
+pub record HasOtherPorts (wanted ports reported : ℕ) : Type 0 where
+  pub reported_is : reported ≡ ports
   pub other : ports ≢ wanted
 
 -- a cell has the right antenna port count, but is not 6 resource blocks wide
-pub record HasOtherWidth (wanted ports : ℕ) (width told : Bandwidth) : Type 0 where
+pub record HasOtherWidth (wanted ports : ℕ) (width reported : Bandwidth) : Type 0 where
   pub as_wanted : ports ≡ wanted
-  pub told_is : told ≡ width
+  pub reported_is : reported ≡ width
   pub other : width ≢ N6
 
 -- a cell has the right antenna port count and 6 resource blocks, and its frames give this answer
@@ -67,10 +67,10 @@ pub record IsSearched (Answers : Answering) (recording : List Sample) (start sfn
 
 -- the system information for a transmission scheme
 abbrev pub IsSystemBy : Carrier → Answering → List Sample → ℕ → ℕ → ℕ → Mib → Result Sib1 Sib1Reason → Type 0
-IsSystemBy carrier Answers recording start sfn ports mib (Err (NotOnePort told)) =
-    HasOtherPorts (ports_of carrier) ports told
-IsSystemBy carrier Answers recording start sfn ports mib (Err (OtherWidth told)) =
-    HasOtherWidth (ports_of carrier) ports mib.bandwidth told
+IsSystemBy carrier Answers recording start sfn ports mib (Err (NotOnePort reported)) =
+    HasOtherPorts (ports_of carrier) ports reported
+IsSystemBy carrier Answers recording start sfn ports mib (Err (OtherWidth reported)) =
+    HasOtherWidth (ports_of carrier) ports mib.bandwidth reported
 IsSystemBy carrier Answers recording start sfn ports mib sib1 =
     IsSearched Answers recording start sfn carrier ports mib.bandwidth sib1
 

@@ -1,5 +1,5 @@
 -- The frames in which a cell's MIBs are searched: those of its frames 0 to 7 that lie within the recording, one alone
--- or two to four consecutive ones in one period of four. `Tells` says which MIB frames carry; for a receiver that
+-- or two to four consecutive ones in one period of four. `Decodes` says which MIB frames carry; for a receiver that
 -- combines fewer frames, more of them carry none. (own)
 use Rattle.std.specs.Prelude.{◌≡◌, ◌⊎◌, ℕ, ◌+◌, ◌<◌, ◌≤◌, List}
 use Rattle.cs_num.specs.declared.Sample.{Sample}
@@ -7,7 +7,7 @@ use Rattle.lte_types.specs.CellPlace.{Place}
 use Rattle.lte_types.specs.Frames.{frames_from}
 use Rattle.pbch.specs.declared.master.Master.{Master}
 use Rattle.explain.specs.Frame.{IsWhole}
-use Rattle.explain.specs.Told.{Telling}
+use Rattle.explain.specs.Decoded.{Decoding}
 
 -- `count` frames from frame j are tried together
 pub record IsInWindow (recording : List Sample) (start count j : ℕ) : Type 0 where
@@ -22,21 +22,21 @@ abbrev pub ComeBefore : ℕ × ℕ → ℕ × ℕ → Type 0
 ComeBefore (few, i) (count, j) = (few < count) ⊎ ((few ≡ count) × (i < j))
 
 -- `count` frames from frame j carry no MIB, at any phase
-abbrev pub TellNone : Telling → Place → ℕ → ℕ → Type 0
-TellNone Tells place count j =
-    (phase : ℕ) (master : Master) → phase + count ≤ 4 → Tells place (frames_from count j phase) master → ⊥
+abbrev pub NoneIsDecoded : Decoding → Place → ℕ → ℕ → Type 0
+NoneIsDecoded Decodes place count j =
+    (phase : ℕ) (master : Master) → phase + count ≤ 4 → Decodes place (frames_from count j phase) master → ⊥
 
 -- no frames that are tried before these carry a MIB
-abbrev pub HasNoMasterBefore : Telling → List Sample → Place → ℕ → ℕ → Type 0
-HasNoMasterBefore Tells recording place count j =
-    (few i : ℕ) → IsInWindow recording place.start few i → ComeBefore (few, i) (count, j) → TellNone Tells place few i
+abbrev pub HasNoMasterBefore : Decoding → List Sample → Place → ℕ → ℕ → Type 0
+HasNoMasterBefore Decodes recording place count j =
+    (few i : ℕ) → IsInWindow recording place.start few i → ComeBefore (few, i) (count, j) → NoneIsDecoded Decodes place few i
 
 -- no frames that are tried carry a MIB
-abbrev pub HasNoMasters : Telling → List Sample → Place → Type 0
-HasNoMasters Tells recording place =
-    (count j : ℕ) → IsInWindow recording place.start count j → TellNone Tells place count j
+abbrev pub HasNoMasters : Decoding → List Sample → Place → Type 0
+HasNoMasters Decodes recording place =
+    (count j : ℕ) → IsInWindow recording place.start count j → NoneIsDecoded Decodes place count j
 
 -- `count` frames from frame j are tried, and none before them carry a MIB
-pub record AreFirstFrames (Tells : Telling) (recording : List Sample) (place : Place) (count j : ℕ) : Type 0 where
+pub record AreFirstFrames (Decodes : Decoding) (recording : List Sample) (place : Place) (count j : ℕ) : Type 0 where
   pub inside : IsInWindow recording place.start count j
-  pub first : HasNoMasterBefore Tells recording place count j
+  pub first : HasNoMasterBefore Decodes recording place count j

@@ -4,7 +4,7 @@ ghost use Rattle.std.specs.Prelude.{◌≡◌, ◌<◌, All, IfOk};
 ghost use Rattle.std.specs.List.{AllZip};
 ghost use Rattle.finite.specs.Sizes.{RowsWithin};
 ghost use Rattle.lte_types.specs.Ranges.{IsValid};
-ghost use Rattle.pbch.specs.Master.{TellsMaster};
+ghost use Rattle.pbch.specs.Master.{DecodesMaster};
 ghost use Rattle.explain.specs.Readings.{IsReading};
 ghost use Rattle.explain.specs.Entries.{IsExplained, IsInList, master_of};
 ghost use Rattle.explain.specs.Entries.{place_of as place_of_entry, values_of_entry};
@@ -32,7 +32,7 @@ pub fn explain(recording: &Recording, work: &mut Workspace, list: &mut EntryList
 pub fn values_of(recording: &Recording, entry: &Entry) -> [[i32; 3]; 40]
     requires { IsInList recording.now entry.now }
     ensures values { result ≡ values_of_entry recording.now entry.now }
-    ensures master { TellsMaster result (master_of entry.now) }
+    ensures master { DecodesMaster result (master_of entry.now) }
     ensures sizes { RowsWithin 2032 result }
 {
     let place = place_in(entry);

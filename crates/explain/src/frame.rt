@@ -9,7 +9,7 @@ ghost use Rattle.explain.specs.Frame.{IsWhole, frame_at, seen_slot, broadcast_sl
 
 use crate::slots::slot_of;
 use cs_num::Cpx;
-use lte_types::{CellPlace, FRAME_LENGTH, Prefix};
+use lte_types::{CellPlace, FRAME_LENGTH, Prefix, SUBCARRIERS};
 use observe::symbol;
 use sample_file::Recording;
 use soft_bits::Slot;
@@ -32,7 +32,7 @@ pub(crate) fn whole_frames(recording: &Recording, place: CellPlace) -> u8
 }
 
 // Returns demodulated symbol `l` of a slot, in a frame that begins at sample `frame`.
-fn symbol_of(recording: &Recording, frame: usize, number: u8, l: usize) -> [Cpx; 72]
+fn symbol_of(recording: &Recording, frame: usize, number: u8, l: usize) -> [Cpx; SUBCARRIERS]
     requires within { frame + frame_length ≤ length recording.now }
     requires small { frame < 2 ^ 40 }
     requires number { number < 20 }
@@ -47,7 +47,7 @@ fn symbol_of(recording: &Recording, frame: usize, number: u8, l: usize) -> [Cpx;
 }
 
 // Returns the seven demodulated symbols of a slot, in a frame that begins at sample `frame`.
-fn symbols_in(recording: &Recording, frame: usize, number: u8) -> [[Cpx; 72]; 7]
+fn symbols_in(recording: &Recording, frame: usize, number: u8) -> [[Cpx; SUBCARRIERS]; 7]
     requires within { frame + frame_length ≤ length recording.now }
     requires small { frame < 2 ^ 40 }
     requires number { number < 20 }
@@ -72,7 +72,7 @@ pub(crate) fn symbols_of(
     place: CellPlace,
     j: u8,
     number: u8,
-) -> [[Cpx; 72]; 7]
+) -> [[Cpx; SUBCARRIERS]; 7]
     requires whole { IsWhole recording.now place.start j }
     requires number { number < 20 }
     ensures symbols { result ≡ (seen_slot recording.now (frame_at place.start j) number place.id).symbols }
@@ -83,15 +83,15 @@ pub(crate) fn symbols_of(
 }
 
 // Returns the values for a symbol that is not read.
-fn zeros() -> [Cpx; 72]
+fn zeros() -> [Cpx; SUBCARRIERS]
     ensures { All (IsWithin (2 ^ 25)) result }
 {
-    [Cpx::ZERO; 72]
+    [Cpx::ZERO; SUBCARRIERS]
 }
 
 // Returns the first five demodulated symbols of slot 1, in a frame that begins at sample `frame`, and two zero symbols
 // that are not read.
-fn front_in(recording: &Recording, frame: usize) -> [[Cpx; 72]; 7]
+fn front_in(recording: &Recording, frame: usize) -> [[Cpx; SUBCARRIERS]; 7]
     requires within { frame + frame_length ≤ length recording.now }
     requires small { frame < 2 ^ 40 }
     ensures front { (identity symbol : ℕ) → symbol < 5 → slice_index_or result symbol []
@@ -111,7 +111,11 @@ fn front_in(recording: &Recording, frame: usize) -> [[Cpx; 72]; 7]
 
 /// Returns the first five demodulated symbols of frame `j`'s PBCH slot, and two zero symbols, where neither the PBCH
 /// nor its reference signals are. The frame lies within the recording; components have magnitude at most 2^25.
-pub(crate) fn broadcast_front(recording: &Recording, place: CellPlace, j: u8) -> [[Cpx; 72]; 7]
+pub(crate) fn broadcast_front(
+    recording: &Recording,
+    place: CellPlace,
+    j: u8,
+) -> [[Cpx; SUBCARRIERS]; 7]
     requires { IsWhole recording.now place.start j }
     ensures front { (symbol : ℕ) → symbol < 5 → slice_index_or result symbol []
         ≡ slice_index_or (broadcast_slot_of recording.now place.id place.start j).symbols symbol [] }

@@ -6,7 +6,7 @@ ghost use Rattle.pss_search.specs.Hits.{IsInSpan};
 ghost use Rattle.pss_search.specs.Laws.{IsEarlier};
 ghost use Rattle.explain.specs.Receiver.{HasRoom, has_step_before, place_by};
 
-use lte_types::{Carrier, CellPlace, Hit};
+use lte_types::{Carrier, CellPlace, Hit, USEFUL_LENGTH};
 use sample_file::Recording;
 use sss_detect::place_with;
 
@@ -27,11 +27,11 @@ pub(crate) fn early_hits(hits: &[Hit], carrier: Carrier) -> usize
 }
 
 // Returns the place of a hit's cell.
-pub(crate) fn place_told(recording: &Recording, hit: &Hit, carrier: Carrier) -> CellPlace
+pub(crate) fn detected_place(recording: &Recording, hit: &Hit, carrier: Carrier) -> CellPlace
     requires { HasRoom carrier hit.now }
     ensures { result ≡ place_by carrier recording.now hit.now }
 {
     let end = recording.len();
-    prove!(hit.t as usize + 128 <= end);
+    prove!(hit.t as usize + USEFUL_LENGTH <= end);
     place_with(recording, hit, carrier.prefix())
 }

@@ -5,7 +5,7 @@
 
 ghost use Rattle.std.specs.Prelude.{◌≡◌};
 ghost use Rattle.explain.specs.Laws.{IsOneList, IsSound, IsComplete, IsApart, IsNeverLong};
-ghost use Rattle.explain.specs.Laws.{OneFrameTells, OneFrameAlone, OneFrameIsListed};
+ghost use Rattle.explain.specs.Laws.{OneFrameDecodes, OneFrameAlone, OneFrameIsListed};
 ghost use Rattle.explain.specs.Deciding.{deciding_length, FirstFramesDecide, FirstFramesDecideAll};
 ghost use Rattle.explain.specs.declared.laws.TheConstants.{DECIDING_SAMPLES};
 ghost use Rattle.explain.specs.Readings.{IsOneReading};
@@ -36,7 +36,7 @@ pub fn the_first_frames_decide()
 /// A law: the first frame of a hit that decodes by itself gives an entry, which is listed itself or through an entry of
 /// its cell. A receiver that combines no frames has no other entries. (own)
 pub fn one_frame_is_enough()
-    ensures tells { OneFrameTells }
+    ensures decodes { OneFrameDecodes }
     ensures alone { OneFrameAlone }
     ensures listed { OneFrameIsListed }
 {}

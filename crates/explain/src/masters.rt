@@ -10,8 +10,8 @@ ghost use Rattle.explain.specs.Receiver.{is_wanted, sums_by};
 ghost use Rattle.explain.specs.Entries.{IsMasterFor};
 ghost use Rattle.explain.specs.Masters.{HaveMasters, AreFirstWith};
 ghost use Rattle.explain.specs.Readings.{AreSums};
-ghost use Rattle.explain.specs.Received.{AreReceived, NoneTell, AreFirstOf, taken_of};
-ghost use Rattle.explain.specs.Window.{TellNone, HasNoMasters};
+ghost use Rattle.explain.specs.Received.{AreReceived, NoneDecodes, AreFirstOf, taken_of};
+ghost use Rattle.explain.specs.Window.{NoneIsDecoded, HasNoMasters};
 
 use crate::FrameReader;
 use crate::frame::whole_frames;
@@ -43,9 +43,9 @@ pub(crate) fn first_masters<F: FrameReader>(
     place: CellPlace,
     work: &mut Trellis,
 ) -> Option<Masters>
-    ensures masters { let Tells = IsMasterFor F.receiver recording.now in
-        MatchOption result (HasNoMasters Tells recording.now place)
-        (λ found. AreFirstWith Tells recording.now place found.frames found.frame found.at) }
+    ensures masters { let Decodes = IsMasterFor F.receiver recording.now in
+        MatchOption result (HasNoMasters Decodes recording.now place)
+        (λ found. AreFirstWith Decodes recording.now place found.frames found.frame found.at) }
     ensures sums { IfSome result (λ found.
         AreSums (sums_by F.receiver recording.now place) found.frames found.frame found.sums) }
 {
@@ -80,9 +80,9 @@ fn first_alone<F: FrameReader>(
     requires whole { (j : ℕ) → j < whole → IsWhole recording.now cell.now.start j }
     requires adds { 1 ≤ F.receiver.most_frames }
     requires none { frames.old.items ≡ [] }
-    ensures found { let Tells = IsMasterFor F.receiver recording.now in
-        MatchOption result (NoneTell Tells cell.now whole 1)
-        (λ found. (found.frames ≡ 1) × AreFirstOf Tells cell.now whole 1 found.frame found.at) }
+    ensures found { let Decodes = IsMasterFor F.receiver recording.now in
+        MatchOption result (NoneDecodes Decodes cell.now whole 1)
+        (λ found. (found.frames ≡ 1) × AreFirstOf Decodes cell.now whole 1 found.frame found.at) }
     ensures sums { IfSome result (λ found.
         AreSums (sums_by F.receiver recording.now cell.now) found.frames found.frame found.sums) }
     ensures received { MatchOption result
@@ -122,10 +122,10 @@ fn first_together<F: FrameReader>(
     requires sizes { All (λ frame. length frame ≡ F.receiver.count) frames.now }
     ensures masters { (recording : List Sample) →
         AreReceived (F.receiver.broadcast recording cell.now) 0 frames.now →
-        let Tells = IsMasterFor F.receiver recording in
-        MatchOption result (NoneTell Tells cell.now (length frames.now) count)
+        let Decodes = IsMasterFor F.receiver recording in
+        MatchOption result (NoneDecodes Decodes cell.now (length frames.now) count)
         (λ found. (found.frames ≡ count)
-        × AreFirstOf Tells cell.now (length frames.now) count found.frame found.at) }
+        × AreFirstOf Decodes cell.now (length frames.now) count found.frame found.at) }
     ensures sums { (recording : List Sample) →
         AreReceived (F.receiver.broadcast recording cell.now) 0 frames.now →
         IfSome result (λ found.
@@ -162,17 +162,17 @@ fn masters_of<F: FrameReader>(
     requires sizes { All (λ frame. length frame ≡ F.receiver.count) frames.now }
     ensures masters { (recording : List Sample) →
         AreReceived (F.receiver.broadcast recording cell.now) frame frames.now →
-        let Tells = IsMasterFor F.receiver recording in
-        MatchOption result (TellNone Tells cell.now (length frames.now) frame)
+        let Decodes = IsMasterFor F.receiver recording in
+        MatchOption result (NoneIsDecoded Decodes cell.now (length frames.now) frame)
         (λ found. (found.frames ≡ length frames.now) × (found.frame ≡ frame)
-        × HaveMasters Tells cell.now (length frames.now) frame found.at) }
+        × HaveMasters Decodes cell.now (length frames.now) frame found.at) }
     ensures sums { (recording : List Sample) →
         AreReceived (F.receiver.broadcast recording cell.now) frame frames.now →
         IfSome result (λ found.
         AreSums (sums_by F.receiver recording cell.now) found.frames found.frame found.sums) }
 {
-    let told = masters(cell.bits(), frames[0].len(), frames, work);
-    let at = taken(reader, &told.at);
+    let decoded = masters(cell.bits(), frames[0].len(), frames, work);
+    let at = taken(reader, &decoded.at);
     if !has_master(&at) {
         return None;
     }
@@ -180,7 +180,7 @@ fn masters_of<F: FrameReader>(
         frames: frames.len() as u8,
         frame,
         at,
-        sums: told.sums,
+        sums: decoded.sums,
     })
 }
 

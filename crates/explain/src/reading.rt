@@ -21,11 +21,11 @@ ghost use Rattle.explain.specs.Receiver.{HasRoom, place_by, sums_by};
 ghost use Rattle.explain.specs.System.{IsSystemFor};
 ghost use Rattle.explain.specs.Grant.{IsGrantFor};
 ghost use Rattle.explain.specs.Entries.{Adds, AddsHit, AreEntriesFor, IsListOfHits, IsListFor};
-ghost use Rattle.explain.specs.Readings.{IsFirstTelling, IsReadingOf, IsReadingFor, AreSums, AddsBeside, KeepsReadings};
+ghost use Rattle.explain.specs.Readings.{IsFirstAt, IsReadingOf, IsReadingFor, AreSums, AddsBeside, KeepsReadings};
 ghost use Rattle.explain.specs.Places.{is_met};
 ghost use Rattle.explain.specs.Masters.{entry_of as entry_of_master, AddsPhase, AddsPhases};
 
-use crate::hit_list::{early_hits, place_told};
+use crate::hit_list::{detected_place, early_hits};
 use crate::masters::{Masters, first_masters};
 use crate::notes::Notes;
 use crate::reading_list::Readings;
@@ -142,7 +142,7 @@ fn add_hit<F: FrameReader>(
     ensures met { is_met notes.old.places (place_by F.receiver.carrier recording.now hit.now) ≡ false →
         notes.new.places ≡ notes.old.places ++ place_by F.receiver.carrier recording.now hit.now ∷ [] }
     ensures readings { (hits : List HitValue) →
-        IsFirstTelling (place_by F.receiver.carrier recording.now) hits
+        IsFirstAt (place_by F.receiver.carrier recording.now) hits
         (place_by F.receiver.carrier recording.now hit.now) hit.now →
         KeepsReadings (IsReadingOf F.receiver recording.now hits)
         list.old list.new notes.old.readings notes.new.readings }
@@ -150,7 +150,7 @@ fn add_hit<F: FrameReader>(
     ensures one_met { length notes.new.places ≤ length notes.old.places + 1 }
     ensures few { length list.new ≤ length list.old + 4 }
 {
-    let place = place_told(recording, hit, reader.scheme().carrier);
+    let place = detected_place(recording, hit, reader.scheme().carrier);
     if notes.places.has(&place) {
         return;
     }
@@ -187,7 +187,7 @@ fn add_masters<F: FrameReader>(
     ensures adds { AddsPhases (IsSystemFor F.receiver recording.now) found.now.place found.now.masters.frames
         found.now.masters.frame found.now.masters.at (5 - found.now.masters.frames) list.old list.new }
     ensures readings { (hits : List HitValue) →
-        IsFirstTelling (place_by F.receiver.carrier recording.now) hits found.now.place found.now.hit →
+        IsFirstAt (place_by F.receiver.carrier recording.now) hits found.now.place found.now.hit →
         KeepsReadings (IsReadingOf F.receiver recording.now hits)
         list.old list.new notes.old.readings notes.new.readings }
     ensures places { notes.new.places ≡ notes.old.places }
@@ -219,7 +219,7 @@ fn add_phase<F: FrameReader>(
         (frames_from found.now.masters.frames found.now.masters.frame phase)
         (master_at found.now.masters.at phase) list.old list.new }
     ensures readings { (hits : List HitValue) →
-        IsFirstTelling (place_by F.receiver.carrier recording.now) hits found.now.place found.now.hit →
+        IsFirstAt (place_by F.receiver.carrier recording.now) hits found.now.place found.now.hit →
         KeepsReadings (IsReadingOf F.receiver recording.now hits)
         list.old list.new notes.old.readings notes.new.readings }
     ensures places { notes.new.places ≡ notes.old.places }

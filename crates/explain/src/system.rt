@@ -36,7 +36,7 @@ pub fn system_in<S: ReadSlot>(
     master: Master,
     work: &mut Decoders,
 ) -> Informed
-    ensures told { IsSystemWith S.carrier (Ok (subframes_by S.carrier S.values_by)) recording.now place sfn
+    ensures decoded { IsSystemWith S.carrier (Ok (subframes_by S.carrier S.values_by)) recording.now place sfn
         master.ports master.mib result.sib1 }
     ensures granted { IsGrantWith (Ok (subframes_by S.carrier S.values_by)) recording.now place sfn master.mib
         result.sib1 result.granted }
@@ -79,21 +79,21 @@ fn read_frames<S: ReadSlot>(
     let count = recording.len();
     let start = place.start();
     prove!(57_600 <= count && start < 19_200);
-    let told = informed_by(attempt_at::<S>(recording, place, first, mib, work));
-    if told.sib1.is_ok() {
-        return told;
+    let decoded = informed_by(attempt_at::<S>(recording, place, first, mib, work));
+    if decoded.sib1.is_ok() {
+        return decoded;
     }
     for i in 1..8 {
         let j = even_frame(sfn, i);
         if !is_whole(recording, place, j) {
-            return told;
+            return decoded;
         }
         let later = informed_by(attempt_at::<S>(recording, place, j, mib, work));
         if later.sib1.is_ok() {
             return later;
         }
     }
-    told
+    decoded
 }
 
 // Returns the answer and the grant of an attempt.

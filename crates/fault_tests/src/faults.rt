@@ -185,9 +185,7 @@ fn each_call_of_lists_by_other_rules_and_words_that_fails_is_a_fault(
 }
 
 #[test]
-fn each_call_of_what_is_told_of_lists_by_other_rules_that_fails_is_a_fault(
-    rt: HostRuntime,
-) -> Result<(), Fail> {
+fn each_failing_call_in_lists_by_other_rules_is_a_fault(rt: HostRuntime) -> Result<(), Fail> {
     fail_each(&rt, rt.alloc(), Program::Receiver, &OF_LISTS_BY_OTHER_RULES)
 }
 
@@ -217,7 +215,7 @@ fn each_call_of_pages_of_the_receiver_that_fails_is_a_fault(rt: HostRuntime) -> 
 }
 
 #[test]
-fn each_call_of_what_is_told_that_fails_is_a_fault(rt: HostRuntime) -> Result<(), Fail> {
+fn each_failing_call_in_a_report_is_a_fault(rt: HostRuntime) -> Result<(), Fail> {
     fail_each(&rt, rt.alloc(), Program::Tuner, &TELLING)
 }
 
@@ -232,7 +230,7 @@ fn each_call_of_pages_of_the_tuner_that_fails_is_a_fault(rt: HostRuntime) -> Res
 }
 
 // Returns whether `search` lists exactly the recording's cell.
-fn tells_the_cell(output: &Output, whole: &Output) -> bool {
+fn states_the_cell(output: &Output, whole: &Output) -> bool {
     output.written.starts_with(b"cells 1\ncell 0 at 0 sfn 0 ")
         && output.is(Status::Done, &whole.written)
 }
@@ -245,7 +243,7 @@ fn reads_of_one_byte_change_nothing(rt: HostRuntime) -> Result<(), Fail> {
     let whole = output_of(alloc, "search", bytes.clone()?)?;
     let mut source = FailSource::new(bytes, Vec::new(alloc), 1);
     let output = output_from(alloc, Program::Receiver, &words, &mut source)?;
-    assert!(rt; tells_the_cell(&output, &whole));
+    assert!(rt; states_the_cell(&output, &whole));
     Ok(())
 }
 

@@ -10,9 +10,9 @@ use Rattle.finite.specs.Tests.{every_below}
 use Rattle.finite.proofs.Tests.{every_below_at}
 use Rattle.finite.proofs.Integers.{abs-sum, abs-difference, product_within}
 use Rattle.cs_num.specs.declared.Cpx.{Cpx}
-use Rattle.cs_num.specs.Complex.{IsWithin, size, nothing, plus, times, conjugate, minus, times_j, times_minus_j}
+use Rattle.cs_num.specs.Complex.{IsWithin, largest_part, nothing, plus, times, conjugate, minus, times_j, times_minus_j}
 use Rattle.cs_num.specs.Sums.{complex_sum_below}
-use Rattle.cs_num.proofs.Complex.{pair, size-le, plus-within, minus-within, times_j-within, within_more}
+use Rattle.cs_num.proofs.Complex.{pair, largest_part-le, plus-within, minus-within, times_j-within, within_more}
 use Rattle.cs_num.proofs.Sums.{complex_sum_below-within}
 use Rattle.fold128.specs.declared.quartet.Quartet.{Quartet}
 use Rattle.fold128.specs.declared.spectrum.Mirror.{Mirror}
@@ -93,27 +93,27 @@ unfolding seen_of_four back_by
 by_three a b c d = pair (omega (arith, ints)) (omega (arith, ints))
 
 -- the sums and differences in the second pair of butterflies fit
-pub sums-small : (n : ℕ) (a b c d : Cpx) → 4 * n < 2 ^ 63 → IsWithin n a → IsWithin n b → IsWithin n c → IsWithin n d → size (plus a c) + size (plus b d) < 2 ^ 63
+pub sums-small : (n : ℕ) (a b c d : Cpx) → 4 * n < 2 ^ 63 → IsWithin n a → IsWithin n b → IsWithin n c → IsWithin n d → largest_part (plus a c) + largest_part (plus b d) < 2 ^ 63
 sums-small n a b c d few ha hb hc hd =
-    let s = size-le _ _ (plus-within a c n n (n + n) ha hc (omega arith)) in
-    let t = size-le _ _ (plus-within b d n n (n + n) hb hd (omega arith)) in
+    let s = largest_part-le _ _ (plus-within a c n n (n + n) ha hc (omega arith)) in
+    let t = largest_part-le _ _ (plus-within b d n n (n + n) hb hd (omega arith)) in
     omega (arith, few, s, t)
 
 back-within : (n : ℕ) (z : Cpx) → IsWithin n z → IsWithin n (times_minus_j z)
 back-within n z p = record { re = p.im; im = omega (arith, ints, p.re) }
 
 pub differences-small : (n : ℕ) (a b c d : Cpx) → 4 * n < 2 ^ 63 → IsWithin n a → IsWithin n b → IsWithin n c → IsWithin n d →
-    size (minus a c) + size (times_minus_j (minus b d)) < 2 ^ 63
+    largest_part (minus a c) + largest_part (times_minus_j (minus b d)) < 2 ^ 63
 differences-small n a b c d few ha hb hc hd =
-    let s = size-le _ _ (minus-within a c n n (n + n) ha hc (omega arith)) in
-    let t = size-le _ _ (back-within (n + n) (minus b d) (minus-within b d n n (n + n) hb hd (omega arith))) in
+    let s = largest_part-le _ _ (minus-within a c n n (n + n) ha hc (omega arith)) in
+    let t = largest_part-le _ _ (back-within (n + n) (minus b d) (minus-within b d n n (n + n) hb hd (omega arith))) in
     omega (arith, few, s, t)
 
 pub forward_differences-small : (n : ℕ) (a b c d : Cpx) → 4 * n < 2 ^ 63 → IsWithin n a → IsWithin n b → IsWithin n c → IsWithin n d →
-    size (minus a c) + size (times_j (minus b d)) < 2 ^ 63
+    largest_part (minus a c) + largest_part (times_j (minus b d)) < 2 ^ 63
 forward_differences-small n a b c d few ha hb hc hd =
-    let s = size-le _ _ (minus-within a c n n (n + n) ha hc (omega arith)) in
-    let t = size-le _ _ (times_j-within (minus b d) (n + n) (minus-within b d n n (n + n) hb hd (omega arith))) in
+    let s = largest_part-le _ _ (minus-within a c n n (n + n) ha hc (omega arith)) in
+    let t = largest_part-le _ _ (times_j-within (minus b d) (n + n) (minus-within b d n n (n + n) hb hd (omega arith))) in
     omega (arith, few, s, t)
 
 -- four butterflies compute a quartet

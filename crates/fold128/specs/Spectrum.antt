@@ -7,6 +7,7 @@ use Rattle.cs_num.specs.Sums.{complex_sum_below}
 use Rattle.finite.specs.Lists.{values_below}
 use Rattle.fold128.specs.Tables.{w_at}
 use Rattle.fold128.specs.Symbol.{frequency}
+use Rattle.lte_types.specs.Numerology.{subcarriers, useful_length}
 
 -- sample n's contribution to subcarrier k
 abbrev pub spectrum_term : (ℕ → Cpx) → ℕ → ℕ → Cpx
@@ -14,8 +15,8 @@ spectrum_term samples k n = times (samples n) (conjugate (w_at (frequency k * n)
 
 -- the DFT at subcarrier k
 unfoldable pub spectrum_at : (ℕ → Cpx) → ℕ → Cpx
-spectrum_at samples k = complex_sum_below 128 (spectrum_term samples k)
+spectrum_at samples k = complex_sum_below useful_length (spectrum_term samples k)
 
 -- the DFT at all subcarriers
 unfoldable pub spectrum : (ℕ → Cpx) → List Cpx
-spectrum samples = values_below 72 (spectrum_at samples)
+spectrum samples = values_below subcarriers (spectrum_at samples)

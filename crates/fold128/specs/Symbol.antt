@@ -6,6 +6,7 @@ use Rattle.cs_num.specs.Rounding.{rounded}
 use Rattle.finite.specs.Lists.{values_below}
 use Rattle.cs_num.specs.Sums.{complex_sum_below}
 use Rattle.fold128.specs.Tables.{w_at}
+use Rattle.lte_types.specs.Numerology.{subcarriers, useful_length}
 
 -- subcarrier k's frequency, from -36 to 36 without 0, modulo 128
 abbrev pub frequency : ℕ → ℕ
@@ -17,8 +18,8 @@ useful_term grid n k = times (grid k) (w_at (frequency k * n))
 
 -- sample n of the useful part: the sum over all subcarriers, scaled by 2^-17 and rounded
 unfoldable pub useful_at : (ℕ → Cpx) → ℕ → Cpx
-useful_at grid n = rounded (complex_sum_below 72 (useful_term grid n)) 17
+useful_at grid n = rounded (complex_sum_below subcarriers (useful_term grid n)) 17
 
 -- the complete useful part
 unfoldable pub useful_part : (ℕ → Cpx) → List Cpx
-useful_part grid = values_below 128 (useful_at grid)
+useful_part grid = values_below useful_length (useful_at grid)

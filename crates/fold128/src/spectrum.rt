@@ -5,11 +5,13 @@ ghost use Rattle.cs_num.specs.Complex.{IsWithin, sample_at};
 ghost use Rattle.cs_num.specs.Sums.{complex_sum_below};
 ghost use Rattle.fold128.specs.Spectrum.{spectrum};
 ghost use Rattle.fold128.specs.Folding.{folded_places, AreWithin, back_by, opposite as opposite_at, mirror_at, mirrors, mirrored, mirrored_term, IsSmallMirror};
+ghost use Rattle.lte_types.specs.Numerology.{useful_length};
 
 use crate::quartet::{Quartet, fold_four};
 use crate::symbol::frequency_of;
 use crate::tables::w;
 use cs_num::{Cpx, Sample};
+use lte_types::{SUBCARRIERS, USEFUL_LENGTH};
 
 // The samples m and 32 - m combined: the factors that multiply W's real and imaginary part.
 #[derive(Clone, Copy)]
@@ -27,7 +29,7 @@ impl Mirror {
 
 /// Computes the unnormalised DFT of a symbol's 128 samples on the 72 subcarriers, without rounding. Components have
 /// magnitude at most 97,182,023,680.
-pub fn transform(samples: &[Sample; 128]) -> [Cpx; 72]
+pub fn transform(samples: &[Sample; USEFUL_LENGTH]) -> [Cpx; SUBCARRIERS]
     ensures value { result ≡ spectrum (sample_at samples.now) }
     ensures small { All (IsWithin 97182023680) result }
 {
@@ -38,8 +40,8 @@ pub fn transform(samples: &[Sample; 128]) -> [Cpx; 72]
         mirrors_of(&folded, 2),
         mirrors_of(&folded, 3),
     ];
-    let mut out = [Cpx::ZERO; 72];
-    for k in 0..72 {
+    let mut out = [Cpx::ZERO; SUBCARRIERS];
+    for k in 0..SUBCARRIERS {
         let frequency = frequency_of(k);
         out[k] = mirrored_sum(&rows[frequency % 4], frequency);
     }
@@ -47,7 +49,7 @@ pub fn transform(samples: &[Sample; 128]) -> [Cpx; 72]
 }
 
 // Folds the samples to 32 quartets.
-fn fold(samples: &[Sample; 128]) -> [Quartet; 32]
+fn fold(samples: &[Sample; USEFUL_LENGTH]) -> [Quartet; 32]
     ensures value { result ≡ folded_places (sample_at samples.now) }
     ensures small { All (AreWithin 131072) result }
 {
@@ -127,7 +129,7 @@ fn mirrors_of(folded: &[Quartet; 32], residue: usize) -> [Mirror; 17]
 // Returns the DFT at `frequency` as a sum of 17 combined terms.
 fn mirrored_sum(row: &[Mirror; 17], frequency: usize) -> Cpx
     requires small { All IsSmallMirror row.now }
-    requires frequency { frequency < 128 }
+    requires frequency { frequency < useful_length }
     ensures { result ≡ complex_sum_below 17 (mirrored_term row.now frequency) }
 {
     let mut sum = Cpx::ZERO;

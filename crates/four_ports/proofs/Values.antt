@@ -2,7 +2,7 @@
 use Rattle.std.proofs.Common.{ℕ, zero, suc, ◌+◌, ◌*◌, ◌%◌, ◌<◌, ◌≤◌, arith, refl}
 use Rattle.cs_num.specs.declared.Cpx.{Cpx}
 use Rattle.cs_num.specs.Complex.{square}
-use Rattle.norms.specs.Sizes.{energy_below, ArePaired}
+use Rattle.norms.specs.Magnitudes.{energy_below, ArePaired}
 use Rattle.soft_bits.specs.Pairs.{over_four}
 use Rattle.budget.proofs.Seen.{four_amplitudes_are_seen_in_recording}
 use Rattle.two_ports.proofs.Energies.{four_squares}

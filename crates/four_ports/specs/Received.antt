@@ -1,7 +1,7 @@
 -- Soft values with four antenna ports: a pair's have the signs of the sent bits if no pair of ports is weak. (own)
 use Rattle.std.specs.Prelude.{ℕ}
 use Rattle.cs_num.specs.declared.Cpx.{Cpx}
-use Rattle.norms.specs.Sizes.{ArePaired}
+use Rattle.norms.specs.Magnitudes.{ArePaired}
 use Rattle.soft_bits.specs.Pairs.{over_four}
 use Rattle.two_ports.specs.Received.{SpeakWith, SpeakReceivedWith}
 

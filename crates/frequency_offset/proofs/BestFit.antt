@@ -4,12 +4,12 @@ use Rattle.std.specs.Prelude.{if◌then◌else◌}
 use Rattle.cs_num.specs.declared.Cpx.{Cpx}
 use Rattle.sss_detect.specs.Identity.{first_greatest}
 use Rattle.sss_detect.proofs.Choices.{first_greatest-le}
-use Rattle.frequency_offset.specs.Order.{by_size}
+use Rattle.frequency_offset.specs.Order.{by_magnitude}
 use Rattle.frequency_offset.specs.Fine.{fit}
 
 -- how well offset k, by magnitude, matches
 abbrev pub fit_at : Cpx → ℕ → ℤ
-fit_at sum k = fit sum (by_size k)
+fit_at sum k = fit sum (by_magnitude k)
 
 pub first_fit : (f : ℕ → ℤ) → 0 ≡ first_greatest f (1 - 1)
 unfolding first_greatest

@@ -6,7 +6,7 @@ use Rattle.std.proofs.lemmas.List.{take_all, take-take, take_min, length-take-le
 use Rattle.cs_num.specs.declared.Sample.{Sample}
 use Rattle.explain.specs.Deciding.{deciding_length}
 use Rattle.explain.proofs.Deciding.{first_frames_decide}
-use Rattle.frequency_offset.specs.Telling.{HasCells}
+use Rattle.frequency_offset.specs.Estimation.{HasCells}
 
 -- the samples computed for the front are the recording's front
 pub front_made : {E : Type 0} (x : List Sample) (count most : ℕ) (made : Result (List Sample) E) → count ≡ min most (length x) → IfOk made (λ front. length front ≡ count) →

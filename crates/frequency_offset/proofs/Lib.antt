@@ -1,12 +1,12 @@
-pub mod BySize
+pub mod ByMagnitude
 pub mod TurnedSamples
 pub mod HitSizes
 pub mod OneCandidate
 pub mod Greatest
 pub mod Takes
 pub mod BestFit
-pub mod ToldSoFar
+pub mod EstimatedSoFar
 pub mod Fronts
-pub mod OneTold
+pub mod OneEstimate
 pub mod Ranges
 pub mod AtZero

@@ -35,9 +35,9 @@ one_candidate recording k old new o before e now =
     ∙ sym (joined_below_more k (λ i. option_to_list (candidate_at recording i)))
 
 -- recordings with equal samples in the PSS search have equal hits
-pub hits_told : (x front : List Sample) (list slice : List Hit) → take 19473 front ≡ take 19473 x → list ≡ hits_of front → slice ≡ list → slice ≡ hits_of x
-hits_told x front list slice f l s = s ∙ l ∙ hits_agree 19473 front x f (omega arith)
+pub hits_counted : (x front : List Sample) (list slice : List Hit) → take 19473 front ≡ take 19473 x → list ≡ hits_of front → slice ≡ list → slice ≡ hits_of x
+hits_counted x front list slice f l s = s ∙ l ∙ hits_agree 19473 front x f (omega arith)
 
 -- the hits' fractions have bounded numbers
-pub small_told : (recording x : List Sample) (m : ℤ) (hits : List Hit) → x ≡ turned recording m → hits ≡ hits_of x → All IsSmallHit hits
-small_told recording x m hits e h = subst (λ (xs : List Hit). All IsSmallHit xs) (sym (h ∙ ap hits_of e)) (hits_are_small recording m)
+pub small_estimate : (recording x : List Sample) (m : ℤ) (hits : List Hit) → x ≡ turned recording m → hits ≡ hits_of x → All IsSmallHit hits
+small_estimate recording x m hits e h = subst (λ (xs : List Hit). All IsSmallHit xs) (sym (h ∙ ap hits_of e)) (hits_are_small recording m)

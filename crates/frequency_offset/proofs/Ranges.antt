@@ -13,16 +13,16 @@ use Rattle.pss_search.specs.Hits.{hits_of}
 use Rattle.sss_detect.specs.Identity.{first_greatest}
 use Rattle.sss_detect.proofs.Choices.{first_greatest-le}
 use Rattle.frequency_offset.specs.declared.candidate.Candidate.{Candidate}
-use Rattle.frequency_offset.specs.declared.telling.Told.{Told}
+use Rattle.frequency_offset.specs.declared.estimation.OffsetEstimate.{OffsetEstimate}
 use Rattle.frequency_offset.specs.Turned.{turned}
-use Rattle.frequency_offset.specs.Order.{by_size}
+use Rattle.frequency_offset.specs.Order.{by_magnitude}
 use Rattle.frequency_offset.specs.Fine.{fit, best_fit, prefix_sum, fine_turn}
 use Rattle.frequency_offset.specs.Fractions.{fraction_of, greatest, IsSmall}
 use Rattle.frequency_offset.specs.Candidates.{candidate_by, candidate_at, coarse_turn, candidates_below, candidates_of, taken_of}
-use Rattle.frequency_offset.specs.Telling.{IsFirstHeard, IsFirstSilent}
+use Rattle.frequency_offset.specs.Estimation.{IsFirstWithCells, IsFirstWithoutCells}
 use Rattle.frequency_offset.specs.Laws.{TurnIsInRange}
 use Rattle.frequency_offset.specs.Steps.{IsSmallHit, IsSmallCandidate}
-use Rattle.frequency_offset.proofs.BySize.{by_size_between}
+use Rattle.frequency_offset.proofs.ByMagnitude.{by_magnitude_between}
 use Rattle.frequency_offset.proofs.HitSizes.{hits_are_small}
 use Rattle.frequency_offset.proofs.Greatest.{greatest_has}
 use Rattle.frequency_offset.proofs.Takes.{taken_has}
@@ -42,16 +42,16 @@ coarse_and_fine coarse fine a b c d = record { least = omega (arith, ints); most
 fine_between : (sum : Cpx) → (up (best_fit sum) ≤ 63) × (down (best_fit sum) ≤ 64)
 unfolding best_fit
 fine_between sum =
-    let k = first_greatest (λ k. fit sum (by_size k)) 127 in
-    let l : k ≤ 127 = first_greatest-le (λ k. fit sum (by_size k)) 127 in
-    let b = by_size_between k in
+    let k = first_greatest (λ k. fit sum (by_magnitude k)) 127 in
+    let l : k ≤ 127 = first_greatest-le (λ k. fit sum (by_magnitude k)) 127 in
+    let b = by_magnitude_between k in
     (omega (arith, l, b.0), omega (arith, l, b.1))
 
 in_turns : (recording : List Sample) (k : ℕ) (best : Hit) → k < 33 → IsInTurns (coarse_turn k +ℤ fine_turn (turned recording (coarse_turn k)) best.t)
 in_turns recording k best l =
-    let b = by_size_between k in
+    let b = by_magnitude_between k in
     let f = fine_between (prefix_sum (turned recording (coarse_turn k)) best.t) in
-    coarse_and_fine (by_size k) (fine_turn (turned recording (coarse_turn k)) best.t) (omega (arith, l, b.0)) (omega (arith, l, b.1)) f.0 f.1
+    coarse_and_fine (by_magnitude k) (fine_turn (turned recording (coarse_turn k)) best.t) (omega (arith, l, b.0)) (omega (arith, l, b.1)) f.0 f.1
 
 one_alone : (candidate : Candidate) → IsGood candidate → All IsGood (candidate ∷ [])
 one_alone candidate h zero d inside = h
@@ -85,12 +85,12 @@ candidates_are_small recording k d inside =
 taken_are_good : (recording : List Sample) → All IsGood (taken_of recording)
 taken_are_good recording = taken_has IsGood 4 (candidates_of recording) (all_below recording 33 (omega arith))
 
-abbrev nothing_told : Candidate
-nothing_told = record { coarse = pos 0; turn = pos 0; hits = 0; fraction = record { peak = 0; energy = 0; power = 0 } }
+abbrev nothing_estimated : Candidate
+nothing_estimated = record { coarse = pos 0; turn = pos 0; hits = 0; fraction = record { peak = 0; energy = 0; power = 0 } }
 
-range_of : (recording : List Sample) (told : Told) → IsFirstHeard recording (taken_of recording) told ⊎ IsFirstSilent recording (taken_of recording) told → IsInTurns told.turn
-range_of recording told (inl p) = subst IsInTurns (sym (p.tells nothing_told).turn) (taken_are_good recording p.place nothing_told p.inside).turn
-range_of recording told (inr p) = subst IsInTurns (sym (p.tells nothing_told).turn) (taken_are_good recording 0 nothing_told p.inside).turn
+range_of : (recording : List Sample) (estimate : OffsetEstimate) → IsFirstWithCells recording (taken_of recording) estimate ⊎ IsFirstWithoutCells recording (taken_of recording) estimate → IsInTurns estimate.turn
+range_of recording estimate (inl p) = subst IsInTurns (sym (p.estimates nothing_estimated).turn) (taken_are_good recording p.place nothing_estimated p.inside).turn
+range_of recording estimate (inr p) = subst IsInTurns (sym (p.estimates nothing_estimated).turn) (taken_are_good recording 0 nothing_estimated p.inside).turn
 
 pub turn_is_in_range : TurnIsInRange
-turn_is_in_range recording told is = let r = range_of recording told is in record { least = r.least; most = r.most }
+turn_is_in_range recording estimate is = let r = range_of recording estimate is in record { least = r.least; most = r.most }

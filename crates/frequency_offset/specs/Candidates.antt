@@ -8,18 +8,18 @@ use Rattle.lte_types.specs.declared.hit.Hit.{Hit}
 use Rattle.pss_search.specs.Hits.{hits_of}
 use Rattle.frequency_offset.specs.declared.candidate.Candidate.{Candidate}
 use Rattle.frequency_offset.specs.Turned.{turned}
-use Rattle.frequency_offset.specs.Order.{by_size}
+use Rattle.frequency_offset.specs.Order.{by_magnitude}
 use Rattle.frequency_offset.specs.Fine.{fine_turn}
 use Rattle.frequency_offset.specs.Fractions.{fraction_of, greatest}
 
 -- coarse offset k in steps of 117.1875 Hz: multiples of 3.75 kHz, by magnitude
 abbrev pub coarse_turn : ℕ → ℤ
-coarse_turn k = pos 32 *ℤ by_size k
+coarse_turn k = pos 32 *ℤ by_magnitude k
 
 -- the candidate from the best hit in a recording corrected by coarse offset k
 abbrev pub candidate_by : List Sample → ℕ → Hit → Candidate
 candidate_by turned k best = record {
-  coarse = by_size k;
+  coarse = by_magnitude k;
   turn = coarse_turn k +ℤ fine_turn turned best.t;
   hits = length (hits_of turned);
   fraction = fraction_of best;

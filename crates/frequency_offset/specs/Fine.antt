@@ -5,11 +5,11 @@ use Rattle.cs_num.specs.declared.Cpx.{Cpx}
 use Rattle.cs_num.specs.declared.Sample.{Sample}
 use Rattle.cs_num.specs.Complex.{nothing, times, conjugate, sample_at}
 use Rattle.cs_num.specs.Sums.{complex_sum_below}
-use Rattle.lte_types.specs.Numerology.{half_frame_length, normal, useful_start, primary_start}
+use Rattle.lte_types.specs.Numerology.{half_frame_length, normal, useful_start, primary_start, useful_length}
 use Rattle.lte_types.specs.declared.frame.Half.TheVariants.{Zero}
 use Rattle.sss_detect.specs.Identity.{first_greatest}
 use Rattle.frequency_offset.specs.Turned.{w_of}
-use Rattle.frequency_offset.specs.Order.{by_size}
+use Rattle.frequency_offset.specs.Order.{by_magnitude}
 
 -- the start of the first half frame in the recording, from a PSS position: (t - 832) modulo 9600
 abbrev pub half_start : ℕ → ℕ
@@ -32,7 +32,7 @@ repeat_sum recording u = complex_sum_below 9 (repeat_term recording u)
 -- the sum for a symbol, if every cell transmits in it and it lies in the recording
 unfoldable pub symbol_sum : List Sample → ℕ → ℕ → ℕ → Cpx
 symbol_sum recording start slot symbol =
-    if is_carried slot symbol && nat_le (useful_start normal start slot symbol + 128) (length recording)
+    if is_carried slot symbol && nat_le (useful_start normal start slot symbol + useful_length) (length recording)
     then repeat_sum recording (useful_start normal start slot symbol) else nothing
 
 -- the sum over the symbols in a slot
@@ -49,7 +49,7 @@ fit sum m = (times sum (conjugate (w_of m))).re
 
 -- the offset from -64 to 63 that matches best; on a tie, the one with the smallest magnitude, then the lower
 unfoldable pub best_fit : Cpx → ℤ
-best_fit sum = by_size (first_greatest (λ k. fit sum (by_size k)) 127)
+best_fit sum = by_magnitude (first_greatest (λ k. fit sum (by_magnitude k)) 127)
 
 -- the fine offset, by the PSS at sample t
 abbrev pub fine_turn : List Sample → ℕ → ℤ

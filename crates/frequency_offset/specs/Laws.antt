@@ -4,9 +4,9 @@ use Rattle.std.specs.Int.{w16}
 use Rattle.cs_num.specs.declared.Sample.{Sample}
 use Rattle.cs_num.specs.Complex.{nothing}
 use Rattle.sample_file.specs.Recording.{IsRecording}
-use Rattle.frequency_offset.specs.declared.telling.Told.{Told}
+use Rattle.frequency_offset.specs.declared.estimation.OffsetEstimate.{OffsetEstimate}
 use Rattle.frequency_offset.specs.Turned.{mean, turned}
-use Rattle.frequency_offset.specs.Telling.{HasCells, IsTold, IsApplied}
+use Rattle.frequency_offset.specs.Estimation.{HasCells, IsEstimated, IsApplied}
 
 -- each component of a sample has 16 bits
 pub record Has16Bits (sample : Sample) : Type 0 where
@@ -20,9 +20,9 @@ StaysAtZero =
     turned recording (pos 0) ≡ recording
 
 -- a recording has only one estimate
-abbrev pub IsOneTold : Type 0
-IsOneTold =
-    (recording : List Sample) (first second : Option Told) → IsTold recording first → IsTold recording second →
+abbrev pub HasOneEstimate : Type 0
+HasOneEstimate =
+    (recording : List Sample) (first second : Option OffsetEstimate) → IsEstimated recording first → IsEstimated recording second →
     first ≡ second
 
 -- a recording is corrected by its estimate in only one way
@@ -31,18 +31,18 @@ IsOneApplied =
     (recording first second : List Sample) → IsApplied recording first → IsApplied recording second → first ≡ second
 
 -- if there is an estimate, the corrected recording has as many cells as it states
-abbrev pub ToldCellsAreThere : Type 0
-ToldCellsAreThere =
-    (recording applied : List Sample) (told : Told) → IsTold recording (Some told) → IsApplied recording applied →
-    HasCells applied told.cells
+abbrev pub ReportedCellsAreListed : Type 0
+ReportedCellsAreListed =
+    (recording applied : List Sample) (estimate : OffsetEstimate) → IsEstimated recording (Some estimate) → IsApplied recording applied →
+    HasCells applied estimate.cells
 
 -- the estimate lies within 67.5 kHz
-pub record IsTurnInRange (told : Told) : Type 0 where
-  pub least : negsuc 575 ≤ℤ told.turn
-  pub most : told.turn ≤ℤ pos 575
+pub record IsTurnInRange (estimate : OffsetEstimate) : Type 0 where
+  pub least : negsuc 575 ≤ℤ estimate.turn
+  pub most : estimate.turn ≤ℤ pos 575
 
 abbrev pub TurnIsInRange : Type 0
-TurnIsInRange = (recording : List Sample) (told : Told) → IsTold recording (Some told) → IsTurnInRange told
+TurnIsInRange = (recording : List Sample) (estimate : OffsetEstimate) → IsEstimated recording (Some estimate) → IsTurnInRange estimate
 
 -- a corrected recording is a recording
 abbrev pub TurnedIsRecording : Type 0

@@ -3,6 +3,6 @@ pub mod Order
 pub mod Fine
 pub mod Fractions
 pub mod Candidates
-pub mod Telling
+pub mod Estimation
 pub mod Laws
 pub mod Steps

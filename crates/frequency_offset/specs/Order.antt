@@ -2,5 +2,5 @@
 use Rattle.std.specs.Prelude.{ℕ, ◌/◌, ◌%◌, nat_eq, if◌then◌else◌, ℤ, pos, negsuc}
 
 -- the integers by magnitude, negative first: 0, -1, 1, -2, 2, ..
-unfoldable pub by_size : ℕ → ℤ
-by_size k = if nat_eq (k % 2) 0 then pos (k / 2) else negsuc (k / 2)
+unfoldable pub by_magnitude : ℕ → ℤ
+by_magnitude k = if nat_eq (k % 2) 0 then pos (k / 2) else negsuc (k / 2)

@@ -11,7 +11,7 @@ use crate::at_turn::Turned;
 use crate::centred::Centred;
 use crate::fine::fine_turn;
 use crate::fraction::{Fraction, best_hit, fraction_of};
-use crate::order::by_size;
+use crate::order::by_magnitude;
 use lte_types::Hit;
 use pss_search::{HitList, hits};
 use std::alloc::{AllocError, Global};
@@ -69,7 +69,7 @@ fn coarse_turn(k: usize) -> i16
     ensures value { result ≡ coarse_turn_of k }
     ensures small { nat_abs result ≤ 512 }
 {
-    32 * by_size(k)
+    32 * by_magnitude(k)
 }
 
 // Returns the candidate at coarse offset `k`, if the corrected recording has a hit.
@@ -101,7 +101,7 @@ fn candidate_by(turned: &Turned, k: usize, hits: usize, best: &Hit) -> Candidate
     ensures { result ≡ candidate_by_hit turned.now k best.now }
 {
     Candidate {
-        coarse: by_size(k),
+        coarse: by_magnitude(k),
         turn: coarse_turn(k) + fine_turn(turned, best.t as usize),
         hits,
         fraction: fraction_of(best),

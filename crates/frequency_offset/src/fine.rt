@@ -3,18 +3,18 @@
 ghost use Rattle.std.specs.Prelude.{◌≡◌, ◌+◌, ◌-◌, ◌*◌, ◌^◌, ◌<◌, ◌≤◌, length, nat_abs, int_lt, nat_le};
 ghost use Rattle.std.specs.Prelude.{◌&&◌, if◌then◌else◌};
 ghost use Rattle.cs_num.specs.Complex.{IsWithin};
-ghost use Rattle.lte_types.specs.Numerology.{half_frame_length};
-ghost use Rattle.frequency_offset.specs.Order.{by_size as by_size_of};
+ghost use Rattle.lte_types.specs.Numerology.{half_frame_length, useful_length};
+ghost use Rattle.frequency_offset.specs.Order.{by_magnitude as by_magnitude_of};
 ghost use Rattle.frequency_offset.specs.Fine.{half_start as half_start_of, is_carried as is_carried_at};
 ghost use Rattle.frequency_offset.specs.Fine.{repeat_term as repeat_term_at, repeat_sum as repeat_sum_at};
 ghost use Rattle.frequency_offset.specs.Fine.{symbol_sum as symbol_sum_at, slot_sum as slot_sum_at, prefix_sum as prefix_sum_of};
 ghost use Rattle.frequency_offset.specs.Fine.{fit as fit_of, best_fit as best_fit_of, fine_turn as fine_turn_of};
 
 use crate::at_turn::Turned;
-use crate::order::by_size;
+use crate::order::by_magnitude;
 use crate::table::w_at;
 use cs_num::Cpx;
-use lte_types::{HALF_FRAME_LENGTH, Half, Prefix};
+use lte_types::{HALF_FRAME_LENGTH, Half, Prefix, USEFUL_LENGTH};
 
 // Returns the fine offset, -64 to 63, by the PSS at sample `t` of a corrected recording.
 pub(crate) fn fine_turn(turned: &Turned, t: usize) -> i16
@@ -35,18 +35,18 @@ fn best_fit(sum: Cpx) -> i16
     for k in 1..128 {
         best = better_fit(sum, best, k);
     }
-    by_size(best)
+    by_magnitude(best)
 }
 
 // Returns the index of the offset that matches better; on a tie, the first.
 fn better_fit(sum: Cpx, first: usize, second: usize) -> usize
     requires sum { IsWithin (2 ^ 46) sum }
-    requires first { first < 128 }
-    requires second { second < 128 }
-    ensures { result ≡ (if int_lt (fit_of sum (by_size_of first)) (fit_of sum (by_size_of second))
+    requires first { first < useful_length }
+    requires second { second < useful_length }
+    ensures { result ≡ (if int_lt (fit_of sum (by_magnitude_of first)) (fit_of sum (by_magnitude_of second))
         then second else first) }
 {
-    if fit(sum, by_size(first)) < fit(sum, by_size(second)) {
+    if fit(sum, by_magnitude(first)) < fit(sum, by_magnitude(second)) {
         second
     } else {
         first
@@ -126,16 +126,16 @@ fn symbol_sum(turned: &Turned, start: usize, slot: usize, symbol: usize) -> Cpx
 // recording.
 fn counts(turned: &Turned, u: usize, slot: usize, symbol: usize) -> bool
     requires { u < 170000 }
-    ensures { result ≡ (is_carried_at slot symbol && nat_le (u + 128) (length turned.now)) }
+    ensures { result ≡ (is_carried_at slot symbol && nat_le (u + useful_length) (length turned.now)) }
 {
-    is_carried(slot, symbol) && u + 128 <= turned.len()
+    is_carried(slot, symbol) && u + USEFUL_LENGTH <= turned.len()
 }
 
 // Returns the sum for the last nine samples in the cyclic prefix before `u`.
 fn repeat_sum(turned: &Turned, u: usize) -> Cpx
     requires first { 9 ≤ u }
     requires few { u < 170000 }
-    requires last { u + 128 ≤ length turned.now }
+    requires last { u + useful_length ≤ length turned.now }
     ensures value { result ≡ repeat_sum_at turned.now u }
     ensures small { IsWithin (9 * 2 ^ 31) result }
 {
@@ -150,7 +150,7 @@ fn repeat_sum(turned: &Turned, u: usize) -> Cpx
 fn repeat_term(turned: &Turned, u: usize, i: usize) -> Cpx
     requires first { 9 ≤ u }
     requires few { u < 170000 }
-    requires last { u + 128 ≤ length turned.now }
+    requires last { u + useful_length ≤ length turned.now }
     requires i { i < 9 }
     ensures value { result ≡ repeat_term_at turned.now u i }
     ensures small { IsWithin (2 ^ 31) result }

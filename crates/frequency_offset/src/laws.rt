@@ -1,7 +1,7 @@
 //! Laws of offset correction and estimation.
 
-ghost use Rattle.frequency_offset.specs.Laws.{StaysAtZero, TurnedIsRecording, IsOneTold, IsOneApplied};
-ghost use Rattle.frequency_offset.specs.Laws.{ToldCellsAreThere, TurnIsInRange};
+ghost use Rattle.frequency_offset.specs.Laws.{StaysAtZero, TurnedIsRecording, HasOneEstimate, IsOneApplied};
+ghost use Rattle.frequency_offset.specs.Laws.{ReportedCellsAreListed, TurnIsInRange};
 
 /// A law: correction by 0 leaves a recording with mean 0 unchanged, and a corrected recording is a recording. (own)
 pub fn turned_recordings()
@@ -11,9 +11,9 @@ pub fn turned_recordings()
 
 /// A law: a recording has at most one estimate, from -576 to 575, and one correction by it. If there is an estimate,
 /// the corrected recording has the estimated number of cells. (own)
-pub fn the_turn_told()
-    ensures one { IsOneTold }
+pub fn the_turn_estimated()
+    ensures one { HasOneEstimate }
     ensures applied { IsOneApplied }
     ensures range { TurnIsInRange }
-    ensures cells { ToldCellsAreThere }
+    ensures cells { ReportedCellsAreListed }
 {}

@@ -6,21 +6,21 @@
 //! one among those more than 64 steps from it, and so on. The first that gives cells is the estimate; if none does,
 //! the first one is.
 //!
-//! Tests: the crate `list_tests`, in `told.rt` and `turned.rt`.
+//! Tests: the crate `list_tests`, in `estimate.rt` and `turned.rt`.
 #![tactic(auto)]
 
 mod at_turn;
 mod candidate;
 mod centred;
+mod estimation;
 mod fine;
 mod fraction;
 mod laws;
 mod order;
 mod table;
 mod taking;
-mod telling;
 
 pub use candidate::Candidate;
+pub use estimation::{Estimation, OffsetEstimate, applied, tell, tell_with_candidates, turned};
 pub use fraction::Fraction;
-pub use laws::{the_turn_told, turned_recordings};
-pub use telling::{Telling, Told, applied, tell, tell_with_candidates, turned};
+pub use laws::{the_turn_estimated, turned_recordings};

@@ -1,12 +1,12 @@
 //! The order in which offsets are tried.
 
 ghost use Rattle.std.specs.Prelude.{◌≡◌, ◌<◌, ◌≤◌, ◌+◌, ◌*◌, nat_abs};
-ghost use Rattle.frequency_offset.specs.Order.{by_size as by_size_of};
+ghost use Rattle.frequency_offset.specs.Order.{by_magnitude as by_magnitude_of};
 
 // Returns number `k` in the order 0, -1, 1, -2, 2, ..
-pub(crate) fn by_size(k: usize) -> i16
+pub(crate) fn by_magnitude(k: usize) -> i16
     requires { k < 128 }
-    ensures value { result ≡ by_size_of k }
+    ensures value { result ≡ by_magnitude_of k }
     ensures small { nat_abs result ≤ 64 }
     ensures early { k < 33 → nat_abs result ≤ 16 }
 {

@@ -7,7 +7,7 @@ use Rattle.std.proofs.lemmas.Map.Views.{Contains-from_any}
 -- an equality test finds exactly the members
 pub members_by : {A : Type 0} (same : A → A → Bool) → ((x y : A) → same x y ≡ true → x ≡ y) → ((x : A) → same x x ≡ true) →
     (items : List A) (is : A → Bool) → ((x : A) → list_any (same x) items ≡ is x) → (x : A) → Contains items x ↔ (is x ≡ true)
-members_by same sound itself items is told x = (
-  λ (k, inside, here). sym (told x) ∙ list_any_at (same x) items k x inside (ap (same x) here ∙ itself x),
-  λ yes. Contains-from_any sound x items (told x ∙ yes),
+members_by same sound itself items is decoded x = (
+  λ (k, inside, here). sym (decoded x) ∙ list_any_at (same x) items k x inside (ap (same x) here ∙ itself x),
+  λ yes. Contains-from_any sound x items (decoded x ∙ yes),
 )

@@ -3,6 +3,7 @@
 use Rattle.std.specs.Prelude.{ℕ, ◌%◌, Bool, not, ◌&&◌, nat_eq, nat_lt, nat_le, List, filter, slice_index_or}
 use Rattle.grid_map.specs.declared.Place.{Place}
 use Rattle.grid_map.specs.Place.{place, places_of, index_in}
+use Rattle.lte_types.specs.Numerology.{subcarriers}
 
 -- whether a resource element is reserved for reference signals: every third subcarrier in symbols 7 and 8, from the
 -- identity modulo 3
@@ -24,7 +25,7 @@ pbch_place identity i = slice_index_or (pbch_places identity) i (place 0 0)
 -- whether a resource element is in symbols 7 to 10 and not reserved
 abbrev pub is_free : ℕ → Place → Bool
 is_free shift p =
-    nat_le 7 p.symbol && nat_lt p.symbol 11 && nat_lt p.k 72 && not (is_reserved shift p)
+    nat_le 7 p.symbol && nat_lt p.symbol 11 && nat_lt p.k subcarriers && not (is_reserved shift p)
 
 -- whether a resource element belongs to the PBCH
 unfoldable pub is_pbch : ℕ → Place → Bool

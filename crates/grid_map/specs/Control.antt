@@ -11,6 +11,7 @@ use Rattle.lte_types.specs.declared.resource.Resource.TheVariants.{OneSixth, Hal
 use Rattle.grid_map.specs.declared.Reg.{Reg}
 use Rattle.grid_map.specs.declared.Place.{Place}
 use Rattle.grid_map.specs.Group.{group, is_group, same_group, symbol_groups, group_places}
+use Rattle.lte_types.specs.Numerology.{subcarriers}
 
 -- whether a group is in the list
 abbrev pub is_group_in : List Reg → Reg → Bool
@@ -22,7 +23,7 @@ without taken groups = filter (λ g. not (is_group_in taken g)) groups
 
 -- PCFICH group i
 abbrev pub pcfich_group : ℕ → ℕ → Reg
-pcfich_group identity i = group 0 ((6 * (identity % 12) + 18 * i) % 72)
+pcfich_group identity i = group 0 ((6 * (identity % 12) + 18 * i) % subcarriers)
 
 -- the four PCFICH groups
 unfoldable pub pcfich_groups : ℕ → List Reg

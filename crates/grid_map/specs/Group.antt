@@ -5,6 +5,7 @@ use Rattle.finite.specs.Lists.{values_below}
 use Rattle.grid_map.specs.declared.Place.{Place}
 use Rattle.grid_map.specs.declared.Reg.{Reg}
 use Rattle.grid_map.specs.Place.{place}
+use Rattle.lte_types.specs.Numerology.{subcarriers}
 
 abbrev pub group : ℕ → ℕ → Reg
 group symbol first = record { symbol = symbol; first = first }
@@ -16,14 +17,14 @@ span symbol = if nat_eq symbol 0 then 6 else 4
 
 -- whether a group is valid: it begins at a multiple of its span
 abbrev pub is_group : Reg → Bool
-is_group g = nat_lt g.symbol 4 && nat_lt g.first 72 && nat_eq (g.first % span g.symbol) 0
+is_group g = nat_lt g.symbol 4 && nat_lt g.first subcarriers && nat_eq (g.first % span g.symbol) 0
 
 abbrev pub same_group : Reg → Reg → Bool
 same_group g h = nat_eq g.symbol h.symbol && nat_eq g.first h.first
 
 -- the groups in a symbol, by subcarrier
 unfoldable pub symbol_groups : ℕ → List Reg
-symbol_groups symbol = values_below (72 / span symbol) (λ n. group symbol (span symbol * n))
+symbol_groups symbol = values_below (subcarriers / span symbol) (λ n. group symbol (span symbol * n))
 
 -- whether a resource element is reserved for reference signals: every third subcarrier in symbol 0, from the identity
 -- modulo 3

@@ -2,13 +2,14 @@
 use Rattle.std.specs.Prelude.{ℕ, ◌+◌, ◌*◌, Bool, ◌&&◌, nat_eq, nat_lt, if◌then◌else◌, List, map}
 use Rattle.std.specs.List.{range_with_len, flat_map, position_or_len}
 use Rattle.grid_map.specs.declared.Place.{Place}
+use Rattle.lte_types.specs.Numerology.{subcarriers}
 
 abbrev pub place : ℕ → ℕ → Place
 place symbol k = record { symbol = symbol; k = k }
 
 -- all resource elements in a symbol, by subcarrier
 abbrev pub symbol_places : ℕ → List Place
-symbol_places symbol = map (place symbol) (range_with_len 0 72)
+symbol_places symbol = map (place symbol) (range_with_len 0 subcarriers)
 
 -- all resource elements in `count` symbols from `first`, by symbol and subcarrier
 unfoldable pub places_of : ℕ → ℕ → List Place
@@ -16,11 +17,11 @@ places_of first count = flat_map symbol_places (range_with_len first count)
 
 -- whether a resource element is in the subframe
 abbrev pub is_in_grid : Place → Bool
-is_in_grid p = nat_lt p.symbol 14 && nat_lt p.k 72
+is_in_grid p = nat_lt p.symbol 14 && nat_lt p.k subcarriers
 
 -- a resource element's number, by symbol and subcarrier
 abbrev pub place_number : Place → ℕ
-place_number p = 72 * p.symbol + p.k
+place_number p = subcarriers * p.symbol + p.k
 
 abbrev pub same_place : Place → Place → Bool
 same_place p q = nat_eq p.symbol q.symbol && nat_eq p.k q.k

@@ -6,6 +6,7 @@ ghost use Rattle.grid_map.specs.Place.{place_number};
 ghost use Rattle.grid_map.specs.Broadcast.{pbch_places, pbch_place, is_pbch, pbch_index};
 ghost use Rattle.grid_map.specs.Order.{AreInOrder};
 ghost use Rattle.grid_map.specs.Laws.{IsIndexed};
+ghost use Rattle.lte_types.specs.Numerology.{subcarriers};
 
 use crate::{Place, skipping};
 use lte_types::CellId;
@@ -19,7 +20,7 @@ pub fn pbch(id: CellId, i: usize) -> Place
     ensures place { result ≡ pbch_place id i }
     ensures carries { IsTrue (is_pbch id result) }
     ensures symbol { (7 ≤ result.symbol) × (result.symbol ≤ 10) }
-    ensures k { result.k < 72 }
+    ensures k { result.k < subcarriers }
 {
     if i < 96 {
         let n = i % 48;
@@ -40,7 +41,7 @@ pub fn pbch(id: CellId, i: usize) -> Place
 /// Returns all 240 PBCH resource elements, in order.
 pub fn pbch_places(id: CellId) -> [Place; 240]
     ensures places { result ≡ pbch_places id }
-    ensures inside { All (λ p. (p.symbol < 14) × (p.k < 72)) result }
+    ensures inside { All (λ p. (p.symbol < 14) × (p.k < subcarriers)) result }
 {
     let mut places = [Place { symbol: 0, k: 0 }; 240];
     for i in 0..240 {

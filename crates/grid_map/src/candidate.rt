@@ -6,6 +6,7 @@ ghost use Rattle.grid_map.specs.Place.{place};
 ghost use Rattle.grid_map.specs.Group.{group, group_places, is_group};
 ghost use Rattle.grid_map.specs.Control.{quadruplet_at};
 ghost use Rattle.grid_map.specs.Candidate.{group_of_quadruplet, candidate_places};
+ghost use Rattle.lte_types.specs.Numerology.{subcarriers};
 
 use crate::{Place, Reg, quadruplet, reg_places};
 use lte_types::CellId;
@@ -45,7 +46,7 @@ fn place_of(id: CellId, groups: &[Reg], number: u8, j: usize) -> Place
     ensures place { result ≡
         slice_index_or (group_places id (slice_index_or groups.now number (group 0 0))) j (place 0 0) }
     ensures symbol { result.symbol < 14 }
-    ensures k { result.k < 72 }
+    ensures k { result.k < subcarriers }
 {
     reg_places(id, groups[number as usize])[j]
 }
@@ -57,7 +58,7 @@ pub fn candidate_places(id: CellId, groups: &[Reg]) -> [Place; 144]
     requires enough { 36 ≤ length groups.now }
     requires inside { All (λ g. IsTrue (is_group g)) groups.now }
     ensures places { result ≡ candidate_places id groups.now }
-    ensures inside { All (λ p. (p.symbol < 14) × (p.k < 72)) result }
+    ensures inside { All (λ p. (p.symbol < 14) × (p.k < subcarriers)) result }
 {
     let order = groups_of(id, groups.len() as u8);
     let mut places = [Place { symbol: 0, k: 0 }; 144];

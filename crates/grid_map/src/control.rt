@@ -11,6 +11,7 @@ ghost use Rattle.grid_map.specs.Group.{group, is_group};
 ghost use Rattle.grid_map.specs.Control.{is_group_in, pcfich_group, pcfich_groups, pcfich_places, left_groups, phich_count, phich_symbol, phich_group, phich_group_in, phich_groups};
 ghost use Rattle.grid_map.specs.Control.{is_in_region, group_number, numbered, pdcch_groups, group_count, element_count};
 ghost use Rattle.grid_map.specs.Order.{AreInOrder};
+ghost use Rattle.lte_types.specs.Numerology.{subcarriers};
 
 use crate::{Place, Reg, reg_places, skipping};
 use arrayvec::ArrayVec;
@@ -47,7 +48,7 @@ fn pcfich_point(id: CellId, groups: &[Reg; 4], i: usize) -> Place
     requires i { i < 16 }
     ensures place { result ≡ slice_index_or (pcfich_places id) i (place 0 0) }
     ensures symbol { result.symbol ≡ 0 }
-    ensures k { result.k < 72 }
+    ensures k { result.k < subcarriers }
 {
     reg_places(id, groups[i / 4])[i % 4]
 }
@@ -55,7 +56,7 @@ fn pcfich_point(id: CellId, groups: &[Reg; 4], i: usize) -> Place
 /// Returns the sixteen PCFICH resource elements, group after group (TS 36.211 section 6.7.4).
 pub fn pcfich_places(id: CellId) -> [Place; 16]
     ensures places { result ≡ pcfich_places id }
-    ensures inside { All (λ p. (p.symbol < 14) × (p.k < 72)) result }
+    ensures inside { All (λ p. (p.symbol < 14) × (p.k < subcarriers)) result }
 {
     let groups = pcfich(id);
     let mut places = [Place { symbol: 0, k: 0 }; 16];

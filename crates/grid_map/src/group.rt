@@ -7,6 +7,7 @@ ghost use Rattle.grid_map.specs.declared.Reg.{Reg};
 ghost use Rattle.grid_map.specs.Place.{place, skipping};
 ghost use Rattle.grid_map.specs.Group.{is_group, is_of_group, group_places};
 ghost use Rattle.grid_map.specs.Order.{AreInOrder};
+ghost use Rattle.lte_types.specs.Numerology.{subcarriers};
 
 use crate::{Place, Reg, skipping};
 use lte_types::CellId;
@@ -16,7 +17,7 @@ use lte_types::CellId;
 pub fn reg_places(id: CellId, reg: Reg) -> [Place; 4]
     requires { IsTrue (is_group reg) }
     ensures places { result ≡ group_places id reg }
-    ensures inside { All (λ p. (p.symbol ≡ reg.symbol) × (p.k < 72)) result }
+    ensures inside { All (λ p. (p.symbol ≡ reg.symbol) × (p.k < subcarriers)) result }
 {
     [
         place_in(id, reg, 0),
@@ -51,7 +52,7 @@ pub fn places_of_groups()
         AreInOrder (λ p. p.k) (group_places identity g) 4
         (λ i. slice_index_or (group_places identity g) i (place 0 0)) (is_of_group identity g) }
     ensures inside { (identity : ℕ) (g : Reg) (p : Place) → IsTrue (is_group g) →
-        IsTrue (is_of_group identity g p) → p.k < 72 }
+        IsTrue (is_of_group identity g p) → p.k < subcarriers }
     ensures apart { (identity : ℕ) (g h : Reg) (p : Place) → IsTrue (is_group g) → IsTrue (is_group h) →
         Contains (group_places identity g) p → Contains (group_places identity h) p → g ≡ h }
 {}

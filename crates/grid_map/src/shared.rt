@@ -10,6 +10,7 @@ ghost use Rattle.grid_map.specs.Shared.{is_shared_of, shared_places_of, shared_p
 ghost use Rattle.grid_map.specs.Shared.{slot_symbols, pilots_of_block, block_room};
 ghost use Rattle.grid_map.specs.Steps.{offset};
 ghost use Rattle.grid_map.specs.Order.{AreInOrder};
+ghost use Rattle.lte_types.specs.Numerology.{subcarriers, block_count};
 
 use crate::{Place, skipping};
 use crs::{Pattern, first_of_pattern};
@@ -52,7 +53,7 @@ fn block_room(carrier: Carrier, symbol: u8) -> usize
 
 // Returns the subcarrier of PDSCH resource element `n` in a symbol, relative to the first allocated subcarrier.
 fn offset_in(carrier: Carrier, id: CellId, symbol: u8, n: usize) -> usize
-    requires { n < 72 }
+    requires { n < subcarriers }
     ensures value { result ≡ offset carrier id symbol n }
     ensures bound { result ≤ n + n / 2 + 1 }
 {
@@ -118,7 +119,7 @@ pub fn shared_place(carrier: Carrier, id: CellId, assignment: &Assignment, i: us
     ensures carries { IsTrue
         (is_shared_of carrier id assignment.now.cfi assignment.now.start assignment.now.blocks result) }
     ensures symbol { (assignment.now.cfi < result.symbol) × (result.symbol ≤ 13) }
-    ensures k { result.k < 72 }
+    ensures k { result.k < subcarriers }
 {
     let start = assignment.start();
     let blocks = assignment.blocks();
@@ -139,13 +140,13 @@ pub fn shared_place(carrier: Carrier, id: CellId, assignment: &Assignment, i: us
 pub fn pdsch(id: CellId, cfi: Cfi, start: u8, blocks: u8, i: usize) -> Place
     requires cfi { 2 ≤ cfi }
     requires some { 1 ≤ blocks }
-    requires assignment { start + blocks ≤ 6 }
+    requires assignment { start + blocks ≤ block_count }
     requires point { i < block_places_of OnePort cfi * blocks }
     ensures item { slice_get (shared_places_of OnePort id cfi start blocks) i ≡ Some result }
     ensures place { result ≡ shared_place_of OnePort id cfi start blocks i }
     ensures carries { IsTrue (is_shared_of OnePort id cfi start blocks result) }
     ensures symbol { (cfi < result.symbol) × (result.symbol ≤ 13) }
-    ensures k { result.k < 72 }
+    ensures k { result.k < subcarriers }
 {
     match Assignment::new(cfi, start, blocks) {
         Some(assignment) => shared_place(Carrier::OnePort, id, &assignment, i),
@@ -156,7 +157,7 @@ pub fn pdsch(id: CellId, cfi: Cfi, start: u8, blocks: u8, i: usize) -> Place
 /// A law: the PDSCH occupies `block_places` resource elements per resource block, in increasing order: exactly those
 /// that its definition admits.
 pub fn shared_order()
-    ensures { (carrier : Carrier) (identity cfi start blocks : ℕ) → 2 ≤ cfi → cfi ≤ 3 → start + blocks ≤ 6 →
+    ensures { (carrier : Carrier) (identity cfi start blocks : ℕ) → 2 ≤ cfi → cfi ≤ 3 → start + blocks ≤ block_count →
         AreInOrder place_number (shared_places_of carrier identity cfi start blocks)
         (block_places_of carrier cfi * blocks) (shared_place_of carrier identity cfi start blocks)
         (λ p. is_in_grid p && is_shared_of carrier identity cfi start blocks p) }

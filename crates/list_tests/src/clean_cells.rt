@@ -5,8 +5,8 @@ ghost use Rattle.dci.specs.Format1A.{IsGrant};
 use crate::examples::cell_of;
 use cell_tx::{Cell, CellPlan, frame};
 use clean_air::{
-    carried_blocks_are_heard, explain_clean, sent_grant_is_read, sent_grant_is_told,
-    sent_indicator_is_told,
+    carried_blocks_are_heard, explain_clean, sent_grant_is_decoded, sent_grant_is_read,
+    sent_indicator_is_decoded,
 };
 use cs_num::{Cpx, Sample, clamp_div};
 use dci::Grant;
@@ -200,8 +200,8 @@ fn what_was_sent_is_read_with_errors_at_the_bound(rt: HostRuntime) -> Result<(),
     assert!(rt; large_values(&first, &second, &attempt) == Some(900));
     assert!(rt; has_fields(&attempt));
     carried_blocks_are_heard();
-    sent_indicator_is_told();
-    sent_grant_is_told();
+    sent_indicator_is_decoded();
+    sent_grant_is_decoded();
     sent_grant_is_read();
     Ok(())
 }

@@ -120,7 +120,7 @@ fn list_of(alloc: Global, recording: &Recording) -> Result<EntryList, AllocError
 
 // The expected entry for a cell with one antenna port and the extended cyclic prefix.
 #[derive(Clone, Copy)]
-struct Told {
+struct ExpectedEntry {
     identity: u16,
     start: u32,
     sfn: u16,
@@ -129,33 +129,33 @@ struct Told {
     spare: u16,
 }
 
-fn is_told(entry: &Entry, told: &Told) -> bool {
-    entry.id.value() == told.identity
-        && entry.start == told.start
-        && entry.sfn.value() == told.sfn
+fn is_expected(entry: &Entry, expected: &ExpectedEntry) -> bool {
+    entry.id.value() == expected.identity
+        && entry.start == expected.start
+        && entry.sfn.value() == expected.sfn
         && entry.ports == 1
-        && entry.mib.duration == told.duration
-        && entry.mib.resource == told.resource
-        && entry.mib.spare == told.spare
+        && entry.mib.duration == expected.duration
+        && entry.mib.resource == expected.resource
+        && entry.mib.spare == expected.spare
         && matches!(&entry.sib1, Err(Sib1Reason::LongPrefix))
 }
 
 // Returns whether synthetic recording `n` lists exactly this entry.
-fn is_list(alloc: Global, n: u32, told: &Told) -> Result<bool, AllocError> {
+fn is_list(alloc: Global, n: u32, expected: &ExpectedEntry) -> Result<bool, AllocError> {
     let made = make(alloc, n)?;
     let list = list_of(alloc, &made.recording)?;
     Ok(match list.slice() {
-        [entry] => is_told(entry, told),
+        [entry] => is_expected(entry, expected),
         _ => false,
     })
 }
 
 // The entries expected for synthetic recordings.
-const TOLD: [(u32, Told); 3] = [
+const EXPECTED: [(u32, ExpectedEntry); 3] = [
     // Recording 7 starts at sample 7 of frame 7, so its frame 8 begins at sample 19,193.
     (
         7,
-        Told {
+        ExpectedEntry {
             identity: 7,
             start: 19_193,
             sfn: 8,
@@ -168,7 +168,7 @@ const TOLD: [(u32, Told); 3] = [
     // 8,768 samples later.
     (
         10_290,
-        Told {
+        ExpectedEntry {
             identity: 210,
             start: 8_910,
             sfn: 51,
@@ -180,7 +180,7 @@ const TOLD: [(u32, Told); 3] = [
     // The first PSS, in subframe 5, is at sample 152.
     (
         10_280,
-        Told {
+        ExpectedEntry {
             identity: 200,
             start: 8_920,
             sfn: 41,
@@ -193,8 +193,8 @@ const TOLD: [(u32, Told); 3] = [
 
 #[test]
 fn the_cells_of_recordings(rt: HostRuntime) -> Result<(), Fail> {
-    for (n, told) in TOLD {
-        assert!(rt; is_list(rt.alloc(), n, &told)?, "number {n}");
+    for (n, expected) in EXPECTED {
+        assert!(rt; is_list(rt.alloc(), n, &expected)?, "number {n}");
     }
     Ok(())
 }
@@ -243,8 +243,8 @@ fn spoiled(alloc: Global, most: u16) -> Result<Recording, Fail> {
 }
 
 // Returns whether the spoiled recording lists its cell, with a MIB decoded from this frame alone.
-fn is_told_alone(alloc: Global, most: u16, frame: u8) -> Result<bool, Fail> {
-    let told = Told {
+fn is_estimated_alone(alloc: Global, most: u16, frame: u8) -> Result<bool, Fail> {
+    let expected = ExpectedEntry {
         identity: 1,
         start: 19_199,
         sfn: 2,
@@ -255,7 +255,7 @@ fn is_told_alone(alloc: Global, most: u16, frame: u8) -> Result<bool, Fail> {
     let recording = spoiled(alloc, most)?;
     let list = list_of(alloc, &recording)?;
     Ok(match list.slice() {
-        [entry] => is_told(entry, &told) && entry.frames == 1 && entry.frame == frame,
+        [entry] => is_expected(entry, &expected) && entry.frames == 1 && entry.frame == frame,
         _ => false,
     })
 }
@@ -263,8 +263,8 @@ fn is_told_alone(alloc: Global, most: u16, frame: u8) -> Result<bool, Fail> {
 // From `lte_reference/long_prefix.py --spoiled 700 1` and `lte_reference/search.py --prefix long why`: frame 0 has no
 // MIB.
 #[test]
-fn the_second_frame_tells_alone(rt: HostRuntime) -> Result<(), Fail> {
-    assert!(rt; is_told_alone(rt.alloc(), 700, 1)?);
+fn the_second_frame_decodes_alone(rt: HostRuntime) -> Result<(), Fail> {
+    assert!(rt; is_estimated_alone(rt.alloc(), 700, 1)?);
     Ok(())
 }
 

@@ -50,7 +50,7 @@ fn is_cell_at(entry: &Entry, start: u32, sfn: u16, ports: u8) -> bool {
 }
 
 // Returns whether an entry's MIB was decoded at no cost from these frames.
-fn is_told_by(entry: &Entry, frames: u8, frame: u8, phase: u8) -> bool {
+fn is_estimated_by(entry: &Entry, frames: u8, frame: u8, phase: u8) -> bool {
     entry.frames == frames && entry.frame == frame && entry.phase == phase && entry.cost == 0
 }
 
@@ -112,7 +112,7 @@ fn a_master_block_of_the_first_frame_is_an_entry(rt: HostRuntime) -> Result<(), 
     let [entry] = list.slice() else {
         return Err(Fail::from("one entry"));
     };
-    assert!(rt; is_cell_at(entry, 0, 0, 1) && is_told_by(entry, 1, 0, 0));
+    assert!(rt; is_cell_at(entry, 0, 0, 1) && is_estimated_by(entry, 1, 0, 0));
     assert!(rt; Some(entry.mib) == wide() && is_too_wide(entry));
     assert!(rt; has_signs(&values_of(&recording, entry)));
     list.clear();
@@ -121,7 +121,7 @@ fn a_master_block_of_the_first_frame_is_an_entry(rt: HostRuntime) -> Result<(), 
 }
 
 #[test]
-fn a_later_frame_tells_the_number_of_the_first(rt: HostRuntime) -> Result<(), Fail> {
+fn a_later_frame_gives_the_number_of_the_first(rt: HostRuntime) -> Result<(), Fail> {
     let mut samples = silent(rt.alloc(), 57_600)?;
     put_signals(&mut samples[18_000..], 0);
     put_rows(&mut samples[37_200..], 0, &OTHER);
@@ -130,13 +130,13 @@ fn a_later_frame_tells_the_number_of_the_first(rt: HostRuntime) -> Result<(), Fa
     let [entry] = list.slice() else {
         return Err(Fail::from("one entry"));
     };
-    assert!(rt; is_cell_at(entry, 18_000, 22, 4) && is_told_by(entry, 1, 1, 3));
+    assert!(rt; is_cell_at(entry, 18_000, 22, 4) && is_estimated_by(entry, 1, 1, 3));
     assert!(rt; Some(entry.mib) == narrow(5, 1023));
     Ok(())
 }
 
 #[test]
-fn four_frames_tell_together_what_fewer_do_not(rt: HostRuntime) -> Result<(), Fail> {
+fn four_frames_decode_together_and_fewer_do_not(rt: HostRuntime) -> Result<(), Fail> {
     let mut samples = silent(rt.alloc(), 96_000)?;
     put_signals(&mut samples[..], 0);
     send_frames(&mut samples[..], &SPARSE);
@@ -145,7 +145,7 @@ fn four_frames_tell_together_what_fewer_do_not(rt: HostRuntime) -> Result<(), Fa
     let [entry] = list.slice() else {
         return Err(Fail::from("one entry"));
     };
-    assert!(rt; is_cell_at(entry, 0, 724, 2) && is_told_by(entry, 4, 0, 0));
+    assert!(rt; is_cell_at(entry, 0, 724, 2) && is_estimated_by(entry, 4, 0, 0));
     assert!(rt; Some(entry.mib) == narrow(181, 1000));
     let _values = values_of(&recording, entry);
     one_frame_is_enough();

@@ -5,6 +5,8 @@
 #[cfg(test)]
 mod clean_cells;
 #[cfg(test)]
+mod estimate;
+#[cfg(test)]
 mod examples;
 #[cfg(test)]
 mod extended_prefix;
@@ -22,8 +24,6 @@ mod rounds_of_recordings;
 mod rows;
 #[cfg(test)]
 mod taken_off;
-#[cfg(test)]
-mod told;
 #[cfg(test)]
 mod turned;
 #[cfg(test)]

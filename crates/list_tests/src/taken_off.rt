@@ -111,7 +111,7 @@ fn taken(
 
 // The expected gain and powers, and samples 0, 1000 and 57,599 of the residual.
 #[derive(Clone, Copy)]
-struct Told {
+struct Expected {
     gain: (i16, i16),
     greatest: u32,
     before: u128,
@@ -132,12 +132,12 @@ fn samples_of(taken: &Subtracted) -> [(i16, i16); 3] {
     ]
 }
 
-fn is_told(taken: &Subtracted, told: &Told) -> bool {
-    taken.gain == told.gain
-        && taken.greatest == told.greatest
-        && taken.before == told.before
-        && taken.after == told.after
-        && samples_of(taken) == told.samples
+fn is_expected(taken: &Subtracted, expected: &Expected) -> bool {
+    taken.gain == expected.gain
+        && taken.greatest == expected.greatest
+        && taken.before == expected.before
+        && taken.after == expected.after
+        && samples_of(taken) == expected.samples
 }
 
 // Returns whether subtracting a plan's cell gives the expected result.
@@ -146,10 +146,10 @@ fn is_taken_off(
     samples: Vec<Sample>,
     plan: CellPlan,
     place: (u16, u32),
-    told: &Told,
+    expected: &Expected,
 ) -> Result<bool, Fail> {
     Ok(match taken(alloc, samples, plan, place)? {
-        Some(taken) => is_told(&taken, told),
+        Some(taken) => is_expected(&taken, expected),
         None => false,
     })
 }
@@ -163,14 +163,14 @@ fn a_lone_cell_leaves_nothing(rt: HostRuntime) -> Result<(), Fail> {
     ] {
         let mut samples = silent(rt.alloc(), 57_600)?;
         add(rt.alloc(), &mut samples, plain_plan(0), sent, gain)?;
-        let told = Told {
+        let expected = Expected {
             gain,
             greatest: 0,
             before,
             after: 0,
             samples: [(0, 0); 3],
         };
-        assert!(rt; is_taken_off(rt.alloc(), samples, plain_plan(0), heard, &told)?);
+        assert!(rt; is_taken_off(rt.alloc(), samples, plain_plan(0), heard, &expected)?);
     }
     clean_gain_is_candidate();
     Ok(())
@@ -194,14 +194,14 @@ fn errors_at_the_bound_are_left(rt: HostRuntime) -> Result<(), Fail> {
     let place = (5, 19_199);
     add(rt.alloc(), &mut samples, plain_plan(503), place, (0, 28))?;
     disturb(&mut samples);
-    let told = Told {
+    let expected = Expected {
         gain: (0, 28),
         greatest: 56,
         before: 133_806_036_560,
         after: 361_267_200,
         samples: [(56, 56), (56, 56), (-56, -56)],
     };
-    assert!(rt; is_taken_off(rt.alloc(), samples, plain_plan(503), (6, 1), &told)?);
+    assert!(rt; is_taken_off(rt.alloc(), samples, plain_plan(503), (6, 1), &expected)?);
     Ok(())
 }
 
@@ -209,14 +209,14 @@ fn errors_at_the_bound_are_left(rt: HostRuntime) -> Result<(), Fail> {
 #[test]
 fn of_equal_gains_the_lowest_is_taken(rt: HostRuntime) -> Result<(), Fail> {
     let samples = silent(rt.alloc(), 57_600)?;
-    let told = Told {
+    let expected = Expected {
         gain: (-1, 0),
         greatest: 370,
         before: 0,
         after: 169_776_488,
         samples: [(-99, 131), (68, 95), (0, 0)],
     };
-    assert!(rt; is_taken_off(rt.alloc(), samples, plain_plan(0), (0, 0), &told)?);
+    assert!(rt; is_taken_off(rt.alloc(), samples, plain_plan(0), (0, 0), &expected)?);
     best_candidate_is_one();
     some_answer();
     answer_leaves_errors();
@@ -229,32 +229,32 @@ fn another_gain_than_the_estimate_is_taken(rt: HostRuntime) -> Result<(), Fail> 
     let mut samples = silent(rt.alloc(), 57_600)?;
     add(rt.alloc(), &mut samples, plain_plan(0), (0, 0), (20, 9))?;
     add(rt.alloc(), &mut samples, other_plan(), (514, 5000), (2, -1))?;
-    let told = Told {
+    let expected = Expected {
         gain: (18, 9),
         greatest: 999,
         before: 82_530_174_415,
         after: 1_515_079_615,
         samples: [(-198, 262), (136, 190), (0, 0)],
     };
-    assert!(rt; is_taken_off(rt.alloc(), samples, plain_plan(0), (0, 0), &told)?);
+    assert!(rt; is_taken_off(rt.alloc(), samples, plain_plan(0), (0, 0), &expected)?);
     Ok(())
 }
 
 #[test]
-fn the_greatest_is_told_before_16_bits(rt: HostRuntime) -> Result<(), Fail> {
+fn the_greatest_is_reported_before_16_bits(rt: HostRuntime) -> Result<(), Fail> {
     let loudest = Sample {
         re: 32_767,
         im: -32_768,
     };
     let samples = vec![in rt.alloc(); loudest; 57_600]?;
-    let told = Told {
+    let expected = Expected {
         gain: (0, 1),
         greatest: 33_122,
         before: 123_691_283_308_800,
         after: 123_625_232_291_812,
         samples: [(32_767, -32_669), (32_767, -32_768), (32_767, -32_768)],
     };
-    assert!(rt; is_taken_off(rt.alloc(), samples, plain_plan(0), (0, 0), &told)?);
+    assert!(rt; is_taken_off(rt.alloc(), samples, plain_plan(0), (0, 0), &expected)?);
     Ok(())
 }
 

@@ -29,7 +29,7 @@ use Rattle.long_prefix.specs.Entries.{long_slot, long_values, long_prefix_receiv
 use Rattle.long_prefix.specs.Clean.{HoldsPlans}
 use Rattle.long_prefix.proofs.SentPlan.{same_sent, cell_with, has_plan}
 use Rattle.long_prefix.proofs.SentSignals.{slot_row, points_stand, slot_received}
-use Rattle.long_prefix.proofs.Told.{values_heard}
+use Rattle.long_prefix.proofs.Decoded.{values_heard}
 
 pub faithful_cell_is_heard : FaithfulIsHeard long_prefix_receiver
 unfolding long_slot port_point port_bit

@@ -3,7 +3,7 @@ pub mod Samples
 -- Each symbol of a clean recording is received as it was sent.
 pub mod SentSignals
 -- A slot's soft values have the signs of the bits that it carries.
-pub mod Told
+pub mod Decoded
 -- A slot's soft values are within their bounds.
 pub mod Pairs
 -- Conclusion: the list of a clean recording contains its cell.

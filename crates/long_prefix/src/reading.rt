@@ -5,7 +5,7 @@ ghost use Rattle.finite.specs.Lists.{values_below};
 ghost use Rattle.finite.specs.Sizes.{AllWithin};
 ghost use Rattle.cs_num.specs.Complex.{IsWithin};
 ghost use Rattle.lte_types.specs.declared.carrier.Carrier.TheVariants.{LongPrefix};
-ghost use Rattle.lte_types.specs.Numerology.{frame_length, extended, useful_start};
+ghost use Rattle.lte_types.specs.Numerology.{frame_length, extended, useful_start, subcarriers};
 ghost use Rattle.crs.specs.Reference.{long_prefix};
 ghost use Rattle.observe.specs.Seen.{seen_symbol};
 ghost use Rattle.soft_bits.specs.Soft.{AreSmall, pattern_energy};
@@ -17,7 +17,7 @@ ghost use Rattle.long_prefix.specs.Entries.{long_slot, ArePilots, long_pair, lon
 use cs_num::Cpx;
 use explain::{FrameReader, Informed, NumberedCell, Scheme};
 use grid_map::{Place, long_places};
-use lte_types::{Carrier, CellPlace, FRAME_LENGTH, Prefix, Sib1Reason};
+use lte_types::{Carrier, CellPlace, FRAME_LENGTH, Prefix, SUBCARRIERS, Sib1Reason};
 use observe::symbol;
 use pbch::Received;
 use sample_file::Recording;
@@ -57,7 +57,7 @@ impl FrameReader for ExtendedPrefix {
 }
 
 // Returns the observed symbol `l` in slot 1 of a frame that begins at sample `frame`.
-fn symbol_of(recording: &Recording, frame: usize, l: usize) -> [Cpx; 72]
+fn symbol_of(recording: &Recording, frame: usize, l: usize) -> [Cpx; SUBCARRIERS]
     requires within { frame + frame_length ≤ length recording.now }
     requires small { frame < 2 ^ 40 }
     requires l { l < 6 }
@@ -68,7 +68,7 @@ fn symbol_of(recording: &Recording, frame: usize, l: usize) -> [Cpx; 72]
 }
 
 // Returns the six symbols in a frame's slot 1.
-fn symbols_of(recording: &Recording, frame: usize) -> [[Cpx; 72]; 6]
+fn symbols_of(recording: &Recording, frame: usize) -> [[Cpx; SUBCARRIERS]; 6]
     requires within { frame + frame_length ≤ length recording.now }
     requires small { frame < 2 ^ 40 }
     ensures values { result
@@ -134,7 +134,7 @@ fn values_of(seen: &Seen, pilots: &Pilots, energy: u64) -> [i16; 432]
     requires energy { energy ≡ pattern_energy long_prefix (slot_of seen.now) }
     requires few { energy ≤ 24 * 2 ^ 51 }
     ensures values { result ≡ long_values (slot_of seen.now) }
-    ensures sizes { AllWithin 127 result }
+    ensures magnitudes { AllWithin 127 result }
 {
     let places = long_places(seen.id);
     let mut values = [0; 432];
@@ -153,9 +153,9 @@ fn pair_at(seen: &Seen, pilots: &Pilots, energy: u64, place: Place) -> [i16; 2]
     requires energy { energy ≡ pattern_energy long_prefix (slot_of seen.now) }
     requires few { energy ≤ 24 * 2 ^ 51 }
     requires symbol { place.symbol < 4 }
-    requires k { place.k < 72 }
+    requires k { place.k < subcarriers }
     ensures values { result ≡ long_pair (slot_of seen.now) place }
-    ensures sizes { AllWithin 127 result }
+    ensures magnitudes { AllWithin 127 result }
 {
     let here = seen.symbols[place.symbol as usize][place.k as usize];
     soft_pair(here, pilots.channel(place.k), energy)

@@ -28,7 +28,7 @@ fn has_bad_fields_at_4_and_5(reader: &mut Reader) -> bool {
 }
 
 #[test]
-fn a_bad_field_is_told_by_its_place(rt: HostRuntime) {
+fn a_bad_field_is_reported_by_its_place(rt: HostRuntime) {
     let mut reader = Reader::new(&[true, false, true, true, false]);
     assert!(rt; has_bad_fields_at_4_and_5(&mut reader));
 }

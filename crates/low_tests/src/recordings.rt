@@ -137,7 +137,7 @@ fn a_recording_has_57600_samples_or_more(rt: HostRuntime) -> Result<(), Fail> {
 }
 
 #[test]
-fn a_read_that_fails_is_told(rt: HostRuntime) -> Result<(), Fail> {
+fn a_read_that_fails_is_reported(rt: HostRuntime) -> Result<(), Fail> {
     let alloc = rt.alloc();
     let fails = [2u64].to_vec(alloc)?;
     assert!(rt; refusal_with_faults(alloc, 230_400, fails)? == Some(FileError::ReadFault));

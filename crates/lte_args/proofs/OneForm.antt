@@ -21,7 +21,7 @@ use Rattle.lte_args.specs.declared.form.Rule.TheVariants.{Of, Cancel, All}
 use Rattle.lte_args.specs.declared.form.Output.{Output}
 use Rattle.lte_args.specs.declared.form.Output.TheVariants.{Text, Json}
 use Rattle.lte_args.specs.declared.form.Turn.{Turn}
-use Rattle.lte_args.specs.declared.form.Turn.TheVariants.{AsTold, Steps}
+use Rattle.lte_args.specs.declared.form.Turn.TheVariants.{AsEstimated, Steps}
 use Rattle.lte_args.specs.declared.form.Page.{Page}
 use Rattle.lte_args.specs.declared.form.Page.TheVariants.{Help, Version}
 use Rattle.lte_args.specs.Words.{samples_words, output_words, rule_words, carrier_words, load_words, turn_words, ArePageWords, AreWordsOf, IsAskedLoad, IsTurn, IsAskedTurn, IsInRange, program_of, IsWordsOf}
@@ -191,14 +191,14 @@ turn_back (negsuc n) small =
 
 -- the argument count decides whether a phase step and a sample format are given
 abbrev apply_in : List (List ℕ) → Form
-apply_in [] = Apply AsTold Ci16
+apply_in [] = Apply AsEstimated Ci16
 apply_in (m ∷ []) = Apply (Steps (turn_in m)) Ci16
-apply_in (word ∷ next ∷ []) = Apply AsTold Cu8
+apply_in (word ∷ next ∷ []) = Apply AsEstimated Cu8
 apply_in (m ∷ word ∷ next ∷ rest) = Apply (Steps (turn_in m)) Cu8
 
 apply_back : (turn : Turn) (form : SampleForm) → IsAskedTurn turn → apply_in (turn_words turn ++ samples_words form) ≡ Apply turn form
-apply_back AsTold Ci16 within = refl
-apply_back AsTold Cu8 within = refl
+apply_back AsEstimated Ci16 within = refl
+apply_back AsEstimated Cu8 within = refl
 apply_back (Steps m) Ci16 within = ap (λ k. Apply (Steps k) Ci16) (turn_back m within)
 apply_back (Steps m) Cu8 within = ap (λ k. Apply (Steps k) Cu8) (turn_back m within)
 

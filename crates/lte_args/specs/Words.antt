@@ -18,7 +18,7 @@ use Rattle.lte_args.specs.declared.form.Rule.TheVariants.{Of, Cancel, All}
 use Rattle.lte_args.specs.declared.form.Output.{Output}
 use Rattle.lte_args.specs.declared.form.Output.TheVariants.{Text, Json}
 use Rattle.lte_args.specs.declared.form.Turn.{Turn}
-use Rattle.lte_args.specs.declared.form.Turn.TheVariants.{AsTold, Steps}
+use Rattle.lte_args.specs.declared.form.Turn.TheVariants.{AsEstimated, Steps}
 use Rattle.lte_args.specs.declared.form.Page.{Page}
 use Rattle.lte_args.specs.declared.form.Page.TheVariants.{Help, Version}
 
@@ -68,7 +68,7 @@ report_words (Why identity carrier) = codes "why" ∷ decimal identity ∷ carri
 
 -- a correction: the estimated one is the default and has no words
 abbrev pub turn_words : Turn → List (List ℕ)
-turn_words AsTold = []
+turn_words AsEstimated = []
 turn_words (Steps m) = signed_decimal m ∷ []
 
 -- the arguments do not begin with this part's words
@@ -96,7 +96,7 @@ abbrev pub IsTurn : ℤ → Type 0
 IsTurn m = (negsuc 2047 ≤ℤ m) × (m ≤ℤ pos 2047)
 
 abbrev pub IsAskedTurn : Turn → Type 0
-IsAskedTurn AsTold = Unit {0}
+IsAskedTurn AsEstimated = Unit {0}
 IsAskedTurn (Steps m) = IsTurn m
 
 -- a load number in the permitted range

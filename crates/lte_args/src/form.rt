@@ -95,7 +95,7 @@ pub enum Output {
 #[derive(Clone, Copy, Debug, PartialEq, Eq)]
 pub enum Turn {
     /// `apply`: the recording's estimated frequency offset is corrected.
-    AsTold,
+    AsEstimated,
     /// `apply M`: the mean is subtracted, and the frequency is shifted by M steps of 117.1875 Hz, -2,048 to 2,047.
     Steps(i16),
 }

@@ -220,7 +220,7 @@ pub(crate) fn apply_parts(words: &[String]) -> Option<(Turn, SampleForm)>
 {
     let words = after(words, "apply")?;
     if let Some(samples) = samples_of(words) {
-        Some((Turn::AsTold, samples))
+        Some((Turn::AsEstimated, samples))
     } else {
         let (text, words) = words.split_first()?;
         let m = steps_of(text.as_str())?;

@@ -12,11 +12,11 @@ use Rattle.cs_num.specs.Complex.{silence}
 use Rattle.cs_num.specs.Rounding.{nearest_sample}
 use Rattle.cs_num.proofs.Samples.{in_16_bits-fits}
 use Rattle.sample_file.specs.Recording.{component_of, samples_of, samples_in, sample_bytes, bytes_of, IsRecording}
-use Rattle.frequency_offset.specs.declared.telling.Told.{Told}
+use Rattle.frequency_offset.specs.declared.estimation.OffsetEstimate.{OffsetEstimate}
 use Rattle.frequency_offset.specs.Turned.{turned_back, turned_at, turned}
-use Rattle.frequency_offset.specs.Telling.{HasCells, IsTold, IsApplied, turn_of}
-use Rattle.frequency_offset.specs.Laws.{Has16Bits, ToldCellsAreThere, TurnedIsRecording}
-use Rattle.lte_top.specs.Applied.{WhatIsAppliedIsTold}
+use Rattle.frequency_offset.specs.Estimation.{HasCells, IsEstimated, IsApplied, turn_of}
+use Rattle.frequency_offset.specs.Laws.{Has16Bits, ReportedCellsAreListed, TurnedIsRecording}
+use Rattle.lte_top.specs.Applied.{WhatIsAppliedIsEstimated}
 
 nearest_fits : (z : Cpx) → Has16Bits (nearest_sample z)
 nearest_fits z = record { re = in_16_bits-fits z.re; im = in_16_bits-fits z.im }
@@ -53,20 +53,20 @@ read_back (s ∷ rest) fits =
 
 -- ---- corrected recordings
 
-pub applied_is_told : TurnedIsRecording → ToldCellsAreThere → WhatIsAppliedIsTold
-applied_is_told is_recording are_there form bytes text applied valid a b =
+pub applied_is_estimated : TurnedIsRecording → ReportedCellsAreListed → WhatIsAppliedIsEstimated
+applied_is_estimated is_recording are_there form bytes text applied valid a b =
     let r = samples_in form bytes in
-    let turned_by = turned r (turn_of b.are.told) in
-    let back : samples_of applied ≡ turned_by = ap samples_of b.bytes ∙ ap (λ s. samples_of (bytes_of s)) b.are.samples ∙ read_back turned_by (turned_fits r (turn_of b.are.told)) in
+    let turned_by = turned r (turn_of b.are.estimate) in
+    let back : samples_of applied ≡ turned_by = ap samples_of b.bytes ∙ ap (λ s. samples_of (bytes_of s)) b.are.samples ∙ read_back turned_by (turned_fits r (turn_of b.are.estimate)) in
     let same : samples_of applied ≡ b.samples = back ∙ sym b.are.samples in
     record {
-      told = a.told;
+      estimate = a.estimate;
       text_is = a.is_text;
-      recording = subst IsRecording (sym back) (is_recording r (turn_of b.are.told) valid);
-      cells = cells_in r b.samples (samples_of applied) same b.are a.told a.is_told;
+      recording = subst IsRecording (sym back) (is_recording r (turn_of b.are.estimate) valid);
+      cells = cells_in r b.samples (samples_of applied) same b.are a.estimate a.is_estimated;
     }
   where
-    cells_in : (r samples read : List Sample) → read ≡ samples → IsApplied r samples → (told : Option Told) → IsTold r told →
-        IfSome told (λ told. HasCells read told.cells)
+    cells_in : (r samples read : List Sample) → read ≡ samples → IsApplied r samples → (estimate : Option OffsetEstimate) → IsEstimated r estimate →
+        IfSome estimate (λ estimate. HasCells read estimate.cells)
     cells_in r samples read e is None p = tt
-    cells_in r samples read e is (Some told) p = subst (λ s. HasCells s told.cells) (sym e) (are_there r samples told p is)
+    cells_in r samples read e is (Some estimate) p = subst (λ s. HasCells s estimate.cells) (sym e) (are_there r samples estimate p is)

@@ -2,7 +2,7 @@
 use Rattle.std.proofs.Common.{◌≡◌, ℕ, ◌+◌, ◌≤◌, inl, inr, Bool, List, ◌++◌, length, ap, sym, subst, ◌∙◌, arith, length-append}
 use Rattle.std.specs.List.{AllZip}
 use Rattle.cs_num.specs.declared.Sample.{Sample}
-use Rattle.cs_outside.specs.Outside.{SourceTold}
+use Rattle.cs_outside.specs.Outside.{SourceState}
 use Rattle.certificates.specs.Stream.{most_bytes, IsFirstBroken}
 use Rattle.certificates.specs.Certifying.{Certifies}
 use Rattle.certificates.specs.Reading.{HasReadAnswers, IsCause}
@@ -34,7 +34,7 @@ one_certified_length carrier samples first second a b =
     ap length a.bytes ∙ certified_length (receiver_of carrier) samples b.entries a.certificates b.certificates (subst (λ l. AllZip (Certifies (receiver_of carrier) samples) l a.certificates) same a.each) b.each ∙ sym (ap length b.bytes)
 
 -- certificates that were answered are not refused
-answered_unrefused : (answers : List Bool) (before now : SourceTold) (h : HasReadAnswers answers before now) (status : Status) → RefusesCertificates h.bytes status → ⊥
+answered_unrefused : (answers : List Bool) (before now : SourceState) (h : HasReadAnswers answers before now) (status : Status) → RefusesCertificates h.bytes status → ⊥
 answered_unrefused answers before now h (BadCertificate place) r =
     none_broken h.are_answers.certificates (all_whole h.are_answers.certificates answers h.are_answers.each) place (subst (λ l. IsFirstBroken l place) h.are_answers.read r.first)
 answered_unrefused answers before now h Done r = r
@@ -48,7 +48,7 @@ answered_unrefused answers before now h OutOfMemory r = r
 answered_unrefused answers before now h (BadCell cause) r = r
 
 -- the text of the answers is the output
-pub output_of_answers : (answers : List Bool) (output : List ℕ) (before now : SourceTold) → HasReadAnswers answers before now → output ≡ check_text answers → HasOutput Check output before now
+pub output_of_answers : (answers : List Bool) (output : List ℕ) (before now : SourceState) → HasReadAnswers answers before now → output ≡ check_text answers → HasOutput Check output before now
 output_of_answers answers output before now h e = record {
   bytes = h.bytes;
   whole = h.whole;
@@ -78,7 +78,7 @@ past_unrefused front rest past unbroken OutOfMemory r = r
 past_unrefused front rest past unbroken (BadCell cause) r = r
 
 -- the cause of an error is the cause of its status
-pub stream_cause : (error : StreamError) (before now : SourceTold) → IsCause before now error → Cause certificates before now (of_stream error)
+pub stream_cause : (error : StreamError) (before now : SourceState) → IsCause before now error → Cause certificates before now (of_stream error)
 stream_cause (Broken place) before now h = record { bytes = h.bytes; read = h.read; few = h.few; refused = h.broken; settled = h.settled }
 stream_cause PastBytes before now h = record {
   is_read = tt;

@@ -2,7 +2,7 @@
 use Rattle.std.proofs.Common.{◌≡◌, ◌⊎◌, inl, inr, ℕ, ◌<◌, ◌≤◌, List, length, Some, arith, refl, ap, sym, subst, ◌∙◌, length-append}
 use Rattle.std.specs.Prelude.{IfSome}
 use Rattle.cs_outside.specs.Counts.{Rose}
-use Rattle.cs_outside.specs.Outside.{SourceTold, Outside}
+use Rattle.cs_outside.specs.Outside.{SourceState, Outside}
 use Rattle.cs_outside.proofs.Reading.{read_whole, read_front}
 use Rattle.sample_file.specs.Recording.{samples_in}
 use Rattle.lte_args.specs.declared.form.Program.{Program}
@@ -13,7 +13,7 @@ use Rattle.lte_top.specs.declared.status.Status.TheVariants.{Done, Usage, Ragged
 use Rattle.certificates.specs.Stream.{IsBrokenAt}
 use Rattle.lte_args.specs.Words.{IsWordsOf}
 use Rattle.lte_top.specs.Forms.{Input, nothing, recording, certificates, description, input_of, limit_of, Refuses, RefusesCertificates, RefusesDescription, IsTooLong, IsValid, IsOutput}
-use Rattle.lte_top.specs.Run.{IsRead, HasReadInput, HasOutput, HasRefusal, IsReadTooLong, IsWriteFault, Ends, RunsForm, Outcome, IsAnswerTo, HasOneAnswer, MayAnswer, IsTold, IsAnswered, IsComplete, HasRoom}
+use Rattle.lte_top.specs.Run.{IsRead, HasReadInput, HasOutput, HasRefusal, IsReadTooLong, IsWriteFault, Ends, RunsForm, Outcome, IsAnswerTo, HasOneAnswer, MayAnswer, IsGiven, IsAnswered, IsComplete, HasRoom}
 use Rattle.lte_types.specs.declared.carrier.Carrier.{Carrier}
 use Rattle.cell_plan.specs.declared.error.CellError.{CellError}
 use Rattle.cell_json.specs.Reading.{refusal_by}
@@ -116,25 +116,25 @@ one_answer input bytes first second a b = elim (kind_of input bytes first a) [
 -- ---- the bytes read are the bytes that the source reported
 
 -- the whole input equals the reported bytes
-told_bytes : (input : Input) (bytes told : List ℕ) (before now : SourceTold) → IsTold input told before → HasReadInput input bytes before now → told ≡ bytes
-told_bytes nothing bytes told before now e r = e ∙ sym r.0
-told_bytes (recording form) bytes told before now e r = read_whole bytes told before now e r.read r.ended
-told_bytes certificates bytes told before now e r = read_whole bytes told before now e r.read r.ended
-told_bytes (description carrier) bytes told before now e r = read_whole bytes told before now e r.read r.ended
+given_bytes : (input : Input) (bytes given : List ℕ) (before now : SourceState) → IsGiven input given before → HasReadInput input bytes before now → given ≡ bytes
+given_bytes nothing bytes given before now e r = e ∙ sym r.0
+given_bytes (recording form) bytes given before now e r = read_whole bytes given before now e r.read r.ended
+given_bytes certificates bytes given before now e r = read_whole bytes given before now e r.read r.ended
+given_bytes (description carrier) bytes given before now e r = read_whole bytes given before now e r.read r.ended
 
 -- the whole input is within the limit
-told_within : (input : Input) (bytes : List ℕ) (before now : SourceTold) → HasReadInput input bytes before now → length bytes ≤ limit_of input
-told_within nothing bytes before now r = omega (arith, ap length r.0)
-told_within (recording form) bytes before now r = r.within
-told_within certificates bytes before now r = r.within
-told_within (description carrier) bytes before now r = r.within
+given_within : (input : Input) (bytes : List ℕ) (before now : SourceState) → HasReadInput input bytes before now → length bytes ≤ limit_of input
+given_within nothing bytes before now r = omega (arith, ap length r.0)
+given_within (recording form) bytes before now r = r.within
+given_within certificates bytes before now r = r.within
+given_within (description carrier) bytes before now r = r.within
 
 -- for a form with input, the source reports the remaining bytes
-told_left : (input : Input) (told : List ℕ) (before : SourceTold) → IsRead input → IsTold input told before → before.left ≡ Some told
-told_left nothing told before r e = absurd r
-told_left (recording form) told before r e = e
-told_left certificates told before r e = e
-told_left (description carrier) told before r e = e
+given_left : (input : Input) (given : List ℕ) (before : SourceState) → IsRead input → IsGiven input given before → before.left ≡ Some given
+given_left nothing given before r e = absurd r
+given_left (recording form) given before r e = e
+given_left certificates given before r e = e
+given_left (description carrier) given before r e = e
 
 -- only an input that is read can be refused
 refused_read : (input : Input) (bytes : List ℕ) (status : Status) → Refuses input bytes status → IsRead input
@@ -143,23 +143,23 @@ refused_read (recording form) bytes status r = tt
 refused_read certificates bytes status r = tt
 refused_read (description carrier) bytes status r = tt
 
-output_is_valid : (form : Form) (told output : List ℕ) (before now : SourceTold) → IsTold (input_of form) told before → HasOutput form output before now → IsValid (input_of form) told
-output_is_valid form told output before now e h =
-    subst (IsValid (input_of form)) (sym (told_bytes (input_of form) h.bytes told before now e h.whole))
-    (record { within = told_within (input_of form) h.bytes before now h.whole; unrefused = h.unrefused })
+output_is_valid : (form : Form) (given output : List ℕ) (before now : SourceState) → IsGiven (input_of form) given before → HasOutput form output before now → IsValid (input_of form) given
+output_is_valid form given output before now e h =
+    subst (IsValid (input_of form)) (sym (given_bytes (input_of form) h.bytes given before now e h.whole))
+    (record { within = given_within (input_of form) h.bytes before now h.whole; unrefused = h.unrefused })
 
-refusal_is_answer : (input : Input) (told : List ℕ) (refusal : Status) (before now : SourceTold) → IsTold input told before → HasRefusal input refusal before now → Refuses input told refusal
-refusal_is_answer input told refusal before now e h =
-    let left = told_left input told before (refused_read input h.bytes refusal h.refused) e in
-    let (rest, split, last) = read_front h.bytes told before now left h.read in
+refusal_is_answer : (input : Input) (given : List ℕ) (refusal : Status) (before now : SourceState) → IsGiven input given before → HasRefusal input refusal before now → Refuses input given refusal
+refusal_is_answer input given refusal before now e h =
+    let left = given_left input given before (refused_read input h.bytes refusal h.refused) e in
+    let (rest, split, last) = read_front h.bytes given before now left h.read in
     elim h.settled [
-      | inl ended ↦ subst (λ bytes. Refuses input bytes refusal) (sym (read_whole h.bytes told before now left h.read ended)) h.refused
+      | inl ended ↦ subst (λ bytes. Refuses input bytes refusal) (sym (read_whole h.bytes given before now left h.read ended)) h.refused
       | inr always ↦ subst (λ bytes. Refuses input bytes refusal) (sym split) (always rest)
     ]
 
-past_is_too_long : (input : Input) (told : List ℕ) (before now : SourceTold) → IsTold input told before → IsReadTooLong input before now → IsTooLong input told
-past_is_too_long input told before now e h =
-    let (rest, split, last) = read_front h.front told before now (told_left input told before h.is_read e) h.read in
+past_is_too_long : (input : Input) (given : List ℕ) (before now : SourceState) → IsGiven input given before → IsReadTooLong input before now → IsTooLong input given
+past_is_too_long input given before now e h =
+    let (rest, split, last) = read_front h.front given before now (given_left input given before h.is_read e) h.read in
     let size = length-append h.front rest in
     record {
       past = omega (arith, ap length split, size, h.past);
@@ -168,18 +168,18 @@ past_is_too_long input told before now e h =
 
 -- ---- the answer
 
-form_answers : (form : Form) (told : List ℕ) (before now : Outside) → IsTold (input_of form) told before.0 → (status : Status) → Ends form before now status →
-    MayAnswer (input_of form) told before now status
-form_answers form told before now e Done o = output_is_valid form told o.output before.0 now.0 e o.has_output
-form_answers form told before now e WriteFault o = (output_is_valid form told o.output before.0 now.0 e o.has_output, o.counted)
-form_answers form told before now e Usage o = absurd o.cause
-form_answers form told before now e ReadFault o = o.cause.failed.failed
-form_answers form told before now e OutOfMemory o = tt
-form_answers form told before now e TooLong o = past_is_too_long (input_of form) told before.0 now.0 e o.cause
-form_answers form told before now e Ragged o = refusal_is_answer (input_of form) told Ragged before.0 now.0 e o.cause
-form_answers form told before now e TooShort o = refusal_is_answer (input_of form) told TooShort before.0 now.0 e o.cause
-form_answers form told before now e (BadCell cause) o = refusal_is_answer (input_of form) told (BadCell cause) before.0 now.0 e o.cause
-form_answers form told before now e (BadCertificate place) o = refusal_is_answer (input_of form) told (BadCertificate place) before.0 now.0 e o.cause
+form_answers : (form : Form) (given : List ℕ) (before now : Outside) → IsGiven (input_of form) given before.0 → (status : Status) → Ends form before now status →
+    MayAnswer (input_of form) given before now status
+form_answers form given before now e Done o = output_is_valid form given o.output before.0 now.0 e o.has_output
+form_answers form given before now e WriteFault o = (output_is_valid form given o.output before.0 now.0 e o.has_output, o.counted)
+form_answers form given before now e Usage o = absurd o.cause
+form_answers form given before now e ReadFault o = o.cause.failed.failed
+form_answers form given before now e OutOfMemory o = tt
+form_answers form given before now e TooLong o = past_is_too_long (input_of form) given before.0 now.0 e o.cause
+form_answers form given before now e Ragged o = refusal_is_answer (input_of form) given Ragged before.0 now.0 e o.cause
+form_answers form given before now e TooShort o = refusal_is_answer (input_of form) given TooShort before.0 now.0 e o.cause
+form_answers form given before now e (BadCell cause) o = refusal_is_answer (input_of form) given (BadCell cause) before.0 now.0 e o.cause
+form_answers form given before now e (BadCertificate place) o = refusal_is_answer (input_of form) given (BadCertificate place) before.0 now.0 e o.cause
 
 -- a run with these arguments is a run of their form
 ends_of : (program : Program) (form : Form) (words : List (List ℕ)) (before now : Outside) → IsWordsOf program words form → (status : Status) → Outcome program words before now status → Ends form before now status
@@ -201,22 +201,22 @@ ends_of program form words before now is_of status o = by_status status o
     by_status (BadCertificate place) o = same (BadCertificate place) o
 
 pub answered : (program : Program) (words : List (List ℕ)) (before now : Outside) (status : Status) → Outcome program words before now status → IsAnswered program words before now status
-answered program words before now status o form bytes asked = form_answers form bytes before now asked.told status (ends_of program form words before now asked.is_of status o)
+answered program words before now status o form bytes asked = form_answers form bytes before now asked.given status (ends_of program form words before now asked.is_of status o)
 
 -- ---- completeness
 
-done_or_no_memory : (input : Input) (told : List ℕ) (before now : Outside) (status : Status) → MayAnswer input told before now status → IsValid input told →
+done_or_no_memory : (input : Input) (given : List ℕ) (before now : Outside) (status : Status) → MayAnswer input given before now status → IsValid input given →
     ¬ Rose before.0.faults now.0.faults → ¬ Rose before.1.faults now.1.faults → (status ≡ Done) ⊎ (status ≡ OutOfMemory)
-done_or_no_memory input told before now Done m valid r w = inl refl
-done_or_no_memory input told before now OutOfMemory m valid r w = inr refl
-done_or_no_memory input told before now ReadFault m valid r w = absurd (r m)
-done_or_no_memory input told before now WriteFault m valid r w = absurd (w m.1)
-done_or_no_memory input told before now Usage m valid r w = absurd (valid.unrefused Usage m)
-done_or_no_memory input told before now Ragged m valid r w = absurd (valid.unrefused Ragged m)
-done_or_no_memory input told before now TooShort m valid r w = absurd (valid.unrefused TooShort m)
-done_or_no_memory input told before now TooLong m valid r w = absurd (omega (arith, m.past, valid.within))
-done_or_no_memory input told before now (BadCell e) m valid r w = absurd (valid.unrefused (BadCell e) m)
-done_or_no_memory input told before now (BadCertificate place) m valid r w = absurd (valid.unrefused (BadCertificate place) m)
+done_or_no_memory input given before now Done m valid r w = inl refl
+done_or_no_memory input given before now OutOfMemory m valid r w = inr refl
+done_or_no_memory input given before now ReadFault m valid r w = absurd (r m)
+done_or_no_memory input given before now WriteFault m valid r w = absurd (w m.1)
+done_or_no_memory input given before now Usage m valid r w = absurd (valid.unrefused Usage m)
+done_or_no_memory input given before now Ragged m valid r w = absurd (valid.unrefused Ragged m)
+done_or_no_memory input given before now TooShort m valid r w = absurd (valid.unrefused TooShort m)
+done_or_no_memory input given before now TooLong m valid r w = absurd (omega (arith, m.past, valid.within))
+done_or_no_memory input given before now (BadCell e) m valid r w = absurd (valid.unrefused (BadCell e) m)
+done_or_no_memory input given before now (BadCertificate place) m valid r w = absurd (valid.unrefused (BadCertificate place) m)
 
 pub complete : (program : Program) (words : List (List ℕ)) (before now : Outside) (status : Status) → Outcome program words before now status → IsComplete program words before now status
 complete program words before now status o form bytes asked =
@@ -224,16 +224,16 @@ complete program words before now status o form bytes asked =
 
 -- ---- room
 
-no_room : (form : Form) (told output : List ℕ) (room : ℕ) (before now : Outside) → IsTold (input_of form) told before.0 → before.1.room ≡ Some room →
-    IsOutput form told output → length output ≤ room → IsWriteFault form before now → ⊥
-no_room form told output room before now e has_room is_output fits o =
+no_room : (form : Form) (given output : List ℕ) (room : ℕ) (before now : Outside) → IsGiven (input_of form) given before.0 → before.1.room ≡ Some room →
+    IsOutput form given output → length output ≤ room → IsWriteFault form before now → ⊥
+no_room form given output room before now e has_room is_output fits o =
     let h = o.has_output in
-    let whole = told_bytes (input_of form) h.bytes told before.0 now.0 e h.whole in
-    let long = one_length form told output o.output is_output (subst (λ bytes. IsOutput form bytes o.output) (sym whole) h.is_output) in
+    let whole = given_bytes (input_of form) h.bytes given before.0 now.0 e h.whole in
+    let long = one_length form given output o.output is_output (subst (λ bytes. IsOutput form bytes o.output) (sym whole) h.is_output) in
     let full : room < length o.output = subst (λ r. IfSome r (λ n. n < length o.output)) has_room o.full in
     omega (arith, long, full, fits)
 
 pub has_room : (program : Program) (words : List (List ℕ)) (before now : Outside) (status : Status) → Outcome program words before now status → HasRoom program words before status
-has_room program words before now status o form bytes output room asked told is_output fits fault =
-    no_room form bytes output room before now asked.told told is_output fits
+has_room program words before now status o form bytes output room asked given is_output fits fault =
+    no_room form bytes output room before now asked.given given is_output fits
     (ends_of program form words before now asked.is_of WriteFault (subst (Outcome program words before now) fault o))

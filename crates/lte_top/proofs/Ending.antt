@@ -3,7 +3,7 @@ use Rattle.std.proofs.Common.{◌≡◌, ◌%◌, List, length, None, Bool, true
 use Rattle.std.proofs.lemmas.Bool.{ltb-true, eq-eqb}
 use Rattle.cs_num.specs.declared.Sample.{Sample}
 use Rattle.cs_outside.specs.Counts.{Rose}
-use Rattle.cs_outside.specs.Outside.{SourceTold, Outside}
+use Rattle.cs_outside.specs.Outside.{SourceState, Outside}
 use Rattle.cs_outside.specs.Streams.{HasWritten, HasWrittenFront, IsShortOf}
 use Rattle.sample_file.specs.declared.form.SampleForm.{SampleForm}
 use Rattle.sample_file.specs.Recording.{width, bytes_of}
@@ -12,7 +12,7 @@ use Rattle.lte_types.specs.declared.carrier.Carrier.{Carrier}
 use Rattle.lte_types.specs.declared.entry.Entry.{Entry}
 use Rattle.lte_args.specs.declared.form.Form.TheVariants.{Certify, Apply}
 use Rattle.lte_args.specs.declared.form.Turn.{Turn}
-use Rattle.lte_args.specs.declared.form.Turn.TheVariants.{AsTold, Steps}
+use Rattle.lte_args.specs.declared.form.Turn.TheVariants.{AsEstimated, Steps}
 use Rattle.lte_top.specs.declared.status.Status.{Status}
 use Rattle.lte_top.specs.Certificates.{IsCertified}
 use Rattle.certificates.specs.Certifying.{HasCertifiedAll, HasCertifiedSome}
@@ -24,7 +24,7 @@ use Rattle.lte_top.specs.Tuning.{IsTurned, IsTurnedAsBytes}
 use Rattle.lte_top.specs.Run.{HasOutput, IsDone, IsWriteFault}
 
 -- a recording that was read is not refused
-pub recording_unrefused : (form : SampleForm) (samples : List Sample) (before now : SourceTold) (h : HasReadRecording form samples before now) (status : Status) →
+pub recording_unrefused : (form : SampleForm) (samples : List Sample) (before now : SourceState) (h : HasReadRecording form samples before now) (status : Status) →
     RefusesRecording form h.input status → ⊥
 recording_unrefused form samples before now h status (within, refused) =
     let same : nat_eq (length h.input % width form) 0 ≡ true = eq-eqb (length h.input % width form) 0 h.whole_samples in
@@ -37,7 +37,7 @@ recording_unrefused form samples before now h status (within, refused) =
     settle false e = e
 
 -- certificates for all entries are the output
-pub certified_output : (carrier : Carrier) (form : SampleForm) (samples : List Sample) (before now : SourceTold) (output : List ℕ) → HasReadRecording form samples before now →
+pub certified_output : (carrier : Carrier) (form : SampleForm) (samples : List Sample) (before now : SourceState) (output : List ℕ) → HasReadRecording form samples before now →
     IsCertified carrier samples output → HasOutput (Certify carrier form) output before now
 certified_output carrier form samples before now output h certified = record {
   bytes = h.input;
@@ -69,7 +69,7 @@ certified_fault carrier form samples entries before now h is_list some rose = re
 -- ---- corrected recordings
 
 -- the bytes of the corrected recording are the output
-turned_output : (turn : Turn) (form : SampleForm) (samples turned : List Sample) (before now : SourceTold) → HasReadRecording form samples before now →
+turned_output : (turn : Turn) (form : SampleForm) (samples turned : List Sample) (before now : SourceState) → HasReadRecording form samples before now →
     IsTurned turn samples turned → HasOutput (Apply turn form) (bytes_of turned) before now
 turned_output turn form samples turned before now h is = record {
   bytes = h.input;

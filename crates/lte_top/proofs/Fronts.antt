@@ -9,7 +9,7 @@ use Rattle.lte_types.specs.declared.carrier.Carrier.{Carrier}
 use Rattle.lte_types.specs.declared.carrier.Carrier.TheVariants.{OnePort, TwoPorts, LongPrefix, FourPorts}
 use Rattle.lte_types.specs.declared.entry.Entry.{Entry}
 use Rattle.lte_types.specs.declared.hit.Hit.{Hit}
-use Rattle.cs_outside.specs.Outside.{SourceTold}
+use Rattle.cs_outside.specs.Outside.{SourceState}
 use Rattle.sample_file.specs.declared.form.SampleForm.{SampleForm}
 use Rattle.sample_file.specs.Recording.{AgreeBefore, IsRecording}
 use Rattle.sample_file.specs.Reading.{HasReadFront}
@@ -125,7 +125,7 @@ kept_report Tell output samples text valid is = subst (λ (kept : List Sample). 
 kept_report (Why identity carrier) output samples text valid is = subst (λ (kept : List Sample). IsReport (Why identity carrier) output kept text) (take_all most_samples samples valid.most) is
 
 -- a report about the kept samples is the output
-pub kept_output : (report : Report) (output : Output) (form : SampleForm) (front : List Sample) (before now : SourceTold) (text : List ℕ) → HasReadFront form (kept_for report) front before now →
+pub kept_output : (report : Report) (output : Output) (form : SampleForm) (front : List Sample) (before now : SourceState) (text : List ℕ) → HasReadFront form (kept_for report) front before now →
     IsReport report output front text → HasOutput (Reports report output form) text before now
 kept_output report output form front before now text f is =
     let whole = kept_report report output f.recording text (recording_is form f.recording before now f.read) (subst (λ (kept : List Sample). IsReport report output kept text) f.front_is is) in

@@ -36,8 +36,8 @@ one_made carrier n first second a b =
     let y = b.listed in
     let samples : x.samples ≡ y.samples = same_samples carrier n x.samples y.samples x.made y.made in
     let same : a.entries ≡ b.entries = one_list carrier y.samples a.entries b.entries (subst (λ s. IsListOf carrier s a.entries) samples x.is_list) y.is_list in
-    let held : a.tells.held ≡ b.tells.held = one_count P b.entries a.tells.held b.tells.held (subst (λ (l : List Entry). Counts P l a.tells.held) same a.tells.counts) b.tells.counts in
-    a.tells.text ∙ ap (λ l. text_with (cell_of carrier n) l a.tells.held) same ∙ ap (text_with (cell_of carrier n) b.entries) held ∙ sym b.tells.text
+    let held : a.decodes.held ≡ b.decodes.held = one_count P b.entries a.decodes.held b.decodes.held (subst (λ (l : List Entry). Counts P l a.decodes.held) same a.decodes.counts) b.decodes.counts in
+    a.decodes.text ∙ ap (λ l. text_with (cell_of carrier n) l a.decodes.held) same ∙ ap (text_with (cell_of carrier n) b.entries) held ∙ sym b.decodes.text
 
 -- ---- the sent cell is listed
 
@@ -63,10 +63,10 @@ holds law carrier n samples entries m l =
 -- the list is strictly ordered, so the count is 1
 held_once : (carrier : Carrier) (n : ℕ) (output : List ℕ) (m : IsMadeText carrier n output) → Holds (cell_of carrier n) m.entries → IsHeldOnce n output
 held_once carrier n output m h =
-    let one : m.tells.held ≡ 1 =
-    one_counted IsBefore (IsSentCell (cell_of carrier n)) (λ x before. before_after x x before before) m.entries h.entry m.tells.held m.listed.is_list.explained.listed.in_order h.inside h.is
-    h.only m.tells.counts in
-    record { entries = m.entries; once = m.tells.text ∙ ap (text_with (cell_of carrier n) m.entries) one }
+    let one : m.decodes.held ≡ 1 =
+    one_counted IsBefore (IsSentCell (cell_of carrier n)) (λ x before. before_after x x before before) m.entries h.entry m.decodes.held m.listed.is_list.explained.listed.in_order h.inside h.is
+    h.only m.decodes.counts in
+    record { entries = m.entries; once = m.decodes.text ∙ ap (text_with (cell_of carrier n) m.entries) one }
 
 pub made_is_held : NumbersAreClean → WhatIsMadeIsHeld
 made_is_held law carrier n output small m = held_once carrier n output m (holds law carrier n m.listed.samples m.entries m.listed.made m.listed.is_list)

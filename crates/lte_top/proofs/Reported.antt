@@ -9,18 +9,18 @@ use Rattle.evidence.specs.Shown.{IsShownFor}
 use Rattle.evidence.proofs.Only.{one_for_each, one_shown_for_each}
 use Rattle.report_text.specs.Evidence.{evidence_text}
 use Rattle.report_json.specs.Evidence.{evidence_json}
-use Rattle.report_json.specs.Offset.{telling_json, IsTellJson}
+use Rattle.report_json.specs.Offset.{estimate_json, IsTellJson}
 use Rattle.frequency_offset.specs.Candidates.{taken_of}
-use Rattle.report_text.specs.Offset.{told_text}
-use Rattle.frequency_offset.proofs.OneTold.{is_one_told, is_one_applied}
+use Rattle.report_text.specs.Offset.{offset_text}
+use Rattle.frequency_offset.proofs.OneEstimate.{has_one_estimate, is_one_applied}
 use Rattle.reasons.proofs.OneReason.{one_reason}
 use Rattle.lte_args.specs.declared.form.Report.{Report}
 use Rattle.lte_args.specs.declared.form.Report.TheVariants.{Hits, Ids, Search, Evidence, Tell, Why}
 use Rattle.lte_args.specs.declared.form.Output.{Output}
 use Rattle.lte_args.specs.declared.form.Output.TheVariants.{Text, Json}
 use Rattle.lte_args.specs.declared.form.Turn.{Turn}
-use Rattle.lte_args.specs.declared.form.Turn.TheVariants.{AsTold, Steps}
-use Rattle.lte_top.specs.Reports.{IsEvidence, IsEvidenceJson, IsEvidenceText, IsTelling, IsHits, IsIds, IsReport}
+use Rattle.lte_args.specs.declared.form.Turn.TheVariants.{AsEstimated, Steps}
+use Rattle.lte_top.specs.Reports.{IsEvidence, IsEvidenceJson, IsEvidenceText, IsTellReport, IsHits, IsIds, IsReport}
 use Rattle.evidence.specs.Receivers.{receiver_of}
 use Rattle.lte_top.specs.Why.{IsWhy, why_text}
 use Rattle.lte_top.specs.Tuning.{IsTurnedAsBytes}
@@ -37,8 +37,8 @@ one_ids Json samples first second a b = a ∙ sym b
 one_evidence_text : (carrier : Carrier) (samples : List Sample) (first second : List ℕ) → IsEvidenceText carrier samples first → IsEvidenceText carrier samples second → first ≡ second
 one_evidence_text carrier samples first second a b =
     let same = one_list carrier samples a.entries b.entries a.is_list b.is_list in
-    let told = one_for_each (receiver_of carrier) samples b.entries a.told b.told (subst (λ entries. AllZip (IsEvidenceFor (receiver_of carrier) samples) entries a.told) same a.each) b.each in
-    a.text_is ∙ ap evidence_text told ∙ sym b.text_is
+    let numbers = one_for_each (receiver_of carrier) samples b.entries a.numbers b.numbers (subst (λ entries. AllZip (IsEvidenceFor (receiver_of carrier) samples) entries a.numbers) same a.each) b.each in
+    a.text_is ∙ ap evidence_text numbers ∙ sym b.text_is
 
 one_evidence_json : (carrier : Carrier) (samples : List Sample) (first second : List ℕ) → IsEvidenceJson carrier samples first → IsEvidenceJson carrier samples second → first ≡ second
 one_evidence_json carrier samples first second a b =
@@ -52,11 +52,11 @@ one_evidence carrier Json samples first second a b = one_line (IsEvidenceJson ca
 
 one_tell_json : (samples : List Sample) (first second : List ℕ) → IsTellJson samples first → IsTellJson samples second → first ≡ second
 one_tell_json samples first second a b =
-    a.is_text ∙ ap (λ told. telling_json told (taken_of samples)) (is_one_told samples a.told b.told a.is_told b.is_told) ∙ sym b.is_text
+    a.is_text ∙ ap (λ numbers. estimate_json numbers (taken_of samples)) (has_one_estimate samples a.estimate b.estimate a.is_estimated b.is_estimated) ∙ sym b.is_text
 
-one_telling : (output : Output) (samples : List Sample) (first second : List ℕ) → IsTelling output samples first → IsTelling output samples second → first ≡ second
-one_telling Text samples first second a b = a.is_text ∙ ap told_text (is_one_told samples a.told b.told a.is_told b.is_told) ∙ sym b.is_text
-one_telling Json samples first second a b = one_line (IsTellJson samples) (one_tell_json samples) first second a b
+one_decoding : (output : Output) (samples : List Sample) (first second : List ℕ) → IsTellReport output samples first → IsTellReport output samples second → first ≡ second
+one_decoding Text samples first second a b = a.is_text ∙ ap offset_text (has_one_estimate samples a.estimate b.estimate a.is_estimated b.is_estimated) ∙ sym b.is_text
+one_decoding Json samples first second a b = one_line (IsTellJson samples) (one_tell_json samples) first second a b
 
 one_why : (identity : ℕ) (carrier : Carrier) (output : Output) (samples : List Sample) (first second : List ℕ) → IsWhy identity carrier output samples first → IsWhy identity carrier output samples second → first ≡ second
 one_why identity carrier output samples first second a b =
@@ -67,9 +67,9 @@ one_report Hits output samples first second a b = one_hits output samples first 
 one_report Ids output samples first second a b = one_ids output samples first second a b
 one_report (Search rule) output samples first second a b = one_search rule output samples first second a b
 one_report (Evidence carrier) output samples first second a b = one_evidence carrier output samples first second a b
-one_report Tell output samples first second a b = one_telling output samples first second a b
+one_report Tell output samples first second a b = one_decoding output samples first second a b
 one_report (Why identity carrier) output samples first second a b = one_why identity carrier output samples first second a b
 
 pub one_turned : (turn : Turn) (samples : List Sample) (first second : List ℕ) → IsTurnedAsBytes turn samples first → IsTurnedAsBytes turn samples second → first ≡ second
-one_turned AsTold samples first second a b = a.bytes ∙ ap bytes_of (is_one_applied samples a.samples b.samples a.are b.are) ∙ sym b.bytes
+one_turned AsEstimated samples first second a b = a.bytes ∙ ap bytes_of (is_one_applied samples a.samples b.samples a.are b.are) ∙ sym b.bytes
 one_turned (Steps m) samples first second a b = a.bytes ∙ ap bytes_of (a.are ∙ sym b.are) ∙ sym b.bytes

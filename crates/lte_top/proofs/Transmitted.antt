@@ -4,7 +4,7 @@ use Rattle.finite.proofs.Lists.{values_below-length}
 use Rattle.cs_num.specs.declared.Sample.{Sample}
 use Rattle.cs_num.specs.Complex.{sample_of}
 use Rattle.cs_outside.specs.Counts.{Rose}
-use Rattle.cs_outside.specs.Outside.{SourceTold, Outside}
+use Rattle.cs_outside.specs.Outside.{SourceState, Outside}
 use Rattle.cs_outside.specs.Streams.{HasWritten, HasWrittenFront, IsShortOf}
 use Rattle.sample_file.specs.Recording.{sample_bytes, bytes_of}
 use Rattle.lte_types.specs.declared.carrier.Carrier.{Carrier}
@@ -62,7 +62,7 @@ unrefused carrier bytes e d WriteFault r = r
 unrefused carrier bytes e d OutOfMemory r = r
 unrefused carrier bytes e d (BadCertificate place) r = r
 
-transmitted_output : (carrier : Carrier) (load : Option ℕ) (e : Emission) (output : List ℕ) (before now : SourceTold) → HasDescription carrier e before now →
+transmitted_output : (carrier : Carrier) (load : Option ℕ) (e : Emission) (output : List ℕ) (before now : SourceState) → HasDescription carrier e before now →
     output ≡ bytes_of (sent_samples load e) → HasOutput (Transmit carrier load) output before now
 transmitted_output carrier load e output before now h is = record {
   bytes = h.bytes;

@@ -3,25 +3,25 @@ use Rattle.std.specs.Prelude.{◌≡◌, ℕ, List, Option, IfSome}
 use Rattle.cs_num.specs.declared.Sample.{Sample}
 use Rattle.sample_file.specs.declared.form.SampleForm.{SampleForm}
 use Rattle.sample_file.specs.Recording.{samples_of, samples_in, IsRecording}
-use Rattle.frequency_offset.specs.declared.telling.Told.{Told}
-use Rattle.frequency_offset.specs.Telling.{HasCells}
-use Rattle.report_text.specs.Offset.{told_text}
+use Rattle.frequency_offset.specs.declared.estimation.OffsetEstimate.{OffsetEstimate}
+use Rattle.frequency_offset.specs.Estimation.{HasCells}
+use Rattle.report_text.specs.Offset.{offset_text}
 use Rattle.lte_args.specs.declared.form.Form.TheVariants.{Report as Reports, Apply}
 use Rattle.lte_args.specs.declared.form.Report.TheVariants.{Tell}
 use Rattle.lte_args.specs.declared.form.Output.TheVariants.{Text}
-use Rattle.lte_args.specs.declared.form.Turn.TheVariants.{AsTold}
+use Rattle.lte_args.specs.declared.form.Turn.TheVariants.{AsEstimated}
 use Rattle.lte_top.specs.Forms.{IsOutput}
 
 -- the samples are a recording with as many cells as the text reports
-pub record HasCellsTold (text : List ℕ) (samples : List Sample) : Type 0 where
-  pub told : Option Told
-  pub text_is : text ≡ told_text told
+pub record HasReportedCells (text : List ℕ) (samples : List Sample) : Type 0 where
+  pub estimate : Option OffsetEstimate
+  pub text_is : text ≡ offset_text estimate
   pub recording : IsRecording samples
-  pub cells : IfSome told (λ told. HasCells samples told.cells)
+  pub cells : IfSome estimate (λ estimate. HasCells samples estimate.cells)
 
 -- a law: the output of `apply`, for input in either sample format, is a 16-bit recording with as many cells as `tell`
 -- reports
-abbrev pub WhatIsAppliedIsTold : Type 0
-WhatIsAppliedIsTold = (form : SampleForm) (bytes text applied : List ℕ) → IsRecording (samples_in form bytes) →
-    IsOutput (Reports Tell Text form) bytes text → IsOutput (Apply AsTold form) bytes applied →
-    HasCellsTold text (samples_of applied)
+abbrev pub WhatIsAppliedIsEstimated : Type 0
+WhatIsAppliedIsEstimated = (form : SampleForm) (bytes text applied : List ℕ) → IsRecording (samples_in form bytes) →
+    IsOutput (Reports Tell Text form) bytes text → IsOutput (Apply AsEstimated form) bytes applied →
+    HasReportedCells text (samples_of applied)

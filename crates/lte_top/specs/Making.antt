@@ -32,7 +32,7 @@ pub record IsSentCell (cell : SentCell) (entry : Entry) : Type 0 where
   pub sib1 : entry.sib1 ≡ cell.sib1
 
 -- the output is a sent cell's line with the count of entries that match it, and the text of the list
-pub record TellsHeld (cell : SentCell) (entries : List Entry) (output : List ℕ) : Type 0 where
+pub record IsMadeOutput (cell : SentCell) (entries : List Entry) (output : List ℕ) : Type 0 where
   pub held : ℕ
   pub counts : Counts (IsSentCell cell) entries held
   pub text : output ≡ made_line cell.identity cell.first cell.number held ++ report_text entries
@@ -75,7 +75,7 @@ pub record IsMadeList (carrier : Carrier) (n : ℕ) (entries : List Entry) : Typ
 pub record IsMadeText (carrier : Carrier) (n : ℕ) (output : List ℕ) : Type 0 where
   pub entries : List Entry
   pub listed : IsMadeList carrier n entries
-  pub tells : TellsHeld (cell_of carrier n) entries output
+  pub decodes : IsMadeOutput (cell_of carrier n) entries output
 
 -- ---- the sent cell is listed
 

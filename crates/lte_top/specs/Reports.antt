@@ -42,9 +42,9 @@ IsIds Json samples text = text ≡ as_line (ids_json (map (measured_id samples) 
 pub record IsEvidenceText (carrier : Carrier) (samples : List Sample) (text : List ℕ) : Type 0 where
   pub entries : List Entry
   pub is_list : IsListOf carrier samples entries
-  pub told : List Numbers
-  pub each : AllZip (IsEvidenceFor (receiver_of carrier) samples) entries told
-  pub text_is : text ≡ evidence_text told
+  pub numbers : List Numbers
+  pub each : AllZip (IsEvidenceFor (receiver_of carrier) samples) entries numbers
+  pub text_is : text ≡ evidence_text numbers
 
 -- the evidence for each listed cell, with the contents of its slot, as JSON
 pub record IsEvidenceJson (carrier : Carrier) (samples : List Sample) (text : List ℕ) : Type 0 where
@@ -59,9 +59,9 @@ IsEvidence carrier Text samples text = IsEvidenceText carrier samples text
 IsEvidence carrier Json samples text = IsLine (IsEvidenceJson carrier samples) text
 
 -- the report on the frequency offset
-abbrev pub IsTelling : Output → List Sample → List ℕ → Type 0
-IsTelling Text samples text = IsTellText samples text
-IsTelling Json samples text = IsLine (IsTellJson samples) text
+abbrev pub IsTellReport : Output → List Sample → List ℕ → Type 0
+IsTellReport Text samples text = IsTellText samples text
+IsTellReport Json samples text = IsLine (IsTellJson samples) text
 
 -- the text of a report
 abbrev pub IsReport : Report → Output → List Sample → List ℕ → Type 0
@@ -69,7 +69,7 @@ IsReport Hits output samples text = IsHits output samples text
 IsReport Ids output samples text = IsIds output samples text
 IsReport (Search rule) output samples text = IsSearch rule output samples text
 IsReport (Evidence carrier) output samples text = IsEvidence carrier output samples text
-IsReport Tell output samples text = IsTelling output samples text
+IsReport Tell output samples text = IsTellReport output samples text
 IsReport (Why identity carrier) output samples text = IsWhy identity carrier output samples text
 
 -- how many samples from the start a cell list needs: a list depends on the first 17 frames only

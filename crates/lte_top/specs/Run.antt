@@ -2,7 +2,7 @@
 -- A moment is a pair of reports: the source's, then the sink's.
 use Rattle.std.specs.Prelude.{◌≡◌, ◌≢◌, ◌⊎◌, ℕ, ◌+◌, ◌≤◌, ◌++◌, Some, List, [], length}
 use Rattle.cs_outside.specs.Counts.{Rose}
-use Rattle.cs_outside.specs.Outside.{SourceTold, Outside, NothingRead, NothingWritten}
+use Rattle.cs_outside.specs.Outside.{SourceState, Outside, NothingRead, NothingWritten}
 use Rattle.cs_outside.specs.Streams.{HasRead, HasReadAll, HasFailedAfter, IsAtEnd, HasWritten}
 use Rattle.cs_outside.specs.Streams.{HasWrittenFront, IsShortOf}
 use Rattle.lte_args.specs.declared.form.Program.{Program}
@@ -24,14 +24,14 @@ IsRead certificates = Unit {0}
 IsRead (description carrier) = Unit {0}
 
 -- the bytes are the whole input, read to its end; a form without input reads nothing
-abbrev pub HasReadInput : Input → List ℕ → SourceTold → SourceTold → Type 0
+abbrev pub HasReadInput : Input → List ℕ → SourceState → SourceState → Type 0
 HasReadInput nothing bytes before now = (bytes ≡ []) × NothingRead before now
 HasReadInput (recording form) bytes before now = HasReadAll (limit_of (recording form)) bytes before now
 HasReadInput certificates bytes before now = HasReadAll (limit_of certificates) bytes before now
 HasReadInput (description carrier) bytes before now = HasReadAll (limit_of (description carrier)) bytes before now
 
 -- a valid input was read to its end, and this is its output
-pub record HasOutput (form : Form) (output : List ℕ) (before now : SourceTold) : Type 0 where
+pub record HasOutput (form : Form) (output : List ℕ) (before now : SourceState) : Type 0 where
   pub bytes : List ℕ
   pub whole : HasReadInput (input_of form) bytes before now
   pub unrefused : (status : Status) → Refuses (input_of form) bytes status → ⊥
@@ -39,7 +39,7 @@ pub record HasOutput (form : Form) (output : List ℕ) (before now : SourceTold)
 
 -- the bytes read, at most one past the limit, have this refusal; and the input ended there, or has the refusal however
 -- it continues
-pub record HasRefusal (input : Input) (status : Status) (before now : SourceTold) : Type 0 where
+pub record HasRefusal (input : Input) (status : Status) (before now : SourceState) : Type 0 where
   pub bytes : List ℕ
   pub read : HasRead bytes before now
   pub few : length bytes ≤ limit_of input + 1
@@ -47,7 +47,7 @@ pub record HasRefusal (input : Input) (status : Status) (before now : SourceTold
   pub settled : IsAtEnd now ⊎ ((rest : List ℕ) → Refuses input (bytes ++ rest) status)
 
 -- one byte past the limit was read, and no continuation of these bytes is refused
-pub record IsReadTooLong (input : Input) (before now : SourceTold) : Type 0 where
+pub record IsReadTooLong (input : Input) (before now : SourceState) : Type 0 where
   pub is_read : IsRead input
   pub front : List ℕ
   pub read : HasRead front before now
@@ -62,21 +62,21 @@ NothingMet certificates bytes = IsUnbroken bytes
 NothingMet (description carrier) bytes = Unit {0}
 
 -- a read failed after at most the limit was read, and nothing was refused before
-pub record IsReadFault (input : Input) (before now : SourceTold) : Type 0 where
+pub record IsReadFault (input : Input) (before now : SourceState) : Type 0 where
   pub is_read : IsRead input
   pub front : List ℕ
   pub failed : HasFailedAfter (limit_of input) front before now
   pub unmet : NothingMet input front
 
 -- a form without input left the source untouched; otherwise nothing is claimed
-abbrev pub IsLeft : Input → SourceTold → SourceTold → Type 0
+abbrev pub IsLeft : Input → SourceState → SourceState → Type 0
 IsLeft nothing before now = NothingRead before now
 IsLeft (recording form) before now = Unit {0}
 IsLeft certificates before now = Unit {0}
 IsLeft (description carrier) before now = Unit {0}
 
 -- why an input was not read to its end and answered
-abbrev pub Cause : Input → SourceTold → SourceTold → Status → Type 0
+abbrev pub Cause : Input → SourceState → SourceState → Status → Type 0
 Cause input before now Done = ⊥
 Cause input before now Usage = ⊥
 Cause input before now WriteFault = ⊥
@@ -151,17 +151,17 @@ MayAnswer input bytes before now WriteFault = IsValid input bytes × Rose before
 MayAnswer input bytes before now status = IsAnswerTo input bytes status
 
 -- the source reports these bytes as remaining; a form without input has none
-abbrev pub IsTold : Input → List ℕ → SourceTold → Type 0
-IsTold nothing bytes before = bytes ≡ []
-IsTold (recording form) bytes before = before.left ≡ Some bytes
-IsTold certificates bytes before = before.left ≡ Some bytes
-IsTold (description carrier) bytes before = before.left ≡ Some bytes
+abbrev pub IsGiven : Input → List ℕ → SourceState → Type 0
+IsGiven nothing bytes before = bytes ≡ []
+IsGiven (recording form) bytes before = before.left ≡ Some bytes
+IsGiven certificates bytes before = before.left ≡ Some bytes
+IsGiven (description carrier) bytes before = before.left ≡ Some bytes
 
 -- arguments that select a form, and the bytes of its input, if the source reports them
 pub record IsAsked (program : Program) (words : List (List ℕ)) (before : Outside) (form : Form) (bytes : List ℕ) :
     Type 0 where
   pub is_of : IsWordsOf program words form
-  pub told : IsTold (input_of form) bytes before.0
+  pub given : IsGiven (input_of form) bytes before.0
 
 -- the answer is one that the input may get
 abbrev pub IsAnswered : Program → List (List ℕ) → Outside → Outside → Status → Type 0

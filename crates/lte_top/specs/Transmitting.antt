@@ -3,7 +3,7 @@ use Rattle.std.specs.Prelude.{◌≡◌, ℕ, Option, List}
 use Rattle.finite.specs.Lists.{values_below}
 use Rattle.cs_num.specs.declared.Sample.{Sample}
 use Rattle.cs_num.specs.Complex.{sample_of}
-use Rattle.cs_outside.specs.Outside.{SourceTold}
+use Rattle.cs_outside.specs.Outside.{SourceState}
 use Rattle.cs_outside.specs.Streams.{HasReadAll}
 use Rattle.lte_types.specs.declared.carrier.Carrier.{Carrier}
 use Rattle.sample_file.specs.Recording.{bytes_of}
@@ -28,7 +28,7 @@ pub record IsTransmitted (carrier : Carrier) (load : Option ℕ) (bytes output :
   pub sent : output ≡ bytes_of (sent_samples load emission)
 
 -- a description of this emission was read to the end of the input
-pub record HasDescription (carrier : Carrier) (e : Emission) (before now : SourceTold) : Type 0 where
+pub record HasDescription (carrier : Carrier) (e : Emission) (before now : SourceState) : Type 0 where
   pub bytes : List ℕ
   pub whole : HasReadAll most_description_bytes bytes before now
   pub describes : DescribesBy carrier bytes e

@@ -2,14 +2,14 @@
 use Rattle.std.specs.Prelude.{◌≡◌, ℕ, List}
 use Rattle.cs_num.specs.declared.Sample.{Sample}
 use Rattle.sample_file.specs.Recording.{bytes_of}
-use Rattle.frequency_offset.specs.Telling.{IsApplied}
+use Rattle.frequency_offset.specs.Estimation.{IsApplied}
 use Rattle.frequency_offset.specs.Turned.{turned}
 use Rattle.lte_args.specs.declared.form.Turn.{Turn}
-use Rattle.lte_args.specs.declared.form.Turn.TheVariants.{AsTold, Steps}
+use Rattle.lte_args.specs.declared.form.Turn.TheVariants.{AsEstimated, Steps}
 
 -- these samples are the corrected recording
 abbrev pub IsTurned : Turn → List Sample → List Sample → Type 0
-IsTurned AsTold samples now = IsApplied samples now
+IsTurned AsEstimated samples now = IsApplied samples now
 IsTurned (Steps m) samples now = now ≡ turned samples m
 
 -- the samples as bytes, 16 bits per component

@@ -2,7 +2,7 @@
 
 ghost use Rattle.std.specs.Prelude.{◌≡◌, ◌≤◌, IfOk, IfErr, OnOk, OnErr, string_bytes};
 ghost use Rattle.cs_outside.specs.Counts.{Rose};
-ghost use Rattle.cs_outside.specs.Outside.{SourceTold, SinkTold};
+ghost use Rattle.cs_outside.specs.Outside.{SourceState, SinkState};
 ghost use Rattle.certificates.specs.Certifying.{HasCertifiedAll, HasCertifiedSome};
 ghost use Rattle.lte_top.specs.Forms.{certificates};
 ghost use Rattle.lte_top.specs.Run.{Cause, HasOutput, IsDone, Ends};
@@ -40,11 +40,11 @@ pub(crate) fn certify_recording<S: Source, K: Sink>(
     sink: &mut K,
 ) -> Result<(), Status>
     ensures done { OnOk result (IsDone (Certify carrier form)
-        (S.told source.old, K.told sink.old) (S.told source.new, K.told sink.new)) }
+        (S.state source.old, K.state sink.old) (S.state source.new, K.state sink.new)) }
     ensures ended { IfErr result (Ends (Certify carrier form)
-        (S.told source.old, K.told sink.old) (S.told source.new, K.told sink.new)) }
-    ensures reads { (S.told source.old).faults ≤ (S.told source.new).faults }
-    ensures writes { (K.told sink.old).faults ≤ (K.told sink.new).faults }
+        (S.state source.old, K.state sink.old) (S.state source.new, K.state sink.new)) }
+    ensures reads { (S.state source.old).faults ≤ (S.state source.new).faults }
+    ensures writes { (K.state sink.old).faults ≤ (K.state sink.new).faults }
 {
     let recording = recording_of(alloc, form, source)?;
     let mut rooms = rooms_of(alloc)?;
@@ -72,11 +72,11 @@ fn certify_list<K: Sink>(
     requires { receiver ≡ receiver_of carrier }
     ensures list { IsListOf carrier recording.now rooms.new.list }
     ensures ok { OnOk result (HasCertifiedAll receiver recording.now rooms.new.list
-        (K.told sink.old) (K.told sink.new)) }
+        (K.state sink.old) (K.state sink.new)) }
     ensures err { OnErr result (HasCertifiedSome receiver recording.now rooms.new.list
-        (K.told sink.old) (K.told sink.new)) }
-    ensures fault { OnErr result (Rose (K.told sink.old).faults (K.told sink.new).faults) }
-    ensures never_falls { (K.told sink.old).faults ≤ (K.told sink.new).faults }
+        (K.state sink.old) (K.state sink.new)) }
+    ensures fault { OnErr result (Rose (K.state sink.old).faults (K.state sink.new).faults) }
+    ensures never_falls { (K.state sink.old).faults ≤ (K.state sink.new).faults }
 {
     read_list(recording, carrier, &mut rooms.search, &mut rooms.list);
     certify(
@@ -92,9 +92,9 @@ fn certify_list<K: Sink>(
 #[inline(never)]
 pub(crate) fn answers_text<S: Source>(alloc: Global, source: &mut S) -> Result<String, Status>
     ensures ok { IfOk result (λ text.
-        HasOutput Check (string_bytes text) (S.told source.old) (S.told source.new)) }
-    ensures err { IfErr result (Cause certificates (S.told source.old) (S.told source.new)) }
-    ensures never_falls { (S.told source.old).faults ≤ (S.told source.new).faults }
+        HasOutput Check (string_bytes text) (S.state source.old) (S.state source.new)) }
+    ensures err { IfErr result (Cause certificates (S.state source.old) (S.state source.new)) }
+    ensures never_falls { (S.state source.old).faults ≤ (S.state source.new).faults }
 {
     let answers = read_answers(alloc, source)?;
     let text = text_of_answers(alloc, &answers)?;

@@ -1,6 +1,6 @@
 //! Laws about the commands' answers and outputs.
 
-ghost use Rattle.lte_top.specs.Applied.{WhatIsAppliedIsTold};
+ghost use Rattle.lte_top.specs.Applied.{WhatIsAppliedIsEstimated};
 ghost use Rattle.lte_top.specs.Found.{WhatIsSentIsFound};
 ghost use Rattle.lte_top.specs.Searching.{FirstFramesDecideEach};
 ghost use Rattle.lte_top.specs.Making.{WhatIsMadeIsHeld};
@@ -38,9 +38,9 @@ pub fn the_first_frames_decide_each_list()
 {}
 
 /// A law: the output of `apply` is a valid recording, and has as many cells as `tell` reports.
-pub fn what_is_applied_is_told()
-    ensures { WhatIsAppliedIsTold }
+pub fn what_is_applied_is_estimated()
+    ensures { WhatIsAppliedIsEstimated }
 {
     frequency_offset::turned_recordings();
-    frequency_offset::the_turn_told();
+    frequency_offset::the_turn_estimated();
 }

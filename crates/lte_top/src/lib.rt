@@ -18,7 +18,7 @@ mod tuning;
 mod version;
 
 pub use laws::{
-    an_input_has_one_answer, the_first_frames_decide_each_list, what_is_applied_is_told,
+    an_input_has_one_answer, the_first_frames_decide_each_list, what_is_applied_is_estimated,
     what_is_made_is_held, what_is_sent_is_found,
 };
 pub use lte_args::{Form, Output, Page, Program, Report, Rule, Turn, Words};

@@ -2,7 +2,7 @@
 
 ghost use Rattle.std.specs.Prelude.{◌≡◌, ◌↔◌, ◌≤◌, IfOk, IsTrue, length, string_bytes};
 ghost use Rattle.clean_air.specs.Clean.{system_of_carrier};
-ghost use Rattle.lte_top.specs.Making.{Counts, IsSentCell, TellsHeld, cell_of, IsMadeList, IsMadeText};
+ghost use Rattle.lte_top.specs.Making.{Counts, IsSentCell, IsMadeOutput, cell_of, IsMadeList, IsMadeText};
 
 use crate::searching::list_of;
 use capture_make::{make_by, plan, timing};
@@ -56,12 +56,12 @@ fn sent_cell(carrier: Carrier, n: u32) -> SentCell
         duration: plan.duration,
         resource: plan.resource,
         spare: plan.spare,
-        sib1: told_by(carrier, plan.sib1),
+        sib1: decoded_by(carrier, plan.sib1),
     }
 }
 
 // Returns what a listed cell reports as its system information.
-fn told_by(carrier: Carrier, sib1: Sib1) -> Result<Sib1, Sib1Reason>
+fn decoded_by(carrier: Carrier, sib1: Sib1) -> Result<Sib1, Sib1Reason>
     ensures { result ≡ system_of_carrier carrier sib1 }
 {
     if carrier.prefix().is_extended() {
@@ -75,7 +75,7 @@ fn told_by(carrier: Carrier, sib1: Sib1) -> Result<Sib1, Sib1Reason>
 
 // Returns a sent cell's line, and the text of a cell list.
 fn text_of_sent(alloc: Global, cell: &SentCell, list: &[Entry]) -> Result<String, AllocError>
-    ensures { IfOk result (λ text. TellsHeld cell.now list.now (string_bytes text)) }
+    ensures { IfOk result (λ text. IsMadeOutput cell.now list.now (string_bytes text)) }
 {
     let held = count_held(list, cell);
     let mut output = line_of_made(alloc, cell.identity, cell.first, cell.number.value(), held)?;

@@ -1,7 +1,7 @@
 //! Reports about a recording.
 
 ghost use Rattle.std.specs.Prelude.{◌≡◌, ◌≤◌, All, IfOk, IfErr, string_bytes};
-ghost use Rattle.cs_outside.specs.Outside.{SourceTold};
+ghost use Rattle.cs_outside.specs.Outside.{SourceState};
 ghost use Rattle.lte_types.specs.Numerology.{least_samples, most_samples};
 ghost use Rattle.sample_file.specs.Reading.{HasReadRecording, HasReadFront};
 ghost use Rattle.sample_file.specs.Recording.{IsRecording};
@@ -9,7 +9,7 @@ ghost use Rattle.pss_search.specs.Hits.{IsInSpan, IsSmallHit, hits_of as all_hit
 ghost use Rattle.lte_top.specs.Forms.{recording};
 ghost use Rattle.lte_top.specs.Line.{as_line};
 ghost use Rattle.lte_top.specs.Reports.{IsEvidence, IsEvidenceJson};
-ghost use Rattle.lte_top.specs.Reports.{IsEvidenceText, IsHits, IsIds, IsReport, IsTelling, kept_for as kept_in};
+ghost use Rattle.lte_top.specs.Reports.{IsEvidenceText, IsHits, IsIds, IsReport, IsTellReport, kept_for as kept_in};
 ghost use Rattle.lte_top.specs.Reports.{kept_for_list as kept_in_list};
 ghost use Rattle.lte_top.specs.Run.{Cause, HasOutput};
 ghost use Rattle.lte_args.specs.declared.form.Form.TheVariants.{Report as Reports};
@@ -39,9 +39,9 @@ pub(crate) fn report_text<S: Source>(
     source: &mut S,
 ) -> Result<String, Status>
     ensures ok { IfOk result (λ text.
-        HasOutput (Reports report output form) (string_bytes text) (S.told source.old) (S.told source.new)) }
-    ensures err { IfErr result (Cause (recording form) (S.told source.old) (S.told source.new)) }
-    ensures never_falls { (S.told source.old).faults ≤ (S.told source.new).faults }
+        HasOutput (Reports report output form) (string_bytes text) (S.state source.old) (S.state source.new)) }
+    ensures err { IfErr result (Cause (recording form) (S.state source.old) (S.state source.new)) }
+    ensures never_falls { (S.state source.old).faults ≤ (S.state source.new).faults }
 {
     let front = front_of(alloc, form, kept_for(&report), source)?;
     let text = text_of_report(alloc, report, output, &front)?;
@@ -86,10 +86,10 @@ fn front_of<S: Source>(
 ) -> Result<Recording, Status>
     requires some { least_samples ≤ most }
     requires few { most ≤ most_samples }
-    ensures ok { IfOk result (λ front. HasReadFront form most front (S.told source.old) (S.told source.new)) }
+    ensures ok { IfOk result (λ front. HasReadFront form most front (S.state source.old) (S.state source.new)) }
     ensures valid { IfOk result IsRecording }
-    ensures err { IfErr result (Cause (recording form) (S.told source.old) (S.told source.new)) }
-    ensures never_falls { (S.told source.old).faults ≤ (S.told source.new).faults }
+    ensures err { IfErr result (Cause (recording form) (S.state source.old) (S.state source.new)) }
+    ensures never_falls { (S.state source.old).faults ≤ (S.state source.new).faults }
 {
     let front = read_front(alloc, source, form, most)?;
     Ok(front)
@@ -101,10 +101,10 @@ pub(crate) fn recording_of<S: Source>(
     form: SampleForm,
     source: &mut S,
 ) -> Result<Recording, Status>
-    ensures ok { IfOk result (λ samples. HasReadRecording form samples (S.told source.old) (S.told source.new)) }
+    ensures ok { IfOk result (λ samples. HasReadRecording form samples (S.state source.old) (S.state source.new)) }
     ensures valid { IfOk result IsRecording }
-    ensures err { IfErr result (Cause (recording form) (S.told source.old) (S.told source.new)) }
-    ensures never_falls { (S.told source.old).faults ≤ (S.told source.new).faults }
+    ensures err { IfErr result (Cause (recording form) (S.state source.old) (S.state source.new)) }
+    ensures never_falls { (S.state source.old).faults ≤ (S.state source.new).faults }
 {
     let recording = read_as(alloc, source, form)?;
     Ok(recording)
@@ -125,7 +125,7 @@ fn text_of_report(
         Report::Ids => ids_text(alloc, output, recording),
         Report::Search(rule) => search_text(alloc, rule, output, recording),
         Report::Evidence(carrier) => evidence_report(alloc, carrier, output, recording),
-        Report::Tell => told_text(alloc, output, recording),
+        Report::Tell => offset_text(alloc, output, recording),
         Report::Why(id, carrier) => why_text(alloc, id, carrier, output, recording),
     }
 }
@@ -204,8 +204,8 @@ fn evidence_text(
 {
     let (mut work, mut list) = room_for_list(alloc)?;
     read_list(recording, carrier, &mut work, &mut list);
-    let told = evidence_of_list(alloc, recording, carrier, list.slice(), work.readings())?;
-    text_of_evidence(alloc, &told)
+    let numbers = evidence_of_list(alloc, recording, carrier, list.slice(), work.readings())?;
+    text_of_evidence(alloc, &numbers)
 }
 
 // Returns the evidence for each listed cell as JSON, which also has the slot's contents.
@@ -225,8 +225,8 @@ fn evidence_json(
 // ---- the frequency offset
 
 // Returns the text of a recording's frequency offset.
-fn told_text(alloc: Global, output: Output, recording: &Recording) -> Result<String, AllocError>
-    ensures { IfOk result (λ text. IsTelling output recording.now (string_bytes text)) }
+fn offset_text(alloc: Global, output: Output, recording: &Recording) -> Result<String, AllocError>
+    ensures { IfOk result (λ text. IsTellReport output recording.now (string_bytes text)) }
 {
     match output {
         Output::Text => tell_text(alloc, recording),

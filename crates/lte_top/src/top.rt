@@ -5,7 +5,7 @@
 
 ghost use Rattle.std.specs.Prelude.{◌≡◌, ◌≤◌, length, IfErr, OnOk, OnErr};
 ghost use Rattle.cs_outside.specs.Counts.{Rose};
-ghost use Rattle.cs_outside.specs.Outside.{SourceTold, SinkTold};
+ghost use Rattle.cs_outside.specs.Outside.{SourceState, SinkState};
 ghost use Rattle.cs_outside.specs.Streams.{HasWritten, HasWrittenFront, IsShortOf};
 ghost use Rattle.lte_top.specs.Memory.{in_memory, taken_by};
 ghost use Rattle.lte_top.specs.Run.{IsDone, Ends, Outcome, Runs};
@@ -33,7 +33,7 @@ pub fn run_program<S: Source, K: Sink>(
     sink: &mut K,
 ) -> Status
     ensures { Runs program words.now
-        (S.told source.old, K.told sink.old) (S.told source.new, K.told sink.new) result }
+        (S.state source.old, K.state sink.old) (S.state source.new, K.state sink.new) result }
 {
     run_words(alloc, program, words, source, sink)
 }
@@ -41,7 +41,7 @@ pub fn run_program<S: Source, K: Sink>(
 /// Runs a command of `lte_cli`, as `run_program` does.
 pub fn run<S: Source, K: Sink>(alloc: Global, words: &Words, source: &mut S, sink: &mut K) -> Status
     ensures { Runs Receiver words.now
-        (S.told source.old, K.told sink.old) (S.told source.new, K.told sink.new) result }
+        (S.state source.old, K.state sink.old) (S.state source.new, K.state sink.new) result }
 {
     run_program(alloc, Program::Receiver, words, source, sink)
 }
@@ -69,9 +69,9 @@ fn run_words<S: Source, K: Sink>(
     sink: &mut K,
 ) -> Status
     ensures outcome { Outcome program words.now
-        (S.told source.old, K.told sink.old) (S.told source.new, K.told sink.new) result }
-    ensures reads { (S.told source.old).faults ≤ (S.told source.new).faults }
-    ensures writes { (K.told sink.old).faults ≤ (K.told sink.new).faults }
+        (S.state source.old, K.state sink.old) (S.state source.new, K.state sink.new) result }
+    ensures reads { (S.state source.old).faults ≤ (S.state source.new).faults }
+    ensures writes { (K.state sink.old).faults ≤ (K.state sink.new).faults }
 {
     let Some(form) = Form::of(program, words) else {
         return Status::Usage;
@@ -90,11 +90,11 @@ fn run_form<S: Source, K: Sink>(
     sink: &mut K,
 ) -> Result<(), Status>
     ensures done { OnOk result (IsDone form
-        (S.told source.old, K.told sink.old) (S.told source.new, K.told sink.new)) }
+        (S.state source.old, K.state sink.old) (S.state source.new, K.state sink.new)) }
     ensures ended { IfErr result (Ends form
-        (S.told source.old, K.told sink.old) (S.told source.new, K.told sink.new)) }
-    ensures reads { (S.told source.old).faults ≤ (S.told source.new).faults }
-    ensures writes { (K.told sink.old).faults ≤ (K.told sink.new).faults }
+        (S.state source.old, K.state sink.old) (S.state source.new, K.state sink.new)) }
+    ensures reads { (S.state source.old).faults ≤ (S.state source.new).faults }
+    ensures writes { (K.state sink.old).faults ≤ (K.state sink.new).faults }
 {
     match form {
         Form::Report(report, output, samples) => {
@@ -121,12 +121,12 @@ fn run_form<S: Source, K: Sink>(
 
 // Writes the whole output.
 fn write_output<K: Sink>(sink: &mut K, output: &[u8]) -> Result<(), Status>
-    ensures ok { OnOk result (HasWritten output.now (K.told sink.old) (K.told sink.new)) }
+    ensures ok { OnOk result (HasWritten output.now (K.state sink.old) (K.state sink.new)) }
     ensures status { IfErr result (λ status. status ≡ WriteFault) }
-    ensures front { OnErr result (HasWrittenFront output.now (K.told sink.old) (K.told sink.new)) }
-    ensures full { OnErr result (IsShortOf (length output.now) (K.told sink.old)) }
-    ensures fault { OnErr result (Rose (K.told sink.old).faults (K.told sink.new).faults) }
-    ensures never_falls { (K.told sink.old).faults ≤ (K.told sink.new).faults }
+    ensures front { OnErr result (HasWrittenFront output.now (K.state sink.old) (K.state sink.new)) }
+    ensures full { OnErr result (IsShortOf (length output.now) (K.state sink.old)) }
+    ensures fault { OnErr result (Rose (K.state sink.old).faults (K.state sink.new).faults) }
+    ensures never_falls { (K.state sink.old).faults ≤ (K.state sink.new).faults }
 {
     match write_whole(sink, output) {
         Ok(()) => Ok(()),

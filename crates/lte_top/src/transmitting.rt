@@ -2,7 +2,7 @@
 
 ghost use Rattle.std.specs.Prelude.{◌≡◌, ◌≤◌, length, IfOk, IfErr, OnOk, OnErr};
 ghost use Rattle.cs_outside.specs.Counts.{Rose};
-ghost use Rattle.cs_outside.specs.Outside.{SourceTold, SinkTold};
+ghost use Rattle.cs_outside.specs.Outside.{SourceState, SinkState};
 ghost use Rattle.cs_outside.specs.Streams.{HasWritten, HasWrittenFront, IsShortOf};
 ghost use Rattle.sample_file.specs.Recording.{bytes_of};
 ghost use Rattle.cell_tx.specs.Emission.{emitted_samples};
@@ -34,11 +34,11 @@ pub(crate) fn transmit<S: Source, K: Sink>(
     sink: &mut K,
 ) -> Result<(), Status>
     ensures done { OnOk result (IsDone (Transmit carrier load)
-        (S.told source.old, K.told sink.old) (S.told source.new, K.told sink.new)) }
+        (S.state source.old, K.state sink.old) (S.state source.new, K.state sink.new)) }
     ensures ended { IfErr result (Ends (Transmit carrier load)
-        (S.told source.old, K.told sink.old) (S.told source.new, K.told sink.new)) }
-    ensures reads { (S.told source.old).faults ≤ (S.told source.new).faults }
-    ensures writes { (K.told sink.old).faults ≤ (K.told sink.new).faults }
+        (S.state source.old, K.state sink.old) (S.state source.new, K.state sink.new)) }
+    ensures reads { (S.state source.old).faults ≤ (S.state source.new).faults }
+    ensures writes { (K.state sink.old).faults ≤ (K.state sink.new).faults }
 {
     let emission = emission_of(alloc, carrier, source)?;
     match write_emission(&with_load(emission, load), sink) {
@@ -53,9 +53,9 @@ fn emission_of<S: Source>(
     carrier: Carrier,
     source: &mut S,
 ) -> Result<Emission, Status>
-    ensures ok { IfOk result (λ e. HasDescription carrier e (S.told source.old) (S.told source.new)) }
-    ensures err { IfErr result (Cause (description carrier) (S.told source.old) (S.told source.new)) }
-    ensures never_falls { (S.told source.old).faults ≤ (S.told source.new).faults }
+    ensures ok { IfOk result (λ e. HasDescription carrier e (S.state source.old) (S.state source.new)) }
+    ensures err { IfErr result (Cause (description carrier) (S.state source.old) (S.state source.new)) }
+    ensures never_falls { (S.state source.old).faults ≤ (S.state source.new).faults }
 {
     let bytes = read_to_end(alloc, source, MOST_BYTES)?;
     let emission = read_by(alloc, carrier, &bytes)?;
@@ -73,12 +73,12 @@ fn with_load(mut emission: Emission, load: Option<u32>) -> Emission
 // Writes an emission's samples, generated frame by frame, in pieces of one length.
 fn write_emission<K: Sink>(emission: &Emission, sink: &mut K) -> Result<(), Failed>
     ensures ok { OnOk result (HasWritten (bytes_of (emitted_samples emission.now))
-        (K.told sink.old) (K.told sink.new)) }
+        (K.state sink.old) (K.state sink.new)) }
     ensures front { OnErr result (HasWrittenFront (bytes_of (emitted_samples emission.now))
-        (K.told sink.old) (K.told sink.new)) }
-    ensures full { OnErr result (IsShortOf (length (bytes_of (emitted_samples emission.now))) (K.told sink.old)) }
-    ensures fault { OnErr result (Rose (K.told sink.old).faults (K.told sink.new).faults) }
-    ensures never_falls { (K.told sink.old).faults ≤ (K.told sink.new).faults }
+        (K.state sink.old) (K.state sink.new)) }
+    ensures full { OnErr result (IsShortOf (length (bytes_of (emitted_samples emission.now))) (K.state sink.old)) }
+    ensures fault { OnErr result (Rose (K.state sink.old).faults (K.state sink.new).faults) }
+    ensures never_falls { (K.state sink.old).faults ≤ (K.state sink.new).faults }
 {
     let mut emitter = Emitter::new(emission);
     let mut writer = PieceWriter::new();

@@ -1,7 +1,7 @@
 //! Frequency correction of recordings.
 
 ghost use Rattle.std.specs.Prelude.{◌≤◌, IfOk, IfErr, OnOk};
-ghost use Rattle.cs_outside.specs.Outside.{SourceTold, SinkTold};
+ghost use Rattle.cs_outside.specs.Outside.{SourceState, SinkState};
 ghost use Rattle.lte_args.specs.declared.form.Form.TheVariants.{Apply};
 ghost use Rattle.lte_top.specs.Run.{IsDone, Ends};
 ghost use Rattle.lte_top.specs.Tuning.{IsTurned};
@@ -25,11 +25,11 @@ pub(crate) fn apply_turn<S: Source, K: Sink>(
     sink: &mut K,
 ) -> Result<(), Status>
     ensures done { OnOk result (IsDone (Apply turn form)
-        (S.told source.old, K.told sink.old) (S.told source.new, K.told sink.new)) }
+        (S.state source.old, K.state sink.old) (S.state source.new, K.state sink.new)) }
     ensures ended { IfErr result (Ends (Apply turn form)
-        (S.told source.old, K.told sink.old) (S.told source.new, K.told sink.new)) }
-    ensures reads { (S.told source.old).faults ≤ (S.told source.new).faults }
-    ensures writes { (K.told sink.old).faults ≤ (K.told sink.new).faults }
+        (S.state source.old, K.state sink.old) (S.state source.new, K.state sink.new)) }
+    ensures reads { (S.state source.old).faults ≤ (S.state source.new).faults }
+    ensures writes { (K.state sink.old).faults ≤ (K.state sink.new).faults }
 {
     let recording = recording_of(alloc, form, source)?;
     let turned = turned_by(alloc, turn, &recording)?;
@@ -44,7 +44,7 @@ fn turned_by(alloc: Global, turn: Turn, recording: &Recording) -> Result<Recordi
     ensures { IfOk result (IsTurned turn recording.now) }
 {
     match turn {
-        Turn::AsTold => applied(alloc, recording),
+        Turn::AsEstimated => applied(alloc, recording),
         Turn::Steps(m) => turned(alloc, recording, m),
     }
 }

@@ -18,6 +18,13 @@ slot_length = 960
 abbrev pub useful_length : ℕ
 useful_length = 128
 
+-- six resource blocks of twelve subcarriers each (TS 36.211 section 6.2.3)
+abbrev pub block_count : ℕ
+block_count = 6
+
+abbrev pub subcarriers : ℕ
+subcarriers = 12 * block_count
+
 -- 1,024 frames, after which frame numbers repeat
 abbrev pub cycle_length : ℕ
 cycle_length = 19660800

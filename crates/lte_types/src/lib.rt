@@ -52,7 +52,7 @@ pub use mib::Mib;
 pub use mnc::Mnc;
 pub use numerology::{
     CYCLE_LENGTH, FRAME_LENGTH, HALF_FRAME_LENGTH, LEAST_SAMPLES, MOST_SAMPLES, Prefix,
-    SLOT_LENGTH, USEFUL_LENGTH, lengths_are,
+    SLOT_LENGTH, SUBCARRIERS, USEFUL_LENGTH, lengths_are,
 };
 pub use plmn::Plmn;
 pub use plmns::Plmns;

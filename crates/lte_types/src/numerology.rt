@@ -1,7 +1,7 @@
 //! Frames, slots and OFDM symbols in samples; the useful part of a symbol has 128 (TS 36.211 sections 4.1 and 6.12).
 
 ghost use Rattle.std.specs.Prelude.{◌≡◌, ◌^◌, ◌<◌};
-ghost use Rattle.lte_types.specs.Numerology.{frame_length, half_frame_length, slot_length, useful_length, cycle_length};
+ghost use Rattle.lte_types.specs.Numerology.{frame_length, half_frame_length, slot_length, useful_length, cycle_length, subcarriers};
 ghost use Rattle.lte_types.specs.Numerology.{least_samples, most_samples, normal, extended};
 ghost use Rattle.lte_types.specs.Numerology.{symbol_step, symbol_of as symbol_in, useful_start as useful_start_of};
 ghost use Rattle.lte_types.specs.Numerology.{symbols_of_slot, is_extended};
@@ -17,6 +17,9 @@ pub const SLOT_LENGTH: usize = 960;
 
 /// Samples in the useful part of a symbol.
 pub const USEFUL_LENGTH: usize = 128;
+
+/// The subcarriers of six resource blocks.
+pub const SUBCARRIERS: usize = 72;
 
 /// Samples in 1,024 frames, after which frame numbers repeat.
 pub const CYCLE_LENGTH: usize = 19_660_800;
@@ -90,6 +93,7 @@ pub fn lengths_are()
     ensures half_frame { HALF_FRAME_LENGTH ≡ half_frame_length }
     ensures slot { SLOT_LENGTH ≡ slot_length }
     ensures useful { USEFUL_LENGTH ≡ useful_length }
+    ensures subcarriers { SUBCARRIERS ≡ subcarriers }
     ensures cycle { CYCLE_LENGTH ≡ cycle_length }
     ensures least { LEAST_SAMPLES ≡ least_samples }
     ensures most { MOST_SAMPLES ≡ most_samples }

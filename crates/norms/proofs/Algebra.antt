@@ -11,7 +11,7 @@ use Rattle.cs_num.specs.Complex.{nothing, plus, times, conjugate, minus, multipl
 use Rattle.cs_num.specs.Sums.{complex_sum_below}
 use Rattle.cs_num.proofs.Complex.{pair, plus-nothing, plus-commutes, times-plus, times-commutes}
 use Rattle.cs_num.proofs.Sums.{complex_sum_below_same}
-use Rattle.norms.specs.Sizes.{real}
+use Rattle.norms.specs.Magnitudes.{real}
 
 -- ---- sums and differences
 

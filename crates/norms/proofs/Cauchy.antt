@@ -6,7 +6,7 @@ use Rattle.cs_num.specs.declared.Cpx.{Cpx}
 use Rattle.cs_num.specs.Complex.{plus, times, conjugate, square, multiple}
 use Rattle.cs_num.proofs.Complex.{times-commutes, times-plus_left}
 use Rattle.cs_num.proofs.Sums.{complex_sum_below_same, complex_sum_below_plus, complex_sum_below_split}
-use Rattle.norms.specs.Sizes.{energy_below, correlation_below}
+use Rattle.norms.specs.Magnitudes.{energy_below, correlation_below}
 use Rattle.norms.proofs.Algebra.{conjugate-plus, conjugate-times, conjugate_twice, sum-times, sum-multiple, times-associates, multiple-times}
 use Rattle.norms.proofs.Squares.{square-times, square-conjugate}
 use Rattle.norms.proofs.TwoTerms.{two_term_cauchy, weighted, weighted_term}

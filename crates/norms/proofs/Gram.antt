@@ -7,7 +7,7 @@ use Rattle.finite.proofs.Ring.{Is, var, lit, same}
 use Rattle.finite.proofs.Ring as ring
 use Rattle.cs_num.specs.declared.Cpx.{Cpx}
 use Rattle.cs_num.specs.Complex.{nothing, plus, times, conjugate, square}
-use Rattle.norms.specs.Sizes.{inner, real, energy_below, correlation_below}
+use Rattle.norms.specs.Magnitudes.{inner, real, energy_below, correlation_below}
 use Rattle.norms.proofs.Squares.{times_conjugate, square-times, square-plus}
 use Rattle.norms.proofs.Cauchy.{correlation_gain}
 

@@ -2,7 +2,7 @@ pub mod Naturals
 pub mod Algebra
 pub mod Squares
 pub mod TwoTerms
-pub mod Sized
+pub mod Bounded
 pub mod Cauchy
 pub mod Gram
 pub mod Rounding

@@ -8,13 +8,13 @@ use Rattle.finite.proofs.Ring as ring
 use Rattle.cs_num.specs.declared.Cpx.{Cpx}
 use Rattle.cs_num.specs.Complex.{IsWithin, plus, times, conjugate, square, minus, multiple}
 use Rattle.cs_num.proofs.Complex.{plus-associates, times-plus, times-commutes, times-plus_left}
-use Rattle.norms.specs.Sizes.{IsSized}
+use Rattle.norms.specs.Magnitudes.{IsBounded}
 use Rattle.norms.proofs.Algebra.{minus-plus, times-associates, times-multiple, times_real, multiple_twice, conjugate-plus, conjugate-multiple}
 use Rattle.norms.proofs.Squares.{abs_square, times_conjugate, square-multiple}
-use Rattle.norms.proofs.Sized.{sized_gain, sized_plain, sized-plus, sized-times, sized-conjugate, sized_re, sized_im}
+use Rattle.norms.proofs.Bounded.{sized_gain, sized_plain, bounded-plus, bounded-times, bounded-conjugate, sized_re, sized_im}
 
-pub sized-multiple : (m : ℕ) (x : Cpx) (a n : ℕ) → IsSized a n x → IsSized (m * a) n (multiple m x)
-sized-multiple m x a n p = record { sized = rw (square-multiple m x) (larger m a n (square x) p.sized) }
+pub bounded-multiple : (m : ℕ) (x : Cpx) (a n : ℕ) → IsBounded a n x → IsBounded (m * a) n (multiple m x)
+bounded-multiple m x a n p = record { bounded = rw (square-multiple m x) (larger m a n (square x) p.bounded) }
   where
     larger : (m a n s : ℕ) → s ≤ a * a * n → m * m * s ≤ m * a * (m * a) * n
     larger m a n s h =
@@ -37,10 +37,10 @@ opened x d y h =
 
 -- (g a + d) conj (c g + h) is within (m t + s (c + t)) |g|^2 of c |g|^2 a in each component, if |a| ≤ m, |d| ≤ s |g|
 -- and |h| ≤ t |g|
-pub product_near : (g a d h : Cpx) (c m s t : ℕ) → square a ≤ m * m → IsSized s (square g) d → IsSized t (square g) h →
+pub product_near : (g a d h : Cpx) (c m s t : ℕ) → square a ≤ m * m → IsBounded s (square g) d → IsBounded t (square g) h →
     IsWithin ((m * t + s * (c + t)) * square g) (minus (times (plus (times g a) d) (conjugate (plus (multiple c g) h))) (multiple (c * square g) a))
 product_near g a d h c m s t small p q =
-    subst (IsWithin ((m * t + s * (c + t)) * n)) (sym rest) (record { re = sized_re e (m * t + s * (c + t)) n sized; im = sized_im e (m * t + s * (c + t)) n sized })
+    subst (IsWithin ((m * t + s * (c + t)) * n)) (sym rest) (record { re = sized_re e (m * t + s * (c + t)) n bounded; im = sized_im e (m * t + s * (c + t)) n bounded })
   where
     n : ℕ
     n = square g
@@ -63,16 +63,16 @@ product_near g a d h c m s t small p q =
     product : (m : ℕ) → 1 * m ≡ m
     product m = omega arith
 
-    x_sized : IsSized m n x
-    x_sized = subst (λ (k : ℕ). IsSized k n x) (product m) (subst (λ (k : ℕ). IsSized (1 * m) k x) (once n) (sized-times g a 1 m n 1 (sized_gain g) (sized_plain a m small)))
+    x_sized : IsBounded m n x
+    x_sized = subst (λ (k : ℕ). IsBounded k n x) (product m) (subst (λ (k : ℕ). IsBounded (1 * m) k x) (once n) (bounded-times g a 1 m n 1 (sized_gain g) (sized_plain a m small)))
 
-    y_sized : IsSized c n y
-    y_sized = subst (λ (k : ℕ). IsSized k n y) (once c) (sized-multiple c g 1 n (sized_gain g))
+    y_sized : IsBounded c n y
+    y_sized = subst (λ (k : ℕ). IsBounded k n y) (once c) (bounded-multiple c g 1 n (sized_gain g))
 
-    sized : IsSized (m * t + s * (c + t)) (n * n) e
-    sized = sized-plus (times x (conjugate h)) (times d (conjugate (plus y h))) (m * t) (s * (c + t)) (n * n)
-        (sized-times x (conjugate h) m t n n x_sized (sized-conjugate h t n q))
-        (sized-times d (conjugate (plus y h)) s (c + t) n n p (sized-conjugate (plus y h) (c + t) n (sized-plus y h c t n y_sized q)))
+    bounded : IsBounded (m * t + s * (c + t)) (n * n) e
+    bounded = bounded-plus (times x (conjugate h)) (times d (conjugate (plus y h))) (m * t) (s * (c + t)) (n * n)
+        (bounded-times x (conjugate h) m t n n x_sized (bounded-conjugate h t n q))
+        (bounded-times d (conjugate (plus y h)) s (c + t) n n p (bounded-conjugate (plus y h) (c + t) n (bounded-plus y h c t n y_sized q)))
 
 -- ---- signs
 

@@ -8,7 +8,7 @@ use Rattle.finite.proofs.Ring as ring
 use Rattle.cs_num.specs.declared.Cpx.{Cpx}
 use Rattle.cs_num.specs.Complex.{plus, times, conjugate, square, multiple}
 use Rattle.cs_num.proofs.Complex.{pair}
-use Rattle.norms.specs.Sizes.{inner, real}
+use Rattle.norms.specs.Magnitudes.{inner, real}
 use Rattle.norms.proofs.Naturals.{root-le}
 
 pub abs_square : (a : ℤ) → a *ℤ a ≡ pos (nat_abs a * nat_abs a)

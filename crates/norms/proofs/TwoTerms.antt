@@ -4,7 +4,7 @@ use Rattle.std.proofs.lemmas.Int.{ints}
 use Rattle.std.specs.Prelude.{nat_abs}
 use Rattle.cs_num.specs.declared.Cpx.{Cpx}
 use Rattle.cs_num.specs.Complex.{plus, square}
-use Rattle.norms.specs.Sizes.{inner}
+use Rattle.norms.specs.Magnitudes.{inner}
 use Rattle.norms.proofs.Naturals.{root-le, means-le, cross-le}
 use Rattle.norms.proofs.Squares.{square-plus, square-plus_le, inner-le}
 

@@ -6,6 +6,7 @@ use Rattle.cs_num.specs.declared.Sample.{Sample}
 use Rattle.cs_num.specs.Rounding.{rounded}
 use Rattle.fold128.specs.Spectrum.{spectrum_at}
 use Rattle.cs_num.specs.Complex.{sample_at}
+use Rattle.lte_types.specs.Numerology.{subcarriers}
 
 -- the value at subcarrier k for the symbol whose useful part begins at sample start
 unfoldable pub seen : List Sample → ℕ → ℕ → Cpx
@@ -13,4 +14,4 @@ seen recording start k = rounded (spectrum_at (λ n. sample_at recording (start 
 
 -- the values at all subcarriers for the symbol whose useful part begins at sample start
 unfoldable pub seen_symbol : List Sample → ℕ → List Cpx
-seen_symbol recording start = values_below 72 (seen recording start)
+seen_symbol recording start = values_below subcarriers (seen recording start)

@@ -4,11 +4,12 @@ use Rattle.finite.specs.Lists.{values_below}
 use Rattle.cs_num.specs.declared.Cpx.{Cpx}
 use Rattle.cs_num.specs.Rounding.{rounded}
 use Rattle.fold128.specs.Spectrum.{spectrum_at}
+use Rattle.lte_types.specs.Numerology.{subcarriers}
 
 -- the DFT sums over 128 samples, rounded
 unfoldable pub seen_of : (ℕ → Cpx) → List Cpx
-seen_of samples = values_below 72 (λ k. rounded (spectrum_at samples k) 12)
+seen_of samples = values_below subcarriers (λ k. rounded (spectrum_at samples k) 12)
 
 -- 72 sums, rounded
 unfoldable pub rounded_values : (ℕ → Cpx) → List Cpx
-rounded_values sums = values_below 72 (λ k. rounded (sums k) 12)
+rounded_values sums = values_below subcarriers (λ k. rounded (sums k) 12)

@@ -6,16 +6,18 @@ ghost use Rattle.std.specs.Prelude.{◌≡◌, ℕ, ◌+◌, ◌^◌, ◌≤◌,
 ghost use Rattle.cs_num.specs.Complex.{IsWithin, value_at, sample_at};
 ghost use Rattle.observe.specs.Seen.{seen_symbol};
 ghost use Rattle.observe.specs.Steps.{seen_of, rounded_values};
+ghost use Rattle.lte_types.specs.Numerology.{useful_length};
 
 use cs_num::{Cpx, Sample};
 use fold128::transform;
+use lte_types::{SUBCARRIERS, USEFUL_LENGTH};
 use sample_file::Recording;
 
 /// Demodulates the symbol whose useful part begins at sample `start`: the DFT sums over 128 samples at 72
 /// subcarriers, divided by 2^12 and rounded. Components are within 23,726,080, below 2^25. (own; TS 36.211 section
 /// 6.12 inverted)
-pub fn symbol(recording: &Recording, start: usize) -> [Cpx; 72]
-    requires { start + 128 ≤ length recording.now }
+pub fn symbol(recording: &Recording, start: usize) -> [Cpx; SUBCARRIERS]
+    requires { start + useful_length ≤ length recording.now }
     ensures value { result ≡ seen_symbol recording.now start }
     ensures small { All (IsWithin (2 ^ 25)) result }
     ensures bound { All (IsWithin 23726080) result }
@@ -24,7 +26,7 @@ pub fn symbol(recording: &Recording, start: usize) -> [Cpx; 72]
 }
 
 // Returns the 72 values for 128 samples.
-fn values_of(samples: &[Sample; 128]) -> [Cpx; 72]
+fn values_of(samples: &[Sample; USEFUL_LENGTH]) -> [Cpx; SUBCARRIERS]
     ensures value { result ≡ seen_of (sample_at samples.now) }
     ensures small { All (IsWithin 23726080) result }
 {
@@ -32,23 +34,23 @@ fn values_of(samples: &[Sample; 128]) -> [Cpx; 72]
 }
 
 // Returns the 128 samples from `start`.
-fn window(recording: &Recording, start: usize) -> [Sample; 128]
-    requires { start + 128 ≤ length recording.now }
-    ensures { result ≡ slice_range recording.now start (start + 128) }
+fn window(recording: &Recording, start: usize) -> [Sample; USEFUL_LENGTH]
+    requires { start + useful_length ≤ length recording.now }
+    ensures { result ≡ slice_range recording.now start (start + useful_length) }
 {
-    let mut samples = [Sample { re: 0, im: 0 }; 128];
-    samples.copy_from_slice(&recording.as_slice()[start..start + 128]);
+    let mut samples = [Sample { re: 0, im: 0 }; USEFUL_LENGTH];
+    samples.copy_from_slice(&recording.as_slice()[start..start + USEFUL_LENGTH]);
     samples
 }
 
 // Divides each sum by 2^12 and rounds it.
-fn round_all(sums: &[Cpx; 72]) -> [Cpx; 72]
+fn round_all(sums: &[Cpx; SUBCARRIERS]) -> [Cpx; SUBCARRIERS]
     requires { All (IsWithin 97182023680) sums.now }
     ensures value { result ≡ rounded_values (value_at sums.now) }
     ensures small { All (IsWithin 23726080) result }
 {
-    let mut out = [Cpx::ZERO; 72];
-    for k in 0..72 {
+    let mut out = [Cpx::ZERO; SUBCARRIERS];
+    for k in 0..SUBCARRIERS {
         out[k] = sums[k].round_shift(12);
     }
     out

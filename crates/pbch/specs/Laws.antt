@@ -1,7 +1,7 @@
 -- Laws of MIB decoding.
 use Rattle.std.specs.Prelude.{◌≡◌, List, ℤ}
 use Rattle.pbch.specs.declared.master.Master.{Master}
-use Rattle.pbch.specs.Master.{TellsMaster}
+use Rattle.pbch.specs.Master.{DecodesMaster}
 
 -- two decoded MIBs have the same ports, cost and fields
 pub record IsSame (a b : Master) : Type 0 where
@@ -15,4 +15,4 @@ pub record IsSame (a b : Master) : Type 0 where
 
 -- soft values decode to at most one MIB
 abbrev pub IsOneMaster : Type 0
-IsOneMaster = (values : List (List ℤ)) (a b : Master) → TellsMaster values a → TellsMaster values b → IsSame a b
+IsOneMaster = (values : List (List ℤ)) (a b : Master) → DecodesMaster values a → DecodesMaster values b → IsSame a b

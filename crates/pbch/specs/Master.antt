@@ -32,7 +32,7 @@ Carries word mib =
     HasFields mib (bandwidth (field word 0 3)) (duration (field word 3 1)) (resource (field word 4 2)) (field word 6 8) (field word 14 10)
 
 -- the values decode to this word, in a cell with this number of antenna ports
-pub record Tells (values : List (List ℤ)) (word : List Bool) (ports : ℕ) : Type 0 where
+pub record Decodes (values : List (List ℤ)) (word : List Bool) (ports : ℕ) : Type 0 where
   pub least : IsLeastWord values word
   pub heard : 0 < total values
   pub clear : 4 * word_cost values word ≤ total values
@@ -40,23 +40,23 @@ pub record Tells (values : List (List ℤ)) (word : List Bool) (ports : ℕ) : T
   pub width : field word 0 3 ≤ 5
 
 -- the values decode to this MIB
-pub record TellsMaster (values : List (List ℤ)) (master : Master) : Type 0 where
+pub record DecodesMaster (values : List (List ℤ)) (master : Master) : Type 0 where
   pub word : List Bool
-  pub tells : Tells values word master.ports
+  pub decodes : Decodes values word master.ports
   pub mib : Carries word master.mib
   pub cost : master.cost ≡ word_cost values word
 
 -- the values decode to no word
-abbrev pub TellsNothing : List (List ℤ) → Type 0
-TellsNothing values = (word : List Bool) (ports : ℕ) → Tells values word ports → ⊥
+abbrev pub DecodesNothing : List (List ℤ) → Type 0
+DecodesNothing values = (word : List Bool) (ports : ℕ) → Decodes values word ports → ⊥
 
 -- the slots decode to this MIB, if the first has this phase
 abbrev pub IsMaster : List SeenSlot → ℕ → Master → Type 0
-IsMaster slots phase master = TellsMaster (coded_values slots phase) master
+IsMaster slots phase master = DecodesMaster (coded_values slots phase) master
 
 -- the slots decode to no MIB, if the first has this phase
 abbrev pub HasNoMaster : List SeenSlot → ℕ → Type 0
-HasNoMaster slots phase = TellsNothing (coded_values slots phase)
+HasNoMaster slots phase = DecodesNothing (coded_values slots phase)
 
 -- ---- the MIB at all phases
 
@@ -70,16 +70,16 @@ sums_at sums phase = slice_index_or sums phase []
 
 -- the MIB listed for a phase is decoded from a cell's received frames, `count` of them with `size` bits each in the
 -- period, if the first has that phase; None if they do not fit in one period of four
-pub record IsTold (identity size count : ℕ) (received : List ℤ) (masters : List (Option Master)) (phase : ℕ) : Type 0 where
-  pub told : phase + count ≤ 4 →
+pub record IsDecoded (identity size count : ℕ) (received : List ℤ) (masters : List (Option Master)) (phase : ℕ) : Type 0 where
+  pub decoded : phase + count ≤ 4 →
       let values = summed_values identity (size * phase) received in
-      MatchOption (master_at masters phase) (TellsNothing values) (TellsMaster values)
+      MatchOption (master_at masters phase) (DecodesNothing values) (DecodesMaster values)
   pub beyond : 4 < phase + count → master_at masters phase ≡ None
 
 -- each phase lists the MIB for these frames of a cell
 pub record AreMasters (identity size count : ℕ) (received : List ℤ) (masters : List (Option Master)) : Type 0 where
   pub phases : length masters ≡ 4
-  pub first : IsTold identity size count received masters 0
-  pub second : IsTold identity size count received masters 1
-  pub third : IsTold identity size count received masters 2
-  pub fourth : IsTold identity size count received masters 3
+  pub first : IsDecoded identity size count received masters 0
+  pub second : IsDecoded identity size count received masters 1
+  pub third : IsDecoded identity size count received masters 2
+  pub fourth : IsDecoded identity size count received masters 3

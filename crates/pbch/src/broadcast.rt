@@ -21,7 +21,7 @@ pub fn values(slots: &[Slot], phase: u8) -> [[i32; 3]; 40]
     requires number { All (λ slot. slot.number ≡ 1) slots.now }
     requires cell { All (λ slot. slot.identity ≡ identity_of slots.now) slots.now }
     ensures values { result ≡ coded_values slots.now phase }
-    ensures sizes { RowsWithin 2032 result }
+    ensures magnitudes { RowsWithin 2032 result }
 {
     let mut frames = ArrayVec::<Received, 4>::new();
     for slot in slots {
@@ -46,7 +46,7 @@ pub fn received<S: ReadSlot>(slot: &S) -> Received
 pub fn sums_of(id: CellId, first: usize, frames: &[Received]) -> [[i32; 3]; 40]
     requires period { first + 480 * length frames.now ≤ 1920 }
     ensures values { result ≡ summed_values id first (flat_map (λ frame. frame) frames.now) }
-    ensures sizes { RowsWithin 2032 result }
+    ensures magnitudes { RowsWithin 2032 result }
 {
     sums_by(&CellScrambling::new(id), first, frames)
 }
@@ -55,7 +55,7 @@ pub fn sums_of(id: CellId, first: usize, frames: &[Received]) -> [[i32; 3]; 40]
 pub(crate) fn sums_by(cell: &CellScrambling, first: usize, frames: &[Received]) -> [[i32; 3]; 40]
     requires period { first + 480 * length frames.now ≤ 1920 }
     ensures values { result ≡ summed_values cell.now first (flat_map (λ frame. frame) frames.now) }
-    ensures sizes { RowsWithin 2032 result }
+    ensures magnitudes { RowsWithin 2032 result }
 {
     let mut values = joined(frames);
     cell.descramble(first, values.as_mut_slice());
@@ -67,7 +67,7 @@ fn joined(frames: &[Received]) -> ArrayVec<i16, 1920>
     requires { length frames.now ≤ 4 }
     ensures values { result.items ≡ flat_map (λ frame. frame) frames.now }
     ensures count { array_vec_len result ≤ 480 * length frames.now }
-    ensures sizes { AllWithin 127 result.items }
+    ensures magnitudes { AllWithin 127 result.items }
 {
     let mut values = ArrayVec::new();
     for frame in frames {

@@ -5,7 +5,7 @@ ghost use Rattle.std.specs.List.{flat_map};
 ghost use Rattle.finite.specs.Sizes.{AllWithin, RowsWithin};
 ghost use Rattle.finite.specs.Sums.{total_below};
 ghost use Rattle.pbch.specs.Values.{summed_values, identity_of};
-ghost use Rattle.pbch.specs.Master.{total, TellsMaster, TellsNothing, IsMaster, HasNoMaster, AreMasters, sums_at};
+ghost use Rattle.pbch.specs.Master.{total, DecodesMaster, DecodesNothing, IsMaster, HasNoMaster, AreMasters, sums_at};
 
 use crate::block::{mib_of, ports_of};
 use crate::broadcast::{sums_by, values};
@@ -54,10 +54,10 @@ pub fn masters(
     ensures sums { (phase : ℕ) → phase < 4 → phase + length frames.now ≤ 4 →
         sums_at result.sums phase ≡ summed_values cell.now (size * phase) (flat_map (λ frame. frame) frames.now) }
 {
-    let first = told_at(cell, size, 0, frames, work);
-    let second = told_at(cell, size, 1, frames, work);
-    let third = told_at(cell, size, 2, frames, work);
-    let fourth = told_at(cell, size, 3, frames, work);
+    let first = decoded_at(cell, size, 0, frames, work);
+    let second = decoded_at(cell, size, 1, frames, work);
+    let third = decoded_at(cell, size, 2, frames, work);
+    let fourth = decoded_at(cell, size, 3, frames, work);
     ByPhase {
         at: [first.master, second.master, third.master, fourth.master],
         sums: [first.sums, second.sums, third.sums, fourth.sums],
@@ -65,7 +65,7 @@ pub fn masters(
 }
 
 // Decodes the MIB if the first frame has this phase.
-fn told_at(
+fn decoded_at(
     cell: &CellScrambling,
     size: usize,
     phase: u8,
@@ -74,9 +74,9 @@ fn told_at(
 ) -> AtPhase
     requires size { size ≤ 480 }
     requires phase { phase < 4 }
-    ensures told { phase + length frames.now ≤ 4 →
+    ensures decoded { phase + length frames.now ≤ 4 →
         let values = summed_values cell.now (size * phase) (flat_map (λ frame. frame) frames.now) in
-        MatchOption result.master (TellsNothing values) (TellsMaster values) }
+        MatchOption result.master (DecodesNothing values) (DecodesMaster values) }
     ensures sums { phase + length frames.now ≤ 4 →
         result.sums ≡ summed_values cell.now (size * phase) (flat_map (λ frame. frame) frames.now) }
     ensures beyond { 4 < phase + length frames.now → result.master ≡ None }
@@ -98,7 +98,7 @@ fn told_at(
 /// conditions that `explain_slots` lists.
 pub fn master_of(values: &[[i32; 3]; 40], work: &mut Trellis) -> Option<Master>
     requires { RowsWithin (2 ^ 20) values.now }
-    ensures { MatchOption result (TellsNothing values.now) (TellsMaster values.now) }
+    ensures { MatchOption result (DecodesNothing values.now) (DecodesMaster values.now) }
 {
     let total = total_of(values);
     if total == 0 {

@@ -25,7 +25,7 @@ impl Received {
     /// Returns the frame with these values, at most 480, each from -127 to 127.
     pub fn new(values: &[i16]) -> Received
         requires few { length values.now ≤ 480 }
-        requires sizes { AllWithin 127 values.now }
+        requires magnitudes { AllWithin 127 values.now }
         ensures { result ≡ values.now }
     {
         let mut kept = ArrayVec::new();
@@ -37,7 +37,7 @@ impl Received {
     pub fn slice(&self) -> &[i16]
         ensures values { result.now ≡ self.now }
         ensures few { length self.now ≤ 480 }
-        ensures sizes { AllWithin 127 self.now }
+        ensures magnitudes { AllWithin 127 self.now }
     {
         self.values.as_slice()
     }

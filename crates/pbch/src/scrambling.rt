@@ -40,9 +40,9 @@ impl CellScrambling {
     /// Descrambles values that start at bit `first` in the period. `first` plus the count is at most 1,920.
     pub fn descramble(&self, first: usize, values: &mut [i16])
         requires few { first + length values.old ≤ 1920 }
-        requires sizes { AllWithin 127 values.old }
+        requires magnitudes { AllWithin 127 values.old }
         ensures values { values.new ≡ descrambled (pbch_c_init self.now) first values.old }
-        ensures sizes { AllWithin 127 values.new }
+        ensures magnitudes { AllWithin 127 values.new }
     {
         self.bits.descramble(first, values);
     }

@@ -33,7 +33,7 @@ impl SumRow {
 
     fn values(&self) -> [i32; 3]
         ensures values { result ≡ self.now }
-        ensures sizes { AllWithin 2032 result }
+        ensures magnitudes { AllWithin 2032 result }
     {
         [
             self.sums[0] as i32,
@@ -76,7 +76,7 @@ impl WordSums {
     /// Returns the sums by index and stream, each within 2,032.
     pub fn rows(&self) -> [[i32; 3]; 40]
         ensures rows { result ≡ self.now }
-        ensures sizes { RowsWithin 2032 result }
+        ensures magnitudes { RowsWithin 2032 result }
     {
         let mut rows = [[0; 3]; 40];
         for k in 0..40 {

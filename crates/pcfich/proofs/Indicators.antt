@@ -66,13 +66,13 @@ other_dear values sent other a b c d differ speak =
     total_some 32 (sent - 1) (λ i. disagreement (slice_index_or values i (pos 0)) (indicator_bit other i)) (omega arith) (rw others (omega (arith, dear')))
 
 -- if all values agree with an indicator, it is selected
-pub spoken_indicator : (values : List ℤ) (sent told : ℕ) → 1 ≤ sent → sent ≤ 3 → Speak values sent → IsIndicator values told → told ≡ sent
-spoken_indicator values sent told a b speak is = settle (nat_eq sent told) refl
+pub spoken_indicator : (values : List ℤ) (sent decoded : ℕ) → 1 ≤ sent → sent ≤ 3 → Speak values sent → IsIndicator values decoded → decoded ≡ sent
+spoken_indicator values sent decoded a b speak is = settle (nat_eq sent decoded) refl
   where
-    settle : (t : Bool) → nat_eq sent told ≡ t → told ≡ sent
+    settle : (t : Bool) → nat_eq sent decoded ≡ t → decoded ≡ sent
     settle true e = sym (eqb-true _ _ e)
     settle false e =
         absurd (let free = sent_free values sent speak in
         let least = is.least sent a b in
-        let dear = other_dear values sent told a b is.range.0 is.range.1 (λ same. false≢true (sym e ∙ eq-eqb _ _ same)) speak in
+        let dear = other_dear values sent decoded a b is.range.0 is.range.1 (λ same. false≢true (sym e ∙ eq-eqb _ _ same)) speak in
         omega (arith, free, least, dear))

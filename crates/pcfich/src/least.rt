@@ -48,7 +48,7 @@ fn least_of(first: u32, second: u32, third: u32) -> u8
 // Returns the indicator's cost.
 fn cost_of(values: &[i16; 32], indicator: u8) -> u32
     requires some { 1 ≤ indicator }
-    requires sizes { AllWithin 127 values.now }
+    requires magnitudes { AllWithin 127 values.now }
     ensures { result ≡ cost values.now indicator }
 {
     let mut cost = 0;
@@ -63,6 +63,6 @@ fn cost_of(values: &[i16; 32], indicator: u8) -> u32
 pub fn only_one_indicator()
     ensures one { (values : List ℤ) (a b : ℕ) → IsIndicator values a → IsIndicator values b → a ≡ b }
     ensures some { (values : List ℤ) → (indicator : ℕ) × IsIndicator values indicator }
-    ensures clear { (values : List ℤ) (sent told : ℕ) → 1 ≤ sent → sent ≤ 3 → Speak values sent →
-        IsIndicator values told → told ≡ sent }
+    ensures clear { (values : List ℤ) (sent decoded : ℕ) → 1 ≤ sent → sent ≤ 3 → Speak values sent →
+        IsIndicator values decoded → decoded ≡ sent }
 {}

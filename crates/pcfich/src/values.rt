@@ -10,7 +10,7 @@ use soft_bits::{ReadSlot, descramble, fill_slot};
 // Returns the 32 descrambled PCFICH soft values.
 pub(crate) fn received<S: ReadSlot>(slot: &S) -> [i16; 32]
     ensures values { result ≡ indicator_values_by S.values_by (S.seen_as slot.now) }
-    ensures sizes { AllWithin 127 result }
+    ensures magnitudes { AllWithin 127 result }
 {
     let places = pcfich_places(slot.cell());
     let mut values = [0; 32];

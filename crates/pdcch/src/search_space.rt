@@ -21,11 +21,11 @@ pub fn elements(id: CellId, cfi: Cfi, mib: Mib) -> u8
 
 /// Returns the descrambled soft values for control channel elements 0 to 3 in slot 10, the first of subframe 5, in
 /// coded-bit order; `None` if there are fewer than four elements.
-#[tactic(auto, using(crate::proofs::Told::too_few, crate::proofs::Told::enough))]
+#[tactic(auto, using(crate::proofs::Decoded::too_few, crate::proofs::Decoded::enough))]
 pub fn candidate<S: ReadSlot>(slot: &S, cfi: Cfi, mib: Mib) -> Option<[i16; 288]>
     requires { (S.seen_as slot.now).number ≡ 10 }
     ensures values { result ≡ candidate_if_by S.values_by (S.seen_as slot.now) cfi mib.duration mib.resource }
-    ensures sizes { IfSome result (λ values. AllWithin 127 values) }
+    ensures magnitudes { IfSome result (λ values. AllWithin 127 values) }
 {
     let groups = pdcch(slot.cell(), cfi, mib);
     if groups.len() < 4 * 9 {
@@ -40,7 +40,7 @@ fn stream<S: ReadSlot>(slot: &S, groups: &[Reg]) -> [i16; 288]
     requires enough { 36 ≤ length groups.now }
     requires inside { All (λ g. IsTrue (is_group g)) groups.now }
     ensures values { result ≡ stream_values_by S.values_by (S.seen_as slot.now) groups.now }
-    ensures sizes { AllWithin 127 result }
+    ensures magnitudes { AllWithin 127 result }
 {
     let places = candidate_places(slot.cell(), groups);
     let mut values = [0; 288];

@@ -9,6 +9,7 @@ ghost use Rattle.soft_bits.specs.Places.{in_subframe, descrambled};
 ghost use Rattle.dci.specs.Format1A.{IsGrant};
 ghost use Rattle.dci.specs.Fields.{system_information_rnti};
 ghost use Rattle.pdsch.specs.Values.{shared_values_by};
+ghost use Rattle.lte_types.specs.Numerology.{subcarriers};
 
 use dci::{Grant, SI_RNTI};
 use grid_map::{Place, pdsch_c_init, shared_count, shared_place};
@@ -35,7 +36,7 @@ pub fn values<S: ReadSlot>(
     ensures count { result ≡ 2 * (block_places_of S.carrier cfi * grant.now.blocks) }
     ensures values { take result out.new ≡ shared_values_by S.carrier S.values_by
         (S.seen_as first.now) (S.seen_as second.now) cfi grant.now.start grant.now.blocks }
-    ensures sizes { AllWithin 127 (take result out.new) }
+    ensures magnitudes { AllWithin 127 (take result out.new) }
     ensures rest { drop result out.new ≡ drop result out.old }
 {
     match Assignment::new(cfi, grant.start, grant.blocks) {
@@ -55,7 +56,7 @@ fn fill_values<S: ReadSlot>(
         ≡ 2 * (block_places_of S.carrier assignment.now.cfi * assignment.now.blocks) }
     ensures values { take result out.new ≡ shared_values_by S.carrier S.values_by
         (S.seen_as first.now) (S.seen_as second.now) assignment.now.cfi assignment.now.start assignment.now.blocks }
-    ensures sizes { AllWithin 127 (take result out.new) }
+    ensures magnitudes { AllWithin 127 (take result out.new) }
     ensures rest { drop result out.new ≡ drop result out.old }
 {
     let mut places = [Place { symbol: 0, k: 0 }; MOST_VALUES / 2];
@@ -87,13 +88,13 @@ fn fill_places(
 // Writes the descrambled PDSCH soft values at the resource elements `places`.
 fn fill_shared<S: ReadSlot>(first: &S, second: &S, places: &[Place], values: &mut [i16])
     requires few { length places.now ≤ 612 }
-    requires inside { All (λ p. (p.symbol < 14) × (p.k < 72)) places.now }
+    requires inside { All (λ p. (p.symbol < 14) × (p.k < subcarriers)) places.now }
     requires even { length places.now % 2 ≡ 0 }
     requires room { length values.old ≡ 2 * length places.now }
     ensures values { values.new ≡ descrambled
         (pdsch_seed (S.seen_as first.now).identity (S.seen_as first.now).number system_information_rnti) 0
         (S.values_by (in_subframe (S.seen_as first.now) (S.seen_as second.now)) places.now) }
-    ensures sizes { AllWithin 127 values.new }
+    ensures magnitudes { AllWithin 127 values.new }
     ensures size { length values.new ≡ 2 * length places.now }
 {
     first.fill(second, places, values);

@@ -8,6 +8,7 @@ use Rattle.finite.specs.Sums.{total_below}
 use Rattle.fold128.specs.Symbol.{useful_at, useful_part}
 use Rattle.sync_seq.specs.Middle.{in_middle}
 use Rattle.sync_seq.specs.Primary.{pss_at}
+use Rattle.lte_types.specs.Numerology.{useful_length}
 
 -- the grid of a symbol that carries only the primary sequence n2
 abbrev pub pss_grid : ℕ → ℕ → Cpx
@@ -23,7 +24,7 @@ wave_list n2 = useful_part (pss_grid n2)
 
 -- P: the sum of |p(n)| ^ 2
 unfoldable pub wave_power : ℕ → ℕ
-wave_power n2 = total_below 128 (λ n. square (wave n2 n))
+wave_power n2 = total_below useful_length (λ n. square (wave n2 n))
 
 -- r(t + n) * conj p(n)
 abbrev pub peak_term : (ℕ → Cpx) → List Sample → ℕ → ℕ → Cpx
@@ -31,7 +32,7 @@ peak_term p recording t n = times (sample_at recording (t + n)) (conjugate (p n)
 
 -- C: the squared magnitude of the sum of r(t + n) * conj p(n)
 unfoldable pub peak : List Sample → ℕ → ℕ → ℕ
-peak recording n2 t = square (complex_sum_below 128 (peak_term (wave n2) recording t))
+peak recording n2 t = square (complex_sum_below useful_length (peak_term (wave n2) recording t))
 
 -- |r(t + n)| ^ 2
 abbrev pub energy_term : List Sample → ℕ → ℕ → ℕ
@@ -39,4 +40,4 @@ energy_term recording t n = square (sample_at recording (t + n))
 
 -- E: the sum of |r(t + n)| ^ 2
 unfoldable pub energy : List Sample → ℕ → ℕ
-energy recording t = total_below 128 (energy_term recording t)
+energy recording t = total_below useful_length (energy_term recording t)

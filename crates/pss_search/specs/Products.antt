@@ -9,6 +9,7 @@ use Rattle.cs_num.specs.Sums.{complex_sum_below}
 use Rattle.pss_search.specs.declared.products.Stretch.{Stretch}
 use Rattle.pss_search.specs.declared.products.ProductSums.{ProductSums}
 use Rattle.pss_search.specs.Correlation.{wave, peak_term}
+use Rattle.lte_types.specs.Numerology.{useful_length}
 
 -- the stretch holds the parts of 256 samples from its position
 pub record IsStretchOf (recording : List Sample) (stretch : Stretch) : Type 0 where
@@ -17,10 +18,10 @@ pub record IsStretchOf (recording : List Sample) (stretch : Stretch) : Type 0 wh
 
 -- a signal's samples, in parts
 abbrev pub wave_re : ℕ → List ℤ
-wave_re n2 = values_below 128 (λ n. (wave n2 n).re)
+wave_re n2 = values_below useful_length (λ n. (wave n2 n).re)
 
 abbrev pub wave_im : ℕ → List ℤ
-wave_im n2 = values_below 128 (λ n. (wave n2 n).im)
+wave_im n2 = values_below useful_length (λ n. (wave n2 n).im)
 
 -- the first two signals' samples in four lists: real and imaginary parts for the first, then for the second
 abbrev pub wave_part : ℕ → List ℤ
@@ -34,7 +35,7 @@ abbrev pub product_at : List ℤ → ℕ → List ℤ → ℕ → ℤ
 product_at values o signal n = slice_index_or values (o + n) (pos 0) *ℤ slice_index_or signal n (pos 0)
 
 unfoldable pub dot_of : List ℤ → ℕ → List ℤ → ℤ
-dot_of values o signal = sum_below 128 (product_at values o signal)
+dot_of values o signal = sum_below useful_length (product_at values o signal)
 
 -- the four dot products of a stretch's parts with a signal's parts
 abbrev pub products_of : Stretch → ℕ → List ℤ → List ℤ → ProductSums
@@ -55,7 +56,7 @@ with_signal_of p = record { re = p.re_re -ℤ p.im_im; im = p.im_re +ℤ p.re_im
 
 -- the correlation whose squared magnitude is the peak
 abbrev pub correlation_at : List Sample → ℕ → ℕ → Cpx
-correlation_at recording t n2 = complex_sum_below 128 (peak_term (wave n2) recording t)
+correlation_at recording t n2 = complex_sum_below useful_length (peak_term (wave n2) recording t)
 
 -- the correlations whose squared magnitudes are the three signals' peaks
 abbrev pub correlations_at : List Sample → ℕ → List Cpx

@@ -10,6 +10,7 @@ use Rattle.pss_search.specs.declared.measure.PlaceSums.{PlaceSums}
 use Rattle.pss_search.specs.Correlation.{peak, energy}
 use Rattle.pss_search.specs.Metrics.{Standing, end_place}
 use Rattle.pss_search.specs.Hits.{first_place, last_place, hit_at, hits_before}
+use Rattle.lte_types.specs.Numerology.{useful_length}
 
 -- ---- bounds
 
@@ -38,10 +39,10 @@ pub record AreSmallProducts (p : ProductSums) : Type 0 where
 -- has a squared magnitude of at most 2^31
 pub record IsReady (recording : List Sample) (place total : ℕ) : Type 0 where
   pub long : 57600 ≤ length recording
-  pub first : 128 ≤ place
+  pub first : useful_length ≤ place
   pub last : place ≤ end_place
   pub energy : total ≡ energy recording place
-  pub small : (k : ℕ) → k < place → square (sample_at recording (k + 128)) ≤ 2 ^ 31
+  pub small : (k : ℕ) → k < place → square (sample_at recording (k + useful_length)) ≤ 2 ^ 31
 
 -- ---- the last 19 positions
 
@@ -58,7 +59,7 @@ empty_row = record { peaks = []; energy = 0 }
 -- the rows hold the last 19 positions, position u at u modulo 32
 pub record HoldsLast (recording : List Sample) (place : ℕ) (rows : List PlaceSums) : Type 0 where
   pub whole : length rows ≡ 32
-  pub each : (u : ℕ) → 128 ≤ u → u < place → place ≤ u + 19 →
+  pub each : (u : ℕ) → useful_length ≤ u → u < place → place ≤ u + 19 →
       IsRowOf recording u (slice_index_or rows (u % 32) empty_row)
 
 -- the sweep is ten positions past t, so that it has all metrics that decide whether t is a hit

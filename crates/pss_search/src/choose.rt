@@ -5,6 +5,7 @@ ghost use Rattle.std.specs.Option.{option_to_list};
 ghost use Rattle.pss_search.specs.Tests.{rules_out, is_ruled_out, is_hit};
 ghost use Rattle.pss_search.specs.Hits.{hit_at, hits_at, IsSmallHit};
 ghost use Rattle.pss_search.specs.Steps.{DecidesOn, IsMetricOf};
+ghost use Rattle.lte_types.specs.Numerology.{useful_length};
 
 use crate::measure::Metric;
 use crate::recent::Recent;
@@ -85,7 +86,7 @@ fn is_ruled_out_at(recent: &Recent, root: &Root, t: usize, own: Metric) -> bool
 // Returns whether position `u` rules out `t`: its metric is higher, or equal at an earlier position.
 #[tactic(auto, using(std::proofs::lemmas::Bool::Decides::nat_tests), unfolding(crate::specs::Tests::rules_out))]
 fn rules_out_at(recent: &Recent, root: &Root, t: usize, own: Metric, u: usize) -> bool
-    requires first { 128 ≤ u }
+    requires first { useful_length ≤ u }
     requires measured { u < recent.now.place }
     requires kept { recent.now.place ≤ u + 19 }
     requires metric { IsMetricOf recent.now.recording root.now.n2 t own }

@@ -7,9 +7,11 @@ ghost use Rattle.pss_search.specs.Correlation.{energy};
 ghost use Rattle.pss_search.specs.Metrics.{Standing, metrics_at, end_place};
 ghost use Rattle.pss_search.specs.Products.{correlations_at};
 ghost use Rattle.pss_search.specs.Steps.{IsSmallMetric, IsMetricOf, IsRowOf};
+ghost use Rattle.lte_types.specs.Numerology.{useful_length};
 
 use crate::products::{Stretch, correlations};
 use cs_num::{Cpx, Sample};
+use lte_types::USEFUL_LENGTH;
 use sample_file::Recording;
 use std::marker::Model;
 
@@ -94,7 +96,7 @@ impl<'a> Sweep<'a> {
     /// Returns the sweep at position 128.
     pub fn new(recording: &'a Recording) -> Sweep<'a>
         ensures recording { result.recording ≡ recording.now }
-        ensures place { result.place ≡ 128 }
+        ensures place { result.place ≡ useful_length }
     {
         let samples = recording.as_slice();
         Sweep {
@@ -108,7 +110,7 @@ impl<'a> Sweep<'a> {
     /// Returns the next position, 128 to 19,346, which is the end.
     pub fn place(&self) -> usize
         ensures place { result ≡ self.now.place }
-        ensures first { 128 ≤ result }
+        ensures first { useful_length ≤ result }
         ensures end { result ≤ end_place }
     {
         self.place
@@ -182,19 +184,19 @@ fn next_energy(samples: &[Sample], t: usize, total: u64) -> u64
     requires energy { total ≡ energy samples.now t }
     requires few { total ≤ 2 ^ 38 }
     ensures value { result ≡ energy samples.now (t + 1) }
-    ensures last { square (sample_at samples.now (t + 128)) ≤ 2 ^ 31 }
+    ensures last { square (sample_at samples.now (t + useful_length)) ≤ 2 ^ 31 }
 {
-    total - energy_part(samples[t]) + energy_part(samples[t + 128])
+    total - energy_part(samples[t]) + energy_part(samples[t + USEFUL_LENGTH])
 }
 
 // Returns the energy of the 128 samples from `t`.
 fn energy_sum(samples: &[Sample], t: usize) -> u64
-    requires { t + 128 ≤ length samples.now }
+    requires { t + useful_length ≤ length samples.now }
     ensures value { result ≡ energy samples.now t }
-    ensures each { (n : ℕ) → n < 128 → square (sample_at samples.now (t + n)) ≤ 2 ^ 31 }
+    ensures each { (n : ℕ) → n < useful_length → square (sample_at samples.now (t + n)) ≤ 2 ^ 31 }
 {
     let mut sum: u64 = 0;
-    for n in 0..128 {
+    for n in 0..USEFUL_LENGTH {
         sum += energy_part(samples[t + n]);
     }
     sum

@@ -8,9 +8,11 @@ ghost use Rattle.cs_num.specs.Complex.{IsWithin, sample_at};
 ghost use Rattle.pss_search.specs.Products.{IsStretchOf, product_at, dot_of, products_of, wave_part};
 ghost use Rattle.pss_search.specs.Products.{with_conjugate_of, with_signal_of, correlations_at};
 ghost use Rattle.pss_search.specs.Steps.{AreSmallProducts};
+ghost use Rattle.lte_types.specs.Numerology.{useful_length};
 
 use crate::signals::part_of;
 use cs_num::{Cpx, Sample};
+use lte_types::USEFUL_LENGTH;
 
 // 256 samples of a recording from sample `from`, with real and imaginary parts apart, so that the processor takes
 // eight at once.
@@ -44,7 +46,7 @@ impl Stretch {
         requires forward { self.old.from ≤ t }
         ensures held { IsStretchOf samples.now self.new }
         ensures first { self.new.from ≤ t }
-        ensures last { t ≤ self.new.from + 128 }
+        ensures last { t ≤ self.new.from + useful_length }
     {
         if self.from + 128 < t {
             *self = Stretch::new(samples, t);
@@ -58,7 +60,7 @@ impl Stretch {
 // other instructions and break up the lanes.
 #[inline(never)]
 fn dot(values: &[i16; 256], o: usize, part: usize) -> i32
-    requires o { o ≤ 128 }
+    requires o { o ≤ useful_length }
     requires part { part < 4 }
     ensures value { result ≡ dot_of values.now o (wave_part part) }
     ensures small { nat_abs result ≤ 1069547520 }
@@ -72,8 +74,8 @@ fn dot(values: &[i16; 256], o: usize, part: usize) -> i32
 
 // Returns the sum of row `k`: 32 of these products.
 #[inline(always)]
-fn row_sum(values: &[i16; 256], o: usize, signal: &[i16; 128], k: usize) -> i32
-    requires o { o ≤ 128 }
+fn row_sum(values: &[i16; 256], o: usize, signal: &[i16; USEFUL_LENGTH], k: usize) -> i32
+    requires o { o ≤ useful_length }
     requires signal { AllWithin 255 signal.now }
     requires k { k < 4 }
     ensures value { result ≡ sum_below 32 (λ n. product_at values.now o signal.now (32 * k + n)) }
@@ -88,10 +90,10 @@ fn row_sum(values: &[i16; 256], o: usize, signal: &[i16; 128], k: usize) -> i32
 
 // Returns product `n`.
 #[inline(always)]
-fn product(values: &[i16; 256], o: usize, signal: &[i16; 128], n: usize) -> i32
-    requires o { o ≤ 128 }
+fn product(values: &[i16; 256], o: usize, signal: &[i16; USEFUL_LENGTH], n: usize) -> i32
+    requires o { o ≤ useful_length }
     requires signal { AllWithin 255 signal.now }
-    requires n { n < 128 }
+    requires n { n < useful_length }
     ensures value { result ≡ product_at values.now o signal.now n }
     ensures small { nat_abs result ≤ 8355840 }
 {
@@ -111,7 +113,7 @@ struct ProductSums {
 // whose imaginary parts are the next list.
 #[inline(always)]
 fn product_sums(stretch: &Stretch, o: usize, part: usize) -> ProductSums
-    requires o { o ≤ 128 }
+    requires o { o ≤ useful_length }
     requires part { part + 1 < 4 }
     ensures value { result ≡ products_of stretch.now o (wave_part part) (wave_part (part + 1)) }
     ensures small { AreSmallProducts result }
@@ -154,10 +156,10 @@ impl ProductSums {
 // root 29, plus j at samples 0 and 64.
 #[inline(always)]
 pub(crate) fn correlations(samples: &[Sample], t: usize, stretch: &Stretch) -> [Cpx; 3]
-    requires room { t + 128 ≤ length samples.now }
+    requires room { t + useful_length ≤ length samples.now }
     requires held { IsStretchOf samples.now stretch.now }
     requires from { stretch.now.from ≤ t }
-    requires reached { t ≤ stretch.now.from + 128 }
+    requires reached { t ≤ stretch.now.from + useful_length }
     ensures value { result ≡ correlations_at samples.now t }
     ensures small { All (IsWithin (2 ^ 31)) result }
 {

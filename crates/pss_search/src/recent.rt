@@ -3,6 +3,7 @@
 ghost use Rattle.std.specs.Prelude.{◌≡◌, ◌+◌, ◌<◌, ◌≤◌};
 ghost use Rattle.pss_search.specs.Metrics.{Standing, end_place};
 ghost use Rattle.pss_search.specs.Steps.{IsMetricOf, IsRowOf};
+ghost use Rattle.lte_types.specs.Numerology.{useful_length};
 
 use crate::measure::{Metric, PlaceSums, Sweep};
 use sample_file::Recording;
@@ -36,7 +37,7 @@ impl<'a> Recent<'a> {
     // Returns the sweep at position 128, without rows.
     fn empty(recording: &'a Recording) -> Recent<'a>
         ensures recording { result.recording ≡ recording.now }
-        ensures place { result.place ≡ 128 }
+        ensures place { result.place ≡ useful_length }
     {
         Recent {
             sweep: Sweep::new(recording),
@@ -71,7 +72,7 @@ impl<'a> Recent<'a> {
 
     // Returns the row of one of the last 19 positions.
     pub(crate) fn row(&self, u: usize) -> PlaceSums
-        requires first { 128 ≤ u }
+        requires first { useful_length ≤ u }
         requires measured { u < self.now.place }
         requires kept { self.now.place ≤ u + 19 }
         ensures { IsRowOf self.now.recording u result }
@@ -82,7 +83,7 @@ impl<'a> Recent<'a> {
     // Returns the metric at one of the last 19 positions.
     pub(crate) fn metric(&self, n2: u8, u: usize) -> Metric
         requires root { n2 ≤ 2 }
-        requires first { 128 ≤ u }
+        requires first { useful_length ≤ u }
         requires measured { u < self.now.place }
         requires kept { self.now.place ≤ u + 19 }
         ensures { IsMetricOf self.now.recording n2 u result }

@@ -1,6 +1,6 @@
 // Calls on values in any state, each under its own precondition alone.
 ghost use Rattle.std.specs.Prelude.{◌≡◌, ◌+◌, ◌*◌, ◌^◌, ◌<◌, ◌≤◌, All, length, nat_abs, pos, ◌<ℤ◌, ◌≤ℤ◌};
-ghost use Rattle.cs_num.specs.Complex.{size};
+ghost use Rattle.cs_num.specs.Complex.{largest_part};
 ghost use Rattle.finite.specs.Sizes.{RowsWithin};
 ghost use Rattle.tail_cert.specs.Certificate.{tables_there};
 ghost use Rattle.turbo_code.specs.Table.{IsSize};
@@ -17,7 +17,7 @@ use turbo_code::Coded;
 use uper::{Reader, Writer};
 
 fn product(a: Cpx, b: Cpx) -> Cpx
-    requires { size a * size b ≤ 2 ^ 61 }
+    requires { largest_part a * largest_part b ≤ 2 ^ 61 }
 {
     a.mul(b)
 }
@@ -34,7 +34,7 @@ fn square(a: Cpx) -> u128 {
 
 fn rounded(a: Cpx, bits: u32) -> Cpx
     requires bits { (1 ≤ bits) × (bits ≤ 40) }
-    requires size { size a ≤ 2 ^ 62 }
+    requires size { largest_part a ≤ 2 ^ 62 }
 {
     a.round_shift(bits)
 }
@@ -111,7 +111,7 @@ fn refill(certificate: &mut Certificate, values: &[[i32; 3]; 40], work: &mut Tre
 
 // Returns whether these calls give the expected numbers.
 fn have_values(a: Cpx) -> bool
-    requires { size a ≤ 2 ^ 30 }
+    requires { largest_part a ≤ 2 ^ 30 }
 {
     square(a) == 5 && rounded(a, 1) == Cpx { re: 0, im: 1 } && quotient(-7, 2, 127) == -3
 }

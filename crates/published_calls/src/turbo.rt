@@ -68,7 +68,7 @@ fn halve(
 fn block_of(values: &Combined, row: Row, work: &mut Work) -> Option<ArrayVec<bool, 1000>>
     requires row { IsRow row }
     requires k { values.now.k ≡ row.k }
-    requires sizes { All (All IsSmall) values.now.d }
+    requires magnitudes { All (All IsSmall) values.now.d }
 {
     let block: Option<Block> = decode(values, row, work);
     block

@@ -9,7 +9,7 @@ use cs_outside::{Failed, Sink, Source};
 pub struct NoInput;
 
 impl Source for NoInput {
-    ghost told = { λ s. record { left = Some []; faults = 0 } };
+    ghost state = { λ s. record { left = Some []; faults = 0 } };
 
     /// Returns 0, the end of the input.
     fn read(&mut self, _into: &mut [u8]) -> Result<usize, Failed> {
@@ -22,7 +22,7 @@ impl Source for NoInput {
 pub struct Discarded;
 
 impl Sink for Discarded {
-    ghost told = { λ s. record { taken = None; room = None; faults = 0 } };
+    ghost state = { λ s. record { taken = None; room = None; faults = 0 } };
 
     /// Accepts all of `piece`.
     fn write(&mut self, piece: &[u8]) -> Result<usize, Failed> {

@@ -11,7 +11,7 @@ use Rattle.lte_types.specs.declared.entry.Entry.{Entry}
 use Rattle.lte_types.specs.declared.hit.Hit.{Hit}
 use Rattle.conv_code.specs.Cost.{word_cost}
 use Rattle.tailbite.proofs.Only.{one_word}
-use Rattle.pbch.specs.Master.{TellsNothing, TellsMaster}
+use Rattle.pbch.specs.Master.{DecodesNothing, DecodesMaster}
 use Rattle.pbch.specs.declared.master.Master.{Master}
 use Rattle.pbch.proofs.Words.{one_master}
 use Rattle.pss_search.specs.Hits.{hits_of}
@@ -41,15 +41,15 @@ master_of values ports h = record {
   cost = word_cost values h.word;
 }
 
-carries : (values : List (List ℤ)) (ports : ℕ) (h : HasPorts values ports) → TellsMaster values (master_of values ports h)
+carries : (values : List (List ℤ)) (ports : ℕ) (h : HasPorts values ports) → DecodesMaster values (master_of values ports h)
 carries values ports h = record {
   word = h.word;
-  tells = h.carries;
+  decodes = h.carries;
   mib = record { bandwidth = refl; duration = refl; resource = refl; upper = refl; spare = refl };
   cost = refl;
 }
 
-one_ports : (values : List (List ℤ)) (a b : Option ℕ) → MatchOption a (TellsNothing values) (HasPorts values) → MatchOption b (TellsNothing values) (HasPorts values) → a ≡ b
+one_ports : (values : List (List ℤ)) (a b : Option ℕ) → MatchOption a (DecodesNothing values) (HasPorts values) → MatchOption b (DecodesNothing values) (HasPorts values) → a ≡ b
 one_ports values None None p q = refl
 one_ports values None (Some b) p q = absurd (p q.word b q.carries)
 one_ports values (Some a) None p q = absurd (q p.word a p.carries)

@@ -2,13 +2,13 @@
 use Rattle.std.specs.Prelude.{◌≡◌, ℕ, ◌*◌, Bool, nat_lt, if◌then◌else◌, List, ℤ, MatchOption}
 use Rattle.conv_code.specs.Cost.{word_cost}
 use Rattle.tailbite.specs.LeastWord.{IsLeastWord}
-use Rattle.pbch.specs.Master.{total, Tells, TellsNothing}
+use Rattle.pbch.specs.Master.{total, Decodes, DecodesNothing}
 use Rattle.reasons.specs.declared.reason.Attempt.{Attempt}
 
 -- the values carry a MIB for this antenna port count
 pub record HasPorts (values : List (List ℤ)) (ports : ℕ) : Type 0 where
   pub word : List Bool
-  pub carries : Tells values word ports
+  pub carries : Decodes values word ports
 
 -- these values have this minimum cost and total, and carry a MIB for these antenna ports, if any
 pub record IsAttempt (values : List (List ℤ)) (phase : ℕ) (attempt : Attempt) : Type 0 where
@@ -17,7 +17,7 @@ pub record IsAttempt (values : List (List ℤ)) (phase : ℕ) (attempt : Attempt
   pub least : IsLeastWord values word
   pub cost : attempt.cost ≡ word_cost values word
   pub total : attempt.total ≡ total values
-  pub ports : MatchOption attempt.ports (TellsNothing values) (HasPorts values)
+  pub ports : MatchOption attempt.ports (DecodesNothing values) (HasPorts values)
 
 -- the one with the smaller ratio of cost to total, the first of equals
 abbrev pub closer : Attempt → Attempt → Attempt

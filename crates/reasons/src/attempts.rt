@@ -5,7 +5,7 @@ ghost use Rattle.std.specs.List.{flat_map};
 ghost use Rattle.finite.specs.Sizes.{RowsWithin};
 ghost use Rattle.lte_types.specs.Frames.{frames_from};
 ghost use Rattle.pbch.specs.Values.{summed_values};
-ghost use Rattle.pbch.specs.Master.{TellsNothing};
+ghost use Rattle.pbch.specs.Master.{DecodesNothing};
 ghost use Rattle.explain.specs.Frame.{IsWhole};
 ghost use Rattle.explain.specs.Receiver.{sums_by};
 ghost use Rattle.reasons.specs.Attempt.{HasPorts, IsAttempt, IsClosest, closer as closer_of};
@@ -72,7 +72,7 @@ fn attempt_of(sums: &[[i32; 3]; 40], phase: u8, work: &mut Trellis) -> Attempt
 // The antenna ports of the MIB that sums carry, if any.
 fn ports_of(sums: &[[i32; 3]; 40], work: &mut Trellis) -> Option<u8>
     requires { RowsWithin 2032 sums.now }
-    ensures { MatchOption result (TellsNothing sums.now) (HasPorts sums.now) }
+    ensures { MatchOption result (DecodesNothing sums.now) (HasPorts sums.now) }
 {
     match master_of(sums, work) {
         Some(master) => Some(master.ports),

@@ -8,11 +8,11 @@
 ghost use Rattle.std.specs.Prelude.{◌≡◌, IfOk, string_bytes};
 ghost use Rattle.serde_json.specs.View.{view};
 ghost use Rattle.report_json.specs.Values.{or_null};
-ghost use Rattle.report_json.specs.Offset.{told_value as told_of, candidate_value, telling_value as telling_of};
-ghost use Rattle.report_json.specs.Offset.{telling_json, IsTellJson};
+ghost use Rattle.report_json.specs.Offset.{estimate_value as estimate_of, candidate_value, estimate_value_of as estimate_fields};
+ghost use Rattle.report_json.specs.Offset.{estimate_json, IsTellJson};
 
 use crate::values::{ToJson, list_value};
-use frequency_offset::{Candidate, Told, tell_with_candidates};
+use frequency_offset::{Candidate, OffsetEstimate, tell_with_candidates};
 use sample_file::Recording;
 use serde_json::{Value, json};
 use std::alloc::{AllocError, Global};
@@ -22,46 +22,50 @@ use std::alloc::{AllocError, Global};
 pub fn tell_json(alloc: Global, recording: &Recording) -> Result<String, AllocError>
     ensures { IfOk result (λ text. IsTellJson recording.now (string_bytes text)) }
 {
-    let telling = tell_with_candidates(alloc, recording)?;
-    json_of(alloc, &telling.told, &telling.candidates)
+    let estimation = tell_with_candidates(alloc, recording)?;
+    json_of(alloc, &estimation.estimate, &estimation.candidates)
 }
 
 // Returns the JSON of an estimate and its candidates.
-fn json_of(alloc: Global, told: &Option<Told>, taken: &[Candidate]) -> Result<String, AllocError>
-    ensures { IfOk result (λ text. string_bytes text ≡ telling_json told.now taken.now) }
+fn json_of(
+    alloc: Global,
+    estimate: &Option<OffsetEstimate>,
+    taken: &[Candidate],
+) -> Result<String, AllocError>
+    ensures { IfOk result (λ text. string_bytes text ≡ estimate_json estimate.now taken.now) }
 {
-    let telling = telling_value(alloc, told, taken)?;
-    telling.to_string(alloc)
+    let estimation = estimate_value_of(alloc, estimate, taken)?;
+    estimation.to_string(alloc)
 }
 
 // Returns the value of an estimate and its candidates.
-fn telling_value(
+fn estimate_value_of(
     alloc: Global,
-    told: &Option<Told>,
+    estimate: &Option<OffsetEstimate>,
     taken: &[Candidate],
 ) -> Result<Value, AllocError>
-    ensures { IfOk result (λ value. view value ≡ telling_of told.now taken.now) }
+    ensures { IfOk result (λ value. view value ≡ estimate_fields estimate.now taken.now) }
 {
     let candidates = list_value(alloc, taken)?;
-    let told = told_value(alloc, told)?;
-    json!(in alloc; {"candidates": candidates, "told": told})
+    let estimate = estimate_value(alloc, estimate)?;
+    json!(in alloc; {"candidates": candidates, "told": estimate})
 }
 
 // Returns the value of an estimate, or null.
-fn told_value(alloc: Global, told: &Option<Told>) -> Result<Value, AllocError>
-    ensures { IfOk result (λ value. view value ≡ or_null told_of told.now) }
+fn estimate_value(alloc: Global, estimate: &Option<OffsetEstimate>) -> Result<Value, AllocError>
+    ensures { IfOk result (λ value. view value ≡ or_null estimate_of estimate.now) }
 {
-    match told {
-        Some(told) => value_of_told(alloc, told),
+    match estimate {
+        Some(estimate) => value_of_estimate(alloc, estimate),
         None => Ok(Value::Null),
     }
 }
 
-fn value_of_told(alloc: Global, told: &Told) -> Result<Value, AllocError>
-    ensures { IfOk result (λ value. view value ≡ told_of told.now) }
+fn value_of_estimate(alloc: Global, estimate: &OffsetEstimate) -> Result<Value, AllocError>
+    ensures { IfOk result (λ value. view value ≡ estimate_of estimate.now) }
 {
-    let turn = Value::from(told.turn);
-    json!(in alloc; {"cells": told.cells, "hits": told.hits, "turn": turn})
+    let turn = Value::from(estimate.turn);
+    json!(in alloc; {"cells": estimate.cells, "hits": estimate.hits, "turn": turn})
 }
 
 // The object for a candidate.

@@ -1,7 +1,7 @@
 //! Text reports: the cell list, PSS detections (hits), evidence, answers to certificates, interference cancellation,
 //! and the frequency offset estimate. `docs/FORMATS.md` describes their lines.
 //!
-//! Tests: the crates `sent_tests`, in `texts.rt`, `list_tests`, in `told.rt` and `rounds_of_recordings.rt`, and
+//! Tests: the crates `sent_tests`, in `texts.rt`, `list_tests`, in `estimate.rt` and `rounds_of_recordings.rt`, and
 //! `top_tests`.
 #![tactic(auto)]
 

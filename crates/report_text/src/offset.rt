@@ -3,9 +3,9 @@
 ghost use Rattle.std.specs.Prelude.{◌≡◌, IfOk, string_bytes};
 ghost use Rattle.report_text.specs.Hits.{hits_head};
 ghost use Rattle.report_text.specs.Lines.{head_line};
-ghost use Rattle.report_text.specs.Offset.{IsTellText, told_text, turn_line};
+ghost use Rattle.report_text.specs.Offset.{IsTellText, offset_text, turn_line};
 
-use frequency_offset::{Told, tell};
+use frequency_offset::{OffsetEstimate, tell};
 use sample_file::Recording;
 use std::alloc::{AllocError, Global};
 use std::fmt::Write;
@@ -15,27 +15,27 @@ use std::fmt::Write;
 pub fn tell_text(alloc: Global, recording: &Recording) -> Result<String, AllocError>
     ensures { IfOk result (λ text. IsTellText recording.now (string_bytes text)) }
 {
-    let told = tell(alloc, recording)?;
-    text_of(alloc, &told)
+    let estimate = tell(alloc, recording)?;
+    text_of(alloc, &estimate)
 }
 
 // Returns the text of an estimate.
-fn text_of(alloc: Global, told: &Option<Told>) -> Result<String, AllocError>
-    ensures { IfOk result (λ text. string_bytes text ≡ told_text told.now) }
+fn text_of(alloc: Global, estimate: &Option<OffsetEstimate>) -> Result<String, AllocError>
+    ensures { IfOk result (λ text. string_bytes text ≡ offset_text estimate.now) }
 {
-    match told {
-        Some(told) => text_of_turn(alloc, told),
+    match estimate {
+        Some(estimate) => text_of_turn(alloc, estimate),
         None => line_of_hits(alloc, 0),
     }
 }
 
 // Returns the estimate's lines: hits, offset, cells.
-fn text_of_turn(alloc: Global, told: &Told) -> Result<String, AllocError>
-    ensures { IfOk result (λ text. string_bytes text ≡ told_text (Some told.now)) }
+fn text_of_turn(alloc: Global, estimate: &OffsetEstimate) -> Result<String, AllocError>
+    ensures { IfOk result (λ text. string_bytes text ≡ offset_text (Some estimate.now)) }
 {
-    let mut text = line_of_hits(alloc, told.hits)?;
-    let turn = line_of_turn(alloc, told)?;
-    let cells = line_of_cells(alloc, told.cells)?;
+    let mut text = line_of_hits(alloc, estimate.hits)?;
+    let turn = line_of_turn(alloc, estimate)?;
+    let cells = line_of_cells(alloc, estimate.cells)?;
     text.push_str(&turn)?;
     text.push_str(&cells)?;
     Ok(text)
@@ -47,10 +47,10 @@ fn line_of_hits(alloc: Global, hits: usize) -> Result<String, AllocError>
     format!(in alloc; "hits {hits}\n")
 }
 
-fn line_of_turn(alloc: Global, told: &Told) -> Result<String, AllocError>
-    ensures { IfOk result (λ line. string_bytes line ≡ turn_line told.now.turn) }
+fn line_of_turn(alloc: Global, estimate: &OffsetEstimate) -> Result<String, AllocError>
+    ensures { IfOk result (λ line. string_bytes line ≡ turn_line estimate.now.turn) }
 {
-    format!(in alloc; "turn {}\n", told.turn)
+    format!(in alloc; "turn {}\n", estimate.turn)
 }
 
 fn line_of_cells(alloc: Global, cells: usize) -> Result<String, AllocError>

@@ -4,7 +4,7 @@ use Rattle.std.specs.List.{copy_within}
 use Rattle.std.proofs.Math.Seq.{take-nil, take_all}
 use Rattle.cs_num.specs.declared.Sample.{Sample}
 use Rattle.lte_types.specs.Numerology.{least_samples, most_samples}
-use Rattle.cs_outside.specs.Outside.{SourceTold}
+use Rattle.cs_outside.specs.Outside.{SourceState}
 use Rattle.sample_file.specs.declared.form.SampleForm.{SampleForm}
 use Rattle.sample_file.specs.declared.form.SampleForm.TheVariants.{Ci16, Cu8}
 use Rattle.sample_file.specs.Recording.{width, component_of, centred, samples_of, samples_of_8, samples_in, IsRecording}
@@ -110,14 +110,14 @@ few_samples Ci16 input within = let all = length-samples_in Ci16 input in omega 
 few_samples Cu8 input within = let all = length-samples_in Cu8 input in omega (arith, within, all.0)
 
 -- a prefix as long as a recording may be is the recording
-pub whole_front : (form : SampleForm) (front : List Sample) (before now : SourceTold) → HasReadFront form most_samples front before now → HasReadRecording form front before now
+pub whole_front : (form : SampleForm) (front : List Sample) (before now : SourceState) → HasReadFront form most_samples front before now → HasReadRecording form front before now
 whole_front form front before now f =
     let few = few_samples form f.read.input f.read.read.within in
     let all : front ≡ f.recording = f.front_is ∙ take_all most_samples f.recording (subst (λ (l : List Sample). length l ≤ most_samples) (sym f.read.samples) few) in
     subst (λ (l : List Sample). HasReadRecording form l before now) (sym all) f.read
 
 -- the samples that were read are a recording
-pub recording_is : (form : SampleForm) (recording : List Sample) (before now : SourceTold) → HasReadRecording form recording before now → IsRecording recording
+pub recording_is : (form : SampleForm) (recording : List Sample) (before now : SourceState) → HasReadRecording form recording before now → IsRecording recording
 recording_is form recording before now read = subst IsRecording (sym read.samples) (record {
   least = enough_samples form read.input read.enough;
   most = few_samples form read.input read.read.within;

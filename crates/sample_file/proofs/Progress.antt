@@ -6,7 +6,7 @@ use Rattle.std.proofs.lemmas.List.Edits.{take-paste}
 use Rattle.cs_num.specs.declared.Sample.{Sample}
 use Rattle.lte_types.specs.Numerology.{least_samples, most_samples}
 use Rattle.cs_outside.specs.Counts.{Rose}
-use Rattle.cs_outside.specs.Outside.{SourceTold}
+use Rattle.cs_outside.specs.Outside.{SourceState}
 use Rattle.cs_outside.specs.Streams.{HasRead, HasReadAll, HasReadOn, HasReadPart, HasReadPast, HasReadFault}
 use Rattle.cs_outside.proofs.Reading.{read_then}
 use Rattle.sample_file.specs.declared.form.SampleForm.{SampleForm}
@@ -62,7 +62,7 @@ taken_count form bytes before now begun t =
     by_form Cu8 a b c w r m x y z = omega (arith, x, y, z)
 
 -- the number of bytes that were read
-bytes_count : (form : SampleForm) (samples : List Sample) (begun : List ℕ) (before now : SourceTold) (s : HasReadSamples form samples begun before now) →
+bytes_count : (form : SampleForm) (samples : List Sample) (begun : List ℕ) (before now : SourceState) (s : HasReadSamples form samples begun before now) →
     length s.whole ≡ width form * length samples
 bytes_count form samples begun before now s =
     sym (length-of_whole form s.whole s.of_whole) ∙ ap (λ l. width form * length l) (sym s.samples_are)
@@ -107,7 +107,7 @@ end_taken form e w buffer before inside cut =
 -- ---- the reading goes on
 
 -- after a piece whose samples were taken
-pub taken_on : (form : SampleForm) (n : ℕ) (samples after : List Sample) (begun next left : List ℕ) (before between now : SourceTold) →
+pub taken_on : (form : SampleForm) (n : ℕ) (samples after : List Sample) (begun next left : List ℕ) (before between now : SourceState) →
     HasReadSamples form samples begun before between → HasReadOn n begun next between now → TakesSamples form next samples after left →
     HasReadSamples form after left before now
 taken_on form n samples after begun next left before between now s h t =
@@ -128,14 +128,14 @@ no_piece n [] size zero = refl
 no_piece n (x ∷ piece) size zero = absurd (omega (arith, size, zero))
 
 -- at the end of the input nothing more was read
-ended_on : (form : SampleForm) (n : ℕ) (samples : List Sample) (begun next : List ℕ) (before between now : SourceTold) (s : HasReadSamples form samples begun before between) →
+ended_on : (form : SampleForm) (n : ℕ) (samples : List Sample) (begun next : List ℕ) (before between now : SourceState) (s : HasReadSamples form samples begun before between) →
     HasReadOn n begun next between now → n ≡ 0 → HasRead (s.whole ++ begun) before now
 ended_on form n samples begun next before between now s h zero =
     let all : HasRead ((s.whole ++ begun) ++ h.piece) before now = read_then _ _ before between now s.read h.read in
     subst (λ l. HasRead l before now) (ap (λ l. (s.whole ++ begun) ++ l) (no_piece n h.piece h.count zero) ∙ append-nil (s.whole ++ begun)) all
 
 -- the input ended after a complete sample
-whole_on : (form : SampleForm) (n : ℕ) (samples : List Sample) (begun next : List ℕ) (before between now : SourceTold) (s : HasReadSamples form samples begun before between) →
+whole_on : (form : SampleForm) (n : ℕ) (samples : List Sample) (begun next : List ℕ) (before between now : SourceState) (s : HasReadSamples form samples begun before between) →
     HasReadOn n begun next between now → n ≡ 0 → begun ≡ [] → length samples ≤ most_samples → HasReadAll (most_bytes form) s.whole before now
 whole_on form n samples begun next before between now s h zero none few =
     let all = ended_on form n samples begun next before between now s h zero in
@@ -149,7 +149,7 @@ whole_on form n samples begun next before between now s h zero none few =
     by_form Ci16 m n e few = omega (arith, e, few)
     by_form Cu8 m n e few = omega (arith, e, few)
 
-pub recorded_on : (form : SampleForm) (n : ℕ) (samples : List Sample) (begun next : List ℕ) (before between now : SourceTold) → HasReadSamples form samples begun before between →
+pub recorded_on : (form : SampleForm) (n : ℕ) (samples : List Sample) (begun next : List ℕ) (before between now : SourceState) → HasReadSamples form samples begun before between →
     HasReadOn n begun next between now → n ≡ 0 → begun ≡ [] → length samples ≤ most_samples → least_samples ≤ length samples → HasReadRecording form samples before now
 recorded_on form n samples begun next before between now s h zero none few many = record {
   input = s.whole;
@@ -159,7 +159,7 @@ recorded_on form n samples begun next before between now s h zero none few many 
   samples = s.samples_are;
 }
 
-pub short_on : (form : SampleForm) (n : ℕ) (samples : List Sample) (begun next : List ℕ) (before between now : SourceTold) → HasReadSamples form samples begun before between →
+pub short_on : (form : SampleForm) (n : ℕ) (samples : List Sample) (begun next : List ℕ) (before between now : SourceState) → HasReadSamples form samples begun before between →
     HasReadOn n begun next between now → n ≡ 0 → begun ≡ [] → length samples ≤ most_samples → length samples < least_samples → HasReadTooShort form before now
 short_on form n samples begun next before between now s h zero none few short = record {
   input = s.whole;
@@ -169,7 +169,7 @@ short_on form n samples begun next before between now s h zero none few short = 
 }
 
 -- the input ended within a sample
-pub ragged_on : (form : SampleForm) (n : ℕ) (samples : List Sample) (begun next : List ℕ) (before between now : SourceTold) → HasReadSamples form samples begun before between →
+pub ragged_on : (form : SampleForm) (n : ℕ) (samples : List Sample) (begun next : List ℕ) (before between now : SourceState) → HasReadSamples form samples begun before between →
     HasReadOn n begun next between now → n ≡ 0 → 0 < length begun → length begun < width form →
     width form * length samples + length begun ≤ width form * most_samples → HasReadRagged form before now
 ragged_on form n samples begun next before between now s h zero some few within =
@@ -185,7 +185,7 @@ ragged_on form n samples begun next before between now s h zero some few within 
     }
 
 -- a call failed
-pub fault_on : (form : SampleForm) (samples : List Sample) (begun : List ℕ) (before between now : SourceTold) → HasReadSamples form samples begun before between →
+pub fault_on : (form : SampleForm) (samples : List Sample) (begun : List ℕ) (before between now : SourceState) → HasReadSamples form samples begun before between →
     now.left ≡ between.left → Rose before.faults now.faults →
     width form * length samples + length begun ≤ width form * most_samples → HasReadFault (most_bytes form) before now
 fault_on form samples begun before between now s same rose within = record {
@@ -198,7 +198,7 @@ fault_on form samples begun before between now s same rose within = record {
 }
 
 -- more than the limit was read
-pub past_on : (form : SampleForm) (samples : List Sample) (begun : List ℕ) (before now : SourceTold) → HasReadSamples form samples begun before now →
+pub past_on : (form : SampleForm) (samples : List Sample) (begun : List ℕ) (before now : SourceState) → HasReadSamples form samples begun before now →
     width form * length samples + length begun ≡ width form * most_samples + 1 → HasReadPast (most_bytes form) before now
 past_on form samples begun before now s past = record {
   front = s.whole ++ begun;
@@ -207,7 +207,7 @@ past_on form samples begun before now s past = record {
 }
 
 -- one more piece was read, at most one byte past the limit
-pub part_on : (form : SampleForm) (n : ℕ) (samples : List Sample) (begun next : List ℕ) (before between now : SourceTold) →
+pub part_on : (form : SampleForm) (n : ℕ) (samples : List Sample) (begun next : List ℕ) (before between now : SourceState) →
     HasReadSamples form samples begun before between → HasReadOn n begun next between now →
     width form * length samples + length begun + n ≤ width form * most_samples + 1 → HasReadPart (most_bytes form) before now
 part_on form n samples begun next before between now s h within = record {

@@ -2,7 +2,7 @@
 use Rattle.std.specs.Prelude.{◌≡◌, ◌≢◌, ℕ, ◌*◌, ◌%◌, ◌<◌, ◌≤◌, List, length, take}
 use Rattle.cs_num.specs.declared.Sample.{Sample}
 use Rattle.lte_types.specs.Numerology.{least_samples, most_samples}
-use Rattle.cs_outside.specs.Outside.{SourceTold}
+use Rattle.cs_outside.specs.Outside.{SourceState}
 use Rattle.cs_outside.specs.Streams.{HasReadAll}
 use Rattle.sample_file.specs.declared.form.SampleForm.{SampleForm}
 use Rattle.sample_file.specs.Recording.{width, samples_in}
@@ -16,7 +16,7 @@ abbrev pub most_bytes : SampleForm → ℕ
 most_bytes form = most_samples * width form
 
 -- the complete input was read; it is long enough, ends with a complete sample, and the recording has all its samples
-pub record HasReadRecording (form : SampleForm) (recording : List Sample) (before now : SourceTold) : Type 0 where
+pub record HasReadRecording (form : SampleForm) (recording : List Sample) (before now : SourceState) : Type 0 where
   pub input : List ℕ
   pub read : HasReadAll (most_bytes form) input before now
   pub whole_samples : length input % width form ≡ 0
@@ -24,19 +24,19 @@ pub record HasReadRecording (form : SampleForm) (recording : List Sample) (befor
   pub samples : recording ≡ samples_in form input
 
 -- a recording was read, and `front` is its first `most` samples, or all if there are fewer
-pub record HasReadFront (form : SampleForm) (most : ℕ) (front : List Sample) (before now : SourceTold) : Type 0 where
+pub record HasReadFront (form : SampleForm) (most : ℕ) (front : List Sample) (before now : SourceState) : Type 0 where
   pub recording : List Sample
   pub read : HasReadRecording form recording before now
   pub front_is : front ≡ take most recording
 
 -- the complete input was read, and it ends within a sample
-pub record HasReadRagged (form : SampleForm) (before now : SourceTold) : Type 0 where
+pub record HasReadRagged (form : SampleForm) (before now : SourceState) : Type 0 where
   pub input : List ℕ
   pub read : HasReadAll (most_bytes form) input before now
   pub ragged : length input % width form ≢ 0
 
 -- the complete input was read, and it ends with a complete sample, but is too short
-pub record HasReadTooShort (form : SampleForm) (before now : SourceTold) : Type 0 where
+pub record HasReadTooShort (form : SampleForm) (before now : SourceState) : Type 0 where
   pub input : List ℕ
   pub read : HasReadAll (most_bytes form) input before now
   pub whole_samples : length input % width form ≡ 0

@@ -1,7 +1,7 @@
 -- The steps of the code: bytes are read in pieces, which may end within a sample. (own)
 use Rattle.std.specs.Prelude.{◌≡◌, ℕ, ◌%◌, ◌<◌, ◌++◌, List, length, take}
 use Rattle.cs_num.specs.declared.Sample.{Sample}
-use Rattle.cs_outside.specs.Outside.{SourceTold}
+use Rattle.cs_outside.specs.Outside.{SourceState}
 use Rattle.cs_outside.specs.Streams.{HasRead}
 use Rattle.sample_file.specs.declared.form.SampleForm.{SampleForm}
 use Rattle.sample_file.specs.Recording.{width, samples_in}
@@ -15,7 +15,7 @@ pub record TakesSamples (form : SampleForm) (bytes : List ℕ) (before now : Lis
   pub few : length begun < width form
 
 -- the bytes read so far are these samples, followed by an incomplete one
-pub record HasReadSamples (form : SampleForm) (samples : List Sample) (begun : List ℕ) (before now : SourceTold) : Type 0 where
+pub record HasReadSamples (form : SampleForm) (samples : List Sample) (begun : List ℕ) (before now : SourceState) : Type 0 where
   pub whole : List ℕ
   pub of_whole : length whole % width form ≡ 0
   pub samples_are : samples ≡ samples_in form whole
@@ -37,7 +37,7 @@ pub record TakesFront (form : SampleForm) (most : ℕ) (bytes : List ℕ) (befor
 
 -- the bytes read so far are samples, of which the first are kept, followed by an incomplete one
 pub record HasReadFrontOf (form : SampleForm) (most : ℕ) (kept : List Sample) (count : ℕ) (begun : List ℕ)
-    (before now : SourceTold) : Type 0 where
+    (before now : SourceState) : Type 0 where
   pub samples : List Sample
   pub read : HasReadSamples form samples begun before now
   pub are_kept : AreKept most samples kept count

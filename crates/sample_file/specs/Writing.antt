@@ -1,6 +1,6 @@
 -- What a sink took while samples were written in pieces: its record before and now. (own)
 use Rattle.std.specs.Prelude.{◌≡◌, ℕ, ◌%◌, ◌++◌, List, length}
-use Rattle.cs_outside.specs.Outside.{SinkTold}
+use Rattle.cs_outside.specs.Outside.{SinkState}
 use Rattle.cs_outside.specs.Streams.{HasWritten}
 
 -- the number of bytes in a piece
@@ -8,7 +8,7 @@ abbrev pub piece_bytes : ℕ
 piece_bytes = 16384
 
 -- the first of these bytes were written, in full pieces, and the rest waits
-pub record HasWrittenPieces (bytes rest : List ℕ) (before now : SinkTold) : Type 0 where
+pub record HasWrittenPieces (bytes rest : List ℕ) (before now : SinkState) : Type 0 where
   pub front : List ℕ
   pub split : bytes ≡ front ++ rest
   pub whole_pieces : length front % piece_bytes ≡ 0

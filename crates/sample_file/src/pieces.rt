@@ -45,12 +45,12 @@ impl PieceWriter {
     /// of the waiting bytes and the new ones was written, and the buffer's contents are unspecified.
     pub fn push<K: Sink>(&mut self, sink: &mut K, samples: &[Sample]) -> Result<(), Failed>
         ensures ok { OnOk result (HasWrittenPieces (self.old ++ bytes_of samples.now) self.new
-            (K.told sink.old) (K.told sink.new)) }
+            (K.state sink.old) (K.state sink.new)) }
         ensures front { OnErr result (HasWrittenFront (self.old ++ bytes_of samples.now)
-            (K.told sink.old) (K.told sink.new)) }
-        ensures full { OnErr result (IsShortOf (length (self.old ++ bytes_of samples.now)) (K.told sink.old)) }
-        ensures fault { OnErr result (Rose (K.told sink.old).faults (K.told sink.new).faults) }
-        ensures never_falls { (K.told sink.old).faults ≤ (K.told sink.new).faults }
+            (K.state sink.old) (K.state sink.new)) }
+        ensures full { OnErr result (IsShortOf (length (self.old ++ bytes_of samples.now)) (K.state sink.old)) }
+        ensures fault { OnErr result (Rose (K.state sink.old).faults (K.state sink.new).faults) }
+        ensures never_falls { (K.state sink.old).faults ≤ (K.state sink.new).faults }
     {
         let mut rest = samples;
         while !rest.is_empty() {
@@ -66,23 +66,23 @@ impl PieceWriter {
 
     /// Writes the waiting bytes as the last piece.
     pub fn finish<K: Sink>(self, sink: &mut K) -> Result<(), Failed>
-        ensures ok { OnOk result (HasWritten self (K.told sink.old) (K.told sink.new)) }
-        ensures front { OnErr result (HasWrittenFront self (K.told sink.old) (K.told sink.new)) }
-        ensures full { OnErr result (IsShortOf (length self) (K.told sink.old)) }
-        ensures fault { OnErr result (Rose (K.told sink.old).faults (K.told sink.new).faults) }
-        ensures never_falls { (K.told sink.old).faults ≤ (K.told sink.new).faults }
+        ensures ok { OnOk result (HasWritten self (K.state sink.old) (K.state sink.new)) }
+        ensures front { OnErr result (HasWrittenFront self (K.state sink.old) (K.state sink.new)) }
+        ensures full { OnErr result (IsShortOf (length self) (K.state sink.old)) }
+        ensures fault { OnErr result (Rose (K.state sink.old).faults (K.state sink.new).faults) }
+        ensures never_falls { (K.state sink.old).faults ≤ (K.state sink.new).faults }
     {
         write_whole(sink, &self.buffer[..self.end])
     }
 
     // Writes the waiting bytes if they are a full piece.
     fn make_room<K: Sink>(&mut self, sink: &mut K) -> Result<(), Failed>
-        ensures ok { OnOk result (HasWrittenPieces self.old self.new (K.told sink.old) (K.told sink.new)) }
+        ensures ok { OnOk result (HasWrittenPieces self.old self.new (K.state sink.old) (K.state sink.new)) }
         ensures room { OnOk result (length self.new < piece_bytes) }
-        ensures front { OnErr result (HasWrittenFront self.old (K.told sink.old) (K.told sink.new)) }
-        ensures full { OnErr result (IsShortOf (length self.old) (K.told sink.old)) }
-        ensures fault { OnErr result (Rose (K.told sink.old).faults (K.told sink.new).faults) }
-        ensures never_falls { (K.told sink.old).faults ≤ (K.told sink.new).faults }
+        ensures front { OnErr result (HasWrittenFront self.old (K.state sink.old) (K.state sink.new)) }
+        ensures full { OnErr result (IsShortOf (length self.old) (K.state sink.old)) }
+        ensures fault { OnErr result (Rose (K.state sink.old).faults (K.state sink.new).faults) }
+        ensures never_falls { (K.state sink.old).faults ≤ (K.state sink.new).faults }
     {
         if self.end < PIECE {
             return Ok(());

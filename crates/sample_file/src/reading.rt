@@ -4,7 +4,7 @@
 ghost use Rattle.std.specs.Prelude.{◌≡◌, ◌+◌, ◌*◌, ◌^◌, ◌<◌, ◌≤◌, length, take, List, IfOk, IsErr, IsErrOf};
 ghost use Rattle.cs_num.specs.declared.Sample.{Sample as SampleValue};
 ghost use Rattle.lte_types.specs.Numerology.{least_samples, most_samples};
-ghost use Rattle.cs_outside.specs.Outside.{SourceTold};
+ghost use Rattle.cs_outside.specs.Outside.{SourceState};
 ghost use Rattle.cs_outside.specs.Streams.{HasReadPart, HasReadPast, HasReadFault};
 ghost use Rattle.sample_file.specs.Reading.{HasReadRecording, HasReadFront, HasReadRagged, HasReadTooShort};
 ghost use Rattle.sample_file.specs.Reading.{most_bytes};
@@ -80,19 +80,19 @@ pub fn read_as<S: Source>(
     form: SampleForm,
 ) -> Result<Recording, FileError>
     ensures ok { IfOk result (λ recording.
-        HasReadRecording form recording (S.told source.old) (S.told source.new)) }
+        HasReadRecording form recording (S.state source.old) (S.state source.new)) }
     ensures valid { IfOk result IsRecording }
     ensures ragged { IsErrOf result FileError.Ragged →
-        HasReadRagged form (S.told source.old) (S.told source.new) }
+        HasReadRagged form (S.state source.old) (S.state source.new) }
     ensures too_short { IsErrOf result FileError.TooShort →
-        HasReadTooShort form (S.told source.old) (S.told source.new) }
+        HasReadTooShort form (S.state source.old) (S.state source.new) }
     ensures too_long { IsErrOf result FileError.TooLong →
-        HasReadPast (most_bytes form) (S.told source.old) (S.told source.new) }
+        HasReadPast (most_bytes form) (S.state source.old) (S.state source.new) }
     ensures fault { IsErrOf result FileError.ReadFault →
-        HasReadFault (most_bytes form) (S.told source.old) (S.told source.new) }
+        HasReadFault (most_bytes form) (S.state source.old) (S.state source.new) }
     ensures memory { IsErrOf result FileError.OutOfMemory →
-        HasReadPart (most_bytes form) (S.told source.old) (S.told source.new) }
-    ensures never_falls { (S.told source.old).faults ≤ (S.told source.new).faults }
+        HasReadPart (most_bytes form) (S.state source.old) (S.state source.new) }
+    ensures never_falls { (S.state source.old).faults ≤ (S.state source.new).faults }
 {
     read_front(alloc, source, form, MOST_SAMPLES)
 }
@@ -107,19 +107,19 @@ pub fn read_front<S: Source>(
 ) -> Result<Recording, FileError>
     requires some { least_samples ≤ most }
     requires few { most ≤ most_samples }
-    ensures ok { IfOk result (λ front. HasReadFront form most front (S.told source.old) (S.told source.new)) }
+    ensures ok { IfOk result (λ front. HasReadFront form most front (S.state source.old) (S.state source.new)) }
     ensures valid { IfOk result IsRecording }
     ensures ragged { IsErrOf result FileError.Ragged →
-        HasReadRagged form (S.told source.old) (S.told source.new) }
+        HasReadRagged form (S.state source.old) (S.state source.new) }
     ensures too_short { IsErrOf result FileError.TooShort →
-        HasReadTooShort form (S.told source.old) (S.told source.new) }
+        HasReadTooShort form (S.state source.old) (S.state source.new) }
     ensures too_long { IsErrOf result FileError.TooLong →
-        HasReadPast (most_bytes form) (S.told source.old) (S.told source.new) }
+        HasReadPast (most_bytes form) (S.state source.old) (S.state source.new) }
     ensures fault { IsErrOf result FileError.ReadFault →
-        HasReadFault (most_bytes form) (S.told source.old) (S.told source.new) }
+        HasReadFault (most_bytes form) (S.state source.old) (S.state source.new) }
     ensures memory { IsErrOf result FileError.OutOfMemory →
-        HasReadPart (most_bytes form) (S.told source.old) (S.told source.new) }
-    ensures never_falls { (S.told source.old).faults ≤ (S.told source.new).faults }
+        HasReadPart (most_bytes form) (S.state source.old) (S.state source.new) }
+    ensures never_falls { (S.state source.old).faults ≤ (S.state source.new).faults }
 {
     let limit = bytes_read(form, MOST_SAMPLES, 0);
     let mut front = Front {
@@ -147,19 +147,19 @@ pub fn read_front<S: Source>(
 /// long is read up to byte 7,680,001. (own)
 pub fn read_recording<S: Source>(alloc: Global, source: &mut S) -> Result<Recording, FileError>
     ensures ok { IfOk result (λ recording.
-        HasReadRecording Ci16 recording (S.told source.old) (S.told source.new)) }
+        HasReadRecording Ci16 recording (S.state source.old) (S.state source.new)) }
     ensures valid { IfOk result IsRecording }
     ensures ragged { IsErrOf result FileError.Ragged →
-        HasReadRagged Ci16 (S.told source.old) (S.told source.new) }
+        HasReadRagged Ci16 (S.state source.old) (S.state source.new) }
     ensures too_short { IsErrOf result FileError.TooShort →
-        HasReadTooShort Ci16 (S.told source.old) (S.told source.new) }
+        HasReadTooShort Ci16 (S.state source.old) (S.state source.new) }
     ensures too_long { IsErrOf result FileError.TooLong →
-        HasReadPast (most_bytes Ci16) (S.told source.old) (S.told source.new) }
+        HasReadPast (most_bytes Ci16) (S.state source.old) (S.state source.new) }
     ensures fault { IsErrOf result FileError.ReadFault →
-        HasReadFault (most_bytes Ci16) (S.told source.old) (S.told source.new) }
+        HasReadFault (most_bytes Ci16) (S.state source.old) (S.state source.new) }
     ensures memory { IsErrOf result FileError.OutOfMemory →
-        HasReadPart (most_bytes Ci16) (S.told source.old) (S.told source.new) }
-    ensures never_falls { (S.told source.old).faults ≤ (S.told source.new).faults }
+        HasReadPart (most_bytes Ci16) (S.state source.old) (S.state source.new) }
+    ensures never_falls { (S.state source.old).faults ≤ (S.state source.new).faults }
 {
     read_as(alloc, source, SampleForm::Ci16)
 }
@@ -168,19 +168,19 @@ pub fn read_recording<S: Source>(alloc: Global, source: &mut S) -> Result<Record
 /// up to byte 3,840,001. (own)
 pub fn read_cu8<S: Source>(alloc: Global, source: &mut S) -> Result<Recording, FileError>
     ensures ok { IfOk result (λ recording.
-        HasReadRecording Cu8 recording (S.told source.old) (S.told source.new)) }
+        HasReadRecording Cu8 recording (S.state source.old) (S.state source.new)) }
     ensures valid { IfOk result IsRecording }
     ensures ragged { IsErrOf result FileError.Ragged →
-        HasReadRagged Cu8 (S.told source.old) (S.told source.new) }
+        HasReadRagged Cu8 (S.state source.old) (S.state source.new) }
     ensures too_short { IsErrOf result FileError.TooShort →
-        HasReadTooShort Cu8 (S.told source.old) (S.told source.new) }
+        HasReadTooShort Cu8 (S.state source.old) (S.state source.new) }
     ensures too_long { IsErrOf result FileError.TooLong →
-        HasReadPast (most_bytes Cu8) (S.told source.old) (S.told source.new) }
+        HasReadPast (most_bytes Cu8) (S.state source.old) (S.state source.new) }
     ensures fault { IsErrOf result FileError.ReadFault →
-        HasReadFault (most_bytes Cu8) (S.told source.old) (S.told source.new) }
+        HasReadFault (most_bytes Cu8) (S.state source.old) (S.state source.new) }
     ensures memory { IsErrOf result FileError.OutOfMemory →
-        HasReadPart (most_bytes Cu8) (S.told source.old) (S.told source.new) }
-    ensures never_falls { (S.told source.old).faults ≤ (S.told source.new).faults }
+        HasReadPart (most_bytes Cu8) (S.state source.old) (S.state source.new) }
+    ensures never_falls { (S.state source.old).faults ≤ (S.state source.new).faults }
 {
     read_as(alloc, source, SampleForm::Cu8)
 }

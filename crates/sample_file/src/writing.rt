@@ -26,11 +26,11 @@ pub fn bytes_of(alloc: Global, samples: &[Sample]) -> Result<Vec<u8>, AllocError
 /// Writes samples to a sink, four bytes each: the real, then the imaginary component, each a signed 16-bit number,
 /// low byte first. Pieces have 16,384 bytes; only the last may be shorter. Allocates nothing. (own)
 pub fn write_samples<K: Sink>(sink: &mut K, samples: &[Sample]) -> Result<(), Failed>
-    ensures ok { OnOk result (HasWritten (all_bytes samples.now) (K.told sink.old) (K.told sink.new)) }
-    ensures front { OnErr result (HasWrittenFront (all_bytes samples.now) (K.told sink.old) (K.told sink.new)) }
-    ensures full { OnErr result (IsShortOf (length (all_bytes samples.now)) (K.told sink.old)) }
-    ensures fault { OnErr result (Rose (K.told sink.old).faults (K.told sink.new).faults) }
-    ensures never_falls { (K.told sink.old).faults ≤ (K.told sink.new).faults }
+    ensures ok { OnOk result (HasWritten (all_bytes samples.now) (K.state sink.old) (K.state sink.new)) }
+    ensures front { OnErr result (HasWrittenFront (all_bytes samples.now) (K.state sink.old) (K.state sink.new)) }
+    ensures full { OnErr result (IsShortOf (length (all_bytes samples.now)) (K.state sink.old)) }
+    ensures fault { OnErr result (Rose (K.state sink.old).faults (K.state sink.new).faults) }
+    ensures never_falls { (K.state sink.old).faults ≤ (K.state sink.new).faults }
 {
     let mut writer = PieceWriter::new();
     match writer.push(sink, samples) {

@@ -11,7 +11,7 @@ use Rattle.lte_types.specs.declared.sib1.Sib1.{Sib1}
 use Rattle.lte_types.specs.declared.cell_access_related_info.CellAccessRelatedInfo.{CellAccessRelatedInfo}
 use Rattle.lte_types.specs.declared.cell_selection_info.CellSelectionInfo.{CellSelectionInfo}
 use Rattle.uper.specs.Grammar.{Grammar, done, ◌>>=◌, from_to, flag, if_present, times}
-use Rattle.uper.proofs.Laws.{Holds, holds_done, holds_bind, within, present_is, length_is, Once, agree_done, agree_bind, once_bind, agree_same, agree_told, once_number, only, same_bit, once_flag, once_present, once_times}
+use Rattle.uper.proofs.Laws.{Holds, holds_done, holds_bind, within, present_is, length_is, Once, agree_done, agree_bind, once_bind, agree_same, agree_decoded, once_number, only, same_bit, once_flag, once_present, once_times}
 use Rattle.sib1.specs.Layout.{digit, mnc, plmn_identity_info, plmn_identity_list, csg_identity, cell_access_related_info, q_rx_lev_min_offset, cell_selection_info, p_max, sib_type, si_periodicity, scheduling_info, scheduling_info_list, tdd_config, si_window_length, sib1}
 use Rattle.lte_types.specs.Parts.{access_of, selection_of}
 
@@ -50,14 +50,14 @@ once_mnc_of : (long : Bool) → Once (mnc_of long)
 once_mnc_of true = once_bind ⊤ (times 3 digit) (λ digits. done (Three digits)) (λ digits. done (Three digits)) (once_digits 3) (λ v w s r p q. agree_done (⊤ × (v ≡ w)) (Three v) (Three w) (λ e. (tt, three_same v w e)))
 once_mnc_of false = once_bind ⊤ (times 2 digit) (λ digits. done (Two digits)) (λ digits. done (Two digits)) (once_digits 2) (λ v w s r p q. agree_done (⊤ × (v ≡ w)) (Two v) (Two w) (λ e. (tt, two_same v w e)))
 
-long_told : (long : Bool) → Holds (mnc_of long) (λ m. is_long m ≡ long)
+long_decoded : (long : Bool) → Holds (mnc_of long) (λ m. is_long m ≡ long)
 unfolding is_long
-long_told true = holds_bind (times 3 digit) (λ digits. done (Three digits)) (λ m. is_long m ≡ true) (λ v s h. holds_done (Three v) (λ m. is_long m ≡ true) refl)
-long_told false = holds_bind (times 2 digit) (λ digits. done (Two digits)) (λ m. is_long m ≡ false) (λ v s h. holds_done (Two v) (λ m. is_long m ≡ false) refl)
+long_decoded true = holds_bind (times 3 digit) (λ digits. done (Three digits)) (λ m. is_long m ≡ true) (λ v s h. holds_done (Three v) (λ m. is_long m ≡ true) refl)
+long_decoded false = holds_bind (times 2 digit) (λ digits. done (Two digits)) (λ m. is_long m ≡ false) (λ v s h. holds_done (Two v) (λ m. is_long m ≡ false) refl)
 
 once_mnc : Once mnc
 unfolding mnc
-once_mnc = once_bind ⊤ flag mnc_of mnc_of once_flag (λ v w s r p q. agree_told mnc_of is_long v w once_mnc_of long_told)
+once_mnc = once_bind ⊤ flag mnc_of mnc_of once_flag (λ v w s r p q. agree_decoded mnc_of is_long v w once_mnc_of long_decoded)
 
 abbrev mcc_of : ℕ → Grammar (Option (List ℕ))
 mcc_of has = if_present (nat_eq has 1) (times 3 digit)
@@ -148,14 +148,14 @@ once_type_of true =
     agree_done _ (v1 + 16) (w1 + 16) (λ e. ((tt, sym (only 1 0 s0 v0 p0) ∙ only 1 0 r0 w0 q0), omega (arith, e)))))
 once_type_of false = once_number 4 0 15
 
-extension_told : (extension : Bool) → Holds (type_of extension) (λ code. leb 16 code ≡ extension)
-extension_told true =
+extension_decoded : (extension : Bool) → Holds (type_of extension) (λ code. leb 16 code ≡ extension)
+extension_decoded true =
     holds_bind (from_to 1 0 0) _ (λ code. leb 16 code ≡ true) (λ v s h. holds_bind (from_to 6 0 63) _ (λ code. leb 16 code ≡ true) (λ w r g. holds_done (w + 16) (λ code. leb 16 code ≡ true) (le-leb 16 (w + 16) (omega arith))))
-extension_told false = λ bits y s. lt-leb 16 y (let p = (within 4 0 15 bits y s).below in omega (arith, p))
+extension_decoded false = λ bits y s. lt-leb 16 y (let p = (within 4 0 15 bits y s).below in omega (arith, p))
 
 once_sib_type : Once sib_type
 unfolding sib_type
-once_sib_type = once_bind ⊤ flag type_of type_of once_flag (λ v w s r p q. agree_told type_of (leb 16) v w once_type_of extension_told)
+once_sib_type = once_bind ⊤ flag type_of type_of once_flag (λ v w s r p q. agree_decoded type_of (leb 16) v w once_type_of extension_decoded)
 
 once_scheduling_info : Once scheduling_info
 unfolding scheduling_info
@@ -172,14 +172,14 @@ once_scheduling_info =
 abbrev entries_of : ℕ → Grammar (List SiMessage)
 entries_of further = times (further + 1) scheduling_info
 
-further_told : (further : ℕ) → Holds (entries_of further) (λ list. length list - 1 ≡ further)
-further_told further bits list s = let size = length_is (further + 1) scheduling_info bits list s in omega (arith, size)
+further_decoded : (further : ℕ) → Holds (entries_of further) (λ list. length list - 1 ≡ further)
+further_decoded further bits list s = let size = length_is (further + 1) scheduling_info bits list s in omega (arith, size)
 
 once_scheduling_info_list : Once scheduling_info_list
 unfolding scheduling_info_list
 once_scheduling_info_list =
     once_bind ⊤ (from_to 5 0 31) entries_of entries_of (once_number 5 0 31)
-    (λ v w s r p q. agree_told entries_of (λ list. length list - 1) v w (λ n. once_times (n + 1) scheduling_info once_scheduling_info) further_told)
+    (λ v w s r p q. agree_decoded entries_of (λ list. length list - 1) v w (λ n. once_times (n + 1) scheduling_info once_scheduling_info) further_decoded)
 
 -- ---- the complete message
 

@@ -23,7 +23,7 @@ use Rattle.pcfich.proofs.Indicators.{some_indicator}
 use Rattle.dci.specs.Fields.{system_information_rnti}
 use Rattle.sib1_reader.specs.Subframe.{Subframe}
 use Rattle.sib1_reader.specs.Control.{IsWord, ControlSays, Grants}
-use Rattle.sib1_reader.specs.Block.{IsBlock, BlockSays, Tells}
+use Rattle.sib1_reader.specs.Block.{IsBlock, BlockSays, Decodes}
 use Rattle.sib1_reader.specs.declared.reading.Attempt.{Attempt}
 use Rattle.sib1_reader.specs.Attempt.{Follows, IsAttempt, Reads}
 use Rattle.sib1_reader.specs.Laws.{IsSomeAttempt, IsSomeAnswer, IsReadValid}
@@ -32,7 +32,7 @@ use Rattle.dci.proofs.SizeRows.{size_fits}
 -- ---- the control information
 
 of_control : (count : ℕ) (candidate : List ℤ) (answer : Result Grant Sib1Reason) → ControlSays count candidate answer → Grants count candidate answer
-of_control count candidate (Err (NoSearchSpace told)) s = absurd s.says
+of_control count candidate (Err (NoSearchSpace decoded)) s = absurd s.says
 of_control count candidate (Err NoControl) s = absurd s.says
 of_control count candidate answer s = s
 
@@ -52,7 +52,7 @@ by_check count candidate word is false e = (
 
 some_control : (count : ℕ) (candidate : List ℤ) → (answer : Result Grant Sib1Reason) × Grants count candidate answer
 some_control count candidate = elim (cases_lt count 4) [
-  | inl few ↦ (Err (NoSearchSpace count), record { told_is = refl; few = few })
+  | inl few ↦ (Err (NoSearchSpace count), record { reported_is = refl; few = few })
   | inr enough ↦
       let (word, least) = some_word (summed_by_place 37 candidate) in
       by_check count candidate word (record { enough = enough; least = least }) (nat_eq (check_of 16 word) (bit_xor (crc16_of (message_of 16 word)) system_information_rnti)) refl
@@ -64,35 +64,35 @@ granted count candidate grant g = carried_is_grant (message_of 16 g.word) grant 
 
 -- ---- the block
 
-of_block : (values : List ℤ) (grant : Grant) (answer : Result Sib1 Sib1Reason) → BlockSays values grant answer → Tells values grant answer
+of_block : (values : List ℤ) (grant : Grant) (answer : Result Sib1 Sib1Reason) → BlockSays values grant answer → Decodes values grant answer
 of_block values grant (Err NotDecoded) s = absurd s.says
 of_block values grant answer s = s
 
-by_block : (values : List ℤ) (grant : Grant) (found : Option (List Bool)) → IsBlock values grant found → (answer : Result Sib1 Sib1Reason) × Tells values grant answer
+by_block : (values : List ℤ) (grant : Grant) (found : Option (List Bool)) → IsBlock values grant found → (answer : Result Sib1 Sib1Reason) × Decodes values grant answer
 by_block values grant None is = (Err NotDecoded, is)
 by_block values grant (Some bits) is =
     let (answer, says) = some_message bits in
     (answer, of_block values grant answer (record { bits = bits; is = is; says = says }))
 
-some_text : (values : List ℤ) (grant : Grant) → IsGrant grant → (answer : Result Sib1 Sib1Reason) × Tells values grant answer
+some_text : (values : List ℤ) (grant : Grant) → IsGrant grant → (answer : Result Sib1 Sib1Reason) × Decodes values grant answer
 some_text values grant is =
     let (row, is_row, size) = size_fits grant.mcs grant.column grant.size is.size_is in
-    by_block values grant (block row (summed row.k grant.rv values)) (record { row = row; is_row = is_row; size = size; tells = refl })
+    by_block values grant (block row (summed row.k grant.rv values)) (record { row = row; is_row = is_row; size = size; decodes = refl })
 
 -- ---- the attempt
 
 by_grant : (values : Subframe) (indicator : ℕ) → IsIndicator values.indicator indicator → (answer : Result Grant Sib1Reason) →
     Grants (values.elements indicator) (values.candidate indicator) answer → (attempt : Attempt) × IsAttempt values attempt
-by_grant values indicator told (Ok grant) grants =
-    let (answer, tells) = some_text (values.shared indicator grant.start grant.blocks) grant (granted (values.elements indicator) (values.candidate indicator) grant grants) in
-    (record { cfi = indicator; grant = Some grant; answer = answer }, record { told = told; follows = record { grants = grants; tells = tells } })
-by_grant values indicator told (Err reason) grants = (record { cfi = indicator; grant = None; answer = Err reason }, record { told = told; follows = grants })
+by_grant values indicator decoded (Ok grant) grants =
+    let (answer, decodes) = some_text (values.shared indicator grant.start grant.blocks) grant (granted (values.elements indicator) (values.candidate indicator) grant grants) in
+    (record { cfi = indicator; grant = Some grant; answer = answer }, record { decoded = decoded; follows = record { grants = grants; decodes = decodes } })
+by_grant values indicator decoded (Err reason) grants = (record { cfi = indicator; grant = None; answer = Err reason }, record { decoded = decoded; follows = grants })
 
 pub some_attempt : IsSomeAttempt
 some_attempt values =
-    let (indicator, told) = some_indicator values.indicator in
+    let (indicator, decoded) = some_indicator values.indicator in
     let (answer, grants) = some_control (values.elements indicator) (values.candidate indicator) in
-    by_grant values indicator told answer grants
+    by_grant values indicator decoded answer grants
 
 pub some_reading : IsSomeAnswer
 some_reading values = let (attempt, is) = some_attempt values in (attempt.answer, record { attempt = attempt; is = is; answers = refl })
@@ -101,7 +101,7 @@ some_reading values = let (attempt, is) = some_attempt values in (attempt.answer
 
 valid_by_grant : (values : Subframe) (indicator : ℕ) (grant : Option Grant) (fields : Sib1) → Follows values indicator grant (Ok fields) → IsValid fields
 valid_by_grant values indicator None fields f = absurd f
-valid_by_grant values indicator (Some grant) fields f = let b = f.tells.says in sib1_holds b.text fields b.is_text
+valid_by_grant values indicator (Some grant) fields f = let b = f.decodes.says in sib1_holds b.text fields b.is_text
 
 pub read_is_valid : IsReadValid
 read_is_valid values fields reads =
@@ -109,25 +109,25 @@ read_is_valid values fields reads =
 
 -- ---- reasons that a subframe never has
 
-never_ports_by_grant : (values : Subframe) (indicator told : ℕ) (grant : Option Grant) → Follows values indicator grant (Err (NotOnePort told)) → ⊥
-never_ports_by_grant values indicator told None f = f.says
-never_ports_by_grant values indicator told (Some grant) f = f.tells.says
+never_ports_by_grant : (values : Subframe) (indicator decoded : ℕ) (grant : Option Grant) → Follows values indicator grant (Err (NotOnePort decoded)) → ⊥
+never_ports_by_grant values indicator decoded None f = f.says
+never_ports_by_grant values indicator decoded (Some grant) f = f.decodes.says
 
-pub never_ports : (values : Subframe) (told : ℕ) → Reads values (Err (NotOnePort told)) → ⊥
-never_ports values told reads =
-    never_ports_by_grant values reads.attempt.cfi told reads.attempt.grant (subst (λ a. Follows values reads.attempt.cfi reads.attempt.grant a) reads.answers reads.is.follows)
+pub never_ports : (values : Subframe) (decoded : ℕ) → Reads values (Err (NotOnePort decoded)) → ⊥
+never_ports values decoded reads =
+    never_ports_by_grant values reads.attempt.cfi decoded reads.attempt.grant (subst (λ a. Follows values reads.attempt.cfi reads.attempt.grant a) reads.answers reads.is.follows)
 
-never_width_by_grant : (values : Subframe) (indicator : ℕ) (told : Bandwidth) (grant : Option Grant) → Follows values indicator grant (Err (OtherWidth told)) → ⊥
-never_width_by_grant values indicator told None f = f.says
-never_width_by_grant values indicator told (Some grant) f = f.tells.says
+never_width_by_grant : (values : Subframe) (indicator : ℕ) (decoded : Bandwidth) (grant : Option Grant) → Follows values indicator grant (Err (OtherWidth decoded)) → ⊥
+never_width_by_grant values indicator decoded None f = f.says
+never_width_by_grant values indicator decoded (Some grant) f = f.decodes.says
 
-pub never_width : (values : Subframe) (told : Bandwidth) → Reads values (Err (OtherWidth told)) → ⊥
-never_width values told reads =
-    never_width_by_grant values reads.attempt.cfi told reads.attempt.grant (subst (λ a. Follows values reads.attempt.cfi reads.attempt.grant a) reads.answers reads.is.follows)
+pub never_width : (values : Subframe) (decoded : Bandwidth) → Reads values (Err (OtherWidth decoded)) → ⊥
+never_width values decoded reads =
+    never_width_by_grant values reads.attempt.cfi decoded reads.attempt.grant (subst (λ a. Follows values reads.attempt.cfi reads.attempt.grant a) reads.answers reads.is.follows)
 
 never_long_by_grant : (values : Subframe) (indicator : ℕ) (grant : Option Grant) → Follows values indicator grant (Err LongPrefix) → ⊥
 never_long_by_grant values indicator None f = f.says
-never_long_by_grant values indicator (Some grant) f = f.tells.says
+never_long_by_grant values indicator (Some grant) f = f.decodes.says
 
 pub never_long : (values : Subframe) → Reads values (Err LongPrefix) → ⊥
 never_long values reads =

@@ -8,21 +8,21 @@ use Rattle.sib1_reader.specs.Subframe.{Subframe}
 use Rattle.sib1_reader.specs.Attempt.{Follows, granted_with}
 
 -- the attempt read fields, with this indicator and this grant
-pub record HasRead (attempt : Attempt) (told : ℕ × Grant) : Type 0 where
+pub record HasRead (attempt : Attempt) (decoded : ℕ × Grant) : Type 0 where
   pub fields : Sib1
-  pub is : attempt ≡ record { cfi = told.0; grant = Some told.1; answer = Ok fields }
+  pub is : attempt ≡ record { cfi = decoded.0; grant = Some decoded.1; answer = Ok fields }
 
-pub has_read : (i : ℕ) (g : Option Grant) (a : Result Sib1 Sib1Reason) (told : ℕ × Grant) → granted_with i g a ≡ Some told →
-    HasRead (record { cfi = i; grant = g; answer = a }) told
-has_read i (Some g) (Ok fields) told e = let same : (i, g) ≡ told = cc in record { fields = fields; is = rw (sym same) refl }
-has_read i (Some g) (Err reason) told e = absurd cc
-has_read i None (Ok fields) told e = absurd cc
-has_read i None (Err reason) told e = absurd cc
+pub has_read : (i : ℕ) (g : Option Grant) (a : Result Sib1 Sib1Reason) (decoded : ℕ × Grant) → granted_with i g a ≡ Some decoded →
+    HasRead (record { cfi = i; grant = g; answer = a }) decoded
+has_read i (Some g) (Ok fields) decoded e = let same : (i, g) ≡ decoded = cc in record { fields = fields; is = rw (sym same) refl }
+has_read i (Some g) (Err reason) decoded e = absurd cc
+has_read i None (Ok fields) decoded e = absurd cc
+has_read i None (Err reason) decoded e = absurd cc
 
 -- an attempt without an indicator and a grant read no fields
 pub none_read : (values : Subframe) (i : ℕ) (g : Option Grant) (a : Result Sib1 Sib1Reason) (fields : Sib1) → Follows values i g a →
     granted_with i g a ≡ None → a ≡ Ok fields → ⊥
-none_read values i (Some g) (Ok told) fields follows e same = absurd cc
+none_read values i (Some g) (Ok decoded) fields follows e same = absurd cc
 none_read values i (Some g) (Err reason) fields follows e same = absurd cc
-none_read values i None (Ok told) fields follows e same = follows
+none_read values i None (Ok decoded) fields follows e same = follows
 none_read values i None (Err reason) fields follows e same = absurd cc

@@ -21,7 +21,7 @@ use Rattle.pcfich.proofs.Indicators.{one_indicator}
 use Rattle.dci.specs.Fields.{system_information_rnti}
 use Rattle.sib1_reader.specs.Subframe.{Subframe}
 use Rattle.sib1_reader.specs.Control.{HasNoSearchSpace, IsWord, HasNoControl, ControlSays, Grants}
-use Rattle.sib1_reader.specs.Block.{IsBlock, BlockSays, Tells}
+use Rattle.sib1_reader.specs.Block.{IsBlock, BlockSays, Decodes}
 use Rattle.sib1_reader.specs.declared.reading.Attempt.{Attempt}
 use Rattle.sib1_reader.specs.Attempt.{Follows}
 use Rattle.sib1_reader.specs.Laws.{IsOneAttempt, IsOneAnswer}
@@ -59,8 +59,8 @@ one_control_word : (count : ℕ) (values : List ℤ) (u w : List Bool) → IsWor
 one_control_word count values u w a b = one_word (summed_by_place 37 values) u w a.least b.least
 
 grants_so : (count : ℕ) (values : List ℤ) (a : Result Grant Sib1Reason) → Grants count values a →
-    ((told : ℕ) × (a ≡ Err (NoSearchSpace told)) × HasNoSearchSpace count told) ⊎ (((a ≡ Err NoControl) × HasNoControl count values) ⊎ ControlSays count values a)
-grants_so count values (Err (NoSearchSpace told)) g = inl (told, refl, g)
+    ((decoded : ℕ) × (a ≡ Err (NoSearchSpace decoded)) × HasNoSearchSpace count decoded) ⊎ (((a ≡ Err NoControl) × HasNoControl count values) ⊎ ControlSays count values a)
+grants_so count values (Err (NoSearchSpace decoded)) g = inl (decoded, refl, g)
 grants_so count values (Err NoControl) g = inr (inl (refl, g))
 grants_so count values a g = inr (inr g)
 
@@ -70,9 +70,9 @@ one_grant count values a b g h = cases (grants_so count values a g) (grants_so c
     failed_and_passed : HasNoControl count values → {r : Result Grant Sib1Reason} → ControlSays count values r → ⊥
     failed_and_passed n s = n.fails (subst (HasCheck16 system_information_rnti) (one_control_word count values s.word n.word s.is n.is) s.passes)
 
-    cases : ((told : ℕ) × (a ≡ Err (NoSearchSpace told)) × HasNoSearchSpace count told) ⊎ (((a ≡ Err NoControl) × HasNoControl count values) ⊎ ControlSays count values a) →
-        ((told : ℕ) × (b ≡ Err (NoSearchSpace told)) × HasNoSearchSpace count told) ⊎ (((b ≡ Err NoControl) × HasNoControl count values) ⊎ ControlSays count values b) → a ≡ b
-    cases (inl n) (inl m) = n.1 ∙ ap (λ told. Err (NoSearchSpace told)) (n.2.told_is ∙ sym m.2.told_is) ∙ sym m.1
+    cases : ((decoded : ℕ) × (a ≡ Err (NoSearchSpace decoded)) × HasNoSearchSpace count decoded) ⊎ (((a ≡ Err NoControl) × HasNoControl count values) ⊎ ControlSays count values a) →
+        ((decoded : ℕ) × (b ≡ Err (NoSearchSpace decoded)) × HasNoSearchSpace count decoded) ⊎ (((b ≡ Err NoControl) × HasNoControl count values) ⊎ ControlSays count values b) → a ≡ b
+    cases (inl n) (inl m) = n.1 ∙ ap (λ decoded. Err (NoSearchSpace decoded)) (n.2.reported_is ∙ sym m.2.reported_is) ∙ sym m.1
     cases (inl n) (inr (inl m)) = absurd (let few = n.2.few in let enough = m.1.is.enough in omega (arith, few, enough))
     cases (inl n) (inr (inr m)) = absurd (let few = n.2.few in let enough = m.is.enough in omega (arith, few, enough))
     cases (inr (inl n)) (inl m) = absurd (let few = m.2.few in let enough = n.1.is.enough in omega (arith, few, enough))
@@ -88,15 +88,15 @@ one_grant count values a b g h = cases (grants_so count values a g) (grants_so c
 pub one_block : (values : List ℤ) (grant : Grant) (f g : Option (List Bool)) → IsBlock values grant f → IsBlock values grant g → f ≡ g
 one_block values grant f g a b =
     let same : a.row ≡ b.row = one_row a.row b.row a.is_row b.is_row (a.size ∙ sym b.size) in
-    sym a.tells ∙ ap (λ (row : Row). block row (summed row.k grant.rv values)) same ∙ b.tells
+    sym a.decodes ∙ ap (λ (row : Row). block row (summed row.k grant.rv values)) same ∙ b.decodes
 
-tells_so : (values : List ℤ) (grant : Grant) (a : Result Sib1 Sib1Reason) → Tells values grant a →
+decodes_so : (values : List ℤ) (grant : Grant) (a : Result Sib1 Sib1Reason) → Decodes values grant a →
     ((a ≡ Err NotDecoded) × IsBlock values grant None) ⊎ BlockSays values grant a
-tells_so values grant (Err NotDecoded) t = inl (refl, t)
-tells_so values grant a t = inr t
+decodes_so values grant (Err NotDecoded) t = inl (refl, t)
+decodes_so values grant a t = inr t
 
-pub one_text : (values : List ℤ) (grant : Grant) (a b : Result Sib1 Sib1Reason) → Tells values grant a → Tells values grant b → a ≡ b
-one_text values grant a b s t = cases (tells_so values grant a s) (tells_so values grant b t)
+pub one_text : (values : List ℤ) (grant : Grant) (a b : Result Sib1 Sib1Reason) → Decodes values grant a → Decodes values grant b → a ≡ b
+one_text values grant a b s t = cases (decodes_so values grant a s) (decodes_so values grant b t)
   where
     cases : ((a ≡ Err NotDecoded) × IsBlock values grant None) ⊎ BlockSays values grant a → ((b ≡ Err NotDecoded) × IsBlock values grant None) ⊎ BlockSays values grant b → a ≡ b
     cases (inl n) (inl m) = n.0 ∙ sym m.0
@@ -113,7 +113,7 @@ follows_once : (values : Subframe) (i : ℕ) (g h : Option Grant) (a b : Result 
 follows_once values i (Some g) (Some h) a b s t =
     let same : g ≡ h = same_ok g h (Ok g) refl (one_grant (values.elements i) (values.candidate i) (Ok g) (Ok h) s.grants t.grants) in (
       ap (λ (grant : Grant). Some grant) same,
-      one_text (values.shared i h.start h.blocks) h a b (subst (λ (grant : Grant). Tells (values.shared i grant.start grant.blocks) grant a) same s.tells) t.tells,
+      one_text (values.shared i h.start h.blocks) h a b (subst (λ (grant : Grant). Decodes (values.shared i grant.start grant.blocks) grant a) same s.decodes) t.decodes,
     )
 follows_once values i (Some g) None a (Err r) s t = absurd (not_ok_and_err g r (one_grant (values.elements i) (values.candidate i) (Ok g) (Err r) s.grants t))
 follows_once values i None (Some h) (Err q) b s t = absurd (not_ok_and_err h q (one_grant (values.elements i) (values.candidate i) (Ok h) (Err q) t.grants s))
@@ -133,7 +133,7 @@ same_attempt i j g h a b x y z = rw (x, y, z) refl
 pub one_attempt : IsOneAttempt
 unfolding attempt_of
 one_attempt values a b x y =
-    let same : a.cfi ≡ b.cfi = one_indicator values.indicator a.cfi b.cfi x.told y.told in
+    let same : a.cfi ≡ b.cfi = one_indicator values.indicator a.cfi b.cfi x.decoded y.decoded in
     let rest = follows_once values b.cfi a.grant b.grant a.answer b.answer (subst (λ i. Follows values i a.grant a.answer) same x.follows) y.follows in
     same_attempt a.cfi b.cfi a.grant b.grant a.answer b.answer same rest.0 rest.1
 

@@ -7,12 +7,12 @@ use Rattle.pcfich.specs.Indicator.{IsIndicator}
 use Rattle.sib1_reader.specs.declared.reading.Attempt.{Attempt}
 use Rattle.sib1_reader.specs.Subframe.{Subframe}
 use Rattle.sib1_reader.specs.Control.{Grants}
-use Rattle.sib1_reader.specs.Block.{Tells}
+use Rattle.sib1_reader.specs.Block.{Decodes}
 
 -- the grant was decoded, and the resource blocks that it assigns give the answer
 pub record IsGranted (values : Subframe) (indicator : ℕ) (grant : Grant) (answer : Result Sib1 Sib1Reason) : Type 0 where
   pub grants : Grants (values.elements indicator) (values.candidate indicator) (Ok grant)
-  pub tells : Tells (values.shared indicator grant.start grant.blocks) grant answer
+  pub decodes : Decodes (values.shared indicator grant.start grant.blocks) grant answer
 
 -- the answer that follows from the grant; without a grant, the reason for its absence
 abbrev pub Follows : Subframe → ℕ → Option Grant → Result Sib1 Sib1Reason → Type 0
@@ -22,7 +22,7 @@ Follows values indicator None (Ok fields) = ⊥
 
 -- the attempt on a subframe with these soft values
 pub record IsAttempt (values : Subframe) (attempt : Attempt) : Type 0 where
-  pub told : IsIndicator values.indicator attempt.cfi
+  pub decoded : IsIndicator values.indicator attempt.cfi
   pub follows : Follows values attempt.cfi attempt.grant attempt.answer
 
 -- the indicator and the grant with which an attempt read its fields, or none if it read none

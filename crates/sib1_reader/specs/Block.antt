@@ -16,7 +16,7 @@ pub record IsBlock (values : List ℤ) (grant : Grant) (found : Option (List Boo
   pub row : Row
   pub is_row : IsRow row
   pub size : row.k ≡ grant.size + 24
-  pub tells : block row (summed row.k grant.rv values) ≡ found
+  pub decodes : block row (summed row.k grant.rv values) ≡ found
 
 -- the soft values decode to a transport block, whose bits give this answer
 pub record BlockSays (values : List ℤ) (grant : Grant) (answer : Result Sib1 Sib1Reason) : Type 0 where
@@ -25,6 +25,6 @@ pub record BlockSays (values : List ℤ) (grant : Grant) (answer : Result Sib1 S
   pub says : Says bits answer
 
 -- the fields, or the first reason why there are none
-abbrev pub Tells : List ℤ → Grant → Result Sib1 Sib1Reason → Type 0
-Tells values grant (Err NotDecoded) = IsBlock values grant None
-Tells values grant answer = BlockSays values grant answer
+abbrev pub Decodes : List ℤ → Grant → Result Sib1 Sib1Reason → Type 0
+Decodes values grant (Err NotDecoded) = IsBlock values grant None
+Decodes values grant answer = BlockSays values grant answer

@@ -11,8 +11,8 @@ use Rattle.dci.specs.Format1A.{Says}
 use Rattle.dci.specs.Fields.{system_information_rnti}
 
 -- there are too few control channel elements for a candidate; the answer reports their count
-pub record HasNoSearchSpace (count told : ℕ) : Type 0 where
-  pub told_is : told ≡ count
+pub record HasNoSearchSpace (count reported : ℕ) : Type 0 where
+  pub reported_is : reported ≡ count
   pub few : count < 4
 
 -- the candidate's information word: the minimum-cost 37-bit word for the combined soft values
@@ -35,6 +35,6 @@ pub record ControlSays (count : ℕ) (candidate : List ℤ) (answer : Result Gra
 
 -- the grant, or the first reason why there is none
 abbrev pub Grants : ℕ → List ℤ → Result Grant Sib1Reason → Type 0
-Grants count candidate (Err (NoSearchSpace told)) = HasNoSearchSpace count told
+Grants count candidate (Err (NoSearchSpace reported)) = HasNoSearchSpace count reported
 Grants count candidate (Err NoControl) = HasNoControl count candidate
 Grants count candidate answer = ControlSays count candidate answer

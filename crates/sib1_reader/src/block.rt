@@ -9,7 +9,7 @@ ghost use Rattle.turbo_code.specs.Table.{IsRow};
 ghost use Rattle.turbo_code.specs.Reading.{summed};
 ghost use Rattle.turbo_dec.specs.Decoder.{IsSmall};
 ghost use Rattle.pdsch.specs.Values.{shared_values_by};
-ghost use Rattle.sib1_reader.specs.Block.{IsBlock, Tells};
+ghost use Rattle.sib1_reader.specs.Block.{IsBlock, Decodes};
 
 use dci::Grant;
 use lte_types::{Cfi, Sib1, Sib1Reason};
@@ -32,7 +32,7 @@ pub(crate) fn fields_in<S: ReadSlot>(
     requires cell { (S.seen_as second.now).identity ≡ (S.seen_as first.now).identity }
     requires cfi { 2 ≤ cfi }
     requires grant { IsGrant grant.now }
-    ensures answer { Tells (shared_values_by S.carrier S.values_by (S.seen_as first.now) (S.seen_as second.now)
+    ensures answer { Decodes (shared_values_by S.carrier S.values_by (S.seen_as first.now) (S.seen_as second.now)
         cfi grant.now.start grant.now.blocks) grant.now result }
     ensures valid { IfOk result IsValid }
 {
@@ -45,9 +45,9 @@ pub(crate) fn fields_in<S: ReadSlot>(
 /// `NotDecoded` if no CRC passes, otherwise the error from `sib1::read`.
 pub fn fields_of(values: &[i16], grant: &Grant, turbo: &mut Work) -> Result<Sib1, Sib1Reason>
     requires count { length values.now ≤ 5760 }
-    requires sizes { AllWithin 127 values.now }
+    requires magnitudes { AllWithin 127 values.now }
     requires grant { IsGrant grant.now }
-    ensures answer { Tells values.now grant.now result }
+    ensures answer { Decodes values.now grant.now result }
     ensures valid { IfOk result IsValid }
 {
     match block_of(values, grant, turbo) {
@@ -60,7 +60,7 @@ pub fn fields_of(values: &[i16], grant: &Grant, turbo: &mut Work) -> Result<Sib1
 /// passes its CRC. `grant` is one that `dci::read` can return.
 pub fn block_of(values: &[i16], grant: &Grant, turbo: &mut Work) -> Option<Block>
     requires count { length values.now ≤ 5760 }
-    requires sizes { AllWithin 127 values.now }
+    requires magnitudes { AllWithin 127 values.now }
     requires grant { IsGrant grant.now }
     ensures { IsBlock values.now grant.now (option_map (λ found. found.items) result) }
 {
@@ -83,7 +83,7 @@ fn row_for(grant: &Grant) -> Row
 // Returns the soft values combined by coded bit.
 fn sums_of(values: &[i16], row: Row, rv: u8) -> Combined
     requires count { length values.now ≤ 5760 }
-    requires sizes { AllWithin 127 values.now }
+    requires magnitudes { AllWithin 127 values.now }
     requires row { IsRow row }
     requires version { rv < 4 }
     ensures sums { result.d ≡ summed row.k rv values.now }

@@ -59,7 +59,7 @@ pub fn grant_of(values: &[i16; 288], trellis: &mut Trellis) -> Result<Grant, Sib
 fn sums_of(values: &[i16; 288]) -> [[i32; 3]; 37]
     requires { AllWithin 127 values.now }
     ensures sums { result ≡ summed 37 values.now }
-    ensures sizes { RowsWithin (2 ^ 20) result }
+    ensures magnitudes { RowsWithin (2 ^ 20) result }
 {
     combine(values)
 }

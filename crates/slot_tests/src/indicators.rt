@@ -35,7 +35,7 @@ const THREE: Rows = [
 const SILENCE: Rows = [EMPTY; 5];
 
 #[test]
-fn the_values_tell_the_indicator(rt: HostRuntime) {
+fn the_values_give_the_indicator(rt: HostRuntime) {
     for (identity, rows, indicator) in [(77, DAMAGED_1, 1), (0, TWO, 2), (503, THREE, 3)] {
         assert!(rt; cfi(&slot_of(&rt, identity, 10, rows)).value() == indicator);
     }
@@ -43,6 +43,6 @@ fn the_values_tell_the_indicator(rt: HostRuntime) {
 }
 
 #[test]
-fn a_silent_slot_tells_the_lowest(rt: HostRuntime) {
+fn a_silent_slot_gives_the_lowest(rt: HostRuntime) {
     assert!(rt; cfi(&slot_of(&rt, 0, 10, SILENCE)).value() == 1);
 }

@@ -137,7 +137,7 @@ fn bandwidth_code_6_is_no_master(rt: HostRuntime) -> Result<(), Fail> {
 }
 
 // Returns whether a slot gives this port count at `phase`, and no MIB at `other`.
-fn tells_ports(slot: Slot, phase: u8, ports: u8, other: u8, work: &mut Trellis) -> bool
+fn gives_ports(slot: Slot, phase: u8, ports: u8, other: u8, work: &mut Trellis) -> bool
     requires number { slot.number ≡ 1 }
     requires phase { phase < 4 }
     requires other { other < 4 }
@@ -148,11 +148,11 @@ fn tells_ports(slot: Slot, phase: u8, ports: u8, other: u8, work: &mut Trellis) 
 }
 
 #[test]
-fn the_mask_tells_the_ports(rt: HostRuntime) -> Result<(), Fail> {
+fn the_mask_gives_the_ports(rt: HostRuntime) -> Result<(), Fail> {
     let mut work = Trellis::new(rt.alloc())?;
-    assert!(rt; tells_ports(slot_of(&rt, 0, 1, ONE_PORT), 0, 1, 1, &mut work));
-    assert!(rt; tells_ports(slot_of(&rt, 301, 1, TWO_PORTS), 2, 2, 1, &mut work));
-    assert!(rt; tells_ports(slot_of(&rt, 503, 1, FOUR_PORTS), 3, 4, 0, &mut work));
+    assert!(rt; gives_ports(slot_of(&rt, 0, 1, ONE_PORT), 0, 1, 1, &mut work));
+    assert!(rt; gives_ports(slot_of(&rt, 301, 1, TWO_PORTS), 2, 2, 1, &mut work));
+    assert!(rt; gives_ports(slot_of(&rt, 503, 1, FOUR_PORTS), 3, 4, 0, &mut work));
     Ok(())
 }
 
@@ -178,7 +178,7 @@ fn a_damaged_block_is_read_at_its_cost(rt: HostRuntime) -> Result<(), Fail> {
 }
 
 #[test]
-fn four_quarters_tell_a_block_together(rt: HostRuntime) -> Result<(), Fail> {
+fn four_quarters_decode_together(rt: HostRuntime) -> Result<(), Fail> {
     let mut work = Trellis::new(rt.alloc())?;
     let slots = [
         slot_of(&rt, 0, 1, QUARTERS[0]),

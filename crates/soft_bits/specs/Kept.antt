@@ -9,6 +9,7 @@ use Rattle.soft_bits.specs.declared.seen.Seen.{Seen}
 use Rattle.soft_bits.specs.Estimate.{line_by}
 use Rattle.soft_bits.specs.Lines.{Line, line_of, line_pilots, ports_energy}
 use Rattle.soft_bits.specs.Soft.{SeenSlot, AreSmall}
+use Rattle.lte_types.specs.Numerology.{subcarriers}
 
 -- the slot that was received
 abbrev pub slot_of : Seen → SeenSlot
@@ -34,7 +35,7 @@ along seen k = line_by seen.step (length seen.pilots - 1) (value_at seen.pilots)
 
 -- a port's pilots fill the 72 subcarriers, and are bounded
 pub record IsFilled (seen : SeenLine) : Type 0 where
-  pub whole : seen.step * length seen.pilots ≡ 72
+  pub whole : seen.step * length seen.pilots ≡ subcarriers
   pub first : seen.first < seen.step
   pub few : seen.step ≤ 6
   pub small : All (IsWithin (180 * 2 ^ 25)) seen.pilots

@@ -7,6 +7,7 @@ ghost use Rattle.soft_bits.specs.Estimate.{place_by};
 ghost use Rattle.soft_bits.specs.Kept.{slot_of};
 ghost use Rattle.soft_bits.specs.Layout.{IsLayout, laid_out, symbol_with};
 ghost use Rattle.soft_bits.specs.Lines.{line_of, lower_line, upper_line};
+ghost use Rattle.lte_types.specs.Numerology.{subcarriers};
 
 use crate::Seen;
 use crs::{Pattern, first_of_pattern, first_of_upper};
@@ -35,7 +36,7 @@ impl Layout {
         requires valid { IsLayout self.now }
         requires i { i ≤ self.now.last }
         ensures value { result ≡ place_by self.now.step self.now.first i }
-        ensures fits { result < 72 }
+        ensures fits { result < subcarriers }
     {
         self.first + self.step * i
     }

@@ -3,6 +3,7 @@
 ghost use Rattle.std.specs.Prelude.{◌≡◌, ◌+◌, ◌-◌, ◌*◌, ◌^◌, ◌<◌, ◌≤◌, All, length};
 ghost use Rattle.cs_num.specs.Complex.{IsWithin, value_at};
 ghost use Rattle.soft_bits.specs.Estimate.{between_by, line_by};
+ghost use Rattle.lte_types.specs.Numerology.{subcarriers};
 
 use cs_num::Cpx;
 
@@ -10,10 +11,10 @@ use cs_num::Cpx;
 /// fill all 72.
 pub(crate) fn line(pilots: &[Cpx], step: u8, first: u8, k: u8) -> Cpx
     requires pilots { All (IsWithin (180 * 2 ^ 25)) pilots.now }
-    requires whole { step * length pilots.now ≡ 72 }
+    requires whole { step * length pilots.now ≡ subcarriers }
     requires first { first < step }
     requires few { step ≤ 6 }
-    requires k { k < 72 }
+    requires k { k < subcarriers }
     ensures value { result ≡ line_by step (length pilots.now - 1) (value_at pilots.now) first k }
     ensures small { IsWithin (step * (180 * 2 ^ 25)) result }
 {

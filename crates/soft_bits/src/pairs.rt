@@ -4,6 +4,7 @@ ghost use Rattle.std.specs.Prelude.{◌≡◌, ◌*◌, ◌%◌, ◌<◌, All, l
 ghost use Rattle.finite.specs.Sizes.{AllWithin};
 ghost use Rattle.soft_bits.specs.Places.{slot_with, in_subframe};
 ghost use Rattle.soft_bits.specs.Pairs.{pair_values, paired_by};
+ghost use Rattle.lte_types.specs.Numerology.{subcarriers};
 
 use crate::{PortSlot, Ports, point_values, slot_of};
 use grid_map::Place;
@@ -16,12 +17,12 @@ pub(crate) fn fill_pairs<K: Ports>(
     places: &[Place],
     values: &mut [i16],
 )
-    requires inside { All (λ p. (p.symbol < 14) × (p.k < 72)) places.now }
+    requires inside { All (λ p. (p.symbol < 14) × (p.k < subcarriers)) places.now }
     requires even { length places.now % 2 ≡ 0 }
     requires room { length values.old ≡ 2 * length places.now }
     ensures values { values.new
         ≡ paired_by K.pairing (in_subframe first.now second.now) places.now }
-    ensures sizes { AllWithin 127 values.new }
+    ensures magnitudes { AllWithin 127 values.new }
 {
     for i in 0..places.len() / 2 {
         let four = pair_at(i, first, second, &places[2 * i], &places[2 * i + 1]);
@@ -37,11 +38,11 @@ fn pair_at<K: Ports>(
     p: &Place,
     q: &Place,
 ) -> [i16; 4]
-    requires p { p.now.k < 72 }
-    requires q { q.now.k < 72 }
+    requires p { p.now.k < subcarriers }
+    requires q { q.now.k < subcarriers }
     ensures values { result ≡ pair_values K.pairing i
         (slot_with first.now second.now p.now.symbol) p.now q.now }
-    ensures sizes { AllWithin 127 result }
+    ensures magnitudes { AllWithin 127 result }
 {
     let slot = slot_of(first, second, p.symbol);
     let ports = K::pair(i);

@@ -8,6 +8,7 @@ ghost use Rattle.soft_bits.specs.Soft.{pilot_subcarrier, pilot_symbol};
 ghost use Rattle.soft_bits.specs.Layout.{IsLayout, laid_out, sent_with};
 ghost use Rattle.soft_bits.specs.Lines.{line_of, line_seen, line_pilot, line_pilots};
 ghost use Rattle.soft_bits.specs.Kept.{slot_of, SeenLine, seen_line, along, IsFilled};
+ghost use Rattle.lte_types.specs.Numerology.{subcarriers};
 
 use crate::Seen;
 use crate::layout::{Layout, layout_of};
@@ -29,10 +30,10 @@ pub struct Pilots {
 impl Model for Pilots {
     ghost Value = { SeenLine };
 
-    ghost view = { λ s. record { step = s.step; first = s.first; pilots = take (72 / s.step) s.values } };
+    ghost view = { λ s. record { step = s.step; first = s.first; pilots = take (subcarriers / s.step) s.values } };
 
     ghost invariant = { λ s.
-        (3 ≤ s.step) × IsFilled (record { step = s.step; first = s.first; pilots = take (72 / s.step) s.values }) };
+        (3 ≤ s.step) × IsFilled (record { step = s.step; first = s.first; pilots = take (subcarriers / s.step) s.values }) };
 }
 
 // Empty pilots, for entries that are not used.
@@ -80,7 +81,7 @@ impl Pilots {
     /// Returns the channel at subcarrier `k`, 0 to 71, times the squared magnitude of a reference and the pilots'
     /// distance in subcarriers: linear between pilots, level outside them. Components are within 1080 * 2^25. (own)
     pub fn channel(&self, k: u8) -> Cpx
-        requires { k < 72 }
+        requires { k < subcarriers }
         ensures value { result ≡ along self.now k }
         ensures small { IsWithin (self.now.step * (180 * 2 ^ 25)) result }
     {
@@ -91,10 +92,10 @@ impl Pilots {
 /// A law: the 24 pilots of port 0 in a slot are exactly the reference elements in symbols 0 and 4 (TS 36.211 section
 /// 6.10.1.2).
 pub fn pilots_are_the_reference_places()
-    ensures inside { (identity i : ℕ) → i < 24 → pilot_subcarrier identity i < 72 }
+    ensures inside { (identity i : ℕ) → i < 24 → pilot_subcarrier identity i < subcarriers }
     ensures each { (identity i : ℕ) →
         IsTrue (is_reference identity (pilot_symbol identity i) (pilot_subcarrier identity i)) }
-    ensures found { (identity symbol k : ℕ) → k < 72 → IsTrue (is_reference identity symbol k) →
+    ensures found { (identity symbol k : ℕ) → k < subcarriers → IsTrue (is_reference identity symbol k) →
         (k / 3 < 24) × (k ≡ pilot_subcarrier identity (k / 3)) × (symbol ≡ pilot_symbol identity (k / 3)) }
 {}
 
@@ -181,7 +182,7 @@ fn sent_at(
     requires valid { IsLayout layout.now }
     requires early { early.now ≡ pattern_list layout.now.pattern seen.now.id seen.now.number layout.now.early }
     requires late { late.now ≡ pattern_list layout.now.pattern seen.now.id seen.now.number layout.now.late }
-    requires k { k < 72 }
+    requires k { k < subcarriers }
     ensures value { result ≡ sent_with layout.now (slot_of seen.now) k }
     ensures small { IsWithin 90 result }
 {

@@ -3,7 +3,7 @@
 ghost use Rattle.std.specs.Prelude.{◌≡◌, ◌*◌, ◌<◌, All, length};
 ghost use Rattle.finite.specs.Sizes.{AllWithin};
 ghost use Rattle.lte_types.specs.Carrier.{prefix_of, ports_of};
-ghost use Rattle.lte_types.specs.Numerology.{normal};
+ghost use Rattle.lte_types.specs.Numerology.{normal, subcarriers};
 ghost use Rattle.soft_bits.specs.Places.{slot_with, in_subframe, values_at, placed_values};
 
 use crate::value::soft_of;
@@ -20,10 +20,10 @@ pub(crate) fn fill_soft<K: Ports>(
 )
     requires one { ports_of K.pairing.carrier ≡ 1 }
     requires normal { prefix_of K.pairing.carrier ≡ normal }
-    requires inside { All (λ p. (p.symbol < 14) × (p.k < 72)) places.now }
+    requires inside { All (λ p. (p.symbol < 14) × (p.k < subcarriers)) places.now }
     requires room { length values.old ≡ 2 * length places.now }
     ensures values { values.new ≡ placed_values (in_subframe first.now second.now) places.now }
-    ensures sizes { AllWithin 127 values.new }
+    ensures magnitudes { AllWithin 127 values.new }
 {
     for i in 0..places.len() {
         let pair = soft_at(slot_of(first, second, places[i].symbol), &places[i]);
@@ -43,9 +43,9 @@ pub fn slot_of<'a, S>(first: &'a S, second: &'a S, symbol: u8) -> &'a S
 fn soft_at<K: Ports>(slot: &PortSlot<K>, place: &Place) -> [i16; 2]
     requires one { ports_of K.pairing.carrier ≡ 1 }
     requires normal { prefix_of K.pairing.carrier ≡ normal }
-    requires inside { place.now.k < 72 }
+    requires inside { place.now.k < subcarriers }
     ensures values { result ≡ values_at slot.now place.now }
-    ensures sizes { AllWithin 127 result }
+    ensures magnitudes { AllWithin 127 result }
 {
     soft_of(slot, place.symbol % 7, place.k)
 }

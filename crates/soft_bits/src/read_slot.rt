@@ -7,13 +7,14 @@ ghost use Rattle.soft_bits.specs.Soft.{SeenSlot, AreSmall};
 ghost use Rattle.soft_bits.specs.Front.{LooksAtFront};
 ghost use Rattle.soft_bits.specs.Places.{Valuing, in_subframe};
 ghost use Rattle.soft_bits.specs.Pairs.{valued_by};
+ghost use Rattle.lte_types.specs.Numerology.{subcarriers};
 
 use crate::pairs::fill_pairs;
 use crate::places::fill_soft;
 use crate::{PortSlot, Ports};
 use cs_num::Cpx;
 use grid_map::Place;
-use lte_types::{Carrier, CellId};
+use lte_types::{Carrier, CellId, SUBCARRIERS};
 
 /// A received slot, and the way to compute its soft values.
 pub trait ReadSlot: Drop {
@@ -24,7 +25,7 @@ pub trait ReadSlot: Drop {
     ghost values_by: { Valuing };
 
     /// Returns the slot with these symbols. `number` is 0 to 19, and components are within 2^25.
-    fn of(seen: [[Cpx; 72]; 7], number: u8, id: CellId) -> Self
+    fn of(seen: [[Cpx; SUBCARRIERS]; 7], number: u8, id: CellId) -> Self
         requires number { number < 20 }
         requires small { AreSmall seen }
         ensures { seen_as result ≡ record { symbols = seen; number = number; identity = id } };
@@ -45,11 +46,11 @@ pub trait ReadSlot: Drop {
     /// Fills `values` with the soft values of resource elements, two each, in the subframe of this slot and `second`.
     /// Symbols 7 to 13 belong to `second`. The count of elements is even.
     fn fill(&self, second: &Self, places: &[Place], values: &mut [i16])
-        requires inside { All (λ p. (p.symbol < 14) × (p.k < 72)) places.now }
+        requires inside { All (λ p. (p.symbol < 14) × (p.k < subcarriers)) places.now }
         requires even { length places.now % 2 ≡ 0 }
         requires room { length values.old ≡ 2 * length places.now }
         ensures values { values.new ≡ values_by (in_subframe (seen_as self.now) (seen_as second.now)) places.now }
-        ensures sizes { AllWithin 127 values.new };
+        ensures magnitudes { AllWithin 127 values.new };
 
     /// A law: soft values in a slot's first four symbols depend only on its first five symbols.
     fn looks_at_front()
@@ -63,7 +64,7 @@ impl<K: Ports> ReadSlot for PortSlot<K> {
 
     ghost values_by = { valued_by K.pairing };
 
-    fn of(seen: [[Cpx; 72]; 7], number: u8, id: CellId) -> PortSlot<K> {
+    fn of(seen: [[Cpx; SUBCARRIERS]; 7], number: u8, id: CellId) -> PortSlot<K> {
         PortSlot::new(seen, number, id)
     }
 
@@ -92,11 +93,11 @@ impl<K: Ports> ReadSlot for PortSlot<K> {
 
 /// Fills `values` with the soft values of resource elements in one slot, two each. The count of elements is even.
 pub fn fill_slot<S: ReadSlot>(slot: &S, places: &[Place], values: &mut [i16])
-    requires inside { All (λ p. (p.symbol < 14) × (p.k < 72)) places.now }
+    requires inside { All (λ p. (p.symbol < 14) × (p.k < subcarriers)) places.now }
     requires even { length places.now % 2 ≡ 0 }
     requires room { length values.old ≡ 2 * length places.now }
     ensures values { values.new ≡ S.values_by (λ p. S.seen_as slot.now) places.now }
-    ensures sizes { AllWithin 127 values.new }
+    ensures magnitudes { AllWithin 127 values.new }
 {
     slot.fill(slot, places, values);
 }

@@ -40,9 +40,9 @@ impl Scrambling {
     /// Descrambles values like the free function `descramble`.
     pub fn descramble(&self, first: usize, values: &mut [i16])
         requires few { first + length values.old ≤ 1920 }
-        requires sizes { AllWithin 127 values.old }
+        requires magnitudes { AllWithin 127 values.old }
         ensures values { values.new ≡ descrambled self.now first values.old }
-        ensures sizes { AllWithin 127 values.new }
+        ensures magnitudes { AllWithin 127 values.new }
     {
         turn_by(&self.bits, first, values);
     }
@@ -53,9 +53,9 @@ impl Scrambling {
 pub fn descramble(c_init: u32, first: usize, values: &mut [i16])
     requires c_init { c_init < 2 ^ 31 }
     requires few { first + length values.old ≤ 1920 }
-    requires sizes { AllWithin 127 values.old }
+    requires magnitudes { AllWithin 127 values.old }
     ensures values { values.new ≡ descrambled c_init first values.old }
-    ensures sizes { AllWithin 127 values.new }
+    ensures magnitudes { AllWithin 127 values.new }
 {
     let mut bits = [false; MOST];
     write_first_bits(c_init, first + values.len(), &mut bits);
@@ -74,9 +74,9 @@ fn write_first_bits(c_init: u32, count: usize, bits: &mut [bool])
 // Negates each value whose bit is 1; bit `first` belongs to the first value.
 fn turn_by(bits: &[bool; 1920], first: usize, values: &mut [i16])
     requires few { first + length values.old ≤ 1920 }
-    requires sizes { AllWithin 127 values.old }
+    requires magnitudes { AllWithin 127 values.old }
     ensures values { values.new ≡ turned_by (λ k. slice_index_or bits.now k false) first values.old }
-    ensures sizes { AllWithin 127 values.new }
+    ensures magnitudes { AllWithin 127 values.new }
 {
     for i in 0..values.len() {
         values[i] = turned(values[i], bits[first + i]);

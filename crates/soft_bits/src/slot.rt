@@ -7,17 +7,18 @@ ghost use Rattle.lte_types.specs.Carrier.{ports_of};
 ghost use Rattle.soft_bits.specs.Soft.{SeenSlot, AreSmall, seen_at};
 ghost use Rattle.soft_bits.specs.Lines.{line_of, port_channel, ports_energy};
 ghost use Rattle.soft_bits.specs.Kept.{slot_of, seen_line, lines_of as pilots_of_ports, IsKept};
+ghost use Rattle.lte_types.specs.Numerology.{subcarriers};
 
 use crate::{Pilots, Ports, Seen, Single, energy_of, pilots_of};
 use arrayvec::ArrayVec;
 use cs_num::Cpx;
-use lte_types::CellId;
+use lte_types::{CellId, SUBCARRIERS};
 use std::marker::{Model, PhantomData};
 
 // The values at a symbol's subcarriers. Contracts see a list.
 #[derive(Drop)]
 struct Symbol {
-    values: [Cpx; 72],
+    values: [Cpx; SUBCARRIERS],
 }
 
 impl Model for Symbol {
@@ -27,14 +28,14 @@ impl Model for Symbol {
 }
 
 impl Symbol {
-    fn new(values: [Cpx; 72]) -> Symbol
+    fn new(values: [Cpx; SUBCARRIERS]) -> Symbol
         ensures { result ≡ values }
     {
         Symbol { values }
     }
 
     fn at(&self, k: u8) -> Cpx
-        requires { k < 72 }
+        requires { k < subcarriers }
         ensures { result ≡ value_at self.now k }
     {
         self.values[k as usize]
@@ -42,7 +43,7 @@ impl Symbol {
 }
 
 // Returns a slot's symbols.
-fn symbols_of(seen: [[Cpx; 72]; 7]) -> [Symbol; 7]
+fn symbols_of(seen: [[Cpx; SUBCARRIERS]; 7]) -> [Symbol; 7]
     ensures { result ≡ seen }
 {
     [
@@ -94,7 +95,7 @@ impl<K: Ports> Model for PortSlot<K> {
 
 impl<K: Ports> PortSlot<K> {
     /// Returns the slot with these symbols. `number` is 0 to 19, and components are within 2^25.
-    pub fn new(seen: [[Cpx; 72]; 7], number: u8, id: CellId) -> PortSlot<K>
+    pub fn new(seen: [[Cpx; SUBCARRIERS]; 7], number: u8, id: CellId) -> PortSlot<K>
         requires number { number < 20 }
         requires small { AreSmall seen }
         ensures { result ≡ record { symbols = seen; number = number; identity = id } }
@@ -136,7 +137,7 @@ impl<K: Ports> PortSlot<K> {
     /// 2^25.
     pub fn seen(&self, symbol: u8, k: u8) -> Cpx
         requires symbol { symbol < 7 }
-        requires k { k < 72 }
+        requires k { k < subcarriers }
         ensures value { result ≡ seen_at self.now symbol k }
         ensures small { IsWithin (2 ^ 25) result }
     {
@@ -155,7 +156,7 @@ impl<K: Ports> PortSlot<K> {
     /// `Ports::scale`. Components are within 180 * 2^25 times the scale: 540 * 2^25 for one or two ports.
     pub fn channel(&self, port: u8, k: u8) -> Cpx
         requires port { port < ports_of K.pairing.carrier }
-        requires k { k < 72 }
+        requires k { k < subcarriers }
         ensures value { result ≡ port_channel K.pairing.scale K.pairing.carrier port self.now k }
         ensures scaled { IsWithin (K.pairing.scale * (180 * 2 ^ 25)) result }
         ensures small { IsWithin (1080 * 2 ^ 25) result }

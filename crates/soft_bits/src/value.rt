@@ -4,7 +4,7 @@ ghost use Rattle.std.specs.Prelude.{◌≡◌, ℕ, ◌*◌, ◌^◌, ◌<◌, �
 ghost use Rattle.finite.specs.Sizes.{AllWithin};
 ghost use Rattle.cs_num.specs.Complex.{IsWithin, conjugate, times};
 ghost use Rattle.lte_types.specs.Carrier.{prefix_of, ports_of};
-ghost use Rattle.lte_types.specs.Numerology.{normal};
+ghost use Rattle.lte_types.specs.Numerology.{normal, subcarriers};
 ghost use Rattle.soft_bits.specs.Soft.{soft_pair, soft_value, soft_values};
 
 use crate::{PortSlot, Ports, Slot};
@@ -14,7 +14,7 @@ use cs_num::{Cpx, clamp_div};
 /// `k` 0 to 71. The channel is estimated (own) from antenna port 0 (TS 36.211 section 6.10.1).
 pub fn soft(slot: &Slot, symbol: u8, k: u8) -> [i16; 2]
     requires symbol { symbol < 7 }
-    requires k { k < 72 }
+    requires k { k < subcarriers }
     ensures values { result ≡ soft_values slot.now symbol k }
     ensures range { AllWithin 127 result }
 {
@@ -26,7 +26,7 @@ pub(crate) fn soft_of<K: Ports>(slot: &PortSlot<K>, symbol: u8, k: u8) -> [i16; 
     requires one { ports_of K.pairing.carrier ≡ 1 }
     requires normal { prefix_of K.pairing.carrier ≡ normal }
     requires symbol { symbol < 7 }
-    requires k { k < 72 }
+    requires k { k < subcarriers }
     ensures values { result ≡ soft_values slot.now symbol k }
     ensures range { AllWithin 127 result }
 {

@@ -12,7 +12,7 @@ ghost use Rattle.sss_detect.specs.Identity.{IsBest, best_group, best_pair};
 
 use crate::score::{ShiftSums, agreements};
 use cs_num::Cpx;
-use lte_types::Half;
+use lte_types::{Half, SUBCARRIERS};
 
 // An identity group with its score.
 #[derive(Clone, Copy)]
@@ -23,7 +23,7 @@ struct GroupScore {
 
 /// Returns the identity group, 0 to 167, and the half-frame whose secondary sequence scores highest against the
 /// demodulated symbols. Ties go to subframe 0, then the lower group. `n2` is 0 to 2, components within 2^25. (own)
-pub fn best(pss_seen: &[Cpx; 72], sss_seen: &[Cpx; 72], n2: u8) -> (u16, Half)
+pub fn best(pss_seen: &[Cpx; SUBCARRIERS], sss_seen: &[Cpx; SUBCARRIERS], n2: u8) -> (u16, Half)
     requires member { n2 ≤ 2 }
     requires primary { All (IsWithin (2 ^ 25)) pss_seen.now }
     requires secondary { All (IsWithin (2 ^ 25)) sss_seen.now }

@@ -9,7 +9,7 @@ mod rank;
 mod score;
 
 ghost use Rattle.std.specs.Prelude.{◌≡◌, ◌+◌, ◌≤◌, length};
-ghost use Rattle.lte_types.specs.Numerology.{normal, symbol_step};
+ghost use Rattle.lte_types.specs.Numerology.{normal, symbol_step, useful_length};
 ghost use Rattle.sss_detect.specs.Identity.{IsBest, prefix_scores, prefix_identity, scores_of, identity_of};
 ghost use Rattle.sss_detect.specs.Place.{prefix_place};
 ghost use Rattle.sss_detect.specs.Second.{IsSecond, prefix_ranking};
@@ -27,7 +27,7 @@ use sample_file::Recording;
 /// the secondary one immediately before the primary, lie within the recording. `n2` is 0 to 2.
 pub fn identity_with(recording: &Recording, hit: &Hit, prefix: Prefix) -> (u16, Half)
     requires after { symbol_step prefix ≤ hit.now.t }
-    requires within { hit.now.t + 128 ≤ length recording.now }
+    requires within { hit.now.t + useful_length ≤ length recording.now }
     requires member { hit.now.n2 ≤ 2 }
     ensures value { result ≡ prefix_identity prefix recording.now hit.now }
     ensures best { IsBest (prefix_scores prefix recording.now hit.now) result.0 result.1 }
@@ -44,7 +44,7 @@ pub fn identity_with(recording: &Recording, hit: &Hit, prefix: Prefix) -> (u16, 
 /// before the primary one. The conditions are those for `identity_with`.
 pub fn identity(recording: &Recording, hit: &Hit) -> (u16, Half)
     requires after { symbol_step normal ≤ hit.now.t }
-    requires within { hit.now.t + 128 ≤ length recording.now }
+    requires within { hit.now.t + useful_length ≤ length recording.now }
     requires member { hit.now.n2 ≤ 2 }
     ensures value { result ≡ identity_of recording.now hit.now }
     ensures best { IsBest (scores_of recording.now hit.now) result.0 result.1 }
@@ -56,7 +56,7 @@ pub fn identity(recording: &Recording, hit: &Hit) -> (u16, Half)
 /// conditions are those for `identity_with`.
 pub fn place_with(recording: &Recording, hit: &Hit, prefix: Prefix) -> CellPlace
     requires after { symbol_step prefix ≤ hit.now.t }
-    requires within { hit.now.t + 128 ≤ length recording.now }
+    requires within { hit.now.t + useful_length ≤ length recording.now }
     requires member { hit.now.n2 ≤ 2 }
     ensures { result ≡ prefix_place prefix recording.now hit.now }
 {
@@ -71,7 +71,7 @@ pub fn place_with(recording: &Recording, hit: &Hit, prefix: Prefix) -> CellPlace
 /// The conditions are those for `identity_with`. (own)
 pub fn ranking_with(recording: &Recording, hit: &Hit, prefix: Prefix) -> Ranking
     requires after { symbol_step prefix ≤ hit.now.t }
-    requires within { hit.now.t + 128 ≤ length recording.now }
+    requires within { hit.now.t + useful_length ≤ length recording.now }
     requires member { hit.now.n2 ≤ 2 }
     ensures value { result ≡ prefix_ranking prefix recording.now hit.now }
     ensures best { IsBest (prefix_scores prefix recording.now hit.now) result.best.n1 result.best.half }

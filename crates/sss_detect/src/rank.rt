@@ -9,7 +9,7 @@ ghost use Rattle.sss_detect.specs.Second.{choice_of, pair_at as pair_of, ranking
 
 use crate::score::{ShiftSums, agreements};
 use cs_num::Cpx;
-use lte_types::Half;
+use lte_types::{Half, SUBCARRIERS};
 
 /// An identity group, 0 to 167, and a half-frame, with the score for their secondary sequence. (own)
 #[derive(Clone, Copy, Debug, PartialEq, Eq)]
@@ -27,7 +27,11 @@ pub struct Ranking {
 }
 
 // Returns the two best pairs for demodulated primary and secondary symbols.
-pub(crate) fn best_two(pss_seen: &[Cpx; 72], sss_seen: &[Cpx; 72], n2: u8) -> Ranking
+pub(crate) fn best_two(
+    pss_seen: &[Cpx; SUBCARRIERS],
+    sss_seen: &[Cpx; SUBCARRIERS],
+    n2: u8,
+) -> Ranking
     requires member { n2 ≤ 2 }
     requires primary { All (IsWithin 23726080) pss_seen.now }
     requires secondary { All (IsWithin 23726080) sss_seen.now }

@@ -8,11 +8,15 @@ ghost use Rattle.finite.specs.Lists.{values_below};
 ghost use Rattle.sss_detect.specs.Steps.{agreements_of, places_sum as places_sum_of, even_sum, odd_sum, score_by};
 
 use cs_num::Cpx;
-use lte_types::Half;
+use lte_types::{Half, SUBCARRIERS};
 use sync_seq::{MIDDLE, pss, sss_shifts, sss_sign};
 
 // Returns the agreements at all values of the secondary sequence.
-pub(crate) fn agreements(primary: &[Cpx; 72], secondary: &[Cpx; 72], n2: u8) -> [i64; 62]
+pub(crate) fn agreements(
+    primary: &[Cpx; SUBCARRIERS],
+    secondary: &[Cpx; SUBCARRIERS],
+    n2: u8,
+) -> [i64; 62]
     requires member { n2 ≤ 2 }
     requires primary { All (IsWithin (2 ^ 25)) primary.now }
     requires secondary { All (IsWithin (2 ^ 25)) secondary.now }

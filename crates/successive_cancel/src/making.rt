@@ -68,7 +68,7 @@ fn rounds_on(
     requires power { power ≡ sum_of recording.now }
     requires list { IsExplained recording.now list.now }
     requires readings { AllZip (IsReading recording.now) list.now work.old }
-    ensures { IfOk result (λ told. AreRounds most recording.now list.now told.0.items told.1) }
+    ensures { IfOk result (λ decoded. AreRounds most recording.now list.now decoded.0.items decoded.1) }
 {
     if most == 0 {
         return Ok((Vec::new(alloc), false));

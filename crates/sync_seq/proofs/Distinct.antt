@@ -7,7 +7,7 @@ use Rattle.finite.proofs.Lists.{values_below_at, values_below-length}
 use Rattle.lte_types.specs.declared.frame.Half.{Half}
 use Rattle.lte_types.specs.declared.frame.Half.TheVariants.{Zero, Five}
 use Rattle.sync_seq.specs.Secondary.{S, C, Z, extended, period_bits, shift_sum, even_shift, odd_shift, shifted_value, sss_at, sss_list}
-use Rattle.sync_seq.specs.Laws.{SecondaryTells}
+use Rattle.sync_seq.specs.Laws.{SecondaryDetermines}
 
 -- ---- lists of distinct numbers
 
@@ -126,9 +126,9 @@ code_is n2 n1 half =
     let high : (2 * n1 + half_number half) / 2 ≡ n1 = omega arith in
     rw (low, high, half_is half) refl
 
-pub secondary_tells : SecondaryTells
+pub secondary_determines : SecondaryDetermines
 unfolding sss_list
-secondary_tells n2 n1 m1 half other l p q e = (omega (arith, same, half-le half, half-le other), sym (half_is half) ∙ ap half_by halves ∙ half_is other)
+secondary_determines n2 n1 m1 half other l p q e = (omega (arith, same, half-le half, half-le other), sym (half_is half) ∙ ap half_by halves ∙ half_is other)
   where
     value_same : (k : ℕ) → k < 62 → sss_at n1 n2 half k ≡ sss_at m1 n2 other k
     value_same k below =

@@ -4,8 +4,10 @@ ghost use Rattle.std.specs.Prelude.{◌≡◌, ◌<◌};
 ghost use Rattle.finite.specs.Lists.{values_below};
 ghost use Rattle.cs_num.specs.Complex.{value_at};
 ghost use Rattle.sync_seq.specs.Middle.{is_middle as is_in_middle, in_middle as middle_grid};
+ghost use Rattle.lte_types.specs.Numerology.{subcarriers};
 
 use cs_num::Cpx;
+use lte_types::SUBCARRIERS;
 
 /// The subcarrier of the sequence's first value; the others follow (TS 36.211 sections 6.11.1.2 and 6.11.2.2).
 pub const MIDDLE: usize = 5;
@@ -18,11 +20,11 @@ pub fn is_middle(k: usize) -> bool
 }
 
 /// Returns the 72 subcarriers of a symbol that carries only these central values.
-pub fn in_middle(values: &[Cpx; 62]) -> [Cpx; 72]
-    ensures { result ≡ values_below 72 (middle_grid (value_at values.now)) }
+pub fn in_middle(values: &[Cpx; 62]) -> [Cpx; SUBCARRIERS]
+    ensures { result ≡ values_below subcarriers (middle_grid (value_at values.now)) }
 {
-    let mut grid = [Cpx::ZERO; 72];
-    for k in 0..72 {
+    let mut grid = [Cpx::ZERO; SUBCARRIERS];
+    for k in 0..SUBCARRIERS {
         grid[k] = middle_value(values, k);
     }
     grid
@@ -31,7 +33,7 @@ pub fn in_middle(values: &[Cpx; 62]) -> [Cpx; 72]
 // Returns the value on subcarrier `k`.
 #[tactic(auto, using(std::proofs::lemmas::Bool::Decides::nat_tests))]
 fn middle_value(values: &[Cpx; 62], k: usize) -> Cpx
-    requires { k < 72 }
+    requires { k < subcarriers }
     ensures { result ≡ middle_grid (value_at values.now) k }
 {
     if is_middle(k) {

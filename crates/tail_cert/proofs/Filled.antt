@@ -124,7 +124,7 @@ pub filled : (values copied : List (List ℤ)) (word : List Bool) (cost : ℕ) (
     ((s : ℕ) → s < 64 → has_table set s ≡ true → IsTableFrom values s (get_or tables s [])) →
     IsAccepted (record { values = copied; word = word; cost = cost; general = general; tables = shown set kept }) ×
     IsFilled (record { values = copied; word = word; cost = cost; general = general; tables = shown set kept })
-filled values copied word cost general set tables kept copy same sizes places least stated rows needed bounds = rw (copy, same) (
+filled values copied word cost general set tables kept copy same magnitudes places least stated rows needed bounds = rw (copy, same) (
   record {
     stated = stated;
     general = steps_hold values from_any (replicate 64 0) general (λ x below some. get_or-replicate 64 x 0 0 below) rows;
@@ -143,7 +143,7 @@ filled values copied word cost general set tables kept copy same sizes places le
     lower other size = rw stated (least.least other (size ∙ sym places))
 
     small : cost ≤ 2 ^ 30
-    small = let h = word_cost-le 2032 values word sizes in omega (arith, h, stated, places)
+    small = let h = word_cost-le 2032 values word magnitudes in omega (arith, h, stated, places)
 
 -- ---- certificates with equal values and costs have equal tables
 

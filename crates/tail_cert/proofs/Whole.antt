@@ -136,12 +136,12 @@ count_most bytes =
 -- bytes cut to the length that their first bytes state are no longer than they state themselves
 pub front_fits : (bytes : List ℕ) (whole : ℕ) → head_count ≤ length bytes → whole ≡ count_of (take (min (length bytes) head_count) bytes) →
     length (take (min (length bytes) whole) bytes) ≤ count_of (take (min (length bytes) whole) bytes)
-front_fits bytes whole long told =
+front_fits bytes whole long decoded =
     let least = count_least (take head_count bytes) in
     let head : min (length bytes) head_count ≡ head_count = omega (arith, long) in
-    let told' : whole ≡ count_of (take head_count bytes) = rw head at told in
+    let decoded' : whole ≡ count_of (take head_count bytes) = rw head at decoded in
     let n : ℕ = min (length bytes) whole in
     let size = length-take-le n bytes (omega arith) in
-    let front = count_of_front (take n bytes) (omega (arith, size, long, told', least)) in
-    let same : take head_count (take n bytes) ≡ take head_count bytes = take-take head_count n bytes (omega (arith, long, told', least)) in
-    omega (arith, size, front, ap count_of same, told')
+    let front = count_of_front (take n bytes) (omega (arith, size, long, decoded', least)) in
+    let same : take head_count (take n bytes) ≡ take head_count bytes = take-take head_count n bytes (omega (arith, long, decoded', least)) in
+    omega (arith, size, front, ap count_of same, decoded')

@@ -135,7 +135,7 @@ fn tables_hold(
     set: &Bits<64>,
     tables: &[Table],
 ) -> bool
-    requires sizes { RowsWithin (2 ^ 20) values.now }
+    requires magnitudes { RowsWithin (2 ^ 20) values.now }
     requires room { HaveTables set.now tables.now }
     ensures { IsTrue result ↔ (StepsHold values.now from_any general.now × ((s : ℕ) → s < 64 →
         StartHolds values.now cost general.now s (shown_at set.now tables.now s))) }
@@ -151,7 +151,7 @@ fn tables_hold(
 
 /// Returns the cost of a word.
 fn cost_of(values: &[[i32; 3]; 40], word: &Bits<40>) -> u32
-    requires sizes { RowsWithin (2 ^ 20) values.now }
+    requires magnitudes { RowsWithin (2 ^ 20) values.now }
     requires bits { length word.now ≡ 40 }
     ensures { result ≡ word_cost values.now word.now }
 {

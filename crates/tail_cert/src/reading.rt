@@ -90,7 +90,7 @@ fn first_break(bytes: &[u8], count: usize) -> Option<usize>
 /// Reads a position's values.
 fn get_place(bytes: &[u8], at: usize, values: &mut [i32; 3])
     requires room { at + 6 ≤ length bytes.now }
-    requires sizes { (t : ℕ) → t < 3 → nat_abs (value_at bytes.now (at + 2 * t)) ≤ 2032 }
+    requires magnitudes { (t : ℕ) → t < 3 → nat_abs (value_at bytes.now (at + 2 * t)) ≤ 2032 }
     ensures bytes { place_bytes values.new ≡ take 6 (drop at bytes.now) }
     ensures triple { IsTriple values.new }
 {
@@ -102,7 +102,7 @@ fn get_place(bytes: &[u8], at: usize, values: &mut [i32; 3])
 /// Reads the values at all positions.
 fn get_values(bytes: &[u8], values: &mut [[i32; 3]; 40])
     requires room { 244 ≤ length bytes.now }
-    requires sizes { (j : ℕ) → j < 120 → nat_abs (value_at bytes.now (4 + 2 * j)) ≤ 2032 }
+    requires magnitudes { (j : ℕ) → j < 120 → nat_abs (value_at bytes.now (4 + 2 * j)) ≤ 2032 }
     ensures bytes { flat_map place_bytes values.new ≡ take 240 (drop 4 bytes.now) }
     ensures places { Counted 40 IsTriple values.new }
 {

@@ -24,7 +24,7 @@ fn put_mark(out: &mut [u8])
 /// Writes value `t` of a position.
 fn put_value(values: &[i32; 3], t: usize, at: usize, out: &mut [u8])
     requires stream { t < 3 }
-    requires sizes { AllWithin 2032 values.now }
+    requires magnitudes { AllWithin 2032 values.now }
     requires room { at + 2 ≤ length out.old }
     ensures bytes { out.new ≡ with_piece at (value_bytes (slice_index_or values.now t (pos 0))) out.old }
     ensures count { length (value_bytes (slice_index_or values.now t (pos 0))) ≡ 2 }
@@ -34,7 +34,7 @@ fn put_value(values: &[i32; 3], t: usize, at: usize, out: &mut [u8])
 
 /// Writes a position's values.
 fn put_place(values: &[i32; 3], at: usize, out: &mut [u8])
-    requires sizes { AllWithin 2032 values.now }
+    requires magnitudes { AllWithin 2032 values.now }
     requires room { at + 6 ≤ length out.old }
     ensures bytes { out.new ≡ with_piece at (place_bytes values.now) out.old }
     ensures count { length (place_bytes values.now) ≡ 6 }
@@ -46,7 +46,7 @@ fn put_place(values: &[i32; 3], at: usize, out: &mut [u8])
 
 /// Writes the values at all positions.
 fn put_values(values: &[[i32; 3]; 40], at: usize, out: &mut [u8])
-    requires sizes { RowsWithin 2032 values.now }
+    requires magnitudes { RowsWithin 2032 values.now }
     requires room { at + 240 ≤ length out.old }
     ensures bytes { out.new ≡ with_piece at (flat_map place_bytes values.now) out.old }
     ensures count { length (flat_map place_bytes values.now) ≡ 240 }

@@ -7,7 +7,7 @@ use Rattle.trellis.specs.Paths.{best, best_bit}
 use Rattle.trellis.specs.Rows.{least_out}
 use Rattle.tailbite.specs.Machine.{shift, step_cost}
 use Rattle.tailbite.specs.Costs.{AreCosts, HaveCosts, shared_cost}
-use Rattle.tailbite.specs.Passes.{told_bit, IsPass}
+use Rattle.tailbite.specs.Passes.{decoded_bit, IsPass}
 use Rattle.tailbite.proofs.Windows.{shift_below}
 
 -- an entry in a list of rows
@@ -91,9 +91,9 @@ pass_start values ends rows i short known done = record {
 }
 
 -- the bit that the tables give is the first on the minimum-cost path
-pub told_best : (values : List (List ℤ)) (tables : List (List ℕ)) (ends : ℕ → ℕ) (rows : List (List ℕ)) → HaveCosts values tables (length values) →
-    IsPass values ends rows → (k m x : ℕ) → k + suc m ≡ length values → x < 64 → told_bit tables rows k x ≡ best_bit shift (step_cost values) ends k m x
-told_best values tables ends rows have passed k m x size below =
+pub decoded_best : (values : List (List ℤ)) (tables : List (List ℕ)) (ends : ℕ → ℕ) (rows : List (List ℕ)) → HaveCosts values tables (length values) →
+    IsPass values ends rows → (k m x : ℕ) → k + suc m ≡ length values → x < 64 → decoded_bit tables rows k x ≡ best_bit shift (step_cost values) ends k m x
+decoded_best values tables ends rows have passed k m x size below =
     let are = have.place k (omega (arith, size)) in
     let row_is : (x : ℕ) → x < 64 → get_or (get_or rows (k + 1) []) x 0 ≡ best shift (step_cost values) ends (suc k) m x =
     λ x below'.

@@ -35,19 +35,19 @@ same_bit false false e = refl
 same_bit true false e = sym e
 same_bit false true e = e
 
-told_bits : (x : ℕ) (b : Bool) → x < 64 → tells_bits x b ≡ true
+decoded_bits : (x : ℕ) (b : Bool) → x < 64 → tells_bits x b ≡ true
 unfolding code_test
-told_bits x false below = (and_parts _ _ (every_below_at 64 code_test all_codes x below)).0
-told_bits x true below = (and_parts _ _ (every_below_at 64 code_test all_codes x below)).1
+decoded_bits x false below = (and_parts _ _ (every_below_at 64 code_test all_codes x below)).0
+decoded_bits x true below = (and_parts _ _ (every_below_at 64 code_test all_codes x below)).1
 
 same_cost : (v : List ℤ) (a a' b b' c c' : Bool) → a ≡ a' → b ≡ b' → c ≡ c' → triple_cost v a b c ≡ triple_cost v a' b' c'
 same_cost v a a' b b' c c' p q r = rw (p, q, r) refl
 
 branch_by_code : (v : List ℤ) (x : ℕ) (b : Bool) → x < 64 → branch_cost v x b ≡ code_cost v (code_of x b)
 branch_by_code v x b below =
-    let told = and_parts _ _ (told_bits x b below) in
-    let rest = and_parts _ _ told.1 in
-    same_cost v _ _ _ _ _ _ (same_bit _ _ told.0) (same_bit _ _ rest.0) (same_bit _ _ rest.1)
+    let decoded = and_parts _ _ (decoded_bits x b below) in
+    let rest = and_parts _ _ decoded.1 in
+    same_cost v _ _ _ _ _ _ (same_bit _ _ decoded.0) (same_bit _ _ rest.0) (same_bit _ _ rest.1)
 
 small_test : ℕ → Bool
 small_test h = nat_lt (get_or even_codes h 0) 8

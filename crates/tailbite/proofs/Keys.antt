@@ -17,9 +17,9 @@ use Rattle.conv_code.specs.Cost.{word_cost}
 use Rattle.conv_code.proofs.Costs.{word_cost-le}
 use Rattle.tailbite.specs.LeastWord.{IsLeastWord}
 use Rattle.tailbite.specs.Machine.{shift, step_cost}
-use Rattle.tailbite.specs.Passes.{told_bit, IsPass}
+use Rattle.tailbite.specs.Passes.{decoded_bit, IsPass}
 use Rattle.tailbite.specs.Costs.{HaveCosts}
-use Rattle.tailbite.proofs.Back.{told_best}
+use Rattle.tailbite.proofs.Back.{decoded_best}
 use Rattle.tailbite.specs.Keys.{scale, far, word_key, IsWordKey, IsBound, AreBounds, IsKeyOrFar, IsLeastKey}
 use Rattle.tailbite.proofs.Windows.{same_end, end_below, shift_below}
 use Rattle.tailbite.proofs.Branches.{word_cost-path}
@@ -41,30 +41,30 @@ wide n short = pow_mono {j = 64} short
 -- ---- results of a pass
 
 -- the word along the minimum-cost path from state s
-abbrev told_word : List (List ℤ) → List (List ℕ) → List (List ℕ) → ℕ → List Bool
-told_word values tables rows s = walked shift (told_bit tables rows) 0 (length values) s
+abbrev decoded_word : List (List ℤ) → List (List ℕ) → List (List ℕ) → ℕ → List Bool
+decoded_word values tables rows s = walked shift (decoded_bit tables rows) 0 (length values) s
 
-told_first : (values : List (List ℤ)) (ends : ℕ → ℕ) (tables : List (List ℕ)) (rows : List (List ℕ)) (s : ℕ) → HaveCosts values tables (length values) → IsPass values ends rows → s < 64 →
-    IsFirstLeast (length values) (λ bs. path_cost shift (step_cost values) 0 s bs + ends (end_of shift s bs)) (told_word values tables rows s)
-told_first values ends tables rows s have passed below =
-    walked_first shift (step_cost values) ends (told_bit tables rows) 64 (length values) shift_below (told_best values tables ends rows have passed) 0 (length values) s (omega arith) below
+decoded_first : (values : List (List ℤ)) (ends : ℕ → ℕ) (tables : List (List ℕ)) (rows : List (List ℕ)) (s : ℕ) → HaveCosts values tables (length values) → IsPass values ends rows → s < 64 →
+    IsFirstLeast (length values) (λ bs. path_cost shift (step_cost values) 0 s bs + ends (end_of shift s bs)) (decoded_word values tables rows s)
+decoded_first values ends tables rows s have passed below =
+    walked_first shift (step_cost values) ends (decoded_bit tables rows) 64 (length values) shift_below (decoded_best values tables ends rows have passed) 0 (length values) s (omega arith) below
 
-told_cost : (values : List (List ℤ)) (ends : ℕ → ℕ) (tables : List (List ℕ)) (rows : List (List ℕ)) (s : ℕ) → HaveCosts values tables (length values) → IsPass values ends rows → s < 64 →
-    path_cost shift (step_cost values) 0 s (told_word values tables rows s) + ends (end_of shift s (told_word values tables rows s)) ≡ get_or (get_or rows 0 []) s 0
-told_cost values ends tables rows s have passed below =
-    first_least_is_best shift (step_cost values) ends 0 (length values) s (told_word values tables rows s) (told_first values ends tables rows s have passed below)
+decoded_cost : (values : List (List ℤ)) (ends : ℕ → ℕ) (tables : List (List ℕ)) (rows : List (List ℕ)) (s : ℕ) → HaveCosts values tables (length values) → IsPass values ends rows → s < 64 →
+    path_cost shift (step_cost values) 0 s (decoded_word values tables rows s) + ends (end_of shift s (decoded_word values tables rows s)) ≡ get_or (get_or rows 0 []) s 0
+decoded_cost values ends tables rows s have passed below =
+    first_least_is_best shift (step_cost values) ends 0 (length values) s (decoded_word values tables rows s) (decoded_first values ends tables rows s have passed below)
     ∙ sym (passed.cost 0 (length values) s (omega arith) below)
 
 -- if an end in s is free, no word that starts in s has a smaller key
 pub pass_bound : (values : List (List ℤ)) (ends : ℕ → ℕ) (tables : List (List ℕ)) (rows : List (List ℕ)) (s : ℕ) → HaveCosts values tables (length values) → IsPass values ends rows →
-    6 ≤ length values → length values ≤ 64 → s < 64 → ends s ≡ 0 → IsBound values s (get_or (get_or rows 0 []) s 0 * scale + number (told_word values tables rows s))
+    6 ≤ length values → length values ≤ 64 → s < 64 → ends s ≡ 0 → IsBound values s (get_or (get_or rows 0 []) s 0 * scale + number (decoded_word values tables rows s))
 pass_bound values ends tables rows s have passed long short below free word size is =
     let (back, cost) = round values s word size long below is in
     let free_end : ends (end_of shift s word) ≡ 0 = ap ends back ∙ free in
-    let least = first_least-key (length values) (scale) (λ bs. path_cost shift (step_cost values) 0 s bs + ends (end_of shift s bs)) (told_word values tables rows s)
-    (wide (length values) short) (told_first values ends tables rows s have passed below) word size in
-    let told = told_cost values ends tables rows s have passed below in
-    omega (arith, cost, free_end, least, told)
+    let least = first_least-key (length values) (scale) (λ bs. path_cost shift (step_cost values) 0 s bs + ends (end_of shift s bs)) (decoded_word values tables rows s)
+    (wide (length values) short) (decoded_first values ends tables rows s have passed below) word size in
+    let decoded = decoded_cost values ends tables rows s have passed below in
+    omega (arith, cost, free_end, least, decoded)
 
 -- no word that starts in s, and so ends there, costs less than the minimum cost to s without the cost of a start in s
 pub cost_bound : (values : List (List ℤ)) (starts : ℕ → ℕ) (s m : ℕ) → 6 ≤ length values → s < 64 →
@@ -76,29 +76,29 @@ cost_bound values starts s m long below to word size is =
 
 -- if the path ends in s too, where the end is free, its key is the key of a word
 pub pass_key : (values : List (List ℤ)) (ends : ℕ → ℕ) (tables : List (List ℕ)) (rows : List (List ℕ)) (s : ℕ) → HaveCosts values tables (length values) → IsPass values ends rows →
-    6 ≤ length values → s < 64 → ends s ≡ 0 → end_of shift s (told_word values tables rows s) ≡ s →
-    IsWordKey values (get_or (get_or rows 0 []) s 0 * scale + number (told_word values tables rows s))
+    6 ≤ length values → s < 64 → ends s ≡ 0 → end_of shift s (decoded_word values tables rows s) ≡ s →
+    IsWordKey values (get_or (get_or rows 0 []) s 0 * scale + number (decoded_word values tables rows s))
 pass_key values ends tables rows s have passed long below free closed =
-    let word = told_word values tables rows s in
-    let size = length-walked shift (told_bit tables rows) 0 (length values) s in
+    let word = decoded_word values tables rows s in
+    let size = length-walked shift (decoded_bit tables rows) 0 (length values) s in
     let start : end_of shift 0 word ≡ s = same_end 0 s word (omega arith) below (omega (arith, size, long)) ∙ closed in
     let (back, cost) = round values s word size long below start in
     let free_end : ends (end_of shift s word) ≡ 0 = ap ends closed ∙ free in
-    let told = told_cost values ends tables rows s have passed below in
-    (word, size, omega (arith, cost, free_end, told))
+    let decoded = decoded_cost values ends tables rows s have passed below in
+    (word, size, omega (arith, cost, free_end, decoded))
 
 -- the key if only an end in s is free
 pub pass_key_or_far : (values : List (List ℤ)) (ends : ℕ → ℕ) (tables : List (List ℕ)) (rows : List (List ℕ)) (s : ℕ) → HaveCosts values tables (length values) → IsPass values ends rows →
     6 ≤ length values → s < 64 → ((x : ℕ) → x < 64 → ends x ≡ ends_in far s x) →
-    IsKeyOrFar values (get_or (get_or rows 0 []) s 0 * scale + number (told_word values tables rows s))
+    IsKeyOrFar values (get_or (get_or rows 0 []) s 0 * scale + number (decoded_word values tables rows s))
 pass_key_or_far values ends tables rows s have passed long below are small =
-    let word = told_word values tables rows s in
+    let word = decoded_word values tables rows s in
     elim (eqb_tells (end_of shift s word) s) [
       | inl (t, closed) ↦ pass_key values ends tables rows s have passed long below (are s below ∙ ends_in_same (far) s s refl) closed
       | inr (f, away) ↦
           let costs : ends (end_of shift s word) ≡ far = are (end_of shift s word) (end_below s word below) ∙ ends_in_other (far) s (end_of shift s word) f in
-          let told = told_cost values ends tables rows s have passed below in
-          absurd (omega (arith, costs, told, small))
+          let decoded = decoded_cost values ends tables rows s have passed below in
+          absurd (omega (arith, costs, decoded, small))
     ]
 
 -- ---- the minimum key
@@ -124,8 +124,8 @@ bounds_with values bounds start m inside are here = record {
 -- the key of any word is below that of a far end
 below_far : (values : List (List ℤ)) (word : List Bool) → length word ≡ length values → length values ≤ 64 → RowsWithin (2 ^ 20) values →
     word_key values word < far * scale
-below_far values word size short sizes =
-    let cost = word_cost-le (2 ^ 20) values word sizes in
+below_far values word size short magnitudes =
+    let cost = word_cost-le (2 ^ 20) values word magnitudes in
     let below = number_below word in
     let power : 2 ^ length word ≤ 2 ^ 64 = pow_mono {j = 64} (omega (arith, size, short)) in
     omega (arith, cost, below, power, short)
@@ -133,7 +133,7 @@ below_far values word size short sizes =
 -- a key that is at most every bound is the minimum key
 pub no_bound_below : (values : List (List ℤ)) (bounds : List ℕ) (start m : ℕ) → length values ≤ 64 → RowsWithin (2 ^ 20) values → AreBounds values bounds →
     ((x : ℕ) → x < 64 → get_or bounds start 0 ≤ get_or bounds x 0) → m ≤ get_or bounds start 0 → IsKeyOrFar values m → IsLeastKey values m
-no_bound_below values bounds start m short sizes are least no_less is =
+no_bound_below values bounds start m short magnitudes are least no_less is =
     let lower : (word : List Bool) → length word ≡ length values → m ≤ word_key values word =
     λ word size.
     let s = end_of shift 0 word in
@@ -144,7 +144,7 @@ no_bound_below values bounds start m short sizes are least no_less is =
     let some = bits_of (length values) 0 in
     let size = length-bits_of (length values) 0 in
     let h = lower some size in
-    let h' = below_far values some size short sizes in
+    let h' = below_far values some size short magnitudes in
     record { reached = is (omega (arith, h, h')); least = lower }
 
 -- the word and the cost that a minimum key holds
@@ -155,11 +155,11 @@ pub record IsDecoded (values : List (List ℤ)) (m : ℕ) (word : List Bool) : T
 
 decoded : (values : List (List ℤ)) (m : ℕ) (word : List Bool) → IsLeastKey values m → length values ≤ 64 → RowsWithin (2 ^ 20) values →
     word ≡ bits_of (length values) (m % scale) → IsDecoded values m word
-decoded values m word known short sizes bits =
+decoded values m word known short magnitudes bits =
     let (w, size, is) = known.reached in
     let below = number_below w in
     let power : 2 ^ length w ≤ scale = pow_mono {j = 64} (omega (arith, size, short)) in
-    let cost = word_cost-le (2 ^ 20) values w sizes in
+    let cost = word_cost-le (2 ^ 20) values w magnitudes in
     let low : m % scale ≡ number w = omega (arith, is, below, power) in
     let high : m / scale ≡ word_cost values w = omega (arith, is, below, power) in
     let e : w ≡ word = bits_of_is (length values) (m % scale) w size (sym low) ∙ sym bits in
@@ -175,4 +175,4 @@ decoded values m word known short sizes bits =
 -- the word and the cost for an array of n positions
 pub decoded_array : (n : ℕ) (values : List (List ℤ)) (m : ℕ) (word : List Bool) → length values ≡ n → IsLeastKey values m → n ≤ 64 →
     RowsWithin (2 ^ 20) values → word ≡ bits_of n (m % scale) → IsDecoded values m word
-decoded_array n values m word e known short sizes bits = decoded values m word known (rw e short) sizes (rw e bits)
+decoded_array n values m word e known short magnitudes bits = decoded values m word known (rw e short) magnitudes (rw e bits)

@@ -16,5 +16,5 @@ abbrev pub IsFreePass : List (List ℤ) → List (List ℕ) → Type 0
 IsFreePass values rows = (ends : ℕ → ℕ) × ((x : ℕ) → x < 64 → ends x ≡ 0) × IsPass values ends rows
 
 -- the first bit on the minimum-cost path from a position and state, by the cost tables and such rows
-abbrev pub told_bit : List (List ℕ) → List (List ℕ) → ℕ → ℕ → Bool
-told_bit tables rows k = bit_out shift (shared_cost (slice_index_or tables k [])) (slice_index_or rows (k + 1) [])
+abbrev pub decoded_bit : List (List ℕ) → List (List ℕ) → ℕ → ℕ → Bool
+decoded_bit tables rows k = bit_out shift (shared_cost (slice_index_or tables k [])) (slice_index_or rows (k + 1) [])

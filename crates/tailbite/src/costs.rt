@@ -56,7 +56,7 @@ fn costs_of(values: &[i32; 3]) -> StepCosts
 /// 2^20.
 pub fn fill_costs(values: &[[i32; 3]], tables: &mut [StepCosts])
     requires room { length values.now ≤ length tables.old }
-    requires sizes { RowsWithin (2 ^ 20) values.now }
+    requires magnitudes { RowsWithin (2 ^ 20) values.now }
     ensures costs { HaveCosts values.now tables.new (length values.now) }
     ensures count { length tables.new ≡ length tables.old }
 {

@@ -10,6 +10,6 @@ pub fn one_least_word()
 {}
 
 /// A law: if each value speaks for the coded bit of one word, and none is 0, that word is the only minimum-cost word.
-pub fn values_tell_the_word()
+pub fn values_determine_the_word()
     ensures { IsOnlyLeast }
 {}

@@ -15,7 +15,7 @@ mod search;
 mod steps;
 
 pub use costs::{StepCosts, cost_at, fill_costs};
-pub use laws::{one_least_word, values_tell_the_word};
+pub use laws::{one_least_word, values_determine_the_word};
 pub use memory::Trellis;
 pub use passes::{CostRow, step_on};
 pub use search::{free_at, least, least_by};

@@ -8,7 +8,7 @@ ghost use Rattle.trellis.specs.Rows.{bit_out, least_out};
 ghost use Rattle.cs_bits.specs.Numbers.{number};
 ghost use Rattle.tailbite.specs.Machine.{first_from, shift, step_cost};
 ghost use Rattle.tailbite.specs.Costs.{HaveCosts, shared_cost, shared_least};
-ghost use Rattle.tailbite.specs.Passes.{IsPass, told_bit};
+ghost use Rattle.tailbite.specs.Passes.{IsPass, decoded_bit};
 
 use crate::costs::StepCosts;
 use crate::steps::next;
@@ -142,8 +142,8 @@ pub(crate) fn walk(
     requires small { (k y : ℕ) → k < count → y < 64 → slice_index (slice_index_or tables.now k []) y ≤ 3 * 2 ^ 20 }
     requires room { (k x : ℕ) → k ≤ count → x < 64 → slice_index (slice_index_or rows.now k []) x ≤ 2 ^ 31 }
     requires start { start < 64 }
-    ensures word { result.0 ≡ number (walked shift (told_bit tables.now rows.now) 0 count start) }
-    ensures end { result.1 ≡ end_of shift start (walked shift (told_bit tables.now rows.now) 0 count start) }
+    ensures word { result.0 ≡ number (walked shift (decoded_bit tables.now rows.now) 0 count start) }
+    ensures end { result.1 ≡ end_of shift start (walked shift (decoded_bit tables.now rows.now) 0 count start) }
 {
     let mut state = start;
     let mut word: u64 = 0;

@@ -153,7 +153,7 @@ fn least_key(
 ) -> u128
     requires low { 6 ≤ length values.now }
     requires high { length values.now ≤ 64 }
-    requires sizes { RowsWithin (2 ^ 20) values.now }
+    requires magnitudes { RowsWithin (2 ^ 20) values.now }
     requires tables { length values.now ≤ length tables.now }
     requires free { length values.now < length free.old }
     requires rows { length values.now < length rows.old }
@@ -188,7 +188,7 @@ fn least_of<const N: usize>(
 ) -> (Bits<N>, u32)
     requires low { 6 ≤ N }
     requires high { N ≤ 64 }
-    requires sizes { RowsWithin (2 ^ 20) values.now }
+    requires magnitudes { RowsWithin (2 ^ 20) values.now }
     requires tables { N ≤ length tables.now }
     requires free { N < length free.old }
     requires rows { N < length rows.old }
@@ -205,7 +205,7 @@ fn least_of<const N: usize>(
 pub fn least<const N: usize>(values: &[[i32; 3]; N], work: &mut Trellis) -> (Bits<N>, u32)
     requires low { 6 ≤ N }
     requires high { N ≤ 64 }
-    requires sizes { RowsWithin (2 ^ 20) values.now }
+    requires magnitudes { RowsWithin (2 ^ 20) values.now }
     ensures word { IsLeastWord values.now result.0 }
     ensures cost { result.1 ≡ word_cost values.now result.0 }
 {
@@ -221,7 +221,7 @@ pub fn least_by<const N: usize>(
 ) -> (Bits<N>, u32)
     requires low { 6 ≤ N }
     requires high { N ≤ 64 }
-    requires sizes { RowsWithin (2 ^ 20) values.now }
+    requires magnitudes { RowsWithin (2 ^ 20) values.now }
     requires tables { N ≤ length tables.now }
     requires costs { HaveCosts values.now tables.now N }
     ensures word { IsLeastWord values.now result.0 }

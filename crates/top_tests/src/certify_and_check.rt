@@ -103,7 +103,7 @@ fn no_bytes_are_no_certificate(rt: HostRuntime) -> Result<(), Fail> {
 }
 
 #[test]
-fn the_first_byte_that_breaks_the_form_is_told(rt: HostRuntime) -> Result<(), Fail> {
+fn the_first_byte_that_breaks_the_form_is_reported(rt: HostRuntime) -> Result<(), Fail> {
     let alloc = rt.alloc();
     assert!(rt; refuses_at(alloc, changed(alloc, 4, &[0xf1, 0x07])?, BYTES, 4)?);
     // A soft value of -2,033 whose two bytes arrive in two reads.
@@ -114,7 +114,7 @@ fn the_first_byte_that_breaks_the_form_is_told(rt: HostRuntime) -> Result<(), Fa
 }
 
 #[test]
-fn an_early_end_is_told_as_the_length(rt: HostRuntime) -> Result<(), Fail> {
+fn an_early_end_is_reported_as_the_length(rt: HostRuntime) -> Result<(), Fail> {
     for len in [3, 4, 100, 243, 252, 10_500] {
         let bytes = cut(rt.alloc(), len)?;
         assert!(rt;
@@ -126,7 +126,7 @@ fn an_early_end_is_told_as_the_length(rt: HostRuntime) -> Result<(), Fail> {
 }
 
 #[test]
-fn the_table_of_a_start_state_is_read_where_the_set_tells_it(rt: HostRuntime) -> Result<(), Fail> {
+fn the_table_of_a_start_state_is_read_where_the_set_says(rt: HostRuntime) -> Result<(), Fail> {
     let mut bytes = changed(rt.alloc(), 10_493, &[1])?;
     assert!(rt; refuses_at(rt.alloc(), bytes.clone()?, BYTES, 10_501)?);
     bytes.extend_from_slice(&[0; 10_240])?;

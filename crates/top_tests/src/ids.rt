@@ -32,7 +32,7 @@ fn zeros_hold_no_identity(rt: HostRuntime) -> Result<(), Fail> {
 }
 
 #[test]
-fn both_signals_tell_identity_subframe_and_frame_start(rt: HostRuntime) -> Result<(), Fail> {
+fn both_signals_give_identity_subframe_and_frame_start(rt: HostRuntime) -> Result<(), Fail> {
     let mut bytes = lone_signal(rt.alloc())?;
     put_signal(&mut bytes, 863, &SECONDARY);
     assert!(rt; gives(rt.alloc(), "ids", bytes, "ids 1\n1000 501 5 9768\n")?);

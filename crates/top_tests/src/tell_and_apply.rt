@@ -56,7 +56,7 @@ const AS_JSON: &str =
 \"peak\":2139102564229,\"power\":1996394,\"turn\":-131}],\"told\":{\"cells\":1,\"hits\":2,\"turn\":0}}\n";
 
 #[test]
-fn what_is_told_of_a_plain_cell_as_json(rt: HostRuntime) -> Result<(), Fail> {
+fn a_plain_cell_as_json(rt: HostRuntime) -> Result<(), Fail> {
     let (alloc, tuner) = (rt.alloc(), Program::Tuner);
     let bytes = sent_by(alloc, "")?.written;
     assert!(rt; gives_by(alloc, tuner, "tell --json", bytes, AS_JSON)?);

@@ -15,4 +15,4 @@ pub mod Sums
 pub mod Inside
 pub mod Whole
 pub mod Known
-pub mod Sizes
+pub mod Magnitudes

@@ -178,7 +178,7 @@ pub fn combine(values: &[i16], row: Row, rv: u8) -> Combined
     requires count { length values.now ≤ 5760 }
     ensures k { result.k ≡ row.k }
     ensures d { result.d ≡ summed row.k rv values.now }
-    ensures sizes { (bound rounds : ℕ) → AllWithin bound values.now →
+    ensures magnitudes { (bound rounds : ℕ) → AllWithin bound values.now →
         length values.now ≤ rounds * 180 →
         RowsWithin (rounds * bound) result.d }
 {

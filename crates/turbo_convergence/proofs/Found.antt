@@ -9,13 +9,13 @@ use Rattle.turbo_dec.specs.Decoder.{Values, at, score, greatest_score, extrinsic
 use Rattle.turbo_dec.proofs.Greatest.{greatest_score_is_greatest}
 use Rattle.cs_bits.specs.Signs.{Supports}
 use Rattle.erasure.specs.Known.{Sent, shows, found}
-use Rattle.turbo_convergence.specs.Tells.{Tells, AllTell}
+use Rattle.turbo_convergence.specs.Conveys.{Conveys, AllConvey}
 use Rattle.turbo_code.proofs.Linear.{word_sum, word_sum_at, word_sum_again, length-word_sum}
 use Rattle.finite.proofs.Sums.{positive, positive_at, positive_from}
 use Rattle.trellis.specs.AllWords.{every_word}
 use Rattle.trellis.proofs.AllWords.{every_word_all, every_word_at}
-use Rattle.turbo_convergence.proofs.Telling.{tells_allows, tells-within_2047}
-use Rattle.turbo_convergence.proofs.Losses.{own, own_tells, loss, others, score_loses, others_show, loss_is}
+use Rattle.turbo_convergence.proofs.Conveying.{conveys_allows, conveys-within_2047}
+use Rattle.turbo_convergence.proofs.Losses.{own, own_conveys, loss, others, score_loses, others_show, loss_is}
 
 -- ---- the minimum loss
 
@@ -32,20 +32,20 @@ signed : Bool → ℕ → ℤ → Type 0
 signed false m z = z ≡ pos m
 signed true m z = z +ℤ pos m ≡ pos 0
 
-module _ (word : List Bool) (sent : Sent) (known : ℕ → Bool) (v : Values) (told : AllTell word sent known v) (k : ℕ) (inside : k < length word) where
+module _ (word : List Bool) (sent : Sent) (known : ℕ → Bool) (v : Values) (decoded : AllConvey word sent known v) (k : ℕ) (inside : k < length word) where
   within : k < length v.systematic
-  within = let same = told.size in omega (arith, same, inside)
+  within = let same = decoded.size in omega (arith, same, inside)
 
   -- the sent word has the maximum score of the words with its bit k
   sent_is_greatest : greatest_score v k (bit_at word k) ≡ score v word
   sent_is_greatest =
       let top = greatest_score_is_greatest v k (bit_at word k) within in
       let (w, size, bit, is) = top.reached in
-      let size' : length w ≡ length word = size ∙ told.size in
-      let loses = score_loses word sent known v told (word_sum word w) (length-word_sum word w) in
+      let size' : length w ≡ length word = size ∙ decoded.size in
+      let loses = score_loses word sent known v decoded (word_sum word w) (length-word_sum word w) in
       let back = word_sum_again word w size' in
       let loses' = subst (λ u. score v word ≡ score v u +ℤ pos (loss v (word_sum word w))) back loses in
-      let above = top.greatest word (sym told.size) refl in
+      let above = top.greatest word (sym decoded.size) refl in
       omega (arith, ints, is, loses', above)
 
   flipped : (b : Bool) → xor b (not b) ≡ true
@@ -60,22 +60,22 @@ module _ (word : List Bool) (sent : Sent) (known : ℕ → Bool) (v : Values) (t
   margin =
       let top = greatest_score_is_greatest v k (not (bit_at word k)) within in
       let (w, size, bit, is) = top.reached in
-      let size' : length w ≡ length word = size ∙ told.size in
+      let size' : length w ≡ length word = size ∙ decoded.size in
       let d : List Bool = word_sum word w in
       let size_d : length d ≡ length word = length-word_sum word w in
       let bit_d : bit_at d k ≡ true = word_sum_at word w k inside ∙ ap (xor (bit_at word k)) bit ∙ flipped (bit_at word k) in
       let back = word_sum_again word w size' in
-      let loses = subst (λ u. score v word ≡ score v u +ℤ pos (loss v d)) back (score_loses word sent known v told d size_d) in
+      let loses = subst (λ u. score v word ≡ score v u +ℤ pos (loss v d)) back (score_loses word sent known v decoded d size_d) in
       let split = loss_is v k d within bit_d in (
         others v k d,
         record {
-          reached = (d, size_d ∙ sym told.size, bit_d, refl);
+          reached = (d, size_d ∙ sym decoded.size, bit_d, refl);
           least = λ e size_e bit_e.
-              let size_e' : length e ≡ length word = size_e ∙ told.size in
+              let size_e' : length e ≡ length word = size_e ∙ decoded.size in
               let other : List Bool = word_sum word e in
               let bit_o : bit_at other k ≡ not (bit_at word k) = word_sum_at word e k inside ∙ ap (xor (bit_at word k)) bit_e ∙ turned (bit_at word k) in
-              let below = top.greatest other (length-word_sum word e ∙ sym told.size) bit_o in
-              let loses_e = score_loses word sent known v told e size_e' in
+              let below = top.greatest other (length-word_sum word e ∙ sym decoded.size) bit_o in
+              let loses_e = score_loses word sent known v decoded e size_e' in
               let split_e = loss_is v k e within bit_e in
               omega (arith, ints, is, loses, split, below, loses_e, split_e);
         },
@@ -95,10 +95,10 @@ module _ (word : List Bool) (sent : Sent) (known : ℕ → Bool) (v : Values) (t
     | inl e ↦ e ∙ sym (every_word_all (length word) test (λ d size. every d (bit_at d k) refl size (positive_at m e)))
     | inr e ↦
         let (d, size, bit, is) = margin.reached in
-        let hides : shows (length word) sent known k d ≡ false = sym (others_show word sent known v told k d) ∙ ap positive is ∙ e in
+        let hides : shows (length word) sent known k d ≡ false = sym (others_show word sent known v decoded k d) ∙ ap positive is ∙ e in
         let fails : test d ≡ false = rw (bit, hides) refl in
         elim (cases_Bool (every_word (length word) test)) [
-          | inl all ↦ absurd (true≢false (sym (every_word_at (length word) test all d (size ∙ told.size)) ∙ fails))
+          | inl all ↦ absurd (true≢false (sym (every_word_at (length word) test all d (size ∙ decoded.size)) ∙ fails))
           | inr none ↦ e ∙ sym none
         ]
   ]
@@ -109,26 +109,26 @@ module _ (word : List Bool) (sent : Sent) (known : ℕ → Bool) (v : Values) (t
       every : (d : List Bool) (b : Bool) → bit_at d k ≡ b → length d ≡ length word → 1 ≤ m → test d ≡ true
       every d false e size above = rw e refl
       every d true e size above =
-          let least = margin.least d (size ∙ sym told.size) e in
-          let shown : shows (length word) sent known k d ≡ true = sym (others_show word sent known v told k d) ∙ positive_from (others v k d) (omega (arith, least, above)) in
+          let least = margin.least d (size ∙ sym decoded.size) e in
+          let shown : shows (length word) sent known k d ≡ true = sym (others_show word sent known v decoded k d) ∙ positive_from (others v k d) (omega (arith, least, above)) in
           rw (e, shown) refl
 
-  signed_tells : (b : Bool) (m : ℕ) (z : ℤ) → signed b m z → Tells (positive m) b z
+  signed_conveys : (b : Bool) (m : ℕ) (z : ℤ) → signed b m z → Conveys (positive m) b z
   unfolding signed
-  signed_tells b zero z h = zero_is b z h
+  signed_conveys b zero z h = zero_is b z h
     where
       zero_is : (b : Bool) (z : ℤ) → signed b 0 z → z ≡ pos 0
       zero_is false z h = h
       zero_is true z h = omega (arith, ints, h)
-  signed_tells false (suc m) z h = omega (arith, ints, h)
-  signed_tells true (suc m) z h = omega (arith, ints, h)
+  signed_conveys false (suc m) z h = omega (arith, ints, h)
+  signed_conveys true (suc m) z h = omega (arith, ints, h)
 
-  pub extrinsic_tells : Tells (found (length word) sent known k) (bit_at word k) (extrinsic v k)
+  pub extrinsic_conveys : Conveys (found (length word) sent known k) (bit_at word k) (extrinsic v k)
   unfolding extrinsic
-  extrinsic_tells =
+  extrinsic_conveys =
       let (m, is_margin, other) = margin in
-      let speaks = tells_allows (sent.information k || known k) (bit_at word k) (own v k) (own_tells word sent known v told k inside) in
+      let speaks = conveys_allows (sent.information k || known k) (bit_at word k) (own v k) (own_conveys word sent known v decoded k inside) in
       let is = raw_is (bit_at word k) refl m other sent_is_greatest speaks in
-      let tells = signed_tells (bit_at word k) m (raw v k) is in
-      tells-within_2047 (found (length word) sent known k) (bit_at word k) (raw v k)
-      (subst (λ there. Tells there (bit_at word k) (raw v k)) (margin_found m is_margin) tells)
+      let conveys = signed_conveys (bit_at word k) m (raw v k) is in
+      conveys-within_2047 (found (length word) sent known k) (bit_at word k) (raw v k)
+      (subst (λ there. Conveys there (bit_at word k) (raw v k)) (margin_found m is_margin) conveys)

@@ -5,7 +5,7 @@
 -- It is 0 exactly if some d with a 1 at k has no other value that is not 0, which means that the bit is not found.
 
 -- Values with a bit's sign, or 0: sums and the decoder's operations preserve this.
-pub mod Telling
+pub mod Conveying
 -- The loss of a word's score against the sent word.
 pub mod Losses
 -- The extrinsic value is the minimum loss at the other bits.

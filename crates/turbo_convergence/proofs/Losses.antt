@@ -10,8 +10,8 @@ use Rattle.turbo_code.specs.Encoder.{bit_at, parity, tail_x, tail_z}
 use Rattle.turbo_code.proofs.Linear.{word_sum, word_sum_at, parity-word_sum, tail_x-word_sum, tail_z-word_sum}
 use Rattle.turbo_dec.specs.Decoder.{Values, at, taken, score_at, tail_score, score}
 use Rattle.erasure.specs.Known.{Sent, step_shows, tail_shows, shows}
-use Rattle.turbo_convergence.specs.Tells.{Tells, AllTell}
-use Rattle.turbo_convergence.proofs.Telling.{tells_size, tells-sum, taken_loses}
+use Rattle.turbo_convergence.specs.Conveys.{Conveys, AllConvey}
+use Rattle.turbo_convergence.proofs.Conveying.{conveys_size, conveys-sum, taken_loses}
 
 -- sums whose terms exceed those of other sums
 sum_exceeds : (n : ℕ) (f g : ℕ → ℤ) (h : ℕ → ℕ) → ((k : ℕ) → k < n → f k ≡ g k +ℤ pos (h k)) → sum_below n f ≡ sum_below n g +ℤ pos (total_below n h)
@@ -42,23 +42,23 @@ other_loss v k d j = cond (not (nat_eq j k) && bit_at d j) (nat_abs (own v j)) 0
 pub others : Values → ℕ → List Bool → ℕ
 others v k d = total_below (length v.systematic) (other_loss v k d) + total_below 3 (tail_loss v d)
 
-module _ (word : List Bool) (sent : Sent) (known : ℕ → Bool) (v : Values) (told : AllTell word sent known v) where
-  pub own_tells : (k : ℕ) → k < length word → Tells (sent.information k || known k) (bit_at word k) (own v k)
-  own_tells k inside = tells-sum (sent.information k) (known k) (bit_at word k) (at v.systematic k) (at v.prior k) (told.systematic k inside) (told.prior k inside)
+module _ (word : List Bool) (sent : Sent) (known : ℕ → Bool) (v : Values) (decoded : AllConvey word sent known v) where
+  pub own_conveys : (k : ℕ) → k < length word → Conveys (sent.information k || known k) (bit_at word k) (own v k)
+  own_conveys k inside = conveys-sum (sent.information k) (known k) (bit_at word k) (at v.systematic k) (at v.prior k) (decoded.systematic k inside) (decoded.prior k inside)
 
   loses_at : (d : List Bool) (k : ℕ) → k < length word → score_at v word k ≡ score_at v (word_sum word d) k +ℤ pos (loss_at v d k)
   unfolding loss_at
   loses_at d k inside =
-      let s = taken_loses (sent.information k || known k) (bit_at word k) (bit_at d k) (own v k) (own_tells k inside) in
-      let p = taken_loses (sent.parity k) (parity word k) (parity d k) (at v.parity k) (told.parity k inside) in
+      let s = taken_loses (sent.information k || known k) (bit_at word k) (bit_at d k) (own v k) (own_conveys k inside) in
+      let p = taken_loses (sent.parity k) (parity word k) (parity d k) (at v.parity k) (decoded.parity k inside) in
       let e = ap₂ (λ b z. taken (own v k) b +ℤ taken (at v.parity k) z) (word_sum_at word d k inside) (parity-word_sum word d k inside) in
       subst (λ z. score_at v word k ≡ z +ℤ pos (loss_at v d k)) (sym e) (omega (arith, ints, s, p))
 
   tail_loses : (d : List Bool) (j : ℕ) → length d ≡ length word → j < 3 → tail_score v word j ≡ tail_score v (word_sum word d) j +ℤ pos (tail_loss v d j)
   unfolding tail_loss
   tail_loses d j size inside =
-      let s = taken_loses (sent.tail (2 * j)) (tail_x word j) (tail_x d j) (at v.tail (2 * j)) (told.tail_x j inside) in
-      let p = taken_loses (sent.tail (2 * j + 1)) (tail_z word j) (tail_z d j) (at v.tail (2 * j + 1)) (told.tail_z j inside) in
+      let s = taken_loses (sent.tail (2 * j)) (tail_x word j) (tail_x d j) (at v.tail (2 * j)) (decoded.tail_x j inside) in
+      let p = taken_loses (sent.tail (2 * j + 1)) (tail_z word j) (tail_z d j) (at v.tail (2 * j + 1)) (decoded.tail_z j inside) in
       let e = ap₂ (λ b z. taken (at v.tail (2 * j)) b +ℤ taken (at v.tail (2 * j + 1)) z) (tail_x-word_sum word d j size) (tail_z-word_sum word d j size) in
       subst (λ z. tail_score v word j ≡ z +ℤ pos (tail_loss v d j)) (sym e) (omega (arith, ints, s, p))
 
@@ -66,7 +66,7 @@ module _ (word : List Bool) (sent : Sent) (known : ℕ → Bool) (v : Values) (t
   unfolding score loss
   score_loses d size =
       let n : ℕ = length v.systematic in
-      let same = told.size in
+      let same = decoded.size in
       let indices = sum_exceeds n (score_at v word) (score_at v (word_sum word d)) (loss_at v d) (λ k l. loses_at d k (omega (arith, l, same))) in
       let tails = sum_exceeds 3 (tail_score v word) (tail_score v (word_sum word d)) (tail_loss v d) (λ j l. tail_loses d j size l) in
       omega (arith, ints, indices, tails)
@@ -75,20 +75,20 @@ module _ (word : List Bool) (sent : Sent) (known : ℕ → Bool) (v : Values) (t
   pub others_show : (k : ℕ) (d : List Bool) → positive (others v k d) ≡ shows (length word) sent known k d
   unfolding others other_loss tail_loss
   others_show k d =
-      let same = told.size in
+      let same = decoded.size in
       positive-sum (total_below (length v.systematic) (other_loss v k d)) (total_below 3 (tail_loss v d))
       ∙ ap₂ ◌||◌
       (total_below-positive (length v.systematic) (other_loss v k d) (step_shows sent known k d) (λ j l.
       let inside : j < length word = omega (arith, l, same) in
       pair (not (nat_eq j k) && bit_at d j) (parity d j) (nat_abs (own v j)) (nat_abs (at v.parity j))
       (sent.information j || known j) (sent.parity j)
-      (tells_size (sent.information j || known j) (bit_at word j) (own v j) (own_tells j inside))
-      (tells_size (sent.parity j) (parity word j) (at v.parity j) (told.parity j inside)))
+      (conveys_size (sent.information j || known j) (bit_at word j) (own v j) (own_conveys j inside))
+      (conveys_size (sent.parity j) (parity word j) (at v.parity j) (decoded.parity j inside)))
       ∙ ap (λ n. any_below n (step_shows sent known k d)) same)
       (total_below-positive 3 (tail_loss v d) (tail_shows sent d) (λ j l.
       pair (tail_x d j) (tail_z d j) (nat_abs (at v.tail (2 * j))) (nat_abs (at v.tail (2 * j + 1))) (sent.tail (2 * j)) (sent.tail (2 * j + 1))
-      (tells_size (sent.tail (2 * j)) (tail_x word j) (at v.tail (2 * j)) (told.tail_x j l))
-      (tells_size (sent.tail (2 * j + 1)) (tail_z word j) (at v.tail (2 * j + 1)) (told.tail_z j l))))
+      (conveys_size (sent.tail (2 * j)) (tail_x word j) (at v.tail (2 * j)) (decoded.tail_x j l))
+      (conveys_size (sent.tail (2 * j + 1)) (tail_z word j) (at v.tail (2 * j + 1)) (decoded.tail_z j l))))
     where
       one : (c : Bool) (a : ℕ) (there : Bool) → positive a ≡ there → positive (cond c a 0) ≡ (c && there)
       one true a there e = e

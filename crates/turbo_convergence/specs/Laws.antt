@@ -10,7 +10,7 @@ use Rattle.turbo_code.specs.Reading.{summed}
 use Rattle.turbo_dec.specs.Decoder.{Values, at, extrinsic}
 use Rattle.turbo_dec.specs.Block.{prior_after, first_extrinsics, second_after, word_by, block}
 use Rattle.erasure.specs.Known.{Sent, found, first_found, known_after, word_after, resolvable, sent_of}
-use Rattle.turbo_convergence.specs.Tells.{Tells, AllAllow, AllTell, SumsSupport, SumsTell, ValuesSupport}
+use Rattle.turbo_convergence.specs.Conveys.{Conveys, AllAllow, AllConvey, SumsSupport, SumsConvey, ValuesSupport}
 
 -- ---- one constituent decoder
 
@@ -22,45 +22,45 @@ ExtrinsicsSpeak =
     (k : ℕ) → k < length word → Supports 0 (bit_at word k) (extrinsic v k)
 
 -- a law: an extrinsic value has the sign of the sent bit exactly if the bit is found, and is 0 otherwise
-abbrev pub ExtrinsicsTell : Type 0
-ExtrinsicsTell =
-    (word : List Bool) (sent : Sent) (known : ℕ → Bool) (v : Values) → AllTell word sent known v →
-    (k : ℕ) → k < length word → Tells (found (length word) sent known k) (bit_at word k) (extrinsic v k)
+abbrev pub ExtrinsicsConvey : Type 0
+ExtrinsicsConvey =
+    (word : List Bool) (sent : Sent) (known : ℕ → Bool) (v : Values) → AllConvey word sent known v →
+    (k : ℕ) → k < length word → Conveys (found (length word) sent known k) (bit_at word k) (extrinsic v k)
 
 -- ---- the iterations
 
 -- the result of iteration n + 1 on sums with the sent bits' signs: the extrinsic values of both decoders that are not
 -- 0, and the decoded word
-pub record IterationTells (row : Row) (word : List Bool) (sent : ℕ → ℕ → Bool) (sums : List (List ℤ)) (n : ℕ)
+pub record IterationConveys (row : Row) (word : List Bool) (sent : ℕ → ℕ → Bool) (sums : List (List ℤ)) (n : ℕ)
     : Type 0 where
   pub first : (k : ℕ) → k < row.k →
-      Tells (first_found row sent (known_after row sent n) k) (bit_at word k)
+      Conveys (first_found row sent (known_after row sent n) k) (bit_at word k)
       (at (first_extrinsics row sums (prior_after row sums n)) k)
   pub second : (k : ℕ) → k < row.k →
-      Tells (known_after row sent (suc n) k) (bit_at word k)
+      Conveys (known_after row sent (suc n) k) (bit_at word k)
       (at (second_after row sums (prior_after row sums n)) k)
-  pub told : word_by row sums (prior_after row sums n) ≡ word_after row sent word n
+  pub decoded : word_by row sums (prior_after row sums n) ≡ word_after row sent word n
 
-abbrev pub IterationsTell : Type 0
-IterationsTell =
+abbrev pub IterationsConvey : Type 0
+IterationsConvey =
     (row : Row) (word : List Bool) (sent : ℕ → ℕ → Bool) (sums : List (List ℤ)) → IsAnyRow row → length word ≡ row.k →
-    SumsTell row word sent sums → (n : ℕ) → IterationTells row word sent sums n
+    SumsConvey row word sent sums → (n : ℕ) → IterationConveys row word sent sums n
 
 -- ---- decoding sums
 
 -- a law: a block with its CRC is decoded if no sum has the wrong sign for its coded bit, and no systematic bit has the
 -- sum 0
-abbrev pub SpokenBlockIsTold : Type 0
-SpokenBlockIsTold =
+abbrev pub SpokenBlockIsDecoded : Type 0
+SpokenBlockIsDecoded =
     (row : Row) (word : List Bool) (sums : List (List ℤ)) → IsAnyRow row → length word ≡ row.k →
     has_check_24 word ≡ true → SumsSupport 0 row word sums → ((k : ℕ) → k < row.k → sum_at sums 0 k ≢ pos 0) →
     block row sums ≡ Some (message_of 24 word)
 
 -- a law: a block with its CRC is decoded if the sums have the signs of the sent coded bits, and these resolve the block
-abbrev pub ResolvableBlockIsTold : Type 0
-ResolvableBlockIsTold =
+abbrev pub ResolvableBlockIsDecoded : Type 0
+ResolvableBlockIsDecoded =
     (row : Row) (word : List Bool) (sent : ℕ → ℕ → Bool) (sums : List (List ℤ)) → IsAnyRow row → length word ≡ row.k →
-    has_check_24 word ≡ true → SumsTell row word sent sums → resolvable row sent word ≡ true →
+    has_check_24 word ≡ true → SumsConvey row word sent sums → resolvable row sent word ≡ true →
     block row sums ≡ Some (message_of 24 word)
 
 -- ---- sums of received values
@@ -72,10 +72,10 @@ ReceivedSumsAllow =
     SumsSupport 0 row word (summed row.k rv values)
 
 -- a law: if each value has the sign of its sent bit, the sums have the sent coded bits' signs and are 0 elsewhere
-abbrev pub ReceivedSumsTell : Type 0
-ReceivedSumsTell =
+abbrev pub ReceivedSumsConvey : Type 0
+ReceivedSumsConvey =
     (row : Row) (word : List Bool) (rv : ℕ) (values : List ℤ) → IsAnyRow row → ValuesSupport 1 row word rv values →
-    SumsTell row word (sent_of row.k rv (length values)) (summed row.k rv values)
+    SumsConvey row word (sent_of row.k rv (length values)) (summed row.k rv values)
 
 -- a law: if there are at least as many values as coded bits, each with the sign of its sent bit, each sum has its bit's
 -- sign
@@ -87,16 +87,16 @@ WholeSumsSpeak =
 -- ---- decoding received values
 
 -- a law: at least as many values as coded bits, each with the sign of its sent bit, decode to a block with its CRC
-abbrev pub SentBlockIsTold : Type 0
-SentBlockIsTold =
+abbrev pub SentBlockIsDecoded : Type 0
+SentBlockIsDecoded =
     (row : Row) (word : List Bool) (rv : ℕ) (values : List ℤ) → IsAnyRow row → rv < 4 → length word ≡ row.k →
     has_check_24 word ≡ true → ValuesSupport 1 row word rv values → 3 * (row.k + 4) ≤ length values →
     block row (summed row.k rv values) ≡ Some (message_of 24 word)
 
 -- a law: fewer values than coded bits, each with the sign of its sent bit, decode to a block with its CRC if these bits
 -- resolve it
-abbrev pub PuncturedBlockIsTold : Type 0
-PuncturedBlockIsTold =
+abbrev pub PuncturedBlockIsDecoded : Type 0
+PuncturedBlockIsDecoded =
     (row : Row) (word : List Bool) (rv : ℕ) (values : List ℤ) → IsAnyRow row → length word ≡ row.k →
     has_check_24 word ≡ true → ValuesSupport 1 row word rv values →
     resolvable row (sent_of row.k rv (length values)) word ≡ true →

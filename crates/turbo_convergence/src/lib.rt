@@ -10,6 +10,6 @@ mod blocks;
 mod decoders;
 mod received;
 
-pub use blocks::{resolvable_block_is_told, spoken_block_is_told};
-pub use decoders::{extrinsics_speak, extrinsics_tell, iterations_tell};
-pub use received::{punctured_block_is_told, received_sums_tell, sent_block_is_told};
+pub use blocks::{resolvable_block_is_decoded, spoken_block_is_decoded};
+pub use decoders::{extrinsics_convey, extrinsics_speak, iterations_convey};
+pub use received::{punctured_block_is_decoded, received_sums_convey, sent_block_is_decoded};

@@ -3,25 +3,25 @@
 //! The values are in the cyclic reading order of a redundancy version. With at least 3(K + 4) values every coded bit
 //! was sent.
 
-ghost use Rattle.turbo_convergence.specs.Laws.{PuncturedBlockIsTold, ReceivedSumsAllow, ReceivedSumsTell};
-ghost use Rattle.turbo_convergence.specs.Laws.{SentBlockIsTold, WholeSumsSpeak};
+ghost use Rattle.turbo_convergence.specs.Laws.{PuncturedBlockIsDecoded, ReceivedSumsAllow, ReceivedSumsConvey};
+ghost use Rattle.turbo_convergence.specs.Laws.{SentBlockIsDecoded, WholeSumsSpeak};
 
 /// A law: if each received value is 0 or has the sign of its sent bit, so is each sum; if no value is 0, the sums that
 /// are not 0 belong to the sent coded bits.
-pub fn received_sums_tell()
+pub fn received_sums_convey()
     ensures allow { ReceivedSumsAllow }
-    ensures tell { ReceivedSumsTell }
+    ensures tell { ReceivedSumsConvey }
     ensures whole { WholeSumsSpeak }
 {}
 
 /// A law: the decoder returns a block with its CRC24A if each received value has the sign of its sent bit, and there
 /// are at least 3(K + 4) values.
-pub fn sent_block_is_told()
-    ensures { SentBlockIsTold }
+pub fn sent_block_is_decoded()
+    ensures { SentBlockIsDecoded }
 {}
 
 /// A law: the decoder returns a block with its CRC24A from fewer values, each with the sign of its sent bit, if these
 /// bits resolve the block.
-pub fn punctured_block_is_told()
-    ensures { PuncturedBlockIsTold }
+pub fn punctured_block_is_decoded()
+    ensures { PuncturedBlockIsDecoded }
 {}

@@ -13,7 +13,7 @@ use Rattle.turbo_code.proofs.TableFacts.{is_small}
 use Rattle.turbo_dec.specs.Decoder.{IsSmall, values_of, at, extrinsics}
 use Rattle.cs_bits.specs.Checks.{message_of, has_check_24}
 use Rattle.turbo_code.specs.Streams.{tail_items, bits_of_stream, in_order, in_word_order}
-use Rattle.turbo_dec.specs.Block.{handed_on, prior_after, told_by, word_by, block, first_extrinsics, second_extrinsics, second_after}
+use Rattle.turbo_dec.specs.Block.{handed_on, prior_after, decoded_by, word_by, block, first_extrinsics, second_extrinsics, second_after}
 
 -- the prior is derived from each extrinsic value
 pub handed_is : (found handed : List ℤ) (k : ℕ) → length found ≡ 1024 → length handed ≡ 1024 → 1024 ≤ k →
@@ -44,12 +44,12 @@ pub second_is : (row : Row) (sums : List (List ℤ)) (prior first handed second 
 second_is row sums prior first handed second is known h =
     h ∙ ap (second_extrinsics row sums) (ap (take row.k) is ∙ take-map handed_on row.k first ∙ ap (map handed_on) known)
 
-pub told_is : (row : Row) (sums : List (List ℤ)) (prior s first second : List ℤ) (word : List Bool) → s ≡ bits_of_stream (pos 0) row sums 0 → length s ≡ row.k →
+pub decoded_is : (row : Row) (sums : List (List ℤ)) (prior s first second : List ℤ) (word : List Bool) → s ≡ bits_of_stream (pos 0) row sums 0 → length s ≡ row.k →
     first ≡ first_extrinsics row sums prior → second ≡ second_after row sums prior →
-    take (length s) word ≡ values_below (length s) (told_by s first second) → take row.k word ≡ word_by row sums prior
+    take (length s) word ≡ values_below (length s) (decoded_by s first second) → take row.k word ≡ word_by row sums prior
 unfolding word_by
-told_is row sums prior s first second word es size ef ese h =
-    sym (ap (λ n. take n word) size) ∙ h ∙ ap (λ n. values_below n (told_by s first second)) size ∙ rw (es, ef, ese) refl
+decoded_is row sums prior s first second word es size ef ese h =
+    sym (ap (λ n. take n word) size) ∙ h ∙ ap (λ n. values_below n (decoded_by s first second)) size ∙ rw (es, ef, ese) refl
 
 -- ---- the block
 
@@ -73,7 +73,7 @@ pub after_more : (row : Row) (sums : List (List ℤ)) (prior later : List ℤ) (
     take row.k later ≡ map handed_on (second_after row sums (take row.k prior)) → word ≡ word_by row sums (take row.k prior) → has_check_24 word ≡ false →
     IsAfter row sums later (n + 1)
 unfolding prior_after
-after_more row sums prior later word n known small is told fails =
+after_more row sums prior later word n known small is decoded fails =
     let e : n + 1 ≡ suc n = omega arith in
     record {
       small = small;
@@ -82,15 +82,15 @@ after_more row sums prior later word n known small is told fails =
         | inl before ↦ known.none j before
         | inr after ↦
             let here : j ≡ n = omega (arith, after, below) in
-            rw here (ap (λ q. has_check_24 (word_by row sums q)) (sym known.prior_is) ∙ ap has_check_24 (sym told) ∙ fails)
+            rw here (ap (λ q. has_check_24 (word_by row sums q)) (sym known.prior_is) ∙ ap has_check_24 (sym decoded) ∙ fails)
       ];
     }
 
 pub block_found : (row : Row) (sums : List (List ℤ)) (prior : List ℤ) (word : List Bool) (n : ℕ) → n < 8 → IsAfter row sums prior n →
     word ≡ word_by row sums (take row.k prior) → has_check_24 word ≡ true → Some (message_of 24 word) ≡ block row sums
 unfolding block
-block_found row sums prior word n below known told passed =
-    let is : word ≡ word_by row sums (prior_after row sums n) = told ∙ ap (word_by row sums) known.prior_is in
+block_found row sums prior word n below known decoded passed =
+    let is : word ≡ word_by row sums (prior_after row sums n) = decoded ∙ ap (word_by row sums) known.prior_is in
     let found = find_below_first has_check_24 (λ m. word_by row sums (prior_after row sums m)) 8 n below known.none (ap has_check_24 (sym is) ∙ passed) in
     ap (λ w. Some (message_of 24 w)) is ∙ sym (ap (option_map (message_of 24)) found)
 

@@ -35,14 +35,14 @@ prior_after row sums zero = replicate row.k (pos 0)
 prior_after row sums (suc n) = map handed_on (second_after row sums (prior_after row sums n))
 
 -- the decision on bit k: 1 if the soft value and both extrinsic values sum to less than 0
-abbrev pub told_by : List ℤ → List ℤ → List ℤ → ℕ → Bool
-told_by systematic first second k = int_lt (at systematic k +ℤ at first k +ℤ at second k) (pos 0)
+abbrev pub decoded_by : List ℤ → List ℤ → List ℤ → ℕ → Bool
+decoded_by systematic first second k = int_lt (at systematic k +ℤ at first k +ℤ at second k) (pos 0)
 
 -- an iteration's hard decisions, from its prior
 unfoldable pub word_by : Row → List (List ℤ) → List ℤ → List Bool
 word_by row sums prior =
     values_below row.k
-    (told_by (bits_of_stream (pos 0) row sums 0) (first_extrinsics row sums prior) (second_after row sums prior))
+    (decoded_by (bits_of_stream (pos 0) row sums 0) (first_extrinsics row sums prior) (second_after row sums prior))
 
 -- the hard decisions of the first eight iterations
 abbrev pub iterates : Row → List (List ℤ) → List (List Bool)

@@ -12,7 +12,7 @@ ghost use Rattle.turbo_code.specs.Table.{IsAnyRow};
 ghost use Rattle.turbo_dec.specs.Decoder.{IsSmall, at, values_of, extrinsics};
 ghost use Rattle.cs_bits.specs.Checks.{message_of, has_check_24};
 ghost use Rattle.turbo_code.specs.Streams.{tail_items, in_order, in_word_order};
-ghost use Rattle.turbo_dec.specs.Block.{handed_on, first_extrinsics, second_extrinsics, second_after, told_by, word_by, block};
+ghost use Rattle.turbo_dec.specs.Block.{handed_on, first_extrinsics, second_extrinsics, second_after, decoded_by, word_by, block};
 
 use crate::constituent::half;
 use crate::work::Work;
@@ -224,7 +224,7 @@ fn is_one(value: &i32, first: &i32, second: &i32) -> bool
 }
 
 /// Returns an iteration's hard decisions.
-fn bits_told(systematic: &[i32], first: &[i32], second: &[i32]) -> [bool; 1024]
+fn bits_decoded(systematic: &[i32], first: &[i32], second: &[i32]) -> [bool; 1024]
     requires count { length systematic.now ≤ 1024 }
     requires firsts { length first.now ≡ length systematic.now }
     requires seconds { length second.now ≡ length systematic.now }
@@ -232,7 +232,7 @@ fn bits_told(systematic: &[i32], first: &[i32], second: &[i32]) -> [bool; 1024]
     requires small_first { All IsSmall first.now }
     requires small_second { All IsSmall second.now }
     ensures word { take (length systematic.now) result
-        ≡ values_below (length systematic.now) (told_by systematic.now first.now second.now) }
+        ≡ values_below (length systematic.now) (decoded_by systematic.now first.now second.now) }
     ensures size { length result ≡ 1024 }
 {
     let mut word = [false; 1024];
@@ -261,7 +261,7 @@ fn iterate(
     let first = first_extrinsics_of(sums, row, prior, work);
     let second = second_extrinsics_of(sums, row, &hand_on(&first), work);
     *prior = hand_on(&second);
-    bits_told(
+    bits_decoded(
         stream_of(&sums[0], row),
         front_of(&first, row),
         front_of(&second, row),
@@ -285,7 +285,7 @@ fn payload_of(word: &[bool]) -> Block
 /// the CRC; `None` if none passes. `row` is from either table, and the values have magnitude at most 4,096.
 pub fn decode(values: &Combined, row: Row, work: &mut Work) -> Option<Block>
     requires row { IsAnyRow row }
-    requires sizes { All (All IsSmall) values.now.d }
+    requires magnitudes { All (All IsSmall) values.now.d }
     ensures { option_map (λ found. found.items) result ≡ block row values.now.d }
 {
     let mut prior = [0; 1024];

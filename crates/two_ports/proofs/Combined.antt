@@ -7,7 +7,7 @@ use Rattle.finite.proofs.Ring as ring
 use Rattle.cs_num.specs.declared.Cpx.{Cpx}
 use Rattle.cs_num.specs.Complex.{nothing, plus, times, conjugate, negated, minus, multiple, square}
 use Rattle.cs_num.proofs.Complex.{pair, plus-commutes, times-plus, times-commutes, times-plus_left}
-use Rattle.norms.specs.Sizes.{inner, real}
+use Rattle.norms.specs.Magnitudes.{inner, real}
 use Rattle.norms.proofs.Algebra.{plus-nothing_right, plus-exchanges, times-associates, times-minus, conjugate-times, conjugate-plus, conjugate_twice, conjugate-multiple, multiple-plus, times-multiple, multiple-times, multiple_sum, times_real}
 use Rattle.norms.proofs.Squares.{times_conjugate, square-times, square-conjugate, square-plus}
 use Rattle.norms.proofs.TwoTerms.{two_term_cauchy}

@@ -4,7 +4,7 @@ use Rattle.finite.specs.Sums.{total_below}
 use Rattle.finite.proofs.Sums.{total_below-term}
 use Rattle.cs_num.specs.declared.Cpx.{Cpx}
 use Rattle.cs_num.specs.Complex.{square}
-use Rattle.norms.specs.Sizes.{energy_below, squares_of_four}
+use Rattle.norms.specs.Magnitudes.{energy_below, squares_of_four}
 use Rattle.lte_types.specs.declared.carrier.Carrier.{Carrier}
 use Rattle.lte_types.specs.Carrier.{ports_of}
 use Rattle.soft_bits.specs.Lines.{Line, line_of, line_seen, line_energy, port_energy, ports_energy}

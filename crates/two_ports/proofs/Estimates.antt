@@ -6,7 +6,7 @@ use Rattle.cs_num.specs.declared.Cpx.{Cpx}
 use Rattle.cs_num.specs.Complex.{plus, minus, times, square, multiple}
 use Rattle.cs_num.proofs.Complex.{plus-nothing}
 use Rattle.cs_num.proofs.Sums.{complex_sum_below_same, complex_sum_below_plus}
-use Rattle.norms.specs.Sizes.{energy_below}
+use Rattle.norms.specs.Magnitudes.{energy_below}
 use Rattle.norms.proofs.Algebra.{plus-nothing_right, times-nothing, sum_of_one}
 use Rattle.lte_types.specs.declared.carrier.Carrier.{Carrier}
 use Rattle.lte_types.specs.Carrier.{ports_of}
@@ -66,7 +66,7 @@ pilots_alone carrier most gains slot seen port l =
       each = λ i few. record {
         full = reference-size carrier port slot i;
         seen = record {
-          sized = subst (λ (z : Cpx). square (minus (in_parts (line_seen line slot i)) (multiple 64 z)) ≤ most * most * energy_below ports gains)
+          bounded = subst (λ (z : Cpx). square (minus (in_parts (line_seen line slot i)) (multiple 64 z)) ≤ most * most * energy_below ports gains)
               (received_of_one ports port gains (line.sent i) l) (seen.pilots port i l few).off;
         };
       };

@@ -4,10 +4,10 @@ use Rattle.std.proofs.Common.{◌≡◌, ℕ, ◌+◌, ◌*◌, ◌^◌, ◌≤�
 use Rattle.cs_num.specs.declared.Cpx.{Cpx}
 use Rattle.cs_num.specs.Complex.{IsWithin, plus, minus, times, conjugate, negated, square, multiple}
 use Rattle.cs_num.proofs.Complex.{plus-associates}
-use Rattle.norms.specs.Sizes.{IsSized}
+use Rattle.norms.specs.Magnitudes.{IsBounded}
 use Rattle.norms.proofs.Algebra.{plus-minus, minus-plus, multiple_twice}
-use Rattle.norms.proofs.Sized.{sized-plus, sized_re, sized_im}
-use Rattle.norms.proofs.Products.{sized-multiple}
+use Rattle.norms.proofs.Bounded.{bounded-plus, sized_re, sized_im}
+use Rattle.norms.proofs.Products.{bounded-multiple}
 use Rattle.budget.specs.Received.{in_parts}
 use Rattle.soft_bits.specs.Pairs.{second_point}
 use Rattle.two_ports.proofs.Combined.{combined, combined-plus_right, combined-plus_left, combined-multiple_left, combined-multiple_right, combined_cauchy, at_first, at_second, combined_gains, pair_energy, times-negated, square-negated, plus-negated, turned_twice, conjugate-negated, multiple-negated, minus-negated}
@@ -55,7 +55,7 @@ module _ (c s t u v w : ℕ) (roots : AreRoots s t u v w) where
   pair_small n m i j e f g = let k : n * (i + j) ≤ n * 32400 = mul-le-mul_left n (omega (arith, f, g)) in omega (arith, e, k)
 
   first_sized : (gain other h k x y a b : Cpx) → AreEstimates c s gain other h k → square x ≤ 16200 → square y ≤ 16200 → IsPairNear t gain other x y a b →
-      IsSized total ((square gain + square other) * (square gain + square other)) (minus (combined h k a b) (multiple (c * 64 * (square gain + square other)) x))
+      IsBounded total ((square gain + square other) * (square gain + square other)) (minus (combined h k a b) (multiple (c * 64 * (square gain + square other)) x))
   first_sized gain other h k x y a b near small small_too seen =
       let n : ℕ = square gain + square other in
       let g : Cpx = multiple c gain in
@@ -86,26 +86,26 @@ module _ (c s t u v w : ℕ) (roots : AreRoots s t u v w) where
       let energy : square at_p + square at_q ≤ 32400 * n = pair_small n (square at_p + square at_q) (square x) (square y) (pair_energy gain other x y) small small_too in
       let near_small : square p + square q ≤ 2 * s * n = both_small n s (square p) (square q) near.off near.other_off in
       let seen_small : square d + square e ≤ 2 * t * n = both_small n t (square d) (square e) seen.first seen.second in
-      subst (IsSized total (n * n)) (sym rest)
-      (sized-plus (multiple c of_seen) (plus (multiple 64 of_channels) of_both) (c * u) (64 * v + w) (n * n)
-      (sized-multiple c of_seen u (n * n)
-      (record { sized = product_off n (square of_seen) n (square d + square e) 1 (2 * t) u (combined_cauchy gain other d e) (omega arith) seen_small (omega (arith, roots.seen)) }))
-      (sized-plus (multiple 64 of_channels) of_both (64 * v) w (n * n)
-      (sized-multiple 64 of_channels v (n * n)
-      (record { sized = product_off n (square of_channels) (square p + square q) (square at_p + square at_q) (2 * s) 32400 v (combined_cauchy p q at_p at_q) near_small energy (omega (arith, roots.estimates)) }))
-      (record { sized = product_off n (square of_both) (square p + square q) (square d + square e) (2 * s) (2 * t) w (combined_cauchy p q d e) near_small seen_small (omega (arith, roots.both)) })))
+      subst (IsBounded total (n * n)) (sym rest)
+      (bounded-plus (multiple c of_seen) (plus (multiple 64 of_channels) of_both) (c * u) (64 * v + w) (n * n)
+      (bounded-multiple c of_seen u (n * n)
+      (record { bounded = product_off n (square of_seen) n (square d + square e) 1 (2 * t) u (combined_cauchy gain other d e) (omega arith) seen_small (omega (arith, roots.seen)) }))
+      (bounded-plus (multiple 64 of_channels) of_both (64 * v) w (n * n)
+      (bounded-multiple 64 of_channels v (n * n)
+      (record { bounded = product_off n (square of_channels) (square p + square q) (square at_p + square at_q) (2 * s) 32400 v (combined_cauchy p q at_p at_q) near_small energy (omega (arith, roots.estimates)) }))
+      (record { bounded = product_off n (square of_both) (square p + square q) (square d + square e) (2 * s) (2 * t) w (combined_cauchy p q d e) near_small seen_small (omega (arith, roots.both)) })))
 
   -- combining two channels and two observed symbols, all in units of 2^-14
   in_parts_is : (h k a b : Cpx) → combined (in_parts h) (in_parts k) (in_parts a) (in_parts b) ≡ multiple (2 ^ 28) (combined h k a b)
   in_parts_is h k a b =
       combined-multiple_left 16384 h k (in_parts a) (in_parts b) ∙ ap (multiple 16384) (combined-multiple_right 16384 h k a b) ∙ multiple_twice 16384 16384 (combined h k a b)
 
-  near_amplitude : (n : ℕ) (h k x a b : Cpx) → IsSized total (n * n) (minus (combined (in_parts h) (in_parts k) (in_parts a) (in_parts b)) (multiple (c * 64 * n) x)) →
+  near_amplitude : (n : ℕ) (h k x a b : Cpx) → IsBounded total (n * n) (minus (combined (in_parts h) (in_parts k) (in_parts a) (in_parts b)) (multiple (c * 64 * n) x)) →
       IsNearAmplitude (c * 64) total n x (combined h k a b)
   near_amplitude n h k x a b is =
       let off : Cpx = minus (multiple (2 ^ 28) (combined h k a b)) (multiple (c * 64 * n) x) in
-      let sized : IsSized total (n * n) off = subst (λ (z : Cpx). IsSized total (n * n) (minus z (multiple (c * 64 * n) x))) (in_parts_is h k a b) is in
-      record { within = record { re = sized_re off total n sized; im = sized_im off total n sized } }
+      let bounded : IsBounded total (n * n) off = subst (λ (z : Cpx). IsBounded total (n * n) (minus z (multiple (c * 64 * n) x))) (in_parts_is h k a b) is in
+      record { within = record { re = sized_re off total n bounded; im = sized_im off total n bounded } }
 
   -- ---- the second amplitude: the pair (y, -x), observed as b and -a
 

@@ -6,7 +6,7 @@ use Rattle.finite.specs.Sums.{sum_below}
 use Rattle.cs_num.specs.declared.Cpx.{Cpx}
 use Rattle.cs_num.specs.Complex.{nothing, plus, times, conjugate, negated, value_at}
 use Rattle.cs_num.proofs.Complex.{plus-nothing, plus-associates}
-use Rattle.norms.specs.Sizes.{energy_below}
+use Rattle.norms.specs.Magnitudes.{energy_below}
 use Rattle.grid_map.specs.declared.Place.{Place}
 use Rattle.grid_map.specs.Scrambling.{pbch_c_init}
 use Rattle.lte_types.specs.declared.carrier.Carrier.{Carrier}
@@ -168,22 +168,22 @@ module _ (p identity slot l k : ℕ) (here : Cpx) (at : IsAlone p identity slot 
   first : is_pattern_place port_1 identity l k ≡ nat_eq 1 p
   first = is_second identity l k ∙ at.one
 
-  told_of_two : (q : ℕ) → p < 2 → q < 2 → port_reference_if (sender false q) identity slot l k ≡ Some (only p here q)
-  told_of_two zero few inside = own_or_other _ _ _ here p 0 zeroth (either_of_two _ _ p few zeroth first) value_is
-  told_of_two (suc zero) few inside = own_or_other _ _ _ here p 1 first (either_of_two _ _ p few zeroth first) value_is
-  told_of_two (suc (suc q)) few inside = absurd (omega (arith, inside))
+  decoded_of_two : (q : ℕ) → p < 2 → q < 2 → port_reference_if (sender false q) identity slot l k ≡ Some (only p here q)
+  decoded_of_two zero few inside = own_or_other _ _ _ here p 0 zeroth (either_of_two _ _ p few zeroth first) value_is
+  decoded_of_two (suc zero) few inside = own_or_other _ _ _ here p 1 first (either_of_two _ _ p few zeroth first) value_is
+  decoded_of_two (suc (suc q)) few inside = absurd (omega (arith, inside))
 
-  told_of_four : (q : ℕ) → p < 4 → q < 4 → port_reference_if (sender true q) identity slot l k ≡ Some (only p here q)
-  told_of_four zero few inside = own_or_other _ _ _ here p 0 zeroth (one_of_four _ _ _ _ p few zeroth first at.two at.three) value_is
-  told_of_four (suc zero) few inside = own_or_other _ _ _ here p 1 first (one_of_four _ _ _ _ p few zeroth first at.two at.three) value_is
-  told_of_four (suc (suc zero)) few inside = own_or_other _ _ _ here p 2 at.two (one_of_four _ _ _ _ p few zeroth first at.two at.three) value_is
-  told_of_four (suc (suc (suc zero))) few inside = own_or_other _ _ _ here p 3 at.three (one_of_four _ _ _ _ p few zeroth first at.two at.three) value_is
-  told_of_four (suc (suc (suc (suc q)))) few inside = absurd (omega (arith, inside))
+  decoded_of_four : (q : ℕ) → p < 4 → q < 4 → port_reference_if (sender true q) identity slot l k ≡ Some (only p here q)
+  decoded_of_four zero few inside = own_or_other _ _ _ here p 0 zeroth (one_of_four _ _ _ _ p few zeroth first at.two at.three) value_is
+  decoded_of_four (suc zero) few inside = own_or_other _ _ _ here p 1 first (one_of_four _ _ _ _ p few zeroth first at.two at.three) value_is
+  decoded_of_four (suc (suc zero)) few inside = own_or_other _ _ _ here p 2 at.two (one_of_four _ _ _ _ p few zeroth first at.two at.three) value_is
+  decoded_of_four (suc (suc (suc zero))) few inside = own_or_other _ _ _ here p 3 at.three (one_of_four _ _ _ _ p few zeroth first at.two at.three) value_is
+  decoded_of_four (suc (suc (suc (suc q)))) few inside = absurd (omega (arith, inside))
 
-told : (four : Bool) (q p identity slot l k : ℕ) (here : Cpx) → p < ports_of (carrier four) → q < ports_of (carrier four) → IsAlone p identity slot l k → reference_at identity slot l k ≡ here →
+decoded : (four : Bool) (q p identity slot l k : ℕ) (here : Cpx) → p < ports_of (carrier four) → q < ports_of (carrier four) → IsAlone p identity slot l k → reference_at identity slot l k ≡ here →
     port_reference_if (sender four q) identity slot l k ≡ Some (only p here q)
-told false q p identity slot l k here few inside at value = told_of_two p identity slot l k here at value q few inside
-told true q p identity slot l k here few inside at value = told_of_four p identity slot l k here at value q few inside
+decoded false q p identity slot l k here few inside at value = decoded_of_two p identity slot l k here at value q few inside
+decoded true q p identity slot l k here few inside at value = decoded_of_four p identity slot l k here at value q few inside
 
 -- two ports have the same pilots as the first two among four
 same_line : (p : ℕ) (slot : SeenSlot) → line_of FourPorts p slot ≡ line_of TwoPorts p slot
@@ -196,5 +196,5 @@ pub reference : (four : Bool) (slot : SeenSlot) (p q i : ℕ) → p < ports_of (
     port_reference_if (sender four q) slot.identity slot.number (line.symbol i) (line_place line i) ≡ Some (only p (line.sent i) q)
 reference false slot p q i few inside =
     subst (λ (line : Line). port_reference_if (sender false q) slot.identity slot.number (line.symbol i) (line_place line i) ≡ Some (only p (line.sent i) q)) (same_line p slot)
-    (told false q p _ _ _ _ _ few inside (is_alone p slot i (omega (arith, few))) (own_value p slot i))
-reference true slot p q i few inside = told true q p _ _ _ _ _ few inside (is_alone p slot i few) (own_value p slot i)
+    (decoded false q p _ _ _ _ _ few inside (is_alone p slot i (omega (arith, few))) (own_value p slot i))
+reference true slot p q i few inside = decoded true q p _ _ _ _ _ few inside (is_alone p slot i few) (own_value p slot i)

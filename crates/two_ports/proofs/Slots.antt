@@ -7,7 +7,7 @@ use Rattle.finite.proofs.Lists.{values_below_at}
 use Rattle.cs_num.specs.declared.Cpx.{Cpx}
 use Rattle.cs_num.specs.declared.Sample.{Sample}
 use Rattle.cs_num.specs.Complex.{nothing, value_at}
-use Rattle.norms.specs.Sizes.{energy_below}
+use Rattle.norms.specs.Magnitudes.{energy_below}
 use Rattle.fold128.specs.Symbol.{useful_at}
 use Rattle.observe.specs.Seen.{seen_symbol}
 use Rattle.soft_bits.specs.Lines.{Line, line_of, line_place}

@@ -3,7 +3,7 @@ use Rattle.std.specs.Prelude.{◌≡◌, ℕ, ◌%◌, ◌^◌, ◌<◌, ◌≤�
 use Rattle.cs_num.specs.declared.Cpx.{Cpx}
 use Rattle.cs_num.specs.declared.Sample.{Sample}
 use Rattle.cs_num.specs.Complex.{nothing, conjugate, negated}
-use Rattle.norms.specs.Sizes.{energy_below}
+use Rattle.norms.specs.Magnitudes.{energy_below}
 use Rattle.cs_bits.specs.Signs.{Supports}
 use Rattle.crs.specs.Qpsk.{point}
 use Rattle.observe.specs.Seen.{seen_symbol}
@@ -14,6 +14,7 @@ use Rattle.soft_bits.specs.Lines.{line_of, line_place, line_seen}
 use Rattle.soft_bits.specs.Pairs.{Pairing, over_two, seen_by, pair_values}
 use Rattle.soft_bits.specs.Soft.{SeenSlot}
 use Rattle.budget.specs.Received.{AreAmplitudes, IsReceivedBy, IsSeenBy, samples_from}
+use Rattle.lte_types.specs.Numerology.{subcarriers}
 
 -- ---- the elements that the ports send
 
@@ -92,7 +93,7 @@ abbrev pub SpeakReceivedWith : (ℕ → Cpx) → Pairing → ℕ → ℕ → Typ
 SpeakReceivedWith gains pairing quota least =
     (recording : List Sample) (starts : ℕ → ℕ) (grids : ℕ → ℕ → ℕ → Cpx) (slot : SeenSlot) (i : ℕ) (p q : Place)
     (b c d e : Bool) →
-    IsSlotReceived pairing.carrier quota gains recording starts grids slot → p.k < 72 → q.k < 72 →
+    IsSlotReceived pairing.carrier quota gains recording starts grids slot → p.k < subcarriers → q.k < subcarriers →
     CarryPair pairing grids i p q (point b c) (point d e) →
     SupportFour least b c d e (pair_values pairing i slot p q)
 

@@ -78,10 +78,10 @@ Once t = Agree t t ⊤
 
 -- the complete value determines the earlier parts
 pub agree_done : {A : Type 0} (Before : Type 0) (x y : A) → (x ≡ y → Before) → Agree (done x) (done y) Before
-agree_done Before x y told a b z s r =
+agree_done Before x y decoded a b z s r =
     let p = done_is x z a s in
     let q = done_is y z b r in
-    (told (p.1 ∙ sym q.1), p.0 ∙ sym q.0)
+    (decoded (p.1 ∙ sym q.1), p.0 ∙ sym q.0)
 
 -- if the rest determines the values of the first parts, the first parts agree too
 pub agree_bind : {A B : Type 0} (Before : Type 0) (t u : Grammar A) (f g : A → Grammar B) → (Before → Agree t u ⊤)
@@ -104,8 +104,8 @@ pub agree_same : {A B : Type 0} (t : B → Grammar A) (v w : B) → v ≡ w → 
 agree_same t v w e once = subst (λ x. Agree (t v) (t x) ⊤) e (once v)
 
 -- a grammar that the value itself determines
-pub agree_told : {A B : Type 0} (t : B → Grammar A) (told : A → B) (v w : B) → ((v : B) → Once (t v)) → ((v : B) → Holds (t v) (λ y. told y ≡ v)) → Agree (t v) (t w) (⊤ × (v ≡ w))
-agree_told t told v w once holds a b y s r =
+pub agree_decoded : {A B : Type 0} (t : B → Grammar A) (decoded : A → B) (v w : B) → ((v : B) → Once (t v)) → ((v : B) → Holds (t v) (λ y. decoded y ≡ v)) → Agree (t v) (t w) (⊤ × (v ≡ w))
+agree_decoded t decoded v w once holds a b y s r =
     let e : v ≡ w = sym (holds v a y s) ∙ holds w b y r in
     ((tt, e), (agree_same t v w e once a b y s r).1)
 

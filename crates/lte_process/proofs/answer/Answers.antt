@@ -1,5 +1,5 @@
 use Rattle.std.proofs.Common.{◌≡◌, ℕ, List, None, inl, subst, ap}
-use Rattle.cs_outside.specs.Outside.{Outside, SourceTold, SinkTold}
+use Rattle.cs_outside.specs.Outside.{Outside, SourceState, SinkState}
 use Rattle.lte_args.specs.declared.form.Program.{Program}
 use Rattle.lte_top.specs.declared.status.Status.{Status}
 use Rattle.lte_top.specs.Run.{Runs}
@@ -7,10 +7,10 @@ use Rattle.lte_process.specs.Exit.{at_start}
 use Rattle.lte_process.proofs.answer.Goals as goal
 
 -- a reader and a writer with this many failed calls
-abbrev reader : ℕ → SourceTold
+abbrev reader : ℕ → SourceState
 reader faults = record { left = None; faults = faults }
 
-abbrev writer : ℕ → SinkTold
+abbrev writer : ℕ → SinkState
 writer faults = record { taken = None; room = None; faults = faults }
 
 -- if no call has failed before, a run starts as the process does

@@ -3,7 +3,7 @@ use Rattle.cs_num.specs.Complex.{sample_at}
 use Rattle.cs_num.specs.Rounding.{quotient}
 use Rattle.cs_num.proofs.Complex.{within_more}
 use Rattle.cs_num.proofs.Rounding.{quotient-within}
-use Rattle.norms.specs.Sizes.{correlation_below, energy_below}
+use Rattle.norms.specs.Magnitudes.{correlation_below, energy_below}
 use Rattle.pss_search.specs.Correlation.{wave, wave_power}
 use Rattle.cancel.proofs.estimating.estimate.Goals as goal
 

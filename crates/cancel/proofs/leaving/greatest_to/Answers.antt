@@ -1,5 +1,5 @@
 use Rattle.std.proofs.Common.{◌∙◌, arith, ap, sym, ap₂, max}
-use Rattle.cs_num.specs.Complex.{size}
+use Rattle.cs_num.specs.Complex.{largest_part}
 use Rattle.cancel.specs.Steps.{left_of}
 use Rattle.cancel.proofs.Best.{greatest_more}
 use Rattle.cancel.proofs.leaving.greatest_to.Goals as goal
@@ -11,7 +11,7 @@ loop-i-preserved c =
     let e = c.greater_part-greatest.ensures in
     record {
       value = c.greater_part-greatest.ensures
-          ∙ ap₂ max c.loop-i.invariant.value (c.greatest_part.ensures.value ∙ ap size c.left.ensures.value)
+          ∙ ap₂ max c.loop-i.invariant.value (c.greatest_part.ensures.value ∙ ap largest_part c.left.ensures.value)
           ∙ sym (greatest_more c.loop-i.i (left_of c.args.samples.now c.args.sent.now c.args.gain));
       small = omega (arith, low, here, e);
     }

@@ -2,7 +2,7 @@ use Rattle.std.proofs.Common.{◌≡◌, ◌∙◌, arith, ap, sym, ap₂, ◌+�
 use Rattle.cs_num.specs.declared.Sample.{Sample}
 use Rattle.cs_num.specs.Complex.{square, sample_at}
 use Rattle.finite.proofs.Sums.{total_below_none, total_below_more}
-use Rattle.norms.specs.Sizes.{energy_below}
+use Rattle.norms.specs.Magnitudes.{energy_below}
 use Rattle.cancel.specs.Residue.{power_of}
 use Rattle.cancel.proofs.taking.power_of.Goals as goal
 

@@ -1,6 +1,6 @@
 use Rattle.std.proofs.Common.{◌≡◌, ◌*◌, ◌≤◌}
 use Rattle.cs_num.specs.Complex.{sample_at}
-use Rattle.norms.specs.Sizes.{energy_below}
+use Rattle.norms.specs.Magnitudes.{energy_below}
 use Rattle.cancel.proofs.taking.power_of.Given as goal
 
 abbrev pub invariant-loop-i : goal.invariant-loop-i

@@ -23,11 +23,11 @@ module _ (c : goal.After-with_bound) where
   made_is : IsMadeBy c.args.carrier c.args.n c.with_bound.result
   made_is =
       let e = c.emission-sent.ensures in
-      let told = c.with_bound.ensures in
+      let decoded = c.with_bound.ensures in
       let sent : IsSentFor c.args.carrier c.args.n c.emission-sent.result =
       record { carrier_is = e.carrier; plan_is = e.cell; number_is = e.number; offset_is = e.offset; count_is = e.count; gains_are = e.gains; load_is = e.load } in
-      is_made c.args.carrier c.args.n c.bound-bound.result c.with_bound.result (subst (IsSentFor c.args.carrier c.args.n) (sym told.sent) sent) c.bound-bound.ensures.bound told.bound
-      (told.recording ∙ c.in-Some.ensures.value ∙ c.with_errors-samples.ensures
+      is_made c.args.carrier c.args.n c.bound-bound.result c.with_bound.result (subst (IsSentFor c.args.carrier c.args.n) (sym decoded.sent) sent) c.bound-bound.ensures.bound decoded.bound
+      (decoded.recording ∙ c.in-Some.ensures.value ∙ c.with_errors-samples.ensures
       ∙ samples_are c.args.carrier c.args.n c.bound-bound.result c.emission-sent.result c.in_ok-samples.samples.items sent c.in_ok-samples.ensures)
 
 pub returns-clause-made : goal.returns-clause-made

@@ -29,8 +29,8 @@ module _ (plan : CellPlan) (size : ℕ) (text : List Bool) (tdd : is_some plan.s
       ap (λ (n : ℕ). with_check_24 (filled n text)) (sym is_size)
       ∙ ap (λ (o : Option (List Bool)). with_check_24 (filled (block_size plan) (unwrap_or o []))) (sym is_text)
 
-  pub tells : (count : ℕ) → count ≡ assigned_bits plan → is_resolvable_by (size + 24) count (with_check_24 (filled size text)) ≡ (has_block plan && is_resolvable plan)
-  tells count is_count =
+  pub decodes : (count : ℕ) → count ≡ assigned_bits plan → is_resolvable_by (size + 24) count (with_check_24 (filled size text)) ≡ (has_block plan && is_resolvable plan)
+  decodes count is_count =
       ap (λ (n : ℕ). is_resolvable_by (n + 24) count (with_check_24 (filled size text))) (sym is_size)
       ∙ ap (λ (m : ℕ). is_resolvable_by (block_size plan + 24) m (with_check_24 (filled size text))) is_count
       ∙ ap (λ (w : List Bool). is_resolvable_by (block_size plan + 24) (assigned_bits plan) w) word
@@ -40,4 +40,4 @@ pub returns-in-Some : goal.returns-in-Some
 returns-in-Some c =
     c.block_fills.ensures
     ∙ ap (λ (text : List Bool). is_resolvable_by (c.args.size + 24) (2 * c.assigned_places.result) (with_check_24 (filled c.args.size text))) c.bits.ensures.bits
-    ∙ tells c.args.plan.now c.args.size c.in-Some.text (sym c.if-is_some.ensures) c.if-plan.false c.requires.size c.in-Some.ensures.0 c.in-Some.ensures.1 (2 * c.assigned_places.result) (ap (λ (n : ℕ). 2 * n) c.assigned_places.ensures.value)
+    ∙ decodes c.args.plan.now c.args.size c.in-Some.text (sym c.if-is_some.ensures) c.if-plan.false c.requires.size c.in-Some.ensures.0 c.in-Some.ensures.1 (2 * c.assigned_places.result) (ap (λ (n : ℕ). 2 * n) c.assigned_places.ensures.value)

@@ -5,8 +5,8 @@ use Rattle.certificates.proofs.reading.read_each.Given as goal
 
 abbrev pub invariant-loop-answers : goal.invariant-loop-answers
 invariant-loop-answers g l = record {
-  so_far : IsReadTo l.answers.items l.done (take l.filled l.part) (g.S.Source.told l.fn.source) (g.S.Source.told l.source);
-  later : (g.S.Source.told l.fn.source).faults ≤ (g.S.Source.told l.source).faults;
+  so_far : IsReadTo l.answers.items l.done (take l.filled l.part) (g.S.Source.state l.fn.source) (g.S.Source.state l.source);
+  later : (g.S.Source.state l.fn.source).faults ≤ (g.S.Source.state l.source).faults;
   room : l.aim ≤ length l.part;
   most : length l.part ≤ 665861;
   part : l.filled < l.aim;

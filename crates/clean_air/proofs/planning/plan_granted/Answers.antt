@@ -6,11 +6,11 @@ pub returns-clause-faithful : goal.returns-clause-faithful
 returns-clause-faithful c =
     let long = c.if-prove.false in
     let count = c.len-count.ensures.value in
-    faithful_plan c.args.recording.now c.args.entry.now c.told_plan.result (omega (arith, long, count)) c.requires.listed c.told_plan.ensures
+    faithful_plan c.args.recording.now c.args.entry.now c.decoded_plan.result (omega (arith, long, count)) c.requires.listed c.decoded_plan.ensures
 
 pub returns-clause-sent : goal.returns-clause-sent
 returns-clause-sent c =
     let long = c.if-prove.false in
     let count = c.len-count.ensures.value in
-    sent_plan c.args.recording.now c.args.entry.now c.told_plan.result (omega (arith, long, count))
-    (faithful_plan c.args.recording.now c.args.entry.now c.told_plan.result (omega (arith, long, count)) c.requires.listed c.told_plan.ensures)
+    sent_plan c.args.recording.now c.args.entry.now c.decoded_plan.result (omega (arith, long, count))
+    (faithful_plan c.args.recording.now c.args.entry.now c.decoded_plan.result (omega (arith, long, count)) c.requires.listed c.decoded_plan.ensures)

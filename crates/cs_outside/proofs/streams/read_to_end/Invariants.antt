@@ -4,8 +4,8 @@ use Rattle.cs_outside.proofs.streams.read_to_end.Given as goal
 
 abbrev pub invariant-loop-bytes : goal.invariant-loop-bytes
 invariant-loop-bytes g l = record {
-  so_far : HasRead l.bytes.items (g.S.Source.told l.fn.source) (g.S.Source.told l.source);
-  later : (g.S.Source.told l.fn.source).faults ≤ (g.S.Source.told l.source).faults;
+  so_far : HasRead l.bytes.items (g.S.Source.state l.fn.source) (g.S.Source.state l.source);
+  later : (g.S.Source.state l.fn.source).faults ≤ (g.S.Source.state l.source).faults;
   few : length l.bytes.items ≤ l.limit;
   whole : length l.buffer ≡ 4096;
 }

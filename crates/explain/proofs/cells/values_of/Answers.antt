@@ -2,7 +2,7 @@ use Rattle.std.proofs.Common.{◌≡◌, ◌∙◌, ℕ, ◌+◌, ◌*◌, List,
 use Rattle.finite.specs.Lists.{values_below}
 use Rattle.finite.proofs.Lists.{values_below_more}
 use Rattle.pbch.specs.Values.{received_values, summed_values}
-use Rattle.pbch.specs.Master.{TellsMaster}
+use Rattle.pbch.specs.Master.{DecodesMaster}
 use Rattle.std.specs.List.{flat_map}
 use Rattle.lte_types.specs.CellPlace.{Place}
 use Rattle.explain.specs.Frame.{IsWhole, broadcast_slot}
@@ -72,4 +72,4 @@ pub returns-clause-master : goal.returns-clause-master
 returns-clause-master c =
     let entry = c.args.entry.now in
     let s = is_sound one_port_receiver c.args.recording.now c.requires.list entry c.requires.explained c.requires.inside in
-    subst (λ v. TellsMaster v (master_of entry)) (sym (returns-clause-values c)) s.is_of.master.told
+    subst (λ v. DecodesMaster v (master_of entry)) (sym (returns-clause-values c)) s.is_of.master.decoded

@@ -3,7 +3,7 @@ use Rattle.std.proofs.lemmas.List.Elements.{All-push, All-same}
 use Rattle.explain.specs.Entries.{IsMasterFor}
 use Rattle.explain.specs.Masters.{HaveMasters}
 use Rattle.explain.specs.Received.{AreReceived}
-use Rattle.explain.specs.Window.{TellNone}
+use Rattle.explain.specs.Window.{NoneIsDecoded}
 use Rattle.explain.proofs.FirstFrame.{length-part, received_part, received_more}
 use Rattle.explain.proofs.masters.first_alone.Goals as goal
 
@@ -51,8 +51,8 @@ loop-frame-preserved g c =
     let last = received_part values frame 1 c.as_slice.result.now inside (subst (AreReceived values 0) (sym c.as_slice.ensures.value) are) in
     let size = length-part frame 1 c.as_slice.result.now inside in
     record {
-      none = below_more (λ i. TellNone (IsMasterFor receiver recording) place 1 i) frame before.none
-          (subst (λ n. TellNone (IsMasterFor receiver recording) place n frame) size (c.in-None.ensures.masters recording last));
+      none = below_more (λ i. NoneIsDecoded (IsMasterFor receiver recording) place 1 i) frame before.none
+          (subst (λ n. NoneIsDecoded (IsMasterFor receiver recording) place n frame) size (c.in-None.ensures.masters recording last));
       received = are;
       sizes = All-same P c.push.new.self.items (c.loop-frame.frames.items ++ c.received.result ∷ []) c.push.ensures.items (All-push P c.loop-frame.frames.items c.received.result before.sizes c.received.ensures.length);
       count = c.push.ensures.len ∙ ap (λ n. n + 1) before.count;

@@ -1,5 +1,5 @@
 use Rattle.std.proofs.Common.{◌+◌, ◌≤◌, length, arith, sym, subst, below_more, ◌∙◌}
-use Rattle.explain.specs.Window.{TellNone}
+use Rattle.explain.specs.Window.{NoneIsDecoded}
 use Rattle.explain.specs.Entries.{IsMasterFor}
 use Rattle.explain.specs.Masters.{HaveMasters}
 use Rattle.explain.proofs.FirstFrame.{length-part, received_part}
@@ -50,8 +50,8 @@ loop-frame-preserved g c recording are =
     let end = c.saturating_sub-frame-end.ensures in
     let test = c.loop-frame-test.true in
     let inside : frame + count ≤ length frames = omega (arith, some, end, test) in
-    below_more (λ i. TellNone (IsMasterFor receiver recording) place count i) frame (c.loop-frame.invariant recording are)
-    (subst (λ n. TellNone (IsMasterFor receiver recording) place n frame) (length-part frame count frames inside)
+    below_more (λ i. NoneIsDecoded (IsMasterFor receiver recording) place count i) frame (c.loop-frame.invariant recording are)
+    (subst (λ n. NoneIsDecoded (IsMasterFor receiver recording) place n frame) (length-part frame count frames inside)
     (c.in-None.ensures.masters recording (received_part (receiver.broadcast recording place) frame count frames inside are)))
 
 pub returns-clause-masters : goal.returns-clause-masters

@@ -10,7 +10,7 @@ use Rattle.explain.specs.Receiver.{place_by}
 use Rattle.explain.specs.Entries.{AreEntriesFor, IsListOfHits}
 use Rattle.explain.specs.Readings.{IsReadingOf}
 use Rattle.explain.proofs.Again.{AreMet, listed_more, met_more}
-use Rattle.explain.proofs.Beside.{all_more, first_telling}
+use Rattle.explain.proofs.Beside.{all_more, first_at}
 use Rattle.explain.proofs.reading.add_hits.Goals as goal
 
 settle : {Goal : Type 0} (places : List Place) (place : Place) → (is_met places place ≡ false → Goal) → (is_met places place ≡ true → Goal) → Goal
@@ -39,7 +39,7 @@ loop-hit-preserved g c =
       all_met = all_more place_of c.args.hits.now c.loop-hit.hit-index _ is c.loop-hit.notes.places before.all_met c.add_hit.new.notes.places
           (λ again. ap (λ (n : Notes). n.places) (c.add_hit.ensures.same again)) c.add_hit.ensures.met;
       beside = c.add_hit.ensures.beside;
-      readings = settle c.loop-hit.notes.places _ (λ new. c.add_hit.ensures.readings c.args.hits.now (first_telling place_of c.args.hits.now c.loop-hit.hit-index _ is c.loop-hit.notes.places before.all_met new) before.readings)
+      readings = settle c.loop-hit.notes.places _ (λ new. c.add_hit.ensures.readings c.args.hits.now (first_at place_of c.args.hits.now c.loop-hit.hit-index _ is c.loop-hit.notes.places before.all_met new) before.readings)
           (λ again. subst (λ xs. AllZip (IsReadingOf receiver r c.args.hits.now) xs c.add_hit.new.notes.readings) (sym (c.add_hit.ensures.again again))
           (subst (λ (n : Notes). AllZip (IsReadingOf receiver r c.args.hits.now) c.loop-hit.list n.readings) (sym (c.add_hit.ensures.same again)) before.readings));
     }

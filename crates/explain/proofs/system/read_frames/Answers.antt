@@ -6,7 +6,7 @@ use Rattle.explain.specs.Receiver.{subframes_by}
 use Rattle.explain.specs.System.{even_frame, FrameAnswers}
 use Rattle.explain.specs.Grant.{IsFrameAttempt}
 use Rattle.explain.proofs.FirstFrame.{whole_before}
-use Rattle.explain.proofs.Granted.{told_fields, told_reason, none_granted_by, none_more, are_attempts}
+use Rattle.explain.proofs.Granted.{decoded_fields, reported_reason, none_granted_by, none_more, are_attempts}
 use Rattle.explain.proofs.Information.{one_of_frame}
 use Rattle.explain.proofs.system.read_frames.Goals as goal
 
@@ -18,9 +18,9 @@ returns-then-is_ok-clause-read g c =
     let long = c.if-prove.false in
     let count = c.len-count.ensures.value in
     let early = c.start-start.ensures.early in
-    (told_fields attempts (FrameAnswers values r c.args.place c.args.mib) (are_attempts values r c.args.place c.args.mib) r c.args.place.start c.args.sfn 0 c.attempt_at.result
-    c.informed_by-told.result.sib1 c.informed_by-told.result.granted (record { among = omega arith; whole = omega (arith, long, count, early) })
-    (subst (λ j. attempts j c.attempt_at.result) c.even_frame-first.ensures.value c.attempt_at.ensures) c.informed_by-told.ensures.sib1 c.informed_by-told.ensures.granted
+    (decoded_fields attempts (FrameAnswers values r c.args.place c.args.mib) (are_attempts values r c.args.place c.args.mib) r c.args.place.start c.args.sfn 0 c.attempt_at.result
+    c.informed_by-decoded.result.sib1 c.informed_by-decoded.result.granted (record { among = omega arith; whole = omega (arith, long, count, early) })
+    (subst (λ j. attempts j c.attempt_at.result) c.even_frame-first.ensures.value c.attempt_at.ensures) c.informed_by-decoded.ensures.sib1 c.informed_by-decoded.ensures.granted
     (sym c.if-is_ok.ensures.value) (λ h other before a. absurd (omega (arith, before)))).0
 
 pub returns-then-is_ok-clause-granted : goal.returns-then-is_ok-clause-granted
@@ -31,9 +31,9 @@ returns-then-is_ok-clause-granted g c =
     let long = c.if-prove.false in
     let count = c.len-count.ensures.value in
     let early = c.start-start.ensures.early in
-    (told_fields attempts (FrameAnswers values r c.args.place c.args.mib) (are_attempts values r c.args.place c.args.mib) r c.args.place.start c.args.sfn 0 c.attempt_at.result
-    c.informed_by-told.result.sib1 c.informed_by-told.result.granted (record { among = omega arith; whole = omega (arith, long, count, early) })
-    (subst (λ j. attempts j c.attempt_at.result) c.even_frame-first.ensures.value c.attempt_at.ensures) c.informed_by-told.ensures.sib1 c.informed_by-told.ensures.granted
+    (decoded_fields attempts (FrameAnswers values r c.args.place c.args.mib) (are_attempts values r c.args.place c.args.mib) r c.args.place.start c.args.sfn 0 c.attempt_at.result
+    c.informed_by-decoded.result.sib1 c.informed_by-decoded.result.granted (record { among = omega arith; whole = omega (arith, long, count, early) })
+    (subst (λ j. attempts j c.attempt_at.result) c.even_frame-first.ensures.value c.attempt_at.ensures) c.informed_by-decoded.ensures.sib1 c.informed_by-decoded.ensures.granted
     (sym c.if-is_ok.ensures.value) (λ h other before a. absurd (omega (arith, before)))).1
 
 pub loop-i-init : goal.loop-i-init
@@ -42,8 +42,8 @@ loop-i-init g c =
     let values = subframes_by g.S.ReadSlot.carrier g.S.ReadSlot.values_by in
     let attempts = IsFrameAttempt values r c.args.place c.args.mib in
     none_more attempts (FrameAnswers values r c.args.place c.args.mib) (are_attempts values r c.args.place c.args.mib) r c.args.place.start c.args.sfn
-    (one_of_frame values r c.args.place c.args.mib) 0 c.attempt_at.result c.informed_by-told.result.sib1 (λ h other before a. absurd (omega (arith, before)))
-    (subst (λ j. attempts j c.attempt_at.result) c.even_frame-first.ensures.value c.attempt_at.ensures) c.informed_by-told.ensures.sib1 (sym c.if-is_ok.ensures.value)
+    (one_of_frame values r c.args.place c.args.mib) 0 c.attempt_at.result c.informed_by-decoded.result.sib1 (λ h other before a. absurd (omega (arith, before)))
+    (subst (λ j. attempts j c.attempt_at.result) c.even_frame-first.ensures.value c.attempt_at.ensures) c.informed_by-decoded.ensures.sib1 (sym c.if-is_ok.ensures.value)
 
 pub returns-then-not-is_whole-clause-read : goal.returns-then-not-is_whole-clause-read
 returns-then-not-is_whole-clause-read g c =
@@ -52,8 +52,8 @@ returns-then-not-is_whole-clause-read g c =
     let attempts = IsFrameAttempt values r c.args.place c.args.mib in
     let answers = FrameAnswers values r c.args.place c.args.mib in
     let are = are_attempts values r c.args.place c.args.mib in
-    told_reason attempts answers are r c.args.place.start c.args.sfn c.informed_by-told.result.sib1 (sym c.if-is_ok.ensures.value)
-    (subst (λ (answer : Result Sib1 Sib1Reason). answers (even_frame c.args.sfn 0) answer) (sym c.informed_by-told.ensures.sib1)
+    reported_reason attempts answers are r c.args.place.start c.args.sfn c.informed_by-decoded.result.sib1 (sym c.if-is_ok.ensures.value)
+    (subst (λ (answer : Result Sib1 Sib1Reason). answers (even_frame c.args.sfn 0) answer) (sym c.informed_by-decoded.ensures.sib1)
     (are.answers (even_frame c.args.sfn 0) c.attempt_at.result (subst (λ j. attempts j c.attempt_at.result) c.even_frame-first.ensures.value c.attempt_at.ensures)))
     (λ i fields tried a.
     let whole = tried.whole in
@@ -67,14 +67,14 @@ returns-then-not-is_whole-clause-granted g c =
     let r = c.args.recording.now in
     let values = subframes_by g.S.ReadSlot.carrier g.S.ReadSlot.values_by in
     none_granted_by (IsFrameAttempt values r c.args.place c.args.mib) (FrameAnswers values r c.args.place c.args.mib) (are_attempts values r c.args.place c.args.mib)
-    r c.args.place.start c.args.sfn c.attempt_at.result c.informed_by-told.result.sib1 c.informed_by-told.result.granted (sym c.if-is_ok.ensures.value) c.informed_by-told.ensures.sib1 c.informed_by-told.ensures.granted
+    r c.args.place.start c.args.sfn c.attempt_at.result c.informed_by-decoded.result.sib1 c.informed_by-decoded.result.granted (sym c.if-is_ok.ensures.value) c.informed_by-decoded.ensures.sib1 c.informed_by-decoded.ensures.granted
 
 pub returns-then-is_ok-2-clause-read : goal.returns-then-is_ok-2-clause-read
 returns-then-is_ok-2-clause-read g c =
     let r = c.args.recording.now in
     let values = subframes_by g.S.ReadSlot.carrier g.S.ReadSlot.values_by in
     let attempts = IsFrameAttempt values r c.args.place c.args.mib in
-    (told_fields attempts (FrameAnswers values r c.args.place c.args.mib) (are_attempts values r c.args.place c.args.mib) r c.args.place.start c.args.sfn c.loop-i.i c.attempt_at-in-loop-i.result
+    (decoded_fields attempts (FrameAnswers values r c.args.place c.args.mib) (are_attempts values r c.args.place c.args.mib) r c.args.place.start c.args.sfn c.loop-i.i c.attempt_at-in-loop-i.result
     c.informed_by-later.result.sib1 c.informed_by-later.result.granted
     (record { among = let l = c.loop-i-test.true in omega (arith, l); whole = subst (IsWhole r c.args.place.start) c.even_frame-j.ensures.value (c.if-not-is_whole.ensures.0 refl) })
     (subst (λ j. attempts j c.attempt_at-in-loop-i.result) c.even_frame-j.ensures.value c.attempt_at-in-loop-i.ensures) c.informed_by-later.ensures.sib1 c.informed_by-later.ensures.granted
@@ -85,7 +85,7 @@ returns-then-is_ok-2-clause-granted g c =
     let r = c.args.recording.now in
     let values = subframes_by g.S.ReadSlot.carrier g.S.ReadSlot.values_by in
     let attempts = IsFrameAttempt values r c.args.place c.args.mib in
-    (told_fields attempts (FrameAnswers values r c.args.place c.args.mib) (are_attempts values r c.args.place c.args.mib) r c.args.place.start c.args.sfn c.loop-i.i c.attempt_at-in-loop-i.result
+    (decoded_fields attempts (FrameAnswers values r c.args.place c.args.mib) (are_attempts values r c.args.place c.args.mib) r c.args.place.start c.args.sfn c.loop-i.i c.attempt_at-in-loop-i.result
     c.informed_by-later.result.sib1 c.informed_by-later.result.granted
     (record { among = let l = c.loop-i-test.true in omega (arith, l); whole = subst (IsWhole r c.args.place.start) c.even_frame-j.ensures.value (c.if-not-is_whole.ensures.0 refl) })
     (subst (λ j. attempts j c.attempt_at-in-loop-i.result) c.even_frame-j.ensures.value c.attempt_at-in-loop-i.ensures) c.informed_by-later.ensures.sib1 c.informed_by-later.ensures.granted
@@ -107,8 +107,8 @@ returns-clause-read g c =
     let attempts = IsFrameAttempt values r c.args.place c.args.mib in
     let answers = FrameAnswers values r c.args.place c.args.mib in
     let are = are_attempts values r c.args.place c.args.mib in
-    told_reason attempts answers are r c.args.place.start c.args.sfn c.informed_by-told.result.sib1 (sym c.if-is_ok.ensures.value)
-    (subst (λ (answer : Result Sib1 Sib1Reason). answers (even_frame c.args.sfn 0) answer) (sym c.informed_by-told.ensures.sib1)
+    reported_reason attempts answers are r c.args.place.start c.args.sfn c.informed_by-decoded.result.sib1 (sym c.if-is_ok.ensures.value)
+    (subst (λ (answer : Result Sib1 Sib1Reason). answers (even_frame c.args.sfn 0) answer) (sym c.informed_by-decoded.ensures.sib1)
     (are.answers (even_frame c.args.sfn 0) c.attempt_at.result (subst (λ j. attempts j c.attempt_at.result) c.even_frame-first.ensures.value c.attempt_at.ensures)))
     (λ i fields tried a. c.loop-i.invariant i fields (let l = tried.among in let end = c.loop-i-test.false in omega (arith, l, end)) a)
 
@@ -117,4 +117,4 @@ returns-clause-granted g c =
     let r = c.args.recording.now in
     let values = subframes_by g.S.ReadSlot.carrier g.S.ReadSlot.values_by in
     none_granted_by (IsFrameAttempt values r c.args.place c.args.mib) (FrameAnswers values r c.args.place c.args.mib) (are_attempts values r c.args.place c.args.mib)
-    r c.args.place.start c.args.sfn c.attempt_at.result c.informed_by-told.result.sib1 c.informed_by-told.result.granted (sym c.if-is_ok.ensures.value) c.informed_by-told.ensures.sib1 c.informed_by-told.ensures.granted
+    r c.args.place.start c.args.sfn c.attempt_at.result c.informed_by-decoded.result.sib1 c.informed_by-decoded.result.granted (sym c.if-is_ok.ensures.value) c.informed_by-decoded.ensures.sib1 c.informed_by-decoded.ensures.granted

@@ -2,8 +2,8 @@ use Rattle.std.proofs.Common.{arith, ◌≡◌, ℕ, ◌*◌, ◌%◌, ◌∙◌
 use Rattle.std.proofs.lemmas.Nat.{mul-le}
 use Rattle.finite.proofs.Lists.{set_more}
 use Rattle.cs_num.specs.declared.Cpx.{Cpx}
-use Rattle.cs_num.specs.Complex.{nothing, times, size}
-use Rattle.cs_num.proofs.Complex.{size-le, times-within}
+use Rattle.cs_num.specs.Complex.{nothing, times, largest_part}
+use Rattle.cs_num.proofs.Complex.{largest_part-le, times-within}
 use Rattle.fold128.specs.declared.quartet.Quartet.{Quartet}
 use Rattle.fold128.specs.Tables.{w_at}
 use Rattle.fold128.specs.Folding.{added, empty_quartet}
@@ -21,7 +21,7 @@ returns-then-value-eq0-2 c m inside =
 pub mul-requires : goal.mul-requires
 mul-requires c =
     let t = w_small (c.args.frequency * c.loop-m.m) in
-    rw c.w.ensures (omega (arith, mul-le (size c.args.value) (size (w_at (c.args.frequency * c.loop-m.m))) 127 16384 (size-le _ _ c.requires.value) (size-le _ _ t)))
+    rw c.w.ensures (omega (arith, mul-le (largest_part c.args.value) (largest_part (w_at (c.args.frequency * c.loop-m.m))) 127 16384 (largest_part-le _ _ c.requires.value) (largest_part-le _ _ t)))
 
 pub add-requires-clause-number : goal.add-requires-clause-number
 add-requires-clause-number c =

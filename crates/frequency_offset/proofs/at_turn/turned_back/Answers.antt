@@ -3,8 +3,8 @@ use Rattle.std.proofs.lemmas.Int.{to_z-of_z}
 use Rattle.cs_num.specs.Rounding.{rounded, nearest_sample}
 use Rattle.std.proofs.lemmas.Nat.{mul-le}
 use Rattle.cs_num.specs.declared.Cpx.{Cpx}
-use Rattle.cs_num.specs.Complex.{IsWithin, size, minus, times, conjugate}
-use Rattle.cs_num.proofs.Complex.{size-le, minus-within, conjugate-within, times-within}
+use Rattle.cs_num.specs.Complex.{IsWithin, largest_part, minus, times, conjugate}
+use Rattle.cs_num.proofs.Complex.{largest_part-le, minus-within, conjugate-within, times-within}
 use Rattle.frequency_offset.specs.Turned.{w_of, turned_back}
 use Rattle.frequency_offset.proofs.at_turn.turned_back.Goals as goal
 
@@ -17,15 +17,15 @@ module _ (c : goal.After-conj) where
 
 pub mul-requires : goal.mul-requires
 mul-requires c =
-    let a = size-le c.sub-centred.result 65536 (centred_small c) in
-    let b = size-le c.conj.result 16384 (turn_small c) in
-    omega (arith, mul-le (size c.sub-centred.result) (size c.conj.result) 65536 16384 a b)
+    let a = largest_part-le c.sub-centred.result 65536 (centred_small c) in
+    let b = largest_part-le c.conj.result 16384 (turn_small c) in
+    omega (arith, mul-le (largest_part c.sub-centred.result) (largest_part c.conj.result) 65536 16384 a b)
 
 pub round_shift-requires-clause-size : goal.round_shift-requires-clause-size
 round_shift-requires-clause-size c =
     let t = times-within c.sub-centred.result c.conj.result 65536 16384 1073741824 (centred_small c.before) (turn_small c.before) (omega arith) in
     let e = c.mul.ensures in
-    rw e (omega (arith, size-le (times c.sub-centred.result c.conj.result) 2147483648 t))
+    rw e (omega (arith, largest_part-le (times c.sub-centred.result c.conj.result) 2147483648 t))
 
 pub returns : goal.returns
 unfolding turned_back

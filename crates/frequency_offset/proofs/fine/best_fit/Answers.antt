@@ -1,7 +1,7 @@
 use Rattle.std.proofs.Common.{rules, ◌≡◌, ◌-◌, ◌∙◌, arith, ap, w16, FitsSigned}
 use Rattle.std.proofs.lemmas.Int.{to_z-of_z}
 use Rattle.sss_detect.specs.Identity.{first_greatest}
-use Rattle.frequency_offset.specs.Order.{by_size}
+use Rattle.frequency_offset.specs.Order.{by_magnitude}
 use Rattle.frequency_offset.specs.Fine.{best_fit}
 use Rattle.frequency_offset.proofs.BestFit.{fit_at, first_fit, next_fit, best_below}
 use Rattle.frequency_offset.proofs.fine.best_fit.Goals as goal
@@ -17,8 +17,8 @@ better_fit-best-requires-clause-first c =
 pub loop-k-preserved : goal.loop-k-preserved
 loop-k-preserved c = next_fit (fit_at c.args.sum) c.loop-k.k c.loop-k.best c.better_fit-best.result (omega arith) c.loop-k.invariant c.better_fit-best.ensures
 
-pub by_size-requires : goal.by_size-requires
-by_size-requires c =
+pub by_magnitude-requires : goal.by_magnitude-requires
+by_magnitude-requires c =
     let l = best_below (fit_at c.args.sum) c.loop-k.k c.loop-k.best c.loop-k.invariant in
     omega (arith, l)
 
@@ -26,5 +26,5 @@ pub returns-clause-value : goal.returns-clause-value
 unfolding best_fit
 returns-clause-value c =
     let last : c.loop-k.k - 1 ≡ 127 = omega arith in
-    let f : FitsSigned w16 c.by_size.result = search rules in
-    to_z-of_z w16 c.by_size.result f ∙ c.by_size.ensures.value ∙ ap by_size (c.loop-k.invariant ∙ ap (first_greatest (fit_at c.args.sum)) last)
+    let f : FitsSigned w16 c.by_magnitude.result = search rules in
+    to_z-of_z w16 c.by_magnitude.result f ∙ c.by_magnitude.ensures.value ∙ ap by_magnitude (c.loop-k.invariant ∙ ap (first_greatest (fit_at c.args.sum)) last)

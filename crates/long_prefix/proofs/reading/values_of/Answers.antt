@@ -17,6 +17,6 @@ returns-clause-values c =
     (λ k inside. c.loop-i.invariant.each k (omega (arith, inside, c.loop-i-test.false))
     ∙ ap (λ (ps : List Place). slice_index_or (long_pair slot (slice_index_or ps (k / 2) (place 0 0))) (k % 2) (pos 0)) c.long_places-places.ensures.places)
 
-pub returns-clause-sizes : goal.returns-clause-sizes
-returns-clause-sizes c =
+pub returns-clause-magnitudes : goal.returns-clause-magnitudes
+returns-clause-magnitudes c =
     subst (λ values. All (λ value. nat_abs value ≤ 127) values) (sym (returns-clause-values c)) (long_values-small (slot_of c.args.seen.now))

@@ -21,8 +21,8 @@ pub returns-in-Ok-clause-none : goal.returns-in-Ok-clause-none
 returns-in-Ok-clause-none c none m within is =
     let read : c.parse.result ≡ Ok m = parse-signed_decimal w16 m c.args.text.now c.parse.result (fits m within) (small m within) is c.parse.ensures.value.0 in
     let same : c.in-Ok.m ≡ m = cc (sym c.in-Ok.is ∙ read) in
-    let told = to_z-of_z w16 c.in-Ok.m (subst (FitsSigned w16) (sym same) (fits m within)) ∙ same in
-    c.exact_steps.ensures.none none (subst IsTurn (sym told) within) (is ∙ ap signed_decimal (sym told))
+    let decoded = to_z-of_z w16 c.in-Ok.m (subst (FitsSigned w16) (sym same) (fits m within)) ∙ same in
+    c.exact_steps.ensures.none none (subst IsTurn (sym decoded) within) (is ∙ ap signed_decimal (sym decoded))
 
 pub returns-in-Err-clause-none : goal.returns-in-Err-clause-none
 returns-in-Err-clause-none c none m within is =

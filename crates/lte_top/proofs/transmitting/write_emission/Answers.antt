@@ -27,7 +27,7 @@ loop-emitter-init g c =
     let is = c.new-emitter.ensures in
     record {
       samples = is.samples;
-      so_far = rw (c.new-writer.ensures, is.at, is.samples) (waiting_all (bytes_of (emitted_samples c.args.emission.now)) (g.K.Sink.told c.args.sink.now));
+      so_far = rw (c.new-writer.ensures, is.at, is.samples) (waiting_all (bytes_of (emitted_samples c.args.emission.now)) (g.K.Sink.state c.args.sink.now));
       later = omega arith;
     }
 

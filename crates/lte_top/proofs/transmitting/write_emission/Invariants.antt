@@ -10,6 +10,6 @@ decreases-loop-emitter g l = length l.emitter.samples - l.emitter.at
 abbrev pub invariant-loop-emitter : goal.invariant-loop-emitter
 invariant-loop-emitter g l = record {
   samples : l.emitter.samples ≡ emitted_samples l.emission;
-  so_far : HasWrittenPieces (bytes_of (emitted_samples l.emission)) (l.writer ++ bytes_of (drop l.emitter.at l.emitter.samples)) (g.K.Sink.told l.fn.sink) (g.K.Sink.told l.sink);
-  later : (g.K.Sink.told l.fn.sink).faults ≤ (g.K.Sink.told l.sink).faults;
+  so_far : HasWrittenPieces (bytes_of (emitted_samples l.emission)) (l.writer ++ bytes_of (drop l.emitter.at l.emitter.samples)) (g.K.Sink.state l.fn.sink) (g.K.Sink.state l.sink);
+  later : (g.K.Sink.state l.fn.sink).faults ≤ (g.K.Sink.state l.sink).faults;
 }

@@ -23,11 +23,11 @@ returns-clause-values c =
     c.combine_from.ensures.sums ∙ ap (summed_from c.args.first 40) (front ∙ c.descramble.ensures.values
     ∙ ap (descrambled (pbch_c_init c.args.cell.now) c.args.first) (c.as_mut_slice.ensures.value ∙ c.joined-values.ensures.values))
 
-pub returns-clause-sizes : goal.returns-clause-sizes
-returns-clause-sizes c =
+pub returns-clause-magnitudes : goal.returns-clause-magnitudes
+returns-clause-magnitudes c =
     let received = flat_map (λ (frame : List ℤ). frame) c.args.frames.now in
     let few = c.requires.period in
     let many = c.joined-values.ensures.count in
     let all = ap (λ (values : List ℤ). length values) c.joined-values.ensures.values in
     subst (RowsWithin 2032) (sym (returns-clause-values c))
-    (summed_values-small c.args.cell.now c.args.first received (subst (AllWithin 127) c.joined-values.ensures.values c.joined-values.ensures.sizes) (omega (arith, many, few, all)))
+    (summed_values-small c.args.cell.now c.args.first received (subst (AllWithin 127) c.joined-values.ensures.values c.joined-values.ensures.magnitudes) (omega (arith, many, few, all)))

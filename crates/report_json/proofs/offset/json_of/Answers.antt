@@ -1,11 +1,11 @@
 use Rattle.serde_json.specs.View.{view}
 use Rattle.report_json.proofs.Floats.{written}
-use Rattle.report_json.specs.Offset.{telling_value, telling_json}
-use Rattle.report_json.proofs.OffsetFloats.{in_telling}
+use Rattle.report_json.specs.Offset.{estimate_value_of, estimate_json}
+use Rattle.report_json.proofs.OffsetFloats.{in_estimation}
 use Rattle.report_json.proofs.offset.json_of.Goals as goal
 
 pub returns : goal.returns
-unfolding telling_json
+unfolding estimate_json
 returns c =
-    written (view c.in_ok-telling.telling) (telling_value c.args.told.now c.args.taken.now) c.to_string.result c.in_ok-telling.ensures
-    (in_telling c.args.told.now c.args.taken.now) c.to_string.ensures.text
+    written (view c.in_ok-estimation.estimation) (estimate_value_of c.args.estimate.now c.args.taken.now) c.to_string.result c.in_ok-estimation.ensures
+    (in_estimation c.args.estimate.now c.args.taken.now) c.to_string.ensures.text

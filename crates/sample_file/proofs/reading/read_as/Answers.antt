@@ -11,7 +11,7 @@ pub returns-clause-ok : goal.returns-clause-ok
 returns-clause-ok g c = by_result c.read_front.result c.read_front.ensures.ok
   where
     by_result : (r : Result (List Sample) FileError) →
-        IfOk r (λ front. HasReadFront c.args.form most_samples front (g.S.Source.told c.args.source.now) (g.S.Source.told c.read_front.new.source)) →
-        IfOk r (λ recording. HasReadRecording c.args.form recording (g.S.Source.told c.args.source.now) (g.S.Source.told c.read_front.new.source))
+        IfOk r (λ front. HasReadFront c.args.form most_samples front (g.S.Source.state c.args.source.now) (g.S.Source.state c.read_front.new.source)) →
+        IfOk r (λ recording. HasReadRecording c.args.form recording (g.S.Source.state c.args.source.now) (g.S.Source.state c.read_front.new.source))
     by_result (Ok front) read = whole_front c.args.form front _ _ read
     by_result (Err error) read = tt

@@ -44,7 +44,7 @@ returns-in-Ok-eq0-clause-ok g c = by_result c.recording_of.result c.recording_of
     few = not_many c.args.form _ c.loop-front.begun (omega (arith, counted c.args.form c.args.most c.loop-front.invariant.so_far.samples c.loop-front.front.samples.items c.loop-front.front.count c.loop-front.invariant.so_far.are_kept, c.loop-front.invariant.few, c.bytes_read-limit.ensures))
 
     by_result : (r : Result (List Sample) FileError) → IfOk r (λ front. front ≡ c.loop-front.front.samples.items) → IfOk r IsRecording →
-        IfOk r (λ front. HasReadFront c.args.form c.args.most front (g.S.Source.told c.args.source.now) (g.S.Source.told c.read_at.new.source))
+        IfOk r (λ front. HasReadFront c.args.form c.args.most front (g.S.Source.state c.args.source.now) (g.S.Source.state c.read_at.new.source))
     by_result (Ok front) same valid =
         let so = c.loop-front.invariant.so_far in
         let kept = kept_count c.args.most so.samples c.loop-front.front.samples.items c.loop-front.front.count so.are_kept in

@@ -34,7 +34,7 @@ returns-clause-values g c =
     let places = c.args.places.now in
     fours_done c.loop-i.i (length places / 2) (pair_at g.K.Ports.pairing slot places) c.loop-i.values (omega (arith, whole, room, even)) (omega (arith, end, most)) c.loop-i.invariant
 
-pub returns-clause-sizes : goal.returns-clause-sizes
-returns-clause-sizes g c =
+pub returns-clause-magnitudes : goal.returns-clause-magnitudes
+returns-clause-magnitudes g c =
     subst (AllWithin 127) (sym (returns-clause-values g c))
     (paired_by-small g.K.Ports.pairing (in_subframe c.args.first.now c.args.second.now) c.args.places.now)

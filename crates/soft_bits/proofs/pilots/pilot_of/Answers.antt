@@ -1,7 +1,7 @@
 use Rattle.std.proofs.Common.{◌∙◌, ◌*◌, ◌^◌, arith, ap, ap₂}
 use Rattle.std.proofs.lemmas.Nat.{mul-le}
-use Rattle.cs_num.specs.Complex.{IsWithin, times, conjugate, size}
-use Rattle.cs_num.proofs.Complex.{size-le, times-within, conjugate-within}
+use Rattle.cs_num.specs.Complex.{IsWithin, times, conjugate, largest_part}
+use Rattle.cs_num.proofs.Complex.{largest_part-le, times-within, conjugate-within}
 use Rattle.soft_bits.specs.Kept.{slot_of}
 use Rattle.soft_bits.specs.Layout.{sent_with}
 use Rattle.soft_bits.proofs.pilots.pilot_of.Goals as goal
@@ -9,7 +9,7 @@ use Rattle.soft_bits.proofs.pilots.pilot_of.Goals as goal
 pub mul-requires : goal.mul-requires
 mul-requires c =
     let small : IsWithin 90 c.conj.result = rw c.conj.ensures (conjugate-within c.sent_at-sent.result 90 c.sent_at-sent.ensures.small) in
-    omega (arith, mul-le (size c.seen_of.result) (size c.conj.result) (2 ^ 25) 90 (size-le _ _ c.seen_of.ensures.small) (size-le _ _ small))
+    omega (arith, mul-le (largest_part c.seen_of.result) (largest_part c.conj.result) (2 ^ 25) 90 (largest_part-le _ _ c.seen_of.ensures.small) (largest_part-le _ _ small))
 
 pub returns-clause-value : goal.returns-clause-value
 returns-clause-value c =

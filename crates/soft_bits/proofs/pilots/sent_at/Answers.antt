@@ -5,7 +5,7 @@ use Rattle.crs.specs.declared.pattern.Pattern.{Pattern}
 use Rattle.crs.specs.Reference.{pattern_list, pattern_reference}
 use Rattle.crs.proofs.Values.{no_pair, get_or-pattern_list}
 use Rattle.soft_bits.specs.Layout.{symbol_with}
-use Rattle.soft_bits.proofs.Sizes.{pattern_reference-within}
+use Rattle.soft_bits.proofs.Magnitudes.{pattern_reference-within}
 use Rattle.soft_bits.proofs.pilots.sent_at.Goals as goal
 
 -- value k / 6 of a symbol

@@ -15,6 +15,6 @@ returns-clause-values g c =
     ext_get_or (pos 0) c.loop-i.values (placed_values slot places) (whole ∙ sym (length-placed slot places))
     (λ k below. c.loop-i.invariant.each k (omega (arith, whole, below)) ∙ sym (placed-at slot places k (omega (arith, whole, below))))
 
-pub returns-clause-sizes : goal.returns-clause-sizes
-returns-clause-sizes g c =
+pub returns-clause-magnitudes : goal.returns-clause-magnitudes
+returns-clause-magnitudes g c =
     subst (λ values. All (λ value. nat_abs value ≤ 127) values) (sym (returns-clause-values g c)) (placed-small (in_subframe c.args.first.now c.args.second.now) c.args.places.now)

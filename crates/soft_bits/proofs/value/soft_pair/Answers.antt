@@ -6,8 +6,8 @@ use Rattle.std.proofs.lemmas.List.Elements.{All-cons, All-nil}
 use Rattle.std.specs.Prelude.{nat_abs}
 use Rattle.finite.specs.Sizes.{AllWithin}
 use Rattle.cs_num.specs.declared.Cpx.{Cpx}
-use Rattle.cs_num.specs.Complex.{IsWithin, times, conjugate, size}
-use Rattle.cs_num.proofs.Complex.{times-within, size-le, conjugate-within}
+use Rattle.cs_num.specs.Complex.{IsWithin, times, conjugate, largest_part}
+use Rattle.cs_num.proofs.Complex.{times-within, largest_part-le, conjugate-within}
 use Rattle.soft_bits.specs.Soft.{soft_value}
 use Rattle.soft_bits.proofs.value.soft_pair.Goals as goal
 
@@ -20,7 +20,7 @@ within a b h e p q =
 pub mul-value-requires : goal.mul-value-requires
 mul-value-requires c =
     let both = within c.args.seen c.args.channel c.conj.result c.conj.ensures c.requires.seen c.requires.channel in
-    omega (arith, mul-le (size c.args.seen) (size c.conj.result) (2 ^ 25) (540 * 2 ^ 25) (size-le _ _ c.requires.seen) (size-le _ _ both.0))
+    omega (arith, mul-le (largest_part c.args.seen) (largest_part c.conj.result) (2 ^ 25) (540 * 2 ^ 25) (largest_part-le _ _ c.requires.seen) (largest_part-le _ _ both.0))
 
 -- a number within the bound is read back from 64 bits
 back : (z : ℤ) → IsWithin (1080 * 2 ^ 50) (record { re = z; im = z }) → to_z w64 (of_z w64 z) ≡ z

@@ -8,8 +8,8 @@ use Rattle.tail_cert.proofs.reading.get_all.Goals as goal
 pub get_values-requires-clause-room : goal.get_values-requires-clause-room
 get_values-requires-clause-room c = omega (arith, long_enough _ c.args.bytes.now c.requires.unbroken, count_least c.args.bytes.now)
 
-pub get_values-requires-clause-sizes : goal.get_values-requires-clause-sizes
-get_values-requires-clause-sizes c = small_values _ c.args.bytes.now c.requires.unbroken (get_values-requires-clause-room c)
+pub get_values-requires-clause-magnitudes : goal.get_values-requires-clause-magnitudes
+get_values-requires-clause-magnitudes c = small_values _ c.args.bytes.now c.requires.unbroken (get_values-requires-clause-room c)
 
 pub get_word-into-inside-requires : goal.get_word-into-inside-requires
 get_word-into-inside-requires c = omega (arith, long_enough _ c.args.bytes.now c.requires.unbroken, count_least c.args.bytes.now)

@@ -12,7 +12,7 @@ loop-t-init c = read_none _ _ _ _ _ _ _ c.told-values
 
 pub loop-t-preserved : goal.loop-t-preserved
 loop-t-preserved c =
-    let small : nat_abs c.get_value.result ≤ 2032 = rw c.get_value.ensures.value (c.requires.sizes c.loop-t.t c.loop-t-test.true) in
+    let small : nat_abs c.get_value.result ≤ 2032 = rw c.get_value.ensures.value (c.requires.magnitudes c.loop-t.t c.loop-t-test.true) in
     let e : cast_signed w32 (cast_unsigned w32 c.get_value.result) ≡ c.get_value.result = to_z-of_z w32 c.get_value.result (fits_32 c.get_value.result small) in
     rw e (read_more _ _ _ _ _ _ _ _ _ c.loop-t.invariant (omega arith) c.get_value.ensures.bytes small)
 

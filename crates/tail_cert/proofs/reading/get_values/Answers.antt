@@ -14,7 +14,7 @@ returns-clause-bytes c = (read_all _ _ _ _ _ _ _ _ c.loop-k.invariant (omega ari
 pub returns-clause-places : goal.returns-clause-places
 returns-clause-places c = (read_all _ _ _ _ _ _ _ _ c.loop-k.invariant (omega arith) (omega arith)).1
 
-pub get_place-requires-clause-sizes : goal.get_place-requires-clause-sizes
-get_place-requires-clause-sizes c = λ t below.
+pub get_place-requires-clause-magnitudes : goal.get_place-requires-clause-magnitudes
+get_place-requires-clause-magnitudes c = λ t below.
     let e : 4 + 6 * c.loop-k.k + 2 * t ≡ 4 + 2 * (3 * c.loop-k.k + t) = omega arith in
-    rw e (c.requires.sizes (3 * c.loop-k.k + t) (omega arith))
+    rw e (c.requires.magnitudes (3 * c.loop-k.k + t) (omega arith))

@@ -7,7 +7,7 @@ use Rattle.tail_cert.proofs.writing.put_value.Goals as goal
 pub returns-clause-bytes : goal.returns-clause-bytes
 unfolding value_bytes
 returns-clause-bytes c =
-    let e = same_bits (get_or c.args.values.now c.args.t (pos 0)) (c.requires.sizes c.args.t (pos 0) (omega (arith, c.told-values))) in
+    let e = same_bits (get_or c.args.values.now c.args.t (pos 0)) (c.requires.magnitudes c.args.t (pos 0) (omega (arith, c.told-values))) in
     put_piece _ _ _ _ (rw e at c.write_i16.ensures) (omega arith)
 
 pub returns-clause-count : goal.returns-clause-count

@@ -35,5 +35,5 @@ loop-bounds-smaller c =
 
 pub returns : goal.returns
 returns c =
-    no_bound_below _ _ _ _ c.requires.high c.requires.sizes c.loop-bounds.invariant.bounds c.loop-bounds.invariant.least c.loop-bounds-test.false
+    no_bound_below _ _ _ _ c.requires.high c.requires.magnitudes c.loop-bounds.invariant.bounds c.loop-bounds.invariant.least c.loop-bounds-test.false
     c.loop-bounds.invariant.reached

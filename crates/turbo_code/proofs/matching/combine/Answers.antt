@@ -8,7 +8,7 @@ use Rattle.turbo_code.specs.Reading.{item_of}
 use Rattle.turbo_code.specs.Walk.{Standing, standing}
 use Rattle.turbo_code.proofs.Walking.{item_here, one_more}
 use Rattle.turbo_code.proofs.TableFacts.{is_small, row_size}
-use Rattle.turbo_code.proofs.Sizes.{sizes}
+use Rattle.turbo_code.proofs.Magnitudes.{magnitudes}
 use Rattle.turbo_code.proofs.Sums.{sums_all}
 use Rattle.turbo_code.proofs.matching.combine.Goals as goal
 
@@ -54,8 +54,8 @@ loop-value-preserved c =
 pub returns-clause-d : goal.returns-clause-d
 returns-clause-d c = sums_all c.args.row.k c.args.rv c.args.values.now c.loop-value.value-index c.loop-value.d (omega arith) c.loop-value.invariant.sums
 
-pub returns-clause-sizes : goal.returns-clause-sizes
-returns-clause-sizes c bound rounds small few =
+pub returns-clause-magnitudes : goal.returns-clause-magnitudes
+returns-clause-magnitudes c bound rounds small few =
     let is = sums_all c.args.row.k c.args.rv c.args.values.now c.loop-value.value-index c.loop-value.d (omega arith) c.loop-value.invariant.sums in
     subst (RowsWithin (rounds * bound)) (sym is)
-    (sizes c.args.row.k c.args.rv (row_size c.args.row c.requires.row) c.requires.version c.args.values.now bound rounds small few)
+    (magnitudes c.args.row.k c.args.rv (row_size c.args.row c.requires.row) c.requires.version c.args.values.now bound rounds small few)

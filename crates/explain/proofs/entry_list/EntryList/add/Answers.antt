@@ -2,20 +2,20 @@ use Rattle.std.proofs.Common.{◌≡◌, ◌<◌, ◌≤◌, ◌∙◌, true, fa
 use Rattle.std.specs.List.{AllWithin, HoldsAt, list_any}
 use Rattle.lte_types.specs.declared.entry.Entry.{Entry}
 use Rattle.explain.specs.Entries.{IsBefore, is_same_cell}
-use Rattle.explain.proofs.Kept.{told_already, told_now}
+use Rattle.explain.proofs.Kept.{decoded_already, decoded_now}
 use Rattle.explain.proofs.entry_list.EntryList.add.Goals as goal
 
 pub returns-then-has_cell-clause-adds : goal.returns-then-has_cell-clause-adds
 returns-then-has_cell-clause-adds c before listed =
-    let told : list_any (λ (other : Entry). is_same_cell other c.args.entry) c.args.self.now ≡ true =
+    let decoded : list_any (λ (other : Entry). is_same_cell other c.args.entry) c.args.self.now ≡ true =
     ap (list_any (λ (other : Entry). is_same_cell other c.args.entry)) (sym c.slice.ensures) ∙ sym c.if-has_cell.ensures in
-    told_already before c.args.self.now c.args.entry listed told
+    decoded_already before c.args.self.now c.args.entry listed decoded
 
 pub returns-then-has_cell-clause-new : goal.returns-then-has_cell-clause-new
 returns-then-has_cell-clause-new c =
-    let told : list_any (λ (other : Entry). is_same_cell other c.args.entry) c.args.self.now ≡ true =
+    let decoded : list_any (λ (other : Entry). is_same_cell other c.args.entry) c.args.self.now ≡ true =
     ap (list_any (λ (other : Entry). is_same_cell other c.args.entry)) (sym c.slice.ensures) ∙ sym c.if-has_cell.ensures in
-    ((λ e. absurd (cc e)), λ e. absurd (cc (sym e ∙ told)))
+    ((λ e. absurd (cc e)), λ e. absurd (cc (sym e ∙ decoded)))
 
 pub returns-clause-put : goal.returns-clause-put
 returns-clause-put c =
@@ -33,7 +33,7 @@ returns-clause-adds c before listed =
     let none : list_any (λ (other : Entry). is_same_cell other c.args.entry) c.args.self.now ≡ false =
     ap (list_any (λ (other : Entry). is_same_cell other c.args.entry)) (sym c.slice.ensures) ∙ sym c.if-has_cell.ensures in
     let put = returns-clause-put c in
-    rw c.insert.ensures (told_now before c.args.self.now c.args.entry c.index_of-at.result listed none put.within put.before put.after)
+    rw c.insert.ensures (decoded_now before c.args.self.now c.args.entry c.index_of-at.result listed none put.within put.before put.after)
 
 pub returns-clause-new : goal.returns-clause-new
 returns-clause-new c =

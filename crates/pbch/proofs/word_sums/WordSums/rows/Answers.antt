@@ -15,5 +15,5 @@ pub returns-clause-rows : goal.returns-clause-rows
 returns-clause-rows c =
     let whole = c.loop-k.invariant.whole in
     let last = c.loop-k-test.false in
-    let told = c.self.invariant in
-    ext_get_or [] c.loop-k.rows c.self.inside.rows (omega (arith, whole, told)) (λ j below. c.loop-k.invariant.each j (omega (arith, below, whole, last))) ∙ c.self.view_is
+    let decoded = c.self.invariant in
+    ext_get_or [] c.loop-k.rows c.self.inside.rows (omega (arith, whole, decoded)) (λ j below. c.loop-k.invariant.each j (omega (arith, below, whole, last))) ∙ c.self.view_is

@@ -1,5 +1,5 @@
 use Rattle.soft_bits.specs.Soft.{SeenSlot}
-use Rattle.soft_bits.proofs.Sizes.{ports_energy-within}
+use Rattle.soft_bits.proofs.Magnitudes.{ports_energy-within}
 use Rattle.soft_bits.proofs.slot.PortSlot.energy.Goals as goal
 
 pub returns-clause-few : goal.returns-clause-few

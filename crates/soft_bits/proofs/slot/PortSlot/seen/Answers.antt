@@ -1,7 +1,7 @@
 use Rattle.std.proofs.Common.{All, ◌^◌, arith}
 use Rattle.std.proofs.lemmas.List.Elements.{All-get_or}
 use Rattle.cs_num.specs.Complex.{IsWithin}
-use Rattle.soft_bits.proofs.Sizes.{value_at-within}
+use Rattle.soft_bits.proofs.Magnitudes.{value_at-within}
 use Rattle.soft_bits.proofs.slot.PortSlot.seen.Goals as goal
 
 pub returns-clause-small : goal.returns-clause-small

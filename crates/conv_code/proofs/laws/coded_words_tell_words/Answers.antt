@@ -1,5 +1,0 @@
-use Rattle.conv_code.proofs.OneToOne.{one_to_one}
-use Rattle.conv_code.proofs.laws.coded_words_tell_words.Goals as goal
-
-pub returns : goal.returns
-returns c = one_to_one

@@ -1,5 +1,0 @@
-use Rattle.turbo_convergence.proofs.Iterates.{spoken_is_told}
-use Rattle.turbo_convergence.proofs.blocks.spoken_block_is_told.Goals as goal
-
-pub returns : goal.returns
-returns c = spoken_is_told

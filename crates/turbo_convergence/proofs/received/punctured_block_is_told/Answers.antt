@@ -1,5 +1,0 @@
-use Rattle.turbo_convergence.proofs.ReceivedSums.{punctured_block_is_told}
-use Rattle.turbo_convergence.proofs.received.punctured_block_is_told.Goals as goal
-
-pub returns : goal.returns
-returns c = punctured_block_is_told
