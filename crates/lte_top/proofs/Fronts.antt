@@ -23,6 +23,9 @@ use Rattle.soft_bits.specs.Places.{placed_values}
 use Rattle.explain.specs.Deciding.{deciding_length, LooksAtFirstFrames}
 use Rattle.explain.proofs.Deciding.{decided, broadcast_agrees, slots_look}
 use Rattle.long_prefix.proofs.Deciding.{long_looks}
+use Rattle.reasons.specs.declared.reason.Reason.{Reason}
+use Rattle.reasons.specs.Reason.{IsReasonFor}
+use Rattle.reasons.proofs.Agree.{first_frames_decide_reasons}
 use Rattle.report_text.specs.Hits.{hits_text, ids_text}
 use Rattle.report_json.specs.Hits.{hits_json, ids_json}
 use Rattle.lte_args.specs.declared.form.Form.TheVariants.{Report as Reports}
@@ -78,6 +81,20 @@ list_decides carrier samples list valid is = by_length (nat_le deciding_length (
     by_length false e =
         subst (λ (kept : List Sample). IsListOf carrier kept list) (take_all deciding_length samples (is_below deciding_length (length samples) e)) is
 
+-- the reasons for an identity in the first 17 frames are those in the recording
+reasons_decide : (carrier : Carrier) (samples : List Sample) (identity : ℕ) (reasons : List Reason) → IsReasonFor (receiver_of carrier) (take deciding_length samples) identity reasons →
+    IsReasonFor (receiver_of carrier) samples identity reasons
+reasons_decide carrier samples identity reasons is = by_length (nat_le deciding_length (length samples)) refl
+  where
+    by_length : (long : Bool) → nat_le deciding_length (length samples) ≡ long → IsReasonFor (receiver_of carrier) samples identity reasons
+    by_length true e =
+        let above = is_above deciding_length (length samples) e in
+        let size : length (take deciding_length samples) ≡ deciding_length = length-take-le deciding_length samples above in
+        first_frames_decide_reasons (receiver_of carrier) (looks carrier) (take deciding_length samples) samples identity reasons (omega (arith, size)) above
+        (front_agrees deciding_length samples) is
+    by_length false e =
+        subst (λ (kept : List Sample). IsReasonFor (receiver_of carrier) kept identity reasons) (take_all deciding_length samples (is_below deciding_length (length samples) e)) is
+
 -- ---- hits
 
 -- equal results for each PSS detection give equal lists of results
@@ -122,7 +139,8 @@ kept_report (Search AllLists) output samples text valid is =
 kept_report (Search Cancel) output samples text valid is = subst (λ (kept : List Sample). IsReport (Search Cancel) output kept text) (take_all most_samples samples valid.most) is
 kept_report (Evidence carrier) output samples text valid is = subst (λ (kept : List Sample). IsReport (Evidence carrier) output kept text) (take_all most_samples samples valid.most) is
 kept_report Tell output samples text valid is = subst (λ (kept : List Sample). IsReport Tell output kept text) (take_all most_samples samples valid.most) is
-kept_report (Why identity carrier) output samples text valid is = subst (λ (kept : List Sample). IsReport (Why identity carrier) output kept text) (take_all most_samples samples valid.most) is
+kept_report (Why identity carrier) output samples text valid is =
+    record { reasons = is.reasons; are = reasons_decide carrier samples identity is.reasons is.are; text_is = is.text_is }
 
 -- a report about the kept samples is the output
 pub kept_output : (report : Report) (output : Output) (form : SampleForm) (front : List Sample) (before now : SourceState) (text : List ℕ) → HasReadFront form (kept_for report) front before now →

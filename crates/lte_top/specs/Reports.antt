@@ -85,4 +85,4 @@ kept_for Ids = least_samples
 kept_for (Search rule) = kept_for_list rule
 kept_for (Evidence carrier) = most_samples
 kept_for Tell = most_samples
-kept_for (Why identity carrier) = most_samples
+kept_for (Why identity carrier) = deciding_length

@@ -60,7 +60,7 @@ fn kept_for(report: &Report) -> usize
         Report::Search(rule) => kept_for_list(*rule),
         Report::Evidence(_) => MOST_SAMPLES,
         Report::Tell => MOST_SAMPLES,
-        Report::Why(_, _) => MOST_SAMPLES,
+        Report::Why(_, _) => DECIDING_SAMPLES,
     }
 }
 

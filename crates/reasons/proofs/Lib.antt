@@ -1,3 +1,4 @@
+pub mod Agree
 pub mod OneReason
 pub mod InList
 pub mod Steps

@@ -9,7 +9,7 @@ mod reasons;
 mod scores;
 mod strongest;
 
-pub use laws::reasons_in_plain_words;
+pub use laws::{reasons_in_plain_words, the_first_frames_decide_the_reasons};
 pub use reason::{
     Attempt, EarlyHit, ListedCell, OtherCell, OwnScore, Reason, StrongestPlace, UnreadCell,
 };
