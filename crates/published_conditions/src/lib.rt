@@ -1,6 +1,5 @@
-//! Checks that published preconditions and the order of published variants do not change. Some published calls state
-//! their precondition through a definition of their crate. Here they are called under plain numbers, so the proof fails
-//! if such a precondition becomes stronger.
+//! Checks that published preconditions do not become stronger and that the order of published variants does not change.
+//! Calls whose precondition is a definition of their crate are made here under preconditions written as numbers.
 //!
 //! Tests: none of its own; its proofs are the test.
 #![tactic(auto)]

@@ -80,7 +80,7 @@ pub record HasNoMib (receiver : Receiver) (recording : List Sample) (hit : Hit) 
     attempt = attempt;
   })
 
--- the first rule that the cell of an identity fails at a hit of its root, where the list has no entry with it
+-- the first rule that the cell with this identity fails at a hit of its root, if the list has no entry with it
 abbrev pub IsFirstFailing : Receiver → List Sample → ℕ → Hit → Reason → Type 0
 IsFirstFailing receiver recording identity hit reason =
     MatchBool (has_step_before receiver.carrier hit)

@@ -16,7 +16,8 @@ use sample_file::Recording;
 use sss_detect::{place_with, ranking_with};
 use tailbite::Trellis;
 
-/// Returns the first rule that the cell of an identity fails at a hit of its root, if the list has no entry with it.
+/// Returns the first rule that the cell with identity `id` fails at `hit`, a hit of its root. The list must have no
+/// entry with `id`.
 pub(crate) fn first_failing<F: FrameReader>(
     reader: &F,
     recording: &Recording,
