@@ -226,7 +226,7 @@ COLUMNS = (
         "cost %",
         "",
         None,
-        "how much of the soft bits speaks against the MIB: near 0 if well received, 11 to 16 for a false detection",
+        "how much of the soft values, by magnitude, disagrees with the MIB: near 0 if well received, 11 to 16 if false",
         lambda cell, survey: cell.share,
         lambda cell, survey: f"{100 * cell.share:.1f}",
     ),
