@@ -12,7 +12,7 @@ is 1 if there is one.
 import argparse
 
 from . import english
-from .rattle_source import comments_of, is_of_tests
+from .rattle_source import comments_of
 from .repository import TOP, report, run
 
 

@@ -354,8 +354,22 @@ def numpy_looks():
         ),
         Look(NAMED, CHANCE, lines_together),
         *(
-            Look(TESTS + "why.rt", f"$PY -m lte_reference.cell | $PY -m lte_reference.why {words}", lines_together, described())
-            for words in ("0", "3", "1", "0 --ports 2", "503 --prefix long", "0 --json", "3 --json", "0 --ports 4 --json")
+            Look(
+                TESTS + "why.rt",
+                f"$PY -m lte_reference.cell | $PY -m lte_reference.why {words}",
+                lines_together,
+                described(),
+            )
+            for words in (
+                "0",
+                "3",
+                "1",
+                "0 --ports 2",
+                "503 --prefix long",
+                "0 --json",
+                "3 --json",
+                "0 --ports 4 --json",
+            )
         ),
         Look(
             NAMED,

@@ -12,7 +12,6 @@ from .evidence import measures
 from .forms import NAMES
 from .search import (
     FIRST,
-    FRAME,
     PORTS,
     RULES,
     added,
