@@ -34,7 +34,7 @@ _{name}() {{
             esac
         done
         next=${{form[${{#given[@]}}]-}}
-        case $next in '' | [A-Z]) continue ;; esac
+        case $next in '' | {placeholders}) continue ;; esac
         if [[ $next == "$current"* && " ${{COMPREPLY[*]}} " != *" $next "* ]]; then COMPREPLY+=("$next"); fi
     done <<< "$_{name}_forms"
 }}
@@ -58,7 +58,7 @@ for line in ${{(f)forms}}; do
         esac
     done
     next=${{words_of_form[CURRENT - 1]}}
-    if [[ -n $next && $next != [A-Z] ]] && ((! ${{found[(Ie)$next]}})); then found+=($next); fi
+    if [[ -n $next && $next != ({placeholders}) ]] && ((! ${{found[(Ie)$next]}})); then found+=($next); fi
 done
 compadd -V forms -- $found
 """
@@ -97,7 +97,10 @@ def numbers(template):
 def program_text(template, number, program):
     """Returns the completion of a program in a shell."""
     lines = "\n".join(" ".join(sequence) for sequence in program.sequences())
-    return template.format(name=program.name, made=MADE, forms=lines, numbers=numbers(number))
+    placeholders = "|".join(command_forms.NUMBERS)
+    return template.format(
+        name=program.name, made=MADE, forms=lines, numbers=numbers(number), placeholders=placeholders
+    )
 
 
 def takes_file(action):

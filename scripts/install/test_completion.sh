@@ -23,6 +23,7 @@ receiver() {
     printf '%s\n' {hits,ids}{' --json',}{' --format cu8',}
     printf '%s\n' search{' --ports 2',' --ports 4',' --prefix long',' --cancel',' --all',}{' --json',}{' --format cu8',}
     ports evidence {' --json',}{' --format cu8',}
+    ports 'why 271' {' --json',}{' --format cu8',}
     ports certify {' --format cu8',}
     echo check
     ports transmit {' --load 7',}
@@ -46,7 +47,8 @@ fronts() { # fronts < FORMS: each front of each form, without its last word and 
 
 questions() { # questions < FORMS: lines FRONT|BEGIN: behind each front, also of words that begin somehow; and odd fronts
     fronts | while IFS= read -r front; do printf '%s\n' "$front|" "$front|-" "$front|--p" "$front|s"; done
-    printf '%s|\n' 'hits --format cu8' 'search --json --ports' 'search --ports 3' 'make 07' 'apply 7.5' unknown
+    printf '%s|\n' 'hits --format cu8' 'search --json --ports' 'search --ports 3' 'make 07' 'why 504' 'why 07' \
+        'apply 7.5' unknown
 }
 
 wanted() { # wanted FORMS < QUESTIONS: the words that may come next, in the forms' order, but no number of a recording

@@ -115,7 +115,7 @@ _lte_cli() {
             esac
         done
         next=${form[${#given[@]}]-}
-        case $next in '' | [A-Z]) continue ;; esac
+        case $next in '' | PCI|N|M) continue ;; esac
         if [[ $next == "$current"* && " ${COMPREPLY[*]} " != *" $next "* ]]; then COMPREPLY+=("$next"); fi
     done <<< "$_lte_cli_forms"
 }
