@@ -371,6 +371,10 @@ def numpy_looks():
                 "0 --ports 4 --json",
             )
         ),
+        *(
+            Look(file, f"$PY -m lte_reference.why {words} --json < ../crates/capture_example/stdin", lines_together)
+            for words, file in (("271", "docs/FORMATS.md"), ("1", OUTPUTS + "why.json"))
+        ),
         Look(
             NAMED,
             "$PY -m lte_reference.cell | $PY -m lte_reference.evidence",
