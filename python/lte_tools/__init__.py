@@ -1,7 +1,7 @@
 """Tools over lte_cli and lte_tune: surveys, pictures, captures and conversions of radio recordings.
 
-From Python, `lte_tools.search`, `hits`, `ids`, `evidence`, `tell`, `transmit` and `survey` run the programs and return
-frozen dataclasses (docs/NOTEBOOKS.md).
+From Python, `lte_tools.search`, `why`, `hits`, `ids`, `evidence`, `tell`, `transmit` and `survey` run the programs and
+return frozen dataclasses (docs/NOTEBOOKS.md).
 """
 import importlib
 from typing import TYPE_CHECKING, Any
@@ -9,7 +9,8 @@ from typing import TYPE_CHECKING, Any
 from .answers import Cell, Evidence, Hit, Identity, Sib1, Tuning
 from .machine import ProgramRefused, Refused
 from .options import SurveyOptions
-from .programs import Answers, Transmission, evidence, hits, ids, search, tell, transmit
+from .programs import Answers, Transmission, evidence, hits, ids, search, tell, transmit, why
+from .reasons import Listed, NoHit, NoMib, NoRoom, OtherIdentity, Reason, Why
 from .survey_data import Seen, Survey, SurveyCell
 
 if TYPE_CHECKING:
@@ -21,7 +22,13 @@ __all__ = [
     "Evidence",
     "Hit",
     "Identity",
+    "Listed",
+    "NoHit",
+    "NoMib",
+    "NoRoom",
+    "OtherIdentity",
     "ProgramRefused",
+    "Reason",
     "Refused",
     "Seen",
     "Sib1",
@@ -30,6 +37,7 @@ __all__ = [
     "SurveyOptions",
     "Transmission",
     "Tuning",
+    "Why",
     "evidence",
     "hits",
     "ids",
@@ -37,6 +45,7 @@ __all__ = [
     "survey",
     "tell",
     "transmit",
+    "why",
 ]
 
 

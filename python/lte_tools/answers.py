@@ -143,6 +143,11 @@ class Identity(Answer):
     subframe: int
     t: int
 
+    @property
+    def ratio(self) -> float:
+        """The part of the energy that the signal explains, 0.25 to 1."""
+        return self.peak / (self.energy * self.power)
+
 
 @dataclass(frozen=True)
 class Cell(Answer):

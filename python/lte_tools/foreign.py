@@ -120,9 +120,10 @@ def fault_of(value: object, form: dict[str, Any], place: str) -> str | None:
         faults = [fault_of(value, one, place) for one in form["oneOf"]]
         return None if None in faults else faults[-1]
     where = place or "the whole"
-    if "enum" in form:
-        is_listed = any(value == one and type(value) is type(one) for one in form["enum"])
-        return None if is_listed else f"{where}: {shown(value)} is not one of {', '.join(map(str, form['enum']))}"
+    if "enum" in form or "const" in form:
+        allowed = form["enum"] if "enum" in form else [form["const"]]
+        is_listed = any(value == one and type(value) is type(one) for one in allowed)
+        return None if is_listed else f"{where}: {shown(value)} is not one of {', '.join(map(str, allowed))}"
     kinds = form.get("type", [])
     kinds = [kinds] if isinstance(kinds, str) else kinds
     if kinds and not any(is_kind(value, kind) for kind in kinds):

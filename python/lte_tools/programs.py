@@ -1,12 +1,12 @@
-"""The programs from Python: lists of cells, detections, evidence, frequency offsets, transmissions and surveys.
+"""The programs from Python: lists of cells, reasons, detections, evidence, frequency offsets, transmissions and surveys.
 
     import lte_tools
     for cell in lte_tools.search("drive.cu8", rate=2.4e6, shift=300e3):
         print(cell.identity, cell.sib1)
 
 `lte_cli` and `lte_tune` are the proved programs: those that LTE_CLI and LTE_TUNE name, else next to the command that was
-called, else built in this clone, else on PATH. What they answer comes as frozen dataclasses (answers.py). If a program
-refuses, `ProgramRefused` has its cause and exit code; what no program was asked for is `Refused`.
+called, else built in this clone, else on PATH. What they answer comes as frozen dataclasses (answers.py, reasons.py). If a
+program refuses, `ProgramRefused` has its cause and exit code; what no program was asked for is `Refused`.
 
 Samples are `bytes` of a recording (signed 16-bit I and Q at 1.92 million samples per second; with `format="u8"` bytes as
 rtl_sdr writes them), a complex numpy array of any scale, or the path of a file that lte_survey reads. Of an array or a
@@ -15,6 +15,7 @@ file at most one second is read.
 from __future__ import annotations
 
 import json
+import numbers
 import os
 import pathlib
 import subprocess
@@ -24,6 +25,7 @@ from typing import TYPE_CHECKING, Any, Generic, Iterator, Mapping, TypeVar, Unio
 from . import foreign, machine, options, records
 from .answers import Answer, Cell, Evidence, Hit, Identity, Tuning
 from .machine import ProgramRefused, Refused
+from .reasons import Why
 from .rules import RULES, Rule
 from .survey_data import Survey
 
@@ -194,6 +196,31 @@ def evidence(
     """Returns what supports each cell of a list (`lte_cli evidence`); parameters as in `search`."""
     recording = recording_of(samples, rate, format, shift, at)
     return listed(Evidence, rule_of(ports, prefix).evidence, recording, "evidence")
+
+
+def why(
+    samples: Samples,
+    identity: int,
+    *,
+    rate: float = RATE,
+    format: str | None = None,
+    ports: int = 1,
+    prefix: str = "normal",
+    shift: float = 0,
+    at: float = 0,
+) -> Why:
+    """Returns why the list of `search` with the same parameters has the cell with this identity (0 to 503), or the first
+    rule that it fails at each PSS detection (`lte_cli why`)."""
+    if not isinstance(identity, numbers.Integral) or not 0 <= identity <= 503:
+        raise Refused(f"identity {foreign.shown(identity)}: a whole number from 0 to 503 is needed")
+    rule = rule_of(ports, prefix)
+    return reasons_for(int(identity), rule, recording_of(samples, rate, format, shift, at))
+
+
+def reasons_for(identity: int, rule: Rule, recording: Recording) -> Why:
+    """Returns the reasons for an identity in a rule's list of a recording."""
+    arguments = ("why", str(identity), *rule.arguments, "--json", *recording.arguments)
+    return records.from_json(Why, answer("lte_cli", arguments, recording.data, "why"))
 
 
 def tell(samples: Samples, *, rate: float = RATE, format: str | None = None, shift: float = 0, at: float = 0) -> Tuning:

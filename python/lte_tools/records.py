@@ -36,7 +36,7 @@ def typed(hint: Any, value: Any) -> Any:
             return tuple(value)
         hints = [inner[0]] * len(value) if inner[-1] is Ellipsis else inner
         return tuple(typed(one, part) for one, part in zip(hints, value))
-    if dataclasses.is_dataclass(hint):
+    if dataclasses.is_dataclass(hint) or hasattr(hint, "from_json"):
         return getattr(hint, "from_json", functools.partial(from_json, hint))(value)
     return value
 

@@ -34,8 +34,8 @@ def is_near(one, other):
 
 def of_reference(name, arguments, data):
     """Returns what the reference implementation writes."""
-    module = "cell" if arguments[0] == "transmit" else "forms"
-    words = [sys.executable, "-m", f"lte_reference.{module}", *arguments[arguments[0] == "transmit" :]]
+    module = {"transmit": "cell", "why": "why"}.get(arguments[0], "forms")
+    words = [sys.executable, "-m", f"lte_reference.{module}", *arguments[module != "forms" :]]
     environment = {**os.environ, "PYTHONPATH": str(HERE.parent)}
     return subprocess.run(words, input=data, stdout=subprocess.PIPE, check=True, env=environment).stdout
 
