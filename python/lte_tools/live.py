@@ -3,7 +3,8 @@
 `lte_tune tell` gives the offset until a cell is detected, and again where none was for LOST windows; between, it is
 that of the surest cell. A window waits in a ring for a processor, where it is skipped and counted if there is none in time.
 Of a cell the first and the strongest sighting and the last KEPT are kept, of one not seen for FORGET seconds the last
-alone, and a line that chance explains is forgotten then: so memory stays the same however long it goes on.
+alone, and a line that chance explains is forgotten then: so memory stays the same however long it goes on. The last window
+without a cell is kept for the question why (hints.py).
 
 Debian: python3-numpy, python3-scipy. Needs lte_cli and lte_tune.
 """
@@ -24,7 +25,7 @@ from typing import Any, Callable
 
 import numpy as np
 
-from . import places, radio, radio_file, stream, survey_data
+from . import hints, places, radio, radio_file, stream, survey_data
 from .cells import SeenCell, add_sighting, in_windows_order, survey_of_cells
 from .forms import FORMS, fault_of
 from .machine import Refused
@@ -114,6 +115,7 @@ class Live:
         self.spoiled: list[float] = []
         self.offsets: list[tuple[float, float]] = [] if options.offset is None else [(0, options.offset)]
         self.windows, self.skipped, self.forgotten, self.behind = 0, 0, 0, 0.0
+        self.empty: Task | None = None  # the last window that lists nothing
 
     def task(self, window: stream.Window) -> Task:
         """Returns a window as a file of its own, which begins where the window does."""
@@ -177,11 +179,18 @@ class Live:
     def survey(self) -> Survey:
         """Returns the survey."""
         count, cells = self.ring.size // width_of(self.file), in_windows_order(self.cells)
-        hint = NO_CELL if all(cell.is_chance(cells) for cell in cells) else None
+        hint = self.hint(cells) if all(cell.is_chance(cells) for cell in cells) else None
         file = begun(self, count)
         found = survey_of_cells(self.options, file, self.windows, self.spoiled, hint, self.offsets, cells)
         ended = survey_data.Live(self.ring.skipped, self.forgotten, round(self.behind, 2))
         return dataclasses.replace(found, live=ended)
+
+    def hint(self, cells: list[LiveCell]) -> str:
+        """Returns what may be wrong where no cell is sure, and which rule fails in the last window without one."""
+        if self.empty is None:
+            return NO_CELL
+        question = hints.about(min(cells, key=hints.order)) if cells else hints.Question()
+        return hints.added(NO_CELL, hints.sentence(hints.Asked(self.empty, question)))
 
 
 def begun(live: Live, count: int) -> RadioFile:
@@ -261,7 +270,10 @@ def look_at_all(live: Live, pool: Any, jobs: int) -> None:
             asked.append((window, answer))
         if asked and asked[0][1].ready():
             window, answer = asked.popleft()
-            live.add(window.first / live.file.rate, window.came, answer.get())
+            found = answer.get()
+            if found == []:
+                live.empty = live.task(window)
+            live.add(window.first / live.file.rate, window.came, found)
         elif last is not None and time.monotonic() > last:
             ring.skipped += len(asked)
             return

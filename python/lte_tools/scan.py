@@ -15,12 +15,12 @@ from typing import TYPE_CHECKING, Any, NamedTuple, Sequence
 import numpy as np
 from scipy import fft
 
-from . import bands, radio, radio_file
+from . import bands, hints, radio, radio_file
 from .cells import SeenCell, joined, survey_of_cells
 from .machine import Refused
 from .options import SurveyOptions
 from .radio_file import RadioFile
-from .sightings import NEAR, WINDOW, Sighting, Task, distance, offset_in, sightings
+from .sightings import NEAR, WINDOW, Sighting, Task, distance, energy, offset_in, sightings
 from .survey_data import Scan, Survey, SurveyCell
 from .to_ci16 import ratio_of
 
@@ -104,10 +104,42 @@ def channel_of(spectrum: Any, look: Look, shift: float) -> RadioFile:
 
 def at_frequency(look: Look, channel: RadioFile) -> list[Sighting]:
     """Returns the sightings of a window's channel, without its samples."""
-    task = Task(channel, look.start, (channel.count * HELD + channel.begins) / HELD / radio.RATE, look.offset or 0)
+    task = task_of(look, channel)
     offset = offset_in(task) if look.offset is None else look.offset
     found = [] if offset is None else sightings(task.with_offset(offset))
     return [one.bare() for one in found or []]
+
+
+def task_of(look: Look, channel: RadioFile) -> Task:
+    """Returns a window's channel with the offset to correct at first."""
+    return Task(channel, look.start, (channel.count * HELD + channel.begins) / HELD / radio.RATE, look.offset or 0)
+
+
+def reason_in(asked: tuple[Look, hints.Question]) -> str | None:
+    """Returns the first rule that fails in a window, at the one of its frequencies with most energy."""
+    look, question = asked
+    try:
+        spectrum = transformed(look)
+    except radio_file.Spoiled:
+        return None
+    shift = max(look.shifts, key=lambda one: energy_at(spectrum, look.file.rate, one))
+    reason = hints.sentence(hints.Asked(task_of(look, channel_of(spectrum, look, shift)), question))
+    return reason and f"at {megahertz(look.file, shift)} {reason}"
+
+
+def energy_at(spectrum: Any, rate: float, shift: float) -> float:
+    """Returns the energy of the resource blocks about a frequency."""
+    count = len(spectrum)
+    bins = np.arange(
+        round((shift - radio_file.BESIDE) * count / rate), round((shift + radio_file.BESIDE) * count / rate)
+    )
+    return float(np.sum(np.abs(spectrum[bins % count]) ** 2))
+
+
+def megahertz(file: RadioFile, shift: float) -> str:
+    """Returns the text of a frequency."""
+    centre = centre_of(file)
+    return f"{(centre + shift) / 1e6:g} MHz" if centre else f"{shift / 1e6:+g} MHz from the centre"
 
 
 # ---- the file
@@ -133,9 +165,29 @@ def scanned(options: SurveyOptions, file: RadioFile, ask: Ask) -> Survey:
             seen_by_shift[shift] += seen
     by_shift = {shift: joined(seen) for shift, seen in seen_by_shift.items()}
     cells = tuple(cell_at(options, file, shift, cell, by_shift) for shift, cell in nearest(by_shift))
-    hint = None if any(not cell.chance for cell in cells) else "no sure cell at any of these frequencies"
+    hint = None if any(not cell.chance for cell in cells) else why_none(ask, found, by_shift)
     survey = survey_of_cells(options, file, len(starts), spoiled, hint, [], [])
     return dataclasses.replace(survey, cells=cells, scan=frequencies(file, shifts))
+
+
+def why_none(
+    ask: Ask, found: Sequence[tuple[Look, list[list[Sighting]] | None]], by_shift: dict[float, list[SeenCell]]
+) -> str:
+    """Returns what a scan says where no cell is sure: also which rule fails in one window at one frequency."""
+    asked = None
+    for shift, cell in sorted(nearest(by_shift), key=lambda pair: hints.order(pair[1])):
+        looks = [(look, one) for look, one in found if shift in look.shifts]
+        seen = [None if one is None else one[look.shifts.index(shift)] for look, one in looks]
+        if (number := hints.next_to(cell, seen)) is not None:
+            asked = looks[number][0]._replace(shifts=[shift]), hints.about(cell)
+            break
+    if asked is None:
+        looked = list({look.start: look for look, _ in found}.values())
+        strength = ask("level", energy, [Task(look.file, look.start, look.length) for look in looked])
+        strongest = looked[max(range(len(looked)), key=strength.__getitem__)]
+        listed = tuple(cell.line.identity for cells in by_shift.values() for cell in cells)
+        asked = strongest._replace(shifts=list(by_shift)), hints.Question(listed=listed)
+    return hints.added("no sure cell at any of these frequencies", ask("why", reason_in, [asked])[0])
 
 
 def frequencies(file: RadioFile, shifts: Sequence[float]) -> Scan:

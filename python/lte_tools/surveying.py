@@ -14,8 +14,8 @@ from typing import Any, Callable, Iterator, Sequence, TypeVar
 
 import numpy as np
 
-from . import live, machine, places, radio_file, scan
-from .cells import joined, survey_of_cells
+from . import hints, live, machine, places, radio_file, scan
+from .cells import SeenCell, joined, survey_of_cells
 from .options import SurveyOptions
 from .radio_file import RadioFile
 from .sightings import WINDOW, Sighting, Task, energy, offset_in, sightings
@@ -78,7 +78,7 @@ def surveyed(options: SurveyOptions, file: RadioFile, ask: Ask) -> Survey:
     tasks = [task.with_offset(float(offset)) for task, offset in zip(tasks, offsets)]
     found = ask("cells", sightings, tasks)
     cells = joined(flat(found))
-    hint = why_none(ask, tasks) if all(cell.is_chance(cells) for cell in cells) else None
+    hint = why_none(ask, tasks, found, cells) if all(cell.is_chance(cells) for cell in cells) else None
     spoiled = [round(task.start, 6) for task, one in zip(tasks, found) if one is None]
     asked = [(round(tasks[i].start, 6), round(offset, 1)) for i, offset in points]
     return survey_of_cells(options, file, len(tasks), spoiled, hint, asked, cells)
@@ -89,8 +89,9 @@ def flat(found: Sequence[list[Sighting] | None]) -> list[Sighting]:
     return [sighting for one in found for sighting in one or []]
 
 
-def why_none(ask: Ask, tasks: Sequence[Task]) -> str:
-    """Returns what is wrong with a file where no cell is sure: tries its strongest windows with I and Q exchanged."""
+def why_none(ask: Ask, tasks: Sequence[Task], found: Sequence[list[Sighting] | None], cells: Sequence[SeenCell]) -> str:
+    """Returns what is wrong with a file where no cell is sure: tries its strongest windows with I and Q exchanged, and asks
+    which rule fails in one window."""
     file, strength = tasks[0].file, ask("level", energy, tasks)
     if max(strength) <= 0:
         return "nothing was received: all samples looked at are one"
@@ -99,15 +100,18 @@ def why_none(ask: Ask, tasks: Sequence[Task]) -> str:
     tried = [dataclasses.replace(tasks[i], file=other, offset=0) for i in sorted(strongest)]
     offsets = ask("I and Q", offset_in, tried)
     tried = [task.with_offset(offset) for task, offset in zip(tried, offsets) if offset is not None]
-    cells = joined(flat(ask("I and Q", sightings, tried)))
-    sure = sorted({cell.line.identity for cell in cells if not cell.is_chance(cells)})
+    others = joined(flat(ask("I and Q", sightings, tried)))
+    sure = sorted({cell.line.identity for cell in others if not cell.is_chance(others)})
     if sure:
         names = f"PCI {' and '.join(map(str, sure))}"
         return f"I and Q are exchanged: {'without' if file.is_exchanged else 'with'} --exchanged there is {names}"
-    return (
+    number, question = hints.chosen(cells, found, strength)
+    (reason,) = ask("why", hints.sentence, [hints.Asked(tasks[number], question)])
+    return hints.added(
         f"no sure cell: tried {file.form} at {file.rate:,} samples per second, {file.shift:+,.0f} Hz beside the "
         "centre, offsets up to 60 kHz, I and Q both ways; "
-        "--form, --rate, --shift and --offset say another, --scan looks beside"
+        "--form, --rate, --shift and --offset say another, --scan looks beside",
+        reason,
     )
 
 

@@ -1,0 +1,92 @@
+"""Why a survey found no sure cell: the rule of `lte_cli why` that fails in one window, with its number.
+
+The window is the one nearest to a window that lists a doubtful cell, and the identity is that cell's. If every window
+lists it, or no cell was found, the window is the strongest one, and the identity is that of its strongest PSS detection,
+in the list of one antenna port.
+"""
+from __future__ import annotations
+
+from typing import NamedTuple, Sequence
+
+from . import programs
+from .answers import Identity
+from .cells import SeenCell
+from .radio_file import Spoiled
+from .rules import BY_NAME, ONE_PORT, Rule
+from .sightings import Sighting, Task, window_of
+
+
+class Question(NamedTuple):
+    """The identity to ask for and the rule of the list. Without an identity it is that of the window's strongest detection,
+    unless that is one of those `listed`."""
+
+    identity: int | None = None
+    rule: Rule = ONE_PORT
+    listed: tuple[int, ...] = ()
+
+
+class Asked(NamedTuple):
+    """A window and its question."""
+
+    task: Task
+    question: Question
+
+
+def sentence(asked: Asked) -> str | None:
+    """Returns the first rule that fails in a window, in plain English; None if nothing does."""
+    task, (identity, rule, listed) = asked
+    try:
+        recording = programs.Recording(window_of(task).data)
+    except Spoiled:
+        return None
+    where = f"the window at {task.start:.2f} s"
+    if identity is not None:
+        found = programs.reasons_for(identity, rule, recording)
+        return None if found.is_listed else f"{where} does not list {found.text}"
+    detections = programs.listed(Identity, ("ids", "--json"), recording, "ids").items
+    if not detections:
+        return f"{where} has no PSS detection: no primary signal is 25 % of the energy at any sample"
+    strongest = max(detections, key=lambda one: one.ratio).identity
+    if strongest in listed:
+        return None
+    found = programs.reasons_for(strongest, rule, recording)
+    return None if found.is_listed else f"the strongest detection of {where} is {found.text}"
+
+
+def order(cell: SeenCell) -> tuple[int, float]:
+    """Returns the key by which doubtful cells are asked for: those in most windows first, then those at least cost."""
+    return -cell.windows, cell.share
+
+
+def about(cell: SeenCell) -> Question:
+    return Question(cell.line.identity, BY_NAME[str(cell.line.rule)])
+
+
+def next_to(cell: SeenCell, found: Sequence[Sequence[Sighting] | None]) -> int | None:
+    """Returns the number of the window that does not list a cell and is nearest to one that does, or None; `found` are the
+    sightings of each window."""
+    having = [i for i, one in enumerate(found) if one is not None and cell.line.identity in identities(one)]
+    lacking = [i for i, one in enumerate(found) if one is not None and cell.line.identity not in identities(one)]
+    if not having or not lacking:
+        return None
+    return min(lacking, key=lambda i: min(abs(i - j) for j in having))
+
+
+def chosen(
+    cells: Sequence[SeenCell], found: Sequence[Sequence[Sighting] | None], strength: Sequence[float]
+) -> tuple[int, Question]:
+    """Returns the number of the window to ask, and its question; `strength` is that of each window."""
+    for cell in sorted(cells, key=order):
+        if (number := next_to(cell, found)) is not None:
+            return number, about(cell)
+    strongest = max(range(len(strength)), key=strength.__getitem__)
+    return strongest, Question(listed=identities(found[strongest] or ()))
+
+
+def identities(found: Sequence[Sighting]) -> tuple[int, ...]:
+    return tuple(one.line.identity for one in found)
+
+
+def added(hint: str, reason: str | None) -> str:
+    """Returns a hint with the reason of one window."""
+    return f"{hint}. {reason[0].upper()}{reason[1:]}" if reason else hint
