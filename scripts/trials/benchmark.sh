@@ -72,7 +72,7 @@ done
 
 { # one case a line: words with + between them, file (with {} for the program's number), exit code, what the file is
     echo 'hits long 5 one byte more than a second: only read'
-    for command in hits ids search certify; do
+    for command in hits ids search why+271 certify; do
         for recording in "${recordings[@]}"; do
             case $recording in
                 cell.*) what='one cell' ;;
@@ -86,12 +86,12 @@ done
     done
     for samples in 57600 1920000; do
         for form in search+{--ports+2,--ports+4,--prefix+long,--cancel,--all} \
-            evidence{,+--ports+2,+--ports+4,+--prefix+long} certify+{--ports+2,--ports+4,--prefix+long}; do
+            evidence{,+--ports+2,+--ports+4,+--prefix+long} {why+271,certify}+{--ports+2,--ports+4,--prefix+long}; do
             echo "$form cell.$samples 0 one cell, $samples samples"
         done
     done
     for form in {hits,ids,search,evidence}+--json {search,evidence}+{--ports+2,--ports+4,--prefix+long}+--json \
-        search+{--cancel,--all}+--json; do
+        search+{--cancel,--all}+--json why+271+--json; do
         echo "$form cell.57600 0 one cell, 57600 samples"
     done
     for form in search certify evidence; do
