@@ -107,8 +107,8 @@ def lines(r, cell, words):
 
 
 def as_json(r, cell, words):
-    told = {"identity": cell, "list": NAMES[words], "reasons": why(r, cell, RULES[words])}
-    return json.dumps(told, separators=(",", ":"), sort_keys=True)
+    answer = {"identity": cell, "list": NAMES[words], "reasons": why(r, cell, RULES[words])}
+    return json.dumps(answer, separators=(",", ":"), sort_keys=True)
 
 
 if __name__ == "__main__":
