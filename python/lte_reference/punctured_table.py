@@ -25,7 +25,7 @@ from .erasure import crc24a, resolves
 from .cell import text
 from .search import INTERLEAVER, SIZES
 
-DESCRIPTION = json.loads((pathlib.Path(__file__).resolve().parent.parent / "examples/plain_cell.json").read_text())
+DESCRIPTION = json.loads((pathlib.Path(__file__).resolve().parents[2] / "scripts/examples/plain_cell.json").read_text())
 BITS = {2: 204, 3: 180}
 
 
