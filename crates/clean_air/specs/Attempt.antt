@@ -21,7 +21,8 @@ use Rattle.clean_air.specs.Subframe.{CarryInSubframe}
 use Rattle.clean_air.specs.Indicator.{indicator_scrambled}
 use Rattle.clean_air.specs.Grant.{grant_word, grant_places, grant_scrambled}
 
--- the control region's soft values have the signs of the bits of an indicator and a grant
+-- The soft values of a subframe's control region have the signs of the bits of an indicator and a grant. `enough`:
+-- there are at least four control channel elements.
 pub record SpeakOfGrant (values : Subframe) (indicator : ℕ) (grant : Grant) : Type 0 where
   pub range : (1 ≤ indicator) × (indicator ≤ 3)
   pub is_grant : IsGrant grant
@@ -29,26 +30,26 @@ pub record SpeakOfGrant (values : Subframe) (indicator : ℕ) (grant : Grant) : 
   pub of_indicator : Speak values.indicator indicator
   pub of_control : SpeakInOrder (grant_word grant) (values.candidate indicator)
 
--- an attempt with this indicator and this grant, whose answer is decoded from the grant's resource blocks
+-- `attempt` has found `indicator` and `grant`, and its answer is decoded from the grant's resource blocks.
 pub record HasGrant (values : Subframe) (indicator : ℕ) (grant : Grant) (attempt : Attempt) : Type 0 where
   pub cfi : attempt.cfi ≡ indicator
   pub granted : attempt.grant ≡ Some grant
   pub decodes : Decodes (values.shared indicator grant.start grant.blocks) grant attempt.answer
 
--- the subframe is read with an indicator and a grant: each attempt on it has both, and returns the answer that is
--- decoded from the grant's resource blocks
+-- A subframe with soft values `values` is read with an indicator and a grant: each attempt on the subframe finds both,
+-- and the answer decoded from the grant's resource blocks is the subframe's answer.
 pub record IsReadWith (values : Subframe) (indicator : ℕ) (grant : Grant) : Type 0 where
   pub attempt : (attempt : Attempt) → IsAttempt values attempt → HasGrant values indicator grant attempt
   pub reads : (answer : Result Sib1 Sib1Reason) →
       Decodes (values.shared indicator grant.start grant.blocks) grant answer → Reads values answer
 
--- a law: a subframe is read with the indicator and the grant if the subframe's soft values have the signs of their bits
+-- a law: a subframe is read with an indicator and a grant if the subframe's soft values have the signs of their bits
 abbrev pub SpokenGrantIsRead : Type 0
 SpokenGrantIsRead = (values : Subframe) (indicator : ℕ) (grant : Grant) → SpeakOfGrant values indicator grant →
     IsReadWith values indicator grant
 
--- a law: a subframe is read with the indicator and the grant if the resource elements of its first slot have soft
--- values with the signs of their bits
+-- a law: a subframe is read with an indicator, 2 or 3, and a grant if the resource elements of the first slot have soft
+-- values with the signs of their scrambled bits
 abbrev pub HeardGrantIsRead : Type 0
 HeardGrantIsRead =
     (first second : SeenSlot) (indicator : ℕ) (duration : Duration) (resource : Resource) (grant : Grant) →
@@ -57,7 +58,8 @@ HeardGrantIsRead =
     ArePlacesHeard first (grant_places first indicator duration resource) (grant_scrambled first grant) →
     IsReadWith (one_port first second duration resource) indicator grant
 
--- a law: a subframe whose first slot is received is read with the indicator and the grant that it carries
+-- a law: a subframe is read with the indicator, 2 or 3, and the grant that its first slot carries, if that slot has
+-- correct soft values
 abbrev pub CarriedGrantIsRead : Type 0
 CarriedGrantIsRead =
     (grids : ℕ → ℕ → Cpx) (first second : SeenSlot) (indicator : ℕ) (duration : Duration) (resource : Resource)

@@ -17,12 +17,13 @@ use Rattle.turbo_convergence.specs.Conveys.{SumsSupport, SumsConvey}
 use Rattle.clean_air.specs.Carried.{AreHeard}
 use Rattle.clean_air.specs.Subframe.{IsSubframeHeard, shared_scrambled, AreSlotsHeard, CarryInSubframe}
 
--- bit i of a codeword after rate matching with a redundancy version
+-- bit `i` of the sequence after rate matching of information word `word` with redundancy version `rv` (TS 36.212
+-- section 5.1.4.1.2)
 abbrev pub matched_bit : Row → ℕ → List Bool → ℕ → Bool
 matched_bit row rv word i = bit_of (coded row word) (item_of row.k rv i)
 
--- an information word of this row's size that passes its CRC and is resolved by the first `count` bits after rate
--- matching; any word is if these contain every coded bit
+-- An information word of the size that `row` gives, with a passing CRC, is resolved by its first `count` bits after
+-- rate matching. Every word is resolved if these bits contain every coded bit.
 pub record IsSentBlock (row : Row) (rv count : ℕ) (word : List Bool) : Type 0 where
   pub is_row : IsAnyRow row
   pub version : rv < 4
@@ -30,20 +31,21 @@ pub record IsSentBlock (row : Row) (rv count : ℕ) (word : List Bool) : Type 0 
   pub passes : has_check_24 word ≡ true
   pub resolvable : resolvable row (sent_of row.k rv count) word ≡ true
 
--- soft values determine a word: the sums of the sent coded bits have their signs, and the other sums are 0. If there
--- are at least as many values as coded bits, no sum is 0. The decoded block is the word without its CRC.
+-- Soft values determine a word. `sums`: the sums of the sent coded bits have the bits' signs, and the other sums are 0.
+-- `whole`: if there are at least as many values as coded bits, no sum is 0. `decoded`: the decoded block is the word
+-- without its CRC.
 pub record DecodesBlock (row : Row) (rv : ℕ) (word : List Bool) (values : List ℤ) : Type 0 where
   pub sums : SumsConvey row word (sent_of row.k rv (length values)) (summed row.k rv values)
   pub whole : 3 * (row.k + 4) ≤ length values → SumsSupport 1 row word (summed row.k rv values)
   pub decoded : block row (summed row.k rv values) ≡ Some (message_of 24 word)
 
--- a law: soft values determine the word if each has the sign of the coded bit that was sent at its position
+-- a law: soft values determine the information word if each has the sign of the bit that was sent at its position
 abbrev pub HeardBlockIsDecoded : Type 0
 HeardBlockIsDecoded = (row : Row) (rv count : ℕ) (word : List Bool) (values : List ℤ) → IsSentBlock row rv count word →
     AreHeard 1 count (matched_bit row rv word) values → DecodesBlock row rv word values
 
--- a law: the soft values of a subframe's resource blocks determine the word if the values of each resource element have
--- the signs of its scrambled bits
+-- a law: the soft values of a subframe's resource blocks determine the information word if the two soft values of each
+-- resource element have the signs of the word's scrambled bits there
 abbrev pub HeardSubframeDecodes : Type 0
 HeardSubframeDecodes =
     (first second : SeenSlot) (cfi start blocks : ℕ) (row : Row) (rv : ℕ) (word : List Bool) →
@@ -52,8 +54,8 @@ HeardSubframeDecodes =
     IsSubframeHeard first second places (shared_scrambled first (matched_bit row rv word)) →
     DecodesBlock row rv word (shared_values first second cfi start blocks)
 
--- a law: the soft values of resource blocks determine the word if both slots are received and the blocks' resource
--- elements carry its scrambled bits
+-- a law: the soft values of a subframe's resource blocks determine the information word if both slots have correct soft
+-- values and the blocks' resource elements carry the word's scrambled bits
 abbrev pub CarriedBlockIsDecoded : Type 0
 CarriedBlockIsDecoded =
     (grids : ℕ → ℕ → Cpx) (first second : SeenSlot) (cfi start blocks : ℕ) (row : Row) (rv : ℕ) (word : List Bool) →

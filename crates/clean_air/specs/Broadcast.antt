@@ -13,28 +13,28 @@ use Rattle.pbch.specs.Master.{PassesWith, Decodes}
 use Rattle.clean_air.specs.Values.{IsSlotHeard}
 use Rattle.clean_air.specs.Carried.{SpeakOfWord, sums_of, CarryWord}
 
--- sums determine a word with an antenna port count, at cost 0
+-- sums by coded bit determine an information word and an antenna port count, at cost 0
 pub record DecodesFreely (sums : List (List ℤ)) (word : List Bool) (ports : ℕ) : Type 0 where
   pub decodes : Decodes sums word ports
   pub free : word_cost sums word ≡ 0
 
--- a law: sums determine a 40-bit word, at cost 0, if all have the signs of its coded bits, its CRC passes with the port
--- count's mask, and its bandwidth code is valid
+-- a law: sums by coded bit determine a 40-bit word, at cost 0, if all sums have the signs of the word's coded bits, its
+-- CRC passes with the mask of the port count, and its bandwidth code is valid (at most 5)
 abbrev pub SpokenWordIsDecoded : Type 0
 SpokenWordIsDecoded =
     (ports : ℕ) (word : List Bool) (sums : List (List ℤ)) → length word ≡ 40 → length sums ≡ 40 → Speaks sums word →
     PassesWith ports word → field word 0 3 ≤ 5 →
     DecodesFreely sums word ports
 
--- a law: soft values with the signs of a MIB's coded bits determine its word, at cost 0
+-- a law: soft values with the signs of a MIB's scrambled coded bits determine the MIB's 40-bit word, at cost 0
 abbrev pub SentWordIsDecoded : Type 0
 SentWordIsDecoded =
     (c_init first ports : ℕ) (word : List Bool) (values : List ℤ) → length word ≡ 40 →
     SpeakOfWord c_init first word values → PassesWith ports word → field word 0 3 ≤ 5 →
     DecodesFreely (sums_of c_init first 40 values) word ports
 
--- a law: a slot with correct soft values whose broadcast channel carries a MIB's word, in a frame of this phase,
--- determines this word only
+-- a law: a slot with correct soft values determines, at cost 0, the 40-bit word that its broadcast channel carries in a
+-- frame whose number is `phase` modulo 4
 abbrev pub HeardSlotDecodes : Type 0
 HeardSlotDecodes =
     (grids : ℕ → ℕ → Cpx) (slot : SeenSlot) (phase ports : ℕ) (word : List Bool) → IsSlotHeard grids slot →

@@ -1,6 +1,6 @@
--- The soft values of bits that are sent in a slot's resource elements have the bits' signs. If they are a codeword's
--- scrambled bits, the values determine this word only. (own; the coding is in TS 36.212 sections 5.1.3.1 and 5.1.4.2,
--- the scrambling in TS 36.211 section 7.2)
+-- The soft values of bits that are sent in a slot's resource elements have the bits' signs. If the bits are a
+-- codeword's scrambled bits, the values determine only the codeword's information word. (own; the coding is in TS
+-- 36.212 sections 5.1.3.1 and 5.1.4.2, the scrambling in TS 36.211 section 7.2)
 use Rattle.std.specs.Prelude.{◌≡◌, ℕ, ◌+◌, ◌*◌, ◌%◌, ◌<◌, ◌≤◌, Bool, All, List, length, slice_index_or, ℤ, pos}
 use Rattle.cs_num.specs.declared.Cpx.{Cpx}
 use Rattle.cs_bits.specs.Signs.{Supports}
@@ -17,18 +17,19 @@ use Rattle.lte_types.specs.Numerology.{subcarriers}
 
 -- ---- words
 
--- each soft value has the sign of a scrambled bit of the codeword, read from bit `first` on; there are at least as many
--- values as coded bits
+-- Each soft value has the sign of a scrambled bit of the codeword, read from bit `first`. `enough`: there are at least
+-- as many values as coded bits.
 pub record SpeakOfWord (c_init first : ℕ) (word : List Bool) (values : List ℤ) : Type 0 where
   pub enough : 3 * length word ≤ length values
   pub value : (i : ℕ) → i < length values →
       Supports 1 (scrambled_bit c_init word (first + i)) (slice_index_or values i (pos 0))
 
--- sums by coded bit, after descrambling, of soft values in sending order
+-- the sums by coded bit of soft values in sending order from bit `first`, after descrambling; `size` is the information
+-- word's length
 abbrev pub sums_of : ℕ → ℕ → ℕ → List ℤ → List (List ℤ)
 sums_of c_init first size values = summed_from first size (descrambled c_init first values)
 
--- a law: the sums of soft values with the signs of a word of 6 to 64 bits determine this word only
+-- a law: soft values with the signs of a word of 6 to 64 bits determine only that word, by their sums
 abbrev pub SentWordIsOnly : Type 0
 SentWordIsOnly =
     (c_init first : ℕ) (word : List Bool) (values : List ℤ) → 6 ≤ length word → length word ≤ 64 →
@@ -37,23 +38,24 @@ SentWordIsOnly =
 
 -- ---- resource elements and their soft values
 
--- `count` soft values, each with the sign of its bit and a magnitude of at least `least`
+-- there are `count` soft values, each with the sign of its bit and a magnitude of at least `least`
 pub record AreHeard (least count : ℕ) (bits : ℕ → Bool) (values : List ℤ) : Type 0 where
   pub size : length values ≡ count
   pub value : (i : ℕ) → i < count → Supports least (bits i) (slice_index_or values i (pos 0))
 
--- the two soft values of each resource element, in its own slot, have the signs of its two bits (QPSK, TS 36.211
--- section 7.1.2)
+-- the two soft values of each resource element of `places`, in the slot that `slot` assigns to the element, have the
+-- signs of its two bits (QPSK, TS 36.211 section 7.1.2)
 abbrev pub ArePlacesHeardIn : (Place → SeenSlot) → List Place → (ℕ → Bool) → Type 0
 ArePlacesHeardIn slot places bits = (i : ℕ) → i < length places →
     let p = slice_index_or places i (place 0 0) in
     SupportBoth 1 (bits (2 * i)) (bits (2 * i + 1)) (values_at (slot p) p)
 
--- the soft values of each resource element, all in one slot, have the signs of its bits
+-- the two soft values of each resource element of `places`, all in one slot, have the signs of the element's bits
 abbrev pub ArePlacesHeard : SeenSlot → List Place → (ℕ → Bool) → Type 0
 ArePlacesHeard slot places bits = ArePlacesHeardIn (λ p. slot) places bits
 
--- a law: if each resource element's soft values have the signs of its bits, so do all of them in sequence
+-- a law: if the two soft values of each resource element have the signs of its bits, so do the soft values of all
+-- elements in sequence
 abbrev pub ValuesOfPlacesAreHeard : Type 0
 ValuesOfPlacesAreHeard = (slot : Place → SeenSlot) (places : List Place) (bits : ℕ → Bool) →
     ArePlacesHeardIn slot places bits → AreHeard 1 (2 * length places) bits (placed_values slot places)
@@ -65,16 +67,16 @@ DescrambledBitsAreHeard = (least count c_init : ℕ) (bits : ℕ → Bool) (valu
 
 -- ---- resource elements of a grid
 
--- a slot's resource elements carry bits, two in each
+-- the resource elements `places` of a slot carry `bits`, two in each, as QPSK symbols
 abbrev pub CarryBits : (ℕ → ℕ → Cpx) → List Place → (ℕ → Bool) → Type 0
 CarryBits grids places bits = (i : ℕ) → i < length places →
     let p = slice_index_or places i (place 0 0) in grids (p.symbol % 7) p.k ≡ point_of bits i
 
--- a slot's resource elements carry a codeword's scrambled bits from bit `first` on
+-- the resource elements `places` of a slot carry a codeword's scrambled bits from bit `first`
 abbrev pub CarryWord : (ℕ → ℕ → Cpx) → List Place → ℕ → ℕ → List Bool → Type 0
 CarryWord grids places c_init first word = CarryBits grids places (λ n. scrambled_bit c_init word (first + n))
 
--- a law: in a slot with correct soft values, the soft values of resource elements that carry bits have their signs
+-- a law: in a slot with correct soft values, the soft values of resource elements that carry bits have the bits' signs
 abbrev pub CarriedBitsAreHeard : Type 0
 CarriedBitsAreHeard =
     (grids : ℕ → ℕ → Cpx) (slot : SeenSlot) (places : List Place) (bits : ℕ → Bool) → IsSlotHeard grids slot →

@@ -29,12 +29,13 @@ use Rattle.clean_air.specs.Heard.{SentMaster, IsTakenBy, IsMasterHeard, IsHeardB
 
 -- ---- the plan that is sent
 
--- the plan's fields that the MIB uses are in range: the identity, and the MIB's spare bits
+-- the identity and the MIB's spare bits of `plan` are in range
 pub record IsKnownPlan (plan : CellPlan) : Type 0 where
   pub identity : plan.identity ≤ 503
   pub spare : plan.spare ≤ 1023
 
--- the part of the plan that this transmission scheme sends can be sent: the complete plan, or only the MIB
+-- A transmission scheme can send the part of `plan` that it uses: the complete plan if the scheme has control channels,
+-- and otherwise only the MIB.
 abbrev pub IsKnownBy : Carrier → CellPlan → Type 0
 IsKnownBy carrier plan = MatchBool (has_control_by carrier) (IsSendableBy carrier plan) (IsKnownPlan plan)
 
@@ -46,7 +47,8 @@ system_of_carrier carrier sib1 =
 
 -- ---- the entry of a cell
 
--- the list has exactly one entry with this identity, start and frame number, and it has the sent fields
+-- The list has exactly one entry with `identity` that starts at sample `first` and has frame number `number`, and the
+-- entry has the properties that `is_sent` states.
 pub record HoldsOne (list : List Entry) (identity first number : ℕ) (is_sent : Entry → Type 0) : Type 0 where
   pub entry : Entry
   pub inside : Contains list entry
@@ -57,9 +59,10 @@ pub record HoldsOne (list : List Entry) (identity first number : ℕ) (is_sent :
   pub only : (other : Entry) → Contains list other → other.id ≡ identity → other.start ≡ first → other.sfn ≡ number →
       other ≡ entry
 
--- the entry has this antenna port count (TS 36.212 section 5.3.1.1), this SIB1 result, and the fields of the cell's MIB
--- in the frame with this number, of which the MIB holds the upper 8 bits (TS 36.331 section 6.2.2). It was read from
--- the cell's first whole frame alone, at cost 0.
+-- `entry` has the antenna port count `count` (TS 36.212 section 5.3.1.1), the SIB1 result `answer`, and the fields of
+-- the cell's MIB in the frame numbered `number`. The MIB holds the upper 8 bits of the frame number (TS 36.331 section
+-- 6.2.2), and `lasting`, `share` and `bits` are its PHICH duration, PHICH resource and spare bits. The entry was read
+-- from the cell's first whole frame alone, at cost 0.
 pub record IsSentEntryBy (count : ℕ) (lasting : Duration) (share : Resource) (bits : ℕ) (answer : Result Sib1 Sib1Reason)
     (number : ℕ) (entry : Entry) : Type 0 where
   pub ports : entry.ports ≡ count
@@ -69,18 +72,18 @@ pub record IsSentEntryBy (count : ℕ) (lasting : Duration) (share : Resource) (
   pub frames : entry.frames ≡ 1
   pub frame : entry.frame ≡ 0
 
--- the entry has the fields that this transmission scheme sends of the plan
+-- the entry has the fields of `plan` that the transmission scheme sends in the frame numbered `number`
 abbrev pub IsSentEntryOf : Carrier → CellPlan → ℕ → Entry → Type 0
 IsSentEntryOf carrier plan number =
     IsSentEntryBy (ports_of carrier) plan.duration plan.resource plan.spare (system_of_carrier carrier plan.sib1) number
 
--- the list contains the cell that has a frame with this number at this sample
+-- `list` contains the cell that sends `plan` and whose frame numbered `number` begins at sample `first`
 abbrev pub HoldsCellBy : Carrier → List Entry → CellPlan → ℕ → ℕ → Type 0
 HoldsCellBy carrier list plan first number =
     HoldsOne list plan.identity first number (IsSentEntryOf carrier plan number)
 
--- the entry has the antenna port count and the fields of a master information block of any width in the frame with
--- this number, whatever is reported of its system information; it was read at no cost from the first whole frame alone
+-- `entry` has the antenna port count and the MIB fields of `master`, of any bandwidth, in the frame numbered `number`.
+-- The entry was read from the first whole frame alone, at cost 0. Nothing is required of its SIB1 result.
 pub record IsMasterEntry (master : SentMaster) (number : ℕ) (entry : Entry) : Type 0 where
   pub ports : entry.ports ≡ master.ports
   pub block : HasFields entry.mib master.width master.duration master.resource (number / 4) master.spare
@@ -90,17 +93,17 @@ pub record IsMasterEntry (master : SentMaster) (number : ℕ) (entry : Entry) : 
 
 -- ---- the list
 
--- the list holds each cell of the receiver's transmission scheme that the receiver hears, whatever its plan, the number
--- of its first frame and the offset
+-- `list` contains each cell of the receiver's transmission scheme that the receiver hears, for any plan, first frame
+-- number and offset
 abbrev pub HoldsHeardBy : Receiver → List Sample → List Entry → Type 0
 HoldsHeardBy receiver recording list =
     (plan : CellPlan) (sfn offset : ℕ) → IsKnownBy receiver.carrier plan →
     IsHeardBy receiver recording plan sfn offset →
     HoldsCellBy receiver.carrier list plan (start_of offset) (number_at_start sfn offset)
 
--- the list has an entry for each cell of which the receiver hears the master information block, of any width, with an
--- antenna port count that the receiver accepts, whatever its system information; no other entry has its identity, start
--- and frame number
+-- `list` has an entry for each cell whose MIB, of any bandwidth, the receiver hears and whose antenna port count the
+-- receiver accepts, and no other entry with the same identity, start and frame number. Nothing is required of the
+-- cell's SIB1.
 abbrev pub HoldsMasterBy : Receiver → List Sample → List Entry → Type 0
 HoldsMasterBy receiver recording list =
     (identity : ℕ) (master : SentMaster) (sfn offset : ℕ) → IsTakenBy receiver master →
@@ -108,41 +111,41 @@ HoldsMasterBy receiver recording list =
     HoldsOne list identity (start_of offset) (number_at_start sfn offset)
     (IsMasterEntry master (number_at_start sfn offset))
 
--- the list contains each cell of a scheme to which the recording is faithful, for any plan, elements sent elsewhere,
--- first frame number, offset and gains
+-- `list` contains each cell of a transmission scheme to which the recording is faithful, for any plan, elements outside
+-- the plan, first frame number, offset and gains
 abbrev pub HoldsFaithfulBy : Carrier → List Sample → List Entry → Type 0
 HoldsFaithfulBy carrier recording list =
     (plan : CellPlan) (grids : Port → Elements) (sfn offset : ℕ) (gains : List Cpx) →
     IsKnownBy carrier plan → IsFaithfulBy carrier recording plan grids sfn offset gains →
     HoldsCellBy carrier list plan (start_of offset) (number_at_start sfn offset)
 
--- the list contains each cell of a scheme that is received through channels, for any plan, elements sent elsewhere,
--- first frame number, offset and channels
+-- `list` contains each cell of a transmission scheme that is received through channels, for any plan, elements outside
+-- the plan, first frame number, offset and channels
 abbrev pub HoldsThroughBy : Carrier → List Sample → List Entry → Type 0
 HoldsThroughBy carrier recording list =
     (plan : CellPlan) (grids : Port → Elements) (sfn offset : ℕ) →
     IsKnownBy carrier plan → IsSeenThroughBy carrier recording plan grids sfn offset →
     HoldsCellBy carrier list plan (start_of offset) (number_at_start sfn offset)
 
--- the list contains each cell of a scheme for which the recording is clean, for any plan, elements sent elsewhere,
--- first frame number, offset, gains and errors
+-- `list` contains each cell of a transmission scheme for which the recording is clean, for any plan, elements outside
+-- the plan, first frame number, offset, gains and errors
 abbrev pub HoldsBy : Carrier → List Sample → List Entry → Type 0
 HoldsBy carrier recording list =
     (plan : CellPlan) (grids : Port → Elements) (sfn offset : ℕ) (gains : List Cpx) (eps : ℕ) →
     IsKnownBy carrier plan → IsLoadedBy carrier recording plan grids sfn offset gains eps →
     HoldsCellBy carrier list plan (start_of offset) (number_at_start sfn offset)
 
--- the list contains each cell of a scheme for which the recording is clean and whose ports send nothing elsewhere, or a
--- numbered load
+-- `list` contains each cell of a transmission scheme for which the recording is clean and whose ports send, outside the
+-- plan, nothing or a numbered load
 abbrev pub HoldsCleanBy : Carrier → List Sample → List Entry → Type 0
 HoldsCleanBy carrier recording list =
     (load : Option ℕ) (plan : CellPlan) (sfn offset : ℕ) (gains : List Cpx) (eps : ℕ) →
     IsKnownBy carrier plan → IsCleanBy carrier load recording plan sfn offset gains eps →
     HoldsCellBy carrier list plan (start_of offset) (number_at_start sfn offset)
 
--- the receiver's list of a recording: it is the defined one, and contains each cell of the receiver's scheme that the
--- receiver hears, each MIB that it hears, and each cell that is received through channels, to which the recording is
--- faithful, or for which it is clean
+-- `list` is the defined cell list of the recording (`explained`). It contains each cell of the receiver's scheme and
+-- each MIB that the receiver hears, and each cell that is received through channels, to which the recording is
+-- faithful, or for which the recording is clean.
 pub record IsListBy (receiver : Receiver) (recording : List Sample) (list : List Entry) : Type 0 where
   pub explained : IsListFor receiver recording list
   -- for the four receivers, the clauses after `master` follow from `heard` by laws
@@ -153,19 +156,20 @@ pub record IsListBy (receiver : Receiver) (recording : List Sample) (list : List
   pub loaded : HoldsBy receiver.carrier recording list
   pub holds : HoldsCleanBy receiver.carrier recording list
 
--- the list for one antenna port, with each cell that is heard
+-- the cell list for one antenna port and the normal cyclic prefix
 abbrev pub IsListOfCells : List Sample → List Entry → Type 0
 IsListOfCells = IsListBy one_port_receiver
 
--- the list contains the scheme's cells that are heard, also as received through channels or faithfully
+-- `list` contains each cell of the receiver's scheme and each MIB that the receiver hears, and each cell that is
+-- received through channels or to which the recording is faithful
 pub record HoldsSeenBy (receiver : Receiver) (recording : List Sample) (list : List Entry) : Type 0 where
   pub heard : HoldsHeardBy receiver recording list
   pub master : HoldsMasterBy receiver recording list
   pub through : HoldsThroughBy receiver.carrier recording list
   pub faithful : HoldsFaithfulBy receiver.carrier recording list
 
--- a law: this receiver's list contains its scheme's cells that it hears, also as received through channels or
--- faithfully
+-- a law: the list of `receiver` contains each cell of its scheme and each MIB that the receiver hears, and each cell
+-- that is received through channels or to which the recording is faithful
 abbrev pub HoldsCells : Receiver → Type 0
 HoldsCells receiver =
     (recording : List Sample) (list : List Entry) → least_samples ≤ length recording →

@@ -21,23 +21,24 @@ use Rattle.clean_air.specs.Load.{CarriesPlan, IsLoaded}
 use Rattle.clean_air.specs.Faithful.{IsLookedAt}
 use Rattle.clean_air.specs.Through.{IsSlotThrough, IsSeenThroughBy}
 
--- a law: a slot whose seven symbols are received over the same paths is received through their channel, if the later
--- paths are faint
+-- a law: a slot whose seven symbols are received over the same paths is received through the channel of these paths, if
+-- the later paths are faint
 abbrev pub SlotOverIsThrough : Type 0
 SlotOverIsThrough =
     (magnitudes : ℕ → ℕ) (paths : Paths) (recording : List Sample) (starts : ℕ → ℕ) (grids : ℕ → ℕ → Cpx)
     (slot : SeenSlot) → AreFaint magnitudes paths → IsSlotReceivedOver paths port_0 7 recording starts grids slot →
     IsSlotThrough path_bounds (square paths.first) (over paths) grids slot
 
--- the energy of the difference between the 128 samples from `start` and the elements' signal over these paths
+-- the energy of the difference between the 128 samples from `start` and the signal of `grid` as it arrives over
+-- `paths`, in units of 2^-28
 abbrev pub errors_over : List Sample → Elements → ℕ → ℕ → Paths → ℕ → ℕ
 errors_over recording grid sfn offset paths start =
     energy_below useful_length
     (off_by (samples_from recording start) (λ n. arriving paths (λ i. sent grid sfn i) (start + n + offset)))
 
--- elements of a cell's only port carry the plan and are received over several paths, of which the later ones are faint,
--- from frame number `sfn`: in each symbol that the receiver reads, whose useful part begins at sample `start`, the
--- error energy is small compared with the first path. Other samples are unconstrained.
+-- A cell's only port sends elements that carry the plan, from frame number `sfn`, and the cell is received over several
+-- paths with faint later ones. In each symbol that the receiver reads, whose useful part begins at sample `start`, the
+-- error energy is at most 1024 times the square of the first path's gain. Other samples are unconstrained.
 pub record IsEchoedBy (magnitudes : ℕ → ℕ) (paths : Paths) (recording : List Sample) (plan : CellPlan)
     (grids : Port → Elements) (sfn offset : ℕ) : Type 0 where
   pub number : sfn ≤ 1023
@@ -50,14 +51,15 @@ pub record IsEchoedBy (magnitudes : ℕ → ℕ) (paths : Paths) (recording : Li
       IsLookedAt OnePort sfn offset frame slot symbol start →
       errors_over recording (grids only_port) sfn offset paths start ≤ 1024 * square paths.first
 
--- a law: a cell that arrives over several paths is received through channels
+-- a law: a cell that arrives over several paths with faint later ones is received through channels
 abbrev pub EchoesAreThrough : Type 0
 EchoesAreThrough =
     (magnitudes : ℕ → ℕ) (paths : Paths) (recording : List Sample) (plan : CellPlan) (grids : Port → Elements)
     (sfn offset : ℕ) → plan.identity ≤ 503 → IsEchoedBy magnitudes paths recording plan grids sfn offset →
     IsSeenThroughBy OnePort recording plan grids sfn offset
 
--- a law: in a clean recording, the cell arrives over one path, with the gain in units of 2^-14
+-- a law: in a recording that is clean for a cell, the cell arrives over one path, whose gain is the recording's integer
+-- gain in units of 2^-14
 abbrev pub LoadedIsEchoed : Type 0
 LoadedIsEchoed =
     (recording : List Sample) (plan : CellPlan) (grid : Elements) (sfn offset : ℕ) (gain : Cpx) (eps : ℕ) →

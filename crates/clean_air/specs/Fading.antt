@@ -1,4 +1,5 @@
--- Cells with one antenna port and a slowly varying gain: each symbol of a slot that is read has its own gain. (own)
+-- Cells with one antenna port and a slowly varying gain: each symbol in a slot that the receiver decodes has its own
+-- gain. (own)
 use Rattle.std.specs.Prelude.{◌≡◌, ℕ, ◌+◌, ◌*◌, ◌^◌, ◌<◌, ◌≤◌, ◌⊎◌, List, [], ◌∷◌, slice_index_or}
 use Rattle.cs_num.specs.declared.Cpx.{Cpx}
 use Rattle.cs_num.specs.declared.Sample.{Sample}
@@ -22,13 +23,14 @@ use Rattle.clean_air.specs.Through.{IsSlotThrough, IsSeenThroughBy}
 
 -- ---- a slot
 
--- any two gains of a slot's seven symbols differ by at most `bend` thousandths of either one's magnitude
+-- any two gains of a slot's seven symbols differ by at most `bend` thousandths of the magnitude of either
 abbrev pub AreSlow : ℕ → (ℕ → Cpx) → Type 0
 AreSlow bend gains = (l m : ℕ) → l < 7 → m < 7 →
     1000000 * square (minus (gains l) (gains m)) ≤ bend * bend * square (gains m)
 
--- the slot's seven symbols are received, each with its own gain, and contain the slot's reference signals; the gains
--- vary slowly
+-- The seven symbols of a slot are received, each with its own gain and an error energy of at most `quota` times the
+-- gain's square, and contain the slot's reference signals. Any two gains differ by at most `bend` thousandths of the
+-- magnitude of either.
 pub record IsSlotFading (quota bend : ℕ) (recording : List Sample) (starts : ℕ → ℕ) (gains : ℕ → Cpx)
     (grids : ℕ → ℕ → Cpx) (slot : SeenSlot) : Type 0 where
   pub shown : (l : ℕ) → l < 7 → slice_index_or slot.symbols l [] ≡ seen_symbol recording (starts l)
@@ -39,16 +41,18 @@ pub record IsSlotFading (quota bend : ℕ) (recording : List Sample) (starts : �
       ≡ pattern_sent port_0 slot.identity slot.number i
   pub slow : AreSlow bend gains
 
--- the channel that has each symbol's gain at all subcarriers
+-- the channel that has the gain of each symbol at all of the symbol's subcarriers
 abbrev pub by_symbol : (ℕ → Cpx) → Channel
 by_symbol gains symbol k = gains symbol
 
--- bounds for slowly varying gains, relative to the weakest
+-- the bounds of a channel whose gains differ by at most `bend` thousandths, relative to the weakest gain; `most` bounds
+-- the deviation of demodulated values
 abbrev pub fading_bounds : ℕ → ℕ → Bounds
 fading_bounds most bend = record { most = most; least = 1000; mean = 1000 + bend; bend = bend }
 
--- numbers that leave room: an amplitude is observed with an error of at most `own` times the magnitude of its symbol's
--- gain, and thus of at most `most` times that of the weakest gain
+-- A slowly varying gain leaves room for soft values of magnitude 1. With an error energy of at most `quota` times the
+-- gain's square, a demodulated amplitude deviates by at most `own` times the magnitude of its symbol's gain, and
+-- therefore by at most `most` times the magnitude of the weakest gain.
 pub record LeaveFadingRoom (quota bend : ℕ) : Type 0 where
   pub own : ℕ
   pub most : ℕ
@@ -56,13 +60,14 @@ pub record LeaveFadingRoom (quota bend : ℕ) : Type 0 where
   pub wider : own * (1000 + bend) ≤ 1000 * most
   pub room : LeaveRoom 1 (fading_bounds most bend)
 
--- a slot is received through its symbols' gains, with bounds relative to the weakest
+-- a slot is received through the channel of its symbols' gains, with bounds relative to the weakest gain
 pub record IsThroughGains (bounds : Bounds) (gains : ℕ → Cpx) (grids : ℕ → ℕ → Cpx) (slot : SeenSlot) : Type 0 where
   pub weakest : ℕ
   pub few : weakest < 7
   pub through : IsSlotThrough bounds (square (gains weakest)) (by_symbol gains) grids slot
 
--- a law: a slot with slowly varying gains is received through them, if the numbers leave room
+-- a law: a slot with slowly varying gains is received through the channel of its symbols' gains, if `quota` and `bend`
+-- leave room
 abbrev pub FadingSlotIsThrough : Type 0
 FadingSlotIsThrough =
     (quota bend : ℕ) (leave : LeaveFadingRoom quota bend) (recording : List Sample) (starts : ℕ → ℕ) (gains : ℕ → Cpx)
@@ -71,13 +76,15 @@ FadingSlotIsThrough =
 
 -- ---- cells
 
--- the symbols that are read: slot 1 of the first frame, and subframe 5 of the first even-numbered frame
+-- the receiver decodes the slot: it is slot 1 of the first frame, or a slot of subframe 5 of the first even-numbered
+-- frame
 abbrev pub IsRead : ℕ → ℕ → ℕ → ℕ → Type 0
 IsRead sfn offset frame slot = IsOfMaster offset frame slot ⊎ IsOfSystem OnePort sfn offset frame slot
 
--- a recording is faithful to elements that carry the plan, except for the gain. Each symbol that is read has its own
--- gain (by frame, slot and symbol), which varies slowly within a slot; the two synchronisation signals of a slot share
--- a gain (by frame and slot).
+-- A recording is faithful to elements that carry the plan, except that the gain varies. Each symbol that the receiver
+-- decodes has its own gain (by frame, slot and symbol), which varies slowly within a slot. The two synchronisation
+-- signals of a slot share one gain (by frame and slot). `near`, `signals_near`: the error energy is at most `quota`, or
+-- 1800, times the gain's square.
 pub record IsFadingBy (quota bend : ℕ) (recording : List Sample) (plan : CellPlan) (grids : Port → Elements)
     (sfn offset : ℕ) (gains : ℕ → ℕ → ℕ → Cpx) (signal_gains : ℕ → ℕ → Cpx) : Type 0 where
   pub number : sfn ≤ 1023
@@ -96,7 +103,7 @@ pub record IsFadingBy (quota bend : ℕ) (recording : List Sample) (plan : CellP
       errors_from OnePort recording grids sfn offset (signal_gains frame slot ∷ []) start
       ≤ 1800 * square (signal_gains frame slot)
 
--- a law: a cell with slowly varying gains is received through channels, if the numbers leave room
+-- a law: a cell with slowly varying gains is received through channels, if `quota` and `bend` leave room
 abbrev pub FadingIsThrough : Type 0
 FadingIsThrough =
     (quota bend : ℕ) (recording : List Sample) (plan : CellPlan) (grids : Port → Elements) (sfn offset : ℕ)
@@ -104,7 +111,8 @@ FadingIsThrough =
     IsFadingBy quota bend recording plan grids sfn offset gains signal_gains →
     IsSeenThroughBy OnePort recording plan grids sfn offset
 
--- a law: a cell to which the recording is faithful has constant gains
+-- a law: a cell to which the recording is faithful is the special case of slowly varying gains in which all gains are
+-- equal
 abbrev pub FaithfulIsFading : Type 0
 FaithfulIsFading =
     (recording : List Sample) (plan : CellPlan) (grids : Port → Elements) (sfn offset : ℕ) (gains : List Cpx) →

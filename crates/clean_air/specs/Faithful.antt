@@ -1,7 +1,7 @@
--- A recording is faithful to a cell: each symbol that the receiver reads is what the cell's antenna ports send, each
--- times a gain in units of 2^-14, up to errors of small energy. These symbols belong to the slots that the scheme's
--- receiver decodes, or carry a primary signal in its search range or one secondary signal. Other samples are
--- unconstrained. (own; frames, slots and symbols are those of TS 36.211 sections 4.1 and 6.2)
+-- A recording is faithful to a cell: each symbol that the receiver reads is the sum of the signals of the cell's
+-- antenna ports, each times its gain in units of 2^-14, up to errors of small energy. These symbols belong to the slots
+-- that the scheme's receiver decodes, or carry a primary signal in its search range or one secondary signal. Other
+-- samples are unconstrained. (own; frames, slots and symbols are those of TS 36.211 sections 4.1 and 6.2)
 use Rattle.std.specs.Prelude.{◌≡◌, ℕ, ◌+◌, ◌*◌, ◌^◌, ◌/◌, ◌%◌, ◌<◌, ◌≤◌, ◌⊎◌, nat_eq, if◌then◌else◌, MatchBool}
 use Rattle.std.specs.Prelude.{List, [], ◌∷◌, length, map}
 use Rattle.cs_num.specs.declared.Cpx.{Cpx}
@@ -26,19 +26,20 @@ use Rattle.clean_air.specs.Load.{CarriesPlan, IsLoadedBy, received_from}
 
 -- ---- gains and errors
 
--- gains of the ports, in units of 2^-14: the first has magnitude at least 1, and with four ports neither pair is weak
+-- The ports' gains are in units of 2^-14. The gain of port 0 has a magnitude of at least 1, and with four ports neither
+-- transmit diversity pair is weak.
 pub record ArePartGains (carrier : Carrier) (gains : List Cpx) : Type 0 where
   pub sounds : 2 ^ 28 ≤ square (value_at gains 0)
   pub paired : ArePairedBy carrier gains
 
--- the maximum error energy relative to the gains of two or four ports together
+-- the maximum error energy of a symbol with two or four ports: 400 or 7 times the sum of the gains' squares
 abbrev pub most_beside : Carrier → List Cpx → ℕ
 most_beside carrier gains =
     if nat_eq (ports_of carrier) 2 then 400 * (square (value_at gains 0) + square (value_at gains 1))
     else 7 * squares_of_four (value_at gains)
 
--- this error energy of a symbol is small compared with the gain of port 0 and, with several ports, with all gains
--- together
+-- The error energy of a symbol is at most 1800 times the square of port 0's gain and, with several ports, small
+-- compared with all gains together.
 abbrev pub IsLittle : Carrier → List Cpx → ℕ → Type 0
 IsLittle carrier gains energy =
     MatchBool (nat_eq (ports_of carrier) 1) (energy ≤ 1800 * square (value_at gains 0))
@@ -46,25 +47,27 @@ IsLittle carrier gains energy =
 
 -- ---- the symbols that the receiver reads
 
--- the index of the first sent frame that begins in the recording, and of the first even-numbered one
+-- the index of the first frame that begins in the recording, and of the first even-numbered one; frame 0 is the one
+-- that is being sent at sample 0
 abbrev pub first_frame_of : ℕ → ℕ
 first_frame_of offset = if nat_eq offset 0 then 0 else 1
 
 abbrev pub even_frame_of : ℕ → ℕ → ℕ
 even_frame_of sfn offset = first_frame_of offset + number_at_start sfn offset % 2
 
--- a symbol of slot 1 of the first frame, which carries the broadcast channel (TS 36.211 section 6.6)
+-- the slot is slot 1 of the first frame, which carries the broadcast channel (TS 36.211 section 6.6)
 abbrev pub IsOfMaster : ℕ → ℕ → ℕ → Type 0
 IsOfMaster offset frame slot = (frame ≡ first_frame_of offset) × (slot ≡ 1)
 
--- a symbol of subframe 5 of the first even-numbered frame, which carries SIB1 (TS 36.331 section 5.2.1.2), if the
--- scheme sends it
+-- the slot is in subframe 5 of the first even-numbered frame, which carries SIB1 (TS 36.331 section 5.2.1.2), if the
+-- transmission scheme sends SIB1
 abbrev pub IsOfSystem : Carrier → ℕ → ℕ → ℕ → ℕ → Type 0
 IsOfSystem carrier sfn offset frame slot =
     MatchBool (has_control_by carrier) ((frame ≡ even_frame_of sfn offset) × (slot / 2 ≡ 5)) ⊥
 
--- the last symbol of slot 0 or 10, which holds the primary signal, if it begins within 9 samples of the PSS search
--- range and leaves room for the secondary signal before it (TS 36.211 section 6.11.1)
+-- The symbol is the last of slot 0 or 10, which carries the primary signal (TS 36.211 section 6.11.1). It begins at
+-- most 9 samples before the first position that leaves room for the secondary signal in front, and at most 9 samples
+-- after the PSS search range.
 pub record IsOfPrimary (carrier : Carrier) (slot symbol start : ℕ) : Type 0 where
   pub half : Half
   pub slot_is : slot ≡ 2 * subframe_of half
@@ -72,8 +75,8 @@ pub record IsOfPrimary (carrier : Carrier) (slot symbol start : ℕ) : Type 0 wh
   pub from_first : symbol_step (prefix_of carrier) ≤ start + 9
   pub to_last : start ≤ last_place + 9
 
--- the symbol of the secondary signal, if the primary signal after it begins in the later half frame of the PSS search
--- range: one of the two signals in a frame is enough (TS 36.211 section 6.11.2)
+-- The symbol carries the secondary signal (TS 36.211 section 6.11.2), and the primary signal after it begins in the
+-- later half frame of the PSS search range. One of the two secondary signals in a frame is enough.
 pub record IsOfSecondary (carrier : Carrier) (slot symbol start : ℕ) : Type 0 where
   pub half : Half
   pub slot_is : slot ≡ 2 * subframe_of half
@@ -81,8 +84,8 @@ pub record IsOfSecondary (carrier : Carrier) (slot symbol start : ℕ) : Type 0 
   pub from_middle : last_place < start + symbol_step (prefix_of carrier) + half_frame_length
   pub to_last : start + symbol_step (prefix_of carrier) ≤ last_place
 
--- the receiver reads the symbol at this sample: it belongs to a slot that it decodes, or carries a synchronisation
--- signal
+-- the receiver reads the symbol whose useful part begins at sample `start`: the symbol belongs to a slot that the
+-- receiver decodes, or carries a synchronisation signal
 abbrev pub IsLookedAt : Carrier → ℕ → ℕ → ℕ → ℕ → ℕ → ℕ → Type 0
 IsLookedAt carrier sfn offset frame slot symbol start =
     IsOfMaster offset frame slot ⊎ (IsOfSystem carrier sfn offset frame slot
@@ -90,14 +93,15 @@ IsLookedAt carrier sfn offset frame slot symbol start =
 
 -- ---- recordings
 
--- the energy of the difference between the 128 samples from `start` and the sum of all ports' signals times their gains
+-- the energy of the difference between the 128 samples from `start` and the sum of all ports' signals times their
+-- gains, in units of 2^-28
 abbrev pub errors_from : Carrier → List Sample → (Port → Elements) → ℕ → ℕ → List Cpx → ℕ → ℕ
 errors_from carrier recording grids sfn offset gains start =
     energy_below useful_length
     (off_by (samples_from recording start) (λ n. received_from carrier grids sfn offset gains (start + n)))
 
--- a recording is faithful to elements of each port that carry the plan, from frame number `sfn`: in each symbol that
--- the receiver reads, whose useful part begins at sample `start`, the error energy is small
+-- A recording is faithful to elements of each port that carry the plan, from frame number `sfn`: in each symbol that
+-- the receiver reads, whose useful part begins at sample `start`, the error energy is small compared with the gains.
 pub record IsFaithfulBy (carrier : Carrier) (recording : List Sample) (plan : CellPlan) (grids : Port → Elements)
     (sfn offset : ℕ) (gains : List Cpx) : Type 0 where
   pub number : sfn ≤ 1023
@@ -109,15 +113,15 @@ pub record IsFaithfulBy (carrier : Carrier) (recording : List Sample) (plan : Ce
       IsLookedAt carrier sfn offset frame slot symbol start →
       IsLittle carrier gains (errors_from carrier recording grids sfn offset gains start)
 
--- a recording is faithful to elements of a cell's only port that carry the plan
+-- a recording is faithful to elements that carry the plan, sent by a cell with one port
 abbrev pub IsFaithful : List Sample → CellPlan → Elements → ℕ → ℕ → Cpx → Type 0
 IsFaithful recording plan grid sfn offset gain =
     IsFaithfulBy OnePort recording plan (λ port. grid) sfn offset (gain ∷ [])
 
 -- ---- clean recordings
 
--- a law: in a recording that is clean for a cell, with component errors of at most eps, the errors of 128 samples have
--- little energy, with each gain in units of 2^-14
+-- a law: in a recording that is clean for a cell, with component errors of at most `eps`, the error energy of 128
+-- samples is at most 2^36 times the square of `eps`, in units of 2^-28
 abbrev pub LoadedHasLittleErrors : Type 0
 LoadedHasLittleErrors =
     (carrier : Carrier) (recording : List Sample) (plan : CellPlan) (grids : Port → Elements) (sfn offset : ℕ)

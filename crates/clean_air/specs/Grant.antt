@@ -1,5 +1,5 @@
--- The soft values of the control channel determine the grant of SIB1 that was sent (PDCCH, TS 36.211 section 6.8, TS
--- 36.212 sections 5.3.3.1.3 and 5.3.3.2). (own)
+-- The soft values of the control channel determine the grant of SIB1 that was sent. (own; PDCCH, TS 36.211 section 6.8,
+-- TS 36.212 sections 5.3.3.1.3 and 5.3.3.2)
 use Rattle.std.specs.Prelude.{◌≡◌, ℕ, ◌≤◌, Bool, List, ℤ, Result, Ok}
 use Rattle.cs_num.specs.declared.Cpx.{Cpx}
 use Rattle.cs_bits.specs.Checks.{with_check_16, HasCheck16}
@@ -26,22 +26,24 @@ use Rattle.clean_air.specs.Carried.{ArePlacesHeard, CarryBits}
 abbrev pub grant_word : Grant → List Bool
 grant_word grant = with_check_16 system_information_rnti (sent_word grant)
 
--- the soft values of the first four control channel elements determine this grant only: its word is the only one of
--- minimum cost, and its CRC passes
+-- The soft values `candidate` of the first four control channel elements determine only `grant`: its word is the only
+-- one of minimum cost, its CRC passes, and decoding returns `grant` and nothing else. `count` is the number of control
+-- channel elements.
 pub record IsOnlyGrant (count : ℕ) (candidate : List ℤ) (grant : Grant) : Type 0 where
   pub word : IsOnlyWord (summed 37 candidate) (grant_word grant)
   pub passes : HasCheck16 system_information_rnti (grant_word grant)
   pub decoded : Grants count candidate (Ok grant)
   pub only : (answer : Result Grant Sib1Reason) → Grants count candidate answer → answer ≡ Ok grant
 
--- a law: at least 111 soft values before scrambling, each with the sign of its coded bit of the grant's word, determine
--- the grant
+-- a law: the soft values of the first four control channel elements, after descrambling, determine the grant if each
+-- has the sign of its coded bit, there are at least 111 values (the coded bits of 37), and there are at least four
+-- elements
 abbrev pub SentGrantIsDecoded : Type 0
 SentGrantIsDecoded = (count : ℕ) (candidate : List ℤ) (grant : Grant) → IsGrant grant → 4 ≤ count →
     SpeakInOrder (grant_word grant) candidate → IsOnlyGrant count candidate grant
 
--- a slot determines a grant, for this indicator and PHICH: there are at least four control channel elements, and the
--- 288 soft values of the first four determine it
+-- A slot determines a grant, for an indicator and the PHICH fields: there are at least four control channel elements,
+-- and the 288 soft values of the first four have the signs of the grant's coded bits and determine the grant.
 pub record DecodesGrant (slot : SeenSlot) (indicator : ℕ) (duration : Duration) (resource : Resource) (grant : Grant)
     : Type 0 where
   pub enough : 4 ≤ element_count indicator duration resource
@@ -49,8 +51,8 @@ pub record DecodesGrant (slot : SeenSlot) (indicator : ℕ) (duration : Duration
   pub decoded : IsOnlyGrant (element_count indicator duration resource)
       (candidate_values slot indicator duration resource) grant
 
--- resource elements of the first four control channel elements in the subframe that begins with this slot, and the
--- grant's scrambled bits
+-- the resource elements of the first four control channel elements in the subframe that begins with `slot`, and the
+-- grant's scrambled coded bits there
 abbrev pub grant_places : SeenSlot → ℕ → Duration → Resource → List Place
 grant_places slot indicator duration resource =
     candidate_places slot.identity (pdcch_groups slot.identity indicator duration resource)
@@ -58,8 +60,8 @@ grant_places slot indicator duration resource =
 abbrev pub grant_scrambled : SeenSlot → Grant → ℕ → Bool
 grant_scrambled slot grant = scrambled_bit (pdcch_c_init slot.identity slot.number) (grant_word grant)
 
--- a law: a slot determines a grant if the soft values of the first four control channel elements have the signs of its
--- bits and the indicator is 2 or 3
+-- a law: a slot determines a grant if the soft values of the first four control channel elements have the signs of the
+-- grant's scrambled bits and the indicator is 2 or 3
 abbrev pub HeardGrantIsDecoded : Type 0
 HeardGrantIsDecoded =
     (slot : SeenSlot) (indicator : ℕ) (duration : Duration) (resource : Resource) (grant : Grant) →
@@ -67,7 +69,8 @@ HeardGrantIsDecoded =
     ArePlacesHeard slot (grant_places slot indicator duration resource) (grant_scrambled slot grant) →
     DecodesGrant slot indicator duration resource grant
 
--- a law: a slot determines a grant if its soft values are correct and its control channel carries the grant
+-- a law: a slot determines the grant that its control channel carries if its soft values are correct and the indicator
+-- is 2 or 3
 abbrev pub CarriedGrantIsDecoded : Type 0
 CarriedGrantIsDecoded =
     (grids : ℕ → ℕ → Cpx) (slot : SeenSlot) (indicator : ℕ) (duration : Duration) (resource : Resource)

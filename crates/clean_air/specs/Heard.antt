@@ -1,7 +1,7 @@
--- Reception of one cell, part by part: the synchronisation signals, the identity, the broadcast channel and, where the
--- receiver reads SIB1, the indicator, the control information and the block. Each part compares what the receiver
--- computes from the recording with what the cell sends. No part needs a gain, a channel or an error bound, so each can
--- be checked on a recording. (own; the channels are those of TS 36.211 sections 6.3 to 6.11)
+-- Reception of one cell, part by part: the synchronisation signals, the identity, the broadcast channel and, if the
+-- receiver reads SIB1, the control format indicator, the grant and the transport block. Each part compares a value that
+-- the receiver computes from the recording with the value that the cell sends. No part needs a gain, a channel or an
+-- error bound, so each can be checked on a recording. (own; the channels are those of TS 36.211 sections 6.3 to 6.11)
 use Rattle.std.specs.Prelude.{◌≡◌, ◌⊎◌, ℕ, ◌+◌, ◌*◌, ◌/◌, ◌%◌, ◌<◌, ◌≤◌, true, Bool, List, ◌++◌, Result, Ok, Err}
 use Rattle.cs_num.specs.declared.Sample.{Sample}
 use Rattle.cs_bits.specs.Numbers.{bits_of}
@@ -37,8 +37,8 @@ use Rattle.clean_air.specs.Through.{IsPrimaryPlace, SignalsStandOut}
 
 -- ---- the master information block
 
--- the fields of a master information block that do not change from frame to frame, and the antenna port count, which
--- masks its CRC
+-- A cell's MIB without its frame number: bandwidth, PHICH duration and resource, and the 10 spare bits as a number.
+-- `ports` is the antenna port count, which masks the MIB's CRC.
 pub record SentMaster : Type 0 where
   pub ports : ℕ
   pub width : Bandwidth
@@ -46,19 +46,19 @@ pub record SentMaster : Type 0 where
   pub resource : Resource
   pub spare : ℕ
 
--- the 24 bits of the block in the frame with this number: dl-Bandwidth, phich-Config, the upper 8 bits of the frame
+-- the 24 bits of the MIB in the frame numbered `number`: dl-Bandwidth, phich-Config, the upper 8 bits of the frame
 -- number, and the spare bits (TS 36.331 section 6.2.2)
 unfoldable pub bits_of_master : SentMaster → ℕ → List Bool
 bits_of_master master number =
     bits_of 3 (bandwidth_code master.width) ++ bits_of 1 (duration_code master.duration)
     ++ bits_of 2 (resource_code master.resource) ++ bits_of 8 (number / 4) ++ bits_of 10 master.spare
 
--- the codeword's 40 information bits: the block and its CRC-16, masked by the antenna port count (TS 36.212 section
+-- the codeword's 40 information bits: the MIB and its CRC-16, masked by the antenna port count (TS 36.212 section
 -- 5.3.1.1)
 unfoldable pub word_of_master : SentMaster → ℕ → List Bool
 word_of_master master number = with_check_16 (mask master.ports) (bits_of_master master number)
 
--- the block of a plan that a transmission scheme sends: 6 resource blocks
+-- the MIB that a transmission scheme sends for `plan`; its bandwidth is 6 resource blocks
 abbrev pub master_of_plan : Carrier → CellPlan → SentMaster
 master_of_plan carrier plan = record {
   ports = ports_of carrier;
@@ -68,8 +68,8 @@ master_of_plan carrier plan = record {
   spare = plan.spare;
 }
 
--- a receiver accepts the block: the antenna port count is 1, 2 or 4 and, if the receiver requires one, that one; the
--- spare bits are a number up to 1023
+-- The receiver accepts the MIB: the antenna port count is 1, 2 or 4, and equals the count that the receiver requires,
+-- if any. The spare bits are a number up to 1023.
 pub record IsTakenBy (receiver : Receiver) (master : SentMaster) : Type 0 where
   pub count : (master.ports ≡ 1) ⊎ (master.ports ≡ 2) ⊎ (master.ports ≡ 4)
   pub taken : is_wanted receiver.ports master.ports ≡ true
@@ -77,8 +77,9 @@ pub record IsTakenBy (receiver : Receiver) (master : SentMaster) : Type 0 where
 
 -- ---- reception up to the master information block
 
--- the identity is detected: at the primary signal of the cell in the later half of the span of PSS detections, its
--- identity group and half frame have the greatest score of all 336 pairs, and each pair before them a smaller one
+-- The receiver detects the identity: at the cell's primary signal in the later half frame of the PSS search range, the
+-- cell's identity group and half frame have the maximum score of all 336 pairs, and each earlier pair has a smaller
+-- score.
 abbrev pub IdentityIsBest : Carrier → List Sample → ℕ → ℕ → Type 0
 IdentityIsBest carrier recording identity offset =
     (t : ℕ) (half : Half) → IsPrimaryPlace offset t half → last_place < t + half_frame_length → t ≤ last_place →
@@ -88,10 +89,10 @@ IdentityIsBest carrier recording identity offset =
 abbrev pub sent_place : ℕ → ℕ → Place
 sent_place identity offset = record { id = identity; start = start_of offset }
 
--- A receiver hears the master information block of a cell in a recording that begins at this offset of the frame
--- numbered sfn. `signals`: the primary signals stand out by the rule of the list. `identity`: the secondary signals
--- give the cell's identity. `broadcast`: each soft value of the broadcast channel in the first whole frame has the sign
--- of its scrambled bit. Nothing is required of the broadcast channel in other frames, or of any other channel.
+-- The receiver hears the MIB of a cell in a recording whose first sample is sample `offset` of the frame numbered
+-- `sfn`. `signals`: the primary signals stand out by the rule of PSS detections. `identity`: the secondary signals give
+-- the cell's identity. `broadcast`: each soft value of the broadcast channel in the first whole frame has the sign of
+-- its scrambled bit. Nothing is required of the broadcast channel in other frames, or of any other channel.
 pub record IsMasterHeard (receiver : Receiver) (recording : List Sample) (id : ℕ) (master : SentMaster)
     (sfn offset : ℕ) : Type 0 where
   pub number : sfn ≤ 1023
@@ -105,9 +106,9 @@ pub record IsMasterHeard (receiver : Receiver) (recording : List Sample) (id : �
 
 -- ---- reception of the system information
 
--- the soft values of subframe 5 of the frame with this number have the signs of the bits that a plan sends there,
+-- The soft values of subframe 5 of the frame numbered `number` have the signs of the bits that `plan` sends there,
 -- before scrambling. `indicator`: all 32 values of the control format indicator. `control`: the 288 values of the first
--- four control channel elements, which carry the grant. `block`: the values of the granted resource blocks
+-- four control channel elements, which carry the grant. `block`: the values of the granted resource blocks.
 pub record IsSystemHeard (carrier : Carrier) (values : Subframe) (plan : CellPlan) (number : ℕ) : Type 0 where
   pub indicator : Speak values.indicator plan.cfi
   pub control : SpeakInOrder (grant_word (grant_of plan number)) (values.candidate plan.cfi)
@@ -115,7 +116,8 @@ pub record IsSystemHeard (carrier : Carrier) (values : Subframe) (plan : CellPla
       AreHeard 1 (assigned_bits_of carrier plan) (shared_bit plan number)
       (values.shared plan.cfi plan.start plan.blocks)
 
--- where a receiver reads subframe 5, it hears the system information in the first whole frame of even number
+-- A receiver that reads subframe 5 hears the system information in the first even-numbered whole frame. Nothing is
+-- required for a receiver that does not read subframe 5.
 abbrev pub IsSystemHeardBy : Carrier → Result Subframes Sib1Reason → List Sample → CellPlan → ℕ → ℕ → Type 0
 IsSystemHeardBy carrier (Ok values) recording plan sfn offset =
     let first = number_at_start sfn offset in
@@ -124,8 +126,8 @@ IsSystemHeardBy carrier (Ok values) recording plan sfn offset =
     ((first + j) % 1024)
 IsSystemHeardBy carrier (Err reason) recording plan sfn offset = Unit {0}
 
--- A receiver hears a cell of its transmission scheme that sends a plan: its master information block and, where the
--- receiver reads subframe 5, its system information.
+-- A receiver hears a cell of its transmission scheme that sends `plan`: it hears the cell's MIB and, if it reads
+-- subframe 5, the cell's system information.
 pub record IsHeardBy (receiver : Receiver) (recording : List Sample) (plan : CellPlan) (sfn offset : ℕ) : Type 0 where
   pub master :
       IsMasterHeard receiver recording plan.identity (master_of_plan receiver.carrier plan) sfn offset

@@ -1,4 +1,4 @@
--- Load: any elements that a cell may send at positions that its plan leaves open, such as a live cell's traffic. (own)
+-- Load: the elements that a cell may send at positions that its plan leaves open, such as a live cell's traffic. (own)
 use Rattle.std.specs.Prelude.{◌≡◌, ℕ, ◌+◌, ◌/◌, ◌%◌, ◌≤◌, Bool, true, false, not, ◌&&◌, nat_eq, nat_lt}
 use Rattle.std.specs.Prelude.{Option, List, [], ◌∷◌}
 use Rattle.cs_num.specs.declared.Cpx.{Cpx}
@@ -20,19 +20,22 @@ use Rattle.cell_plan.specs.Gains.{AreGainsOf, IsAllowedBy}
 use Rattle.cell_tx.specs.Clean.{AreNear}
 use Rattle.cell_tx.specs.Emission.{mixed}
 
--- elements of a port carry a plan: where the plan uses a resource element, they are the plan's, and no element has a
--- magnitude above 256
+-- The elements `grid` of a port carry a plan: in each resource element that the plan uses, `grid` has the plan's
+-- element, and no element has a magnitude above 256.
 pub record CarriesPlan (port : Port) (plan : CellPlan) (grid : Elements) : Type 0 where
   pub taken : (sfn subframe symbol k : ℕ) → is_taken port plan sfn subframe symbol k ≡ true →
       grid sfn subframe symbol k ≡ port_element port plan sfn subframe symbol k
   pub small : (sfn subframe symbol : ℕ) → AreAmplitudes (grid sfn subframe symbol)
 
--- the signal received from all ports, each with one gain, at sample `offset + i`
+-- the signal received from all ports, each times its gain, at sample `i` of a recording that begins at sample `offset`
+-- of the frame numbered `sfn`
 abbrev pub received_from : Carrier → (Port → Elements) → ℕ → ℕ → List Cpx → ℕ → Cpx
 received_from carrier grids sfn offset gains i =
     mixed carrier (λ port. prefix_sent (port_prefix port) (grids port) sfn (i + offset)) gains
 
--- a recording is clean for elements of each port that carry the plan, from frame number `sfn`, whatever else they are
+-- A recording is clean for elements of each port that carry the plan, from frame number `sfn`, whatever the elements
+-- are outside the plan: each sample component is within `eps` of the received signal, and `eps` is small enough for the
+-- gains.
 pub record IsLoadedBy (carrier : Carrier) (recording : List Sample) (plan : CellPlan) (grids : Port → Elements)
     (sfn offset : ℕ) (gains : List Cpx) (eps : ℕ) : Type 0 where
   pub number : sfn ≤ 1023
@@ -42,38 +45,39 @@ pub record IsLoadedBy (carrier : Carrier) (recording : List Sample) (plan : Cell
   pub bound : IsAllowedBy carrier gains eps
   pub near : AreNear recording (received_from carrier grids sfn offset gains) eps
 
--- a recording is clean for elements of a cell's only port that carry the plan
+-- a recording is clean for elements that carry the plan, sent by a cell with one port
 abbrev pub IsLoaded : List Sample → CellPlan → Elements → ℕ → ℕ → Cpx → ℕ → Type 0
 IsLoaded recording plan grid sfn offset gain eps =
     IsLoadedBy OnePort recording plan (λ port. grid) sfn offset (gain ∷ []) eps
 
--- a law: the elements that a plan sends carry it, with or without load
+-- a law: the elements that a cell sends for its plan carry the plan, with or without load
 abbrev pub SentElementsCarry : Type 0
 SentElementsCarry =
     (load : Option ℕ) (port : Port) (plan : CellPlan) → CarriesPlan port plan (sent_element load port plan)
 
--- a law: without load, the elements are zero wherever the plan leaves them open, except at the indicators
+-- a law: without load, the element is zero in each resource element that the plan leaves open, except those of control
+-- format indicators
 abbrev pub OpenPlacesAreSilent : Type 0
 OpenPlacesAreSilent =
     (port : Port) (plan : CellPlan) (sfn subframe symbol k : ℕ) → is_taken port plan sfn subframe symbol k ≡ false →
     (has_control port && is_indicator plan symbol k) ≡ false → port_element port plan sfn subframe symbol k ≡ nothing
 
--- two other ports of four send symbol i of a channel, because the pair's number is even and the port's is odd, or the
--- reverse (TS 36.211 section 6.3.4.3)
+-- Port `number` is silent in symbol `i` of a channel, and the other pair of ports sends the symbol: with four ports,
+-- transmit diversity alternates between ports 0 and 2 and ports 1 and 3 (TS 36.211 section 6.3.4.3).
 abbrev pub is_of_others_by : Carrier → ℕ → ℕ → Bool
 is_of_others_by carrier number i = nat_lt 2 (ports_of carrier) && not (nat_eq (i / 2 % 2) (number % 2))
 
 abbrev pub is_of_others : Port → ℕ → Bool
 is_of_others port i = is_of_others_by port.carrier port.number i
 
--- a resource element of the broadcast channel has a symbol that two other ports of four send
+-- a resource element of the broadcast channel holds a symbol of the other pair of ports
 abbrev pub is_other_pair : Port → CellPlan → ℕ → ℕ → ℕ → Bool
 is_other_pair port plan subframe symbol k =
     has_broadcast port plan.identity subframe symbol k
     && is_of_others port (broadcast_index port plan.identity symbol k)
 
--- a law: the element that the plan sends has a QPSK symbol's magnitude in each resource element that the plan uses,
--- outside the synchronisation signals' symbols and other ports' reference signals and pairs
+-- a law: in each resource element that the plan uses, a QPSK symbol is sent (amplitude squared 16200), outside the
+-- synchronisation signals' symbols, other ports' reference signals and the other pair's symbols
 abbrev pub TakenPlacesAreSent : Type 0
 TakenPlacesAreSent =
     (port : Port) (plan : CellPlan) (sfn subframe symbol k : ℕ) → is_taken port plan sfn subframe symbol k ≡ true →

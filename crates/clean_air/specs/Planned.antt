@@ -16,7 +16,7 @@ use Rattle.cell_grid.specs.Grid.{Elements}
 use Rattle.clean_air.specs.Load.{IsLoaded}
 use Rattle.clean_air.specs.Faithful.{IsFaithful}
 
--- the plan with an entry's fields and this SIB1, indicator and grant
+-- the plan that combines the fields of `entry` with an indicator, a grant and a SIB1
 abbrev pub plan_by : Entry → ℕ → Grant → Sib1 → CellPlan
 plan_by entry indicator grant block = record {
   identity = entry.id;
@@ -31,8 +31,9 @@ plan_by entry indicator grant block = record {
   sib1 = block;
 }
 
--- the entry's cell has this plan: it combines the entry's fields with the indicator and the grant by which SIB1 was
--- read, has one antenna port and bandwidth n6, and satisfies all conditions of a plan
+-- The cell of `entry` was sent with `plan`: the plan combines the entry's fields with the indicator and the grant by
+-- which SIB1 was read. The entry has one antenna port and bandwidth n6, and the plan satisfies all conditions of a
+-- plan.
 pub record IsPlanned (recording : List Sample) (entry : Entry) (plan : CellPlan) : Type 0 where
   pub grant : Grant
   pub granted : IsGrantOf recording entry (Some (plan.cfi, grant))
@@ -47,8 +48,8 @@ abbrev pub IsPlanOf : List Sample → Entry → Option CellPlan → Type 0
 IsPlanOf recording entry (Some plan) = IsPlanned recording entry plan
 IsPlanOf recording entry None = (plan : CellPlan) → IsPlanned recording entry plan → ⊥
 
--- if the recording is faithful to a cell that can be sent, whatever else the cell sends, and the entry has the cell's
--- identity, start and frame number, the plan is the sent one
+-- If the recording is faithful to a cell whose plan can be sent, whatever else the cell sends, and `entry` has the
+-- cell's identity, start and frame number, then `answer` is the sent plan.
 abbrev pub IsFaithfulPlan : List Sample → Entry → Option CellPlan → Type 0
 IsFaithfulPlan recording entry answer =
     (plan : CellPlan) (grid : Elements) (sfn offset : ℕ) (gain : Cpx) → IsSendable plan →
@@ -56,7 +57,8 @@ IsFaithfulPlan recording entry answer =
     entry.id ≡ plan.identity → entry.start ≡ start_of offset → entry.sfn ≡ number_at_start sfn offset →
     answer ≡ Some plan
 
--- if the recording is clean for a cell that can be sent, and the entry is the cell's, the plan is the sent one
+-- If the recording is clean for a cell whose plan can be sent, and `entry` has the cell's identity, start and frame
+-- number, then `answer` is the sent plan.
 abbrev pub IsSentPlan : List Sample → Entry → Option CellPlan → Type 0
 IsSentPlan recording entry answer =
     (plan : CellPlan) (grid : Elements) (sfn offset : ℕ) (gain : Cpx) (eps : ℕ) → IsSendable plan →
@@ -64,8 +66,8 @@ IsSentPlan recording entry answer =
     entry.id ≡ plan.identity → entry.start ≡ start_of offset → entry.sfn ≡ number_at_start sfn offset →
     answer ≡ Some plan
 
--- a law: if a recording is faithful to a cell that can be sent, whatever else the cell sends, the entry with the cell's
--- identity, start and frame number has the sent plan
+-- a law: if a recording is faithful to a cell whose plan can be sent, whatever else the cell sends, the entry with the
+-- cell's identity, start and frame number has the sent plan
 abbrev pub FaithfulEntryHasPlan : Type 0
 FaithfulEntryHasPlan =
     (recording : List Sample) (entry : Entry) (plan : CellPlan) (grid : Elements) (sfn offset : ℕ) (gain : Cpx) →
@@ -74,7 +76,8 @@ FaithfulEntryHasPlan =
     entry.id ≡ plan.identity → entry.start ≡ start_of offset → entry.sfn ≡ number_at_start sfn offset →
     IsPlanned recording entry plan
 
--- a law: in a recording that is clean for a cell, the cell's entry has the sent plan
+-- a law: if a recording is clean for a cell whose plan can be sent, the entry with the cell's identity, start and frame
+-- number has the sent plan
 abbrev pub SentEntryHasPlan : Type 0
 SentEntryHasPlan =
     (recording : List Sample) (entry : Entry) (plan : CellPlan) (grid : Elements) (sfn offset : ℕ) (gain : Cpx)
@@ -83,7 +86,7 @@ SentEntryHasPlan =
     entry.id ≡ plan.identity → entry.start ≡ start_of offset → entry.sfn ≡ number_at_start sfn offset →
     IsPlanned recording entry plan
 
--- a law: an entry has one plan, or none
+-- a law: an entry has at most one plan: two results that are its plan, or `None` if it has none, are equal
 abbrev pub IsOnePlan : Type 0
 IsOnePlan =
     (recording : List Sample) (entry : Entry) (a b : Option CellPlan) → IsPlanOf recording entry a →

@@ -1,4 +1,4 @@
--- The soft values of a subframe in which both slots have correct soft values. (own)
+-- The soft values of a subframe whose two slots both have correct soft values. (own)
 use Rattle.std.specs.Prelude.{◌≡◌, ℕ, ◌+◌, ◌*◌, ◌<◌, Bool, All, List, length, slice_index_or}
 use Rattle.cs_num.specs.declared.Cpx.{Cpx}
 use Rattle.lte_types.specs.declared.carrier.Carrier.TheVariants.{OnePort}
@@ -17,11 +17,12 @@ use Rattle.lte_types.specs.Numerology.{subcarriers}
 
 -- ---- resource elements and their soft values
 
--- the soft values of a subframe's resource elements, each in its slot, have the signs of their bits
+-- the soft values of the resource elements `places` of a subframe, each in its slot, have the signs of `bits`
 abbrev pub IsSubframeHeard : SeenSlot → SeenSlot → List Place → (ℕ → Bool) → Type 0
 IsSubframeHeard first second places bits = ArePlacesHeardIn (in_subframe first second) places bits
 
--- the shared channel's scrambled bits, in the order of the subframe's resource elements (TS 36.211 section 6.3.1)
+-- the shared channel's bits after scrambling with the SI-RNTI, in the subframe that begins with slot `first` (TS 36.211
+-- section 6.3.1)
 abbrev pub shared_scrambled : SeenSlot → (ℕ → Bool) → ℕ → Bool
 shared_scrambled first bits = scrambled (pdsch_c_init first.identity first.number system_information_rnti) bits
 
@@ -35,18 +36,18 @@ ValuesOfBlocksAreHeard = (first second : SeenSlot) (cfi start blocks : ℕ) (bit
 
 -- ---- resource elements of a grid
 
--- both slots of the subframe with these grids, symbols 0 to 13, have correct soft values
+-- Both slots of a subframe have correct soft values. The elements of symbols 0 to 13 of the subframe are `grids`.
 pub record AreSlotsHeard (grids : ℕ → ℕ → Cpx) (first second : SeenSlot) : Type 0 where
   pub first_slot : IsSlotHeard grids first
   pub second_slot : IsSlotHeard (λ l. grids (7 + l)) second
 
--- resource elements of the subframe carry bits, two in each
+-- the resource elements `places` of a subframe carry `bits`, two in each, as QPSK symbols
 abbrev pub CarryInSubframe : (ℕ → ℕ → Cpx) → List Place → (ℕ → Bool) → Type 0
 CarryInSubframe grids places bits = (i : ℕ) → i < length places →
     let p = slice_index_or places i (place 0 0) in grids p.symbol p.k ≡ point_of bits i
 
 -- a law: in a subframe whose slots have correct soft values, the soft values of resource elements that carry bits have
--- their signs
+-- the bits' signs
 abbrev pub CarriedSubframeIsHeard : Type 0
 CarriedSubframeIsHeard =
     (grids : ℕ → ℕ → Cpx) (first second : SeenSlot) (places : List Place) (bits : ℕ → Bool) →
@@ -54,8 +55,8 @@ CarriedSubframeIsHeard =
     CarryInSubframe grids places bits →
     AreHeard 1 (2 * length places) bits (placed_values (in_subframe first second) places)
 
--- a law: in a subframe whose slots have correct soft values, the shared channel's soft values have the signs of the
--- bits before scrambling that its resource elements carry
+-- a law: in a subframe whose slots have correct soft values, and whose shared channel carries scrambled bits, the
+-- shared channel's soft values have the signs of the bits before scrambling
 abbrev pub CarriedBlocksAreHeard : Type 0
 CarriedBlocksAreHeard =
     (grids : ℕ → ℕ → Cpx) (first second : SeenSlot) (cfi start blocks : ℕ) (bits : ℕ → Bool) →

@@ -32,22 +32,24 @@ use Rattle.clean_air.specs.Faithful.{IsFaithfulBy}
 
 -- ---- the synchronisation signals
 
--- a primary signal of the cell begins at sample t of a recording with this offset (TS 36.211 section 6.11.1)
+-- A primary signal of the cell begins at sample `t` of a recording that starts at sample `offset` of a frame (TS 36.211
+-- section 6.11.1). `frame` counts the frames before the signal's own, from the one that is being sent at sample 0.
 pub record IsPrimaryPlace (offset t : ℕ) (half : Half) : Type 0 where
   pub frame : ℕ
   pub place : t + offset ≡ frame_length * frame + primary_start half
 
--- the primary signals of a cell stand out: each that begins within 9 samples of the span of PSS detections, at most 9
--- samples before there is room for the secondary one, has at least a quarter of the energy of its 128 samples, and a
--- greater ratio of it than the samples at distance 1 to 9. This is the rule of a hit, without ties, and needs no gain.
+-- Each primary signal of a cell stands out if it begins at most 9 samples before the first position that leaves room
+-- for the secondary signal in front, and at most 9 samples after the PSS search range: its normalised metric is at
+-- least 0.25, and greater than at each sample at distance 1 to 9. This is the rule of PSS detections without ties, and
+-- needs no gain.
 abbrev pub SignalsStandOut : Carrier → List Sample → ℕ → ℕ → Type 0
 SignalsStandOut carrier recording identity offset =
     (t : ℕ) (half : Half) → IsPrimaryPlace offset t half → symbol_step (prefix_of carrier) ≤ t + 9 →
     t ≤ last_place + 9 → StandsOutBy 250 recording t (identity % 3)
 
--- the signals of a cell stand in a recording: near the places of hits each primary one stands out; and where it begins
--- in their later half both, with the secondary one before it, are seen through a channel, which may be another each
--- time (TS 36.211 section 6.11.2)
+-- The synchronisation signals of a cell appear in a recording. `primary`: near the PSS search range, each primary
+-- signal stands out. `both`: for a primary signal in the later half frame of the range, both signals are received
+-- through a channel, which may differ from one occurrence to the next (TS 36.211 section 6.11.2).
 pub record ShowsSignals (carrier : Carrier) (recording : List Sample) (identity offset : ℕ) : Type 0 where
   pub primary : SignalsStandOut carrier recording identity offset
   pub both : (t : ℕ) (half : Half) → IsPrimaryPlace offset t half → last_place < t + half_frame_length →
@@ -55,13 +57,14 @@ pub record ShowsSignals (carrier : Carrier) (recording : List Sample) (identity 
 
 -- ---- slots
 
--- the elements of a slot of a frame, by symbol and subcarrier
+-- the elements of a slot of the frame numbered `number`, by symbol `l` and subcarrier
 abbrev pub slot_elements : Elements → ℕ → ℕ → ℕ → ℕ → Cpx
 slot_elements grid number slot l = grid number (slot / 2) (7 * (slot % 2) + l)
 
--- a slot of port 0 is received through a channel, with bounds relative to a magnitude whose square is n. This holds for
--- its pilots and for every resource element with a QPSK symbol, whether it is read or not; each can be decoded, and the
--- bounds leave room.
+-- A slot of port 0 is received through a channel, with bounds relative to a magnitude whose square is `n`. The slot's
+-- pilots and every resource element with a QPSK symbol, whether the receiver uses it or not, are demodulated through
+-- the channel; the channel is strong enough there to decode them, and the bounds leave room for soft values of
+-- magnitude 1.
 pub record IsSlotThrough (bounds : Bounds) (n : ℕ) (channel : Channel) (grids : ℕ → ℕ → Cpx) (slot : SeenSlot) :
     Type 0 where
   pub room : LeaveRoom 1 bounds
@@ -71,20 +74,20 @@ pub record IsSlotThrough (bounds : Bounds) (n : ℕ) (channel : Channel) (grids 
   pub seen : (symbol k : ℕ) (first second : Bool) → symbol < 7 → k < subcarriers → grids symbol k ≡ point first second →
       IsSeenNear bounds.most n (times (channel symbol k) (point first second)) (seen_at slot symbol k)
 
--- a law: a slot that is received through a channel has correct soft values
+-- a law: a slot that is received through a channel has correct soft values, each with the sign of its bit
 abbrev pub SlotThroughIsHeard : Type 0
 SlotThroughIsHeard =
     (bounds : Bounds) (n : ℕ) (channel : Channel) (grids : ℕ → ℕ → Cpx) (slot : SeenSlot) →
     IsSlotThrough bounds n channel grids slot → IsSlotHeard grids slot
 
--- a law: a slot that is received with one gain is received through it as a channel
+-- a law: a slot that is received with one gain is received through the channel with that gain everywhere
 abbrev pub ReceivedSlotIsThrough : Type 0
 ReceivedSlotIsThrough =
     (recording : List Sample) (starts : ℕ → ℕ) (grids : ℕ → ℕ → Cpx) (slot : SeenSlot)
     (received : IsSlotReceived recording starts grids slot) →
     IsSlotThrough level_bounds (square received.gain) (level received.gain) grids slot
 
--- a slot is received through some channel
+-- A slot is received through some channel, with some bounds relative to a magnitude whose square is `size`.
 pub record IsThrough (grids : ℕ → ℕ → Cpx) (slot : SeenSlot) : Type 0 where
   pub bounds : Bounds
   pub size : ℕ
@@ -93,16 +96,17 @@ pub record IsThrough (grids : ℕ → ℕ → Cpx) (slot : SeenSlot) : Type 0 wh
 
 -- ---- cells
 
--- a slot of frame j, with the elements that the cell's only port sends in it, is received through a channel
+-- a slot of frame `j`, counted from the first whole frame of the recording, is received through a channel, with the
+-- elements `grid` that the cell's only port sends in the slot
 abbrev pub IsFrameSlotThrough : List Sample → ℕ → Elements → ℕ → ℕ → ℕ → ℕ → Type 0
 IsFrameSlotThrough recording identity grid sfn offset j slot =
     IsThrough (slot_elements grid ((number_at_start sfn offset + j) % 1024) slot)
     (seen_slot recording (frame_at (start_of offset) j) slot identity)
 
--- a cell of one port, whose elements carry the plan, is received from frame number `sfn`. The recording contains the
--- cell's synchronisation signals, and these slots are received through a channel each: slot 1 of the first frame, with
--- the broadcast channel (TS 36.211 section 6.6), and both slots of subframe 5 of the first even-numbered frame, with
--- SIB1 (TS 36.331 section 5.2.1.2).
+-- A cell with one port, whose elements carry the plan, is received from frame number `sfn`. The recording contains the
+-- cell's synchronisation signals, and each of three slots is received through its own channel: slot 1 of the first
+-- frame, with the broadcast channel (TS 36.211 section 6.6), and both slots of subframe 5 of the first even-numbered
+-- frame, with SIB1 (TS 36.331 section 5.2.1.2).
 pub record IsCellThrough (recording : List Sample) (plan : CellPlan) (grid : Elements) (sfn offset : ℕ) : Type 0 where
   pub number : sfn ≤ 1023
   pub within : IsOffset offset
@@ -112,16 +116,16 @@ pub record IsCellThrough (recording : List Sample) (plan : CellPlan) (grid : Ele
   pub system : (slot : ℕ) → slot / 2 ≡ 5 →
       IsFrameSlotThrough recording plan.identity grid sfn offset (even_frame (number_at_start sfn offset) 0) slot
 
--- the laws on channels cover this scheme: one port and the normal cyclic prefix
+-- the laws on channels cover transmission scheme `carrier`: one port and the normal cyclic prefix
 abbrev pub is_seen_through : Carrier → Bool
 is_seen_through carrier = nat_eq (ports_of carrier) 1 && not (is_extended (prefix_of carrier))
 
--- a cell of this scheme is received through channels
+-- a cell is received through channels, and has a transmission scheme that the laws on channels cover
 abbrev pub IsSeenThroughBy : Carrier → List Sample → CellPlan → (Port → Elements) → ℕ → ℕ → Type 0
 IsSeenThroughBy carrier recording plan grids sfn offset =
     MatchBool (is_seen_through carrier) (IsCellThrough recording plan (grids only_port) sfn offset) ⊥
 
--- a law: a cell of one port to which the recording is faithful is received through channels
+-- a law: a cell with one port to which the recording is faithful is received through channels
 abbrev pub FaithfulIsThrough : Type 0
 FaithfulIsThrough =
     (recording : List Sample) (plan : CellPlan) (grids : Port → Elements) (sfn offset : ℕ) (gains : List Cpx) →

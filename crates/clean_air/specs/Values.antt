@@ -1,4 +1,5 @@
--- The soft values of a clean slot: each has the sign of the bit that was sent. (own)
+-- The soft values of a slot that is received with one gain and small errors: each has the sign of the bit that was
+-- sent. (own)
 use Rattle.std.specs.Prelude.{◌≡◌, ℕ, ◌^◌, ◌<◌, ◌≤◌, Bool, List, [], slice_index_or, ℤ, pos}
 use Rattle.cs_num.specs.declared.Cpx.{Cpx}
 use Rattle.cs_num.specs.declared.Sample.{Sample}
@@ -13,24 +14,26 @@ use Rattle.soft_bits.specs.Soft.{pattern_channel, pattern_energy, soft_pair, sof
 use Rattle.budget.specs.Received.{AreAmplitudes, IsReceived, IsSeenAs, samples_from}
 use Rattle.lte_types.specs.Numerology.{subcarriers}
 
--- both soft values of a resource element have the signs of two bits
+-- The two soft values of a resource element have the signs of bits `first` and `second`, and magnitudes of at least
+-- `least`.
 pub record SupportBoth (least : ℕ) (first second : Bool) (values : List ℤ) : Type 0 where
   pub re : Supports least first (slice_index_or values 0 (pos 0))
   pub im : Supports least second (slice_index_or values 1 (pos 0))
 
--- a slot's 24 pilots, by this pattern, are observed with one gain, in units of 2^-14 and of magnitude at least 1; each
--- is off by at most `most` times the gain's magnitude
+-- The 24 pilots of a slot, in the port's pattern, are demodulated with one gain, in units of 2^-14 and of magnitude at
+-- least 1. Each deviates by at most `most` times the gain's magnitude.
 pub record ArePatternSeen (most : ℕ) (pattern : Pattern) (gain : Cpx) (slot : SeenSlot) : Type 0 where
   pub sounds : 2 ^ 28 ≤ square gain
   pub pilot : (i : ℕ) → i < 24 →
       IsSeenAs most gain (pattern_sent pattern slot.identity slot.number i) (pattern_seen pattern slot i)
 
--- the 24 pilots of a slot of port 0 with the normal cyclic prefix are observed with one gain
+-- the 24 pilots of a slot of port 0 with the normal cyclic prefix are demodulated with one gain
 abbrev pub ArePilotsSeen : ℕ → Cpx → SeenSlot → Type 0
 ArePilotsSeen most gain slot = ArePatternSeen most port_0 gain slot
 
--- a law: if a QPSK symbol is demodulated with the gain of the slot's pilots, each off by at most `most` times the
--- gain's magnitude, its soft values have the signs of the bits and a magnitude of at least `magnitude`
+-- a law: if a QPSK symbol and the slot's pilots are demodulated with one gain, each with a deviation of at most `most`
+-- times the gain's magnitude, the symbol's soft values have the signs of its bits and magnitudes of at least
+-- `magnitude`
 abbrev pub SeenPairSupportsBits : ℕ → ℕ → Type 0
 SeenPairSupportsBits most magnitude =
     (pattern : Pattern) (gain : Cpx) (slot : SeenSlot) (seen : Cpx) (k : ℕ) (first second : Bool) →
@@ -39,16 +42,17 @@ SeenPairSupportsBits most magnitude =
     SupportBoth magnitude first second
     (soft_pair (times seen (conjugate (pattern_channel pattern slot k))) (pattern_energy pattern slot))
 
--- a law: if a resource element carries two bits and is observed with the gain of the slot's pilots, its soft values
--- have their signs
+-- a law: if a resource element with two bits and the slot's pilots are demodulated with one gain, the element's soft
+-- values have the signs of the bits and magnitudes of at least `magnitude`
 abbrev pub ValuesSupportBits : ℕ → ℕ → Type 0
 ValuesSupportBits most magnitude =
     (gain : Cpx) (slot : SeenSlot) (symbol k : ℕ) (first second : Bool) → ArePilotsSeen most gain slot →
     IsSeenAs most gain (point first second) (seen_at slot symbol k) →
     SupportBoth magnitude first second (soft_values slot symbol k)
 
--- the slot's first `count` symbols are received with one gain, each from its first sample, and contain the reference
--- signals of the slot's identity and number
+-- The slot's first `count` symbols are received with one gain, symbol `l` from sample `starts l`, and contain the
+-- reference signals of the slot's identity and number. The error energy of each symbol is at most `quota` times the
+-- gain's square.
 pub record IsPatternReceived (quota : ℕ) (pattern : Pattern) (count : ℕ) (recording : List Sample) (starts : ℕ → ℕ)
     (grids : ℕ → ℕ → Cpx) (slot : SeenSlot) : Type 0 where
   pub gain : Cpx
@@ -59,26 +63,28 @@ pub record IsPatternReceived (quota : ℕ) (pattern : Pattern) (count : ℕ) (re
       grids (pattern_symbol pattern slot.identity i) (pilot_subcarrier slot.identity i)
       ≡ pattern_sent pattern slot.identity slot.number i
 
--- the seven symbols of a slot with the normal cyclic prefix are received, with the reference signals of port 0
+-- the seven symbols of a slot with the normal cyclic prefix are received with one gain, with an error energy of at most
+-- 1800 times the gain's square, and contain the reference signals of port 0
 abbrev pub IsSlotReceived : List Sample → (ℕ → ℕ) → (ℕ → ℕ → Cpx) → SeenSlot → Type 0
 IsSlotReceived recording starts grids slot = IsPatternReceived 1800 port_0 7 recording starts grids slot
 
--- in each resource element that carries two bits, the slot's soft values have their signs and a magnitude of at least
--- `magnitude`
+-- in each resource element of `grids` that carries two bits, the slot's soft values have the bits' signs and magnitudes
+-- of at least `magnitude`
 abbrev pub SpeaksFor : ℕ → (ℕ → ℕ → Cpx) → SeenSlot → Type 0
 SpeaksFor magnitude grids slot = (symbol k : ℕ) (first second : Bool) → symbol < 7 → k < subcarriers →
     grids symbol k ≡ point first second → SupportBoth magnitude first second (soft_values slot symbol k)
 
--- a slot with correct soft values: each has the sign of the bit that the grid carries
+-- the slot has correct soft values: each has the sign of the bit that `grids` carries
 abbrev pub IsSlotHeard : (ℕ → ℕ → Cpx) → SeenSlot → Type 0
 IsSlotHeard grids slot = SpeaksFor 1 grids slot
 
--- a law: a slot that is received has correct soft values
+-- a law: a slot that is received with one gain and small errors has correct soft values
 abbrev pub ReceivedSlotIsHeard : Type 0
 ReceivedSlotIsHeard = (recording : List Sample) (starts : ℕ → ℕ) (grids : ℕ → ℕ → Cpx) (slot : SeenSlot) →
     IsSlotReceived recording starts grids slot → IsSlotHeard grids slot
 
--- a law: the soft values of a slot that is received with smaller errors have a magnitude of at least 8
+-- a law: if the error energy of each symbol is at most 1024 times the gain's square, the slot's soft values have
+-- magnitudes of at least 8
 abbrev pub QuietSlotIsHeard : Type 0
 QuietSlotIsHeard = (recording : List Sample) (starts : ℕ → ℕ) (grids : ℕ → ℕ → Cpx) (slot : SeenSlot) →
     IsPatternReceived 1024 port_0 7 recording starts grids slot → SpeaksFor 8 grids slot

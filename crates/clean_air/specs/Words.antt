@@ -1,4 +1,4 @@
--- Soft values that all have the signs of one word's coded bits determine this word only. (own; the code and its reading
+-- Soft values that all have the signs of one word's coded bits determine only this word. (own; the code and its reading
 -- order are in TS 36.212 sections 5.1.3.1 and 5.1.4.2)
 use Rattle.std.specs.Prelude.{◌≡◌, ℕ, ◌+◌, ◌*◌, ◌<◌, ◌≤◌, Bool, cond, List, length, slice_index_or, ℤ, pos, ◌+ℤ◌, neg_ℤ}
 use Rattle.finite.specs.Bits.{xor}
@@ -11,30 +11,33 @@ use Rattle.tailbite.specs.LeastWord.{IsLeastWord}
 use Rattle.tailbite.specs.Clean.{Speaks}
 use Rattle.cs_bits.specs.Signs.{Supports}
 
--- a law: the sum of four values with a bit's sign has its sign, with four times the minimum magnitude
+-- a law: if four values have the sign of a bit and magnitudes of at least `least`, their sum has the bit's sign and a
+-- magnitude of at least `4 * least`
 abbrev pub FourSpeakTogether : Type 0
 FourSpeakTogether =
     (least : ℕ) (bit : Bool) (a b c d : ℤ) → Supports least bit a → Supports least bit b → Supports least bit c →
     Supports least bit d → Supports (4 * least) bit (a +ℤ b +ℤ c +ℤ d)
 
--- a law: a value with the sign of a scrambled bit, negated if the scrambling bit is 1, has the sign of the original bit
+-- a law: if a value has the sign of a scrambled bit, the value, negated if the scrambling bit is 1, has the sign of the
+-- bit before scrambling
 abbrev pub DescramblingKeeps : Type 0
 DescramblingKeeps =
     (least : ℕ) (bit scrambling : Bool) (value : ℤ) → Supports least (xor bit scrambling) value →
     Supports least bit (cond scrambling (neg_ℤ value) value)
 
--- soft values in reading order, with at least one per coded bit, each with the sign of the coded bit at its position
+-- Soft value `i` has the sign of coded bit `reading i`. `enough`: each coded bit has at least one value.
 pub record SpeakByReading (reading : ℕ → Item) (word : List Bool) (values : List ℤ) : Type 0 where
   pub enough : (k t : ℕ) → k < length word → t < 3 → (i : ℕ) × (i < length values) × (reading i ≡ item t k)
   pub value : (i : ℕ) → i < length values →
       Supports 1 (bit_of_item (coded_word word) (reading i)) (slice_index_or values i (pos 0))
 
--- a law: if soft values in reading order have the signs of the word's coded bits, so do their sums by coded bit
+-- a law: if each soft value has the sign of its coded bit in the order `reading`, so does the sum of each coded bit's
+-- values
 abbrev pub SumsSpeakByReading : Type 0
 SumsSpeakByReading = (reading : ℕ → Item) (word : List Bool) (values : List ℤ) →
     SpeakByReading reading word values → Speaks (summed_by reading (length word) values) word
 
--- at least as many soft values as the word has coded bits, each with the sign of the coded bit at its position
+-- Soft value `i` has the sign of coded bit `reading i`. `enough`: there are at least as many values as coded bits.
 pub record SpeakInTurn (reading : ℕ → Item) (word : List Bool) (values : List ℤ) : Type 0 where
   pub enough : 3 * length word ≤ length values
   pub value : (i : ℕ) → i < length values →
@@ -47,8 +50,8 @@ SpeakInOrderFrom first word values = SpeakInTurn (λ i. item_of (length word) (f
 abbrev pub SpeakInOrder : List Bool → List ℤ → Type 0
 SpeakInOrder word values = SpeakInTurn (item_of (length word)) word values
 
--- a law: the sums of soft values in the cyclic reading order, from any bit, have the signs of the coded bits of a word
--- of 6 to 64 bits
+-- a law: for a word of 6 to 64 bits, if soft values in the cyclic reading order, from any bit, have the signs of the
+-- word's coded bits, so do the sums by coded bit
 abbrev pub SumsSpeakFrom : Type 0
 SumsSpeakFrom = (first : ℕ) (word : List Bool) (values : List ℤ) → 6 ≤ length word → length word ≤ 64 →
     SpeakInOrderFrom first word values → Speaks (summed_from first (length word) values) word
@@ -58,13 +61,14 @@ SumsSpeak =
     (word : List Bool) (values : List ℤ) → 6 ≤ length word → length word ≤ 64 → SpeakInOrder word values →
     Speaks (summed (length word) values) word
 
--- the word costs 0, each other word of its length costs more, and so it is the word of minimum cost
+-- `word` costs 0 and is the only word of minimum cost: each other word of the same length costs more.
 pub record IsOnlyWord (values : List (List ℤ)) (word : List Bool) : Type 0 where
   pub free : word_cost values word ≡ 0
   pub dear : (other : List Bool) → length other ≡ length values → (other ≡ word → ⊥) → 1 ≤ word_cost values other
   pub least : IsLeastWord values word
 
--- a law: the word whose signs all values have costs 0 and is the only word of minimum cost, for 6 or more bits
+-- a law: for at least 6 bits, the word whose coded bits' signs all values have costs 0 and is the only word of minimum
+-- cost
 abbrev pub SpokenWordIsOnly : Type 0
 SpokenWordIsOnly =
     (values : List (List ℤ)) (word : List Bool) → 6 ≤ length values → length word ≡ length values → Speaks values word →

@@ -1,16 +1,17 @@
 //! The transport block of the shared channel (PDSCH).
 //!
-//! If each soft value has the sign of its coded bit, the sum of a coded bit's values has the bit's sign if the bit was
-//! sent, and is 0 otherwise. If there are at least as many values as coded bits, every bit was sent, and every block
-//! can be resolved.
+//! If each soft value has the sign of its coded bit, the values of a sent coded bit add up to a sum with the bit's
+//! sign, and the sum of a coded bit that was not sent is 0. If there are at least as many values as coded bits, every
+//! coded bit was sent, and every block can be resolved.
 //!
-//! It is enough that the resource elements of the block's resource blocks are received in a subframe (`subframe`), or
-//! that both slots of a subframe are received and these elements carry the block (`carried`).
+//! The law also holds for a subframe: in the block's resource blocks, either the soft values of the resource elements
+//! have the signs of their bits (`subframe`), or both slots have correct soft values and the resource elements carry
+//! the block (`carried`).
 
 ghost use Rattle.clean_air.specs.Block.{HeardBlockIsDecoded, HeardSubframeDecodes, CarriedBlockIsDecoded};
 
-/// A law: the turbo decoder returns the sent transport block (TS 36.212 section 5.3.2) if each soft value has the sign
-/// of its coded bit, and the sent bits resolve the block.
+/// A law: the turbo decoder (TS 36.212 section 5.3.2) returns the sent transport block if each soft value has the sign
+/// of its coded bit and the sent bits resolve the block.
 pub fn sent_block_is_decoded()
     ensures heard { HeardBlockIsDecoded }
     ensures subframe { HeardSubframeDecodes }

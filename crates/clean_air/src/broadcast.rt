@@ -1,6 +1,6 @@
 //! The broadcast channel (PBCH).
 //!
-//! The law also holds for a slot that is received and whose broadcast channel carries the word (`slot`).
+//! The law also holds for a slot with correct soft values whose broadcast channel carries the word (`slot`).
 
 ghost use Rattle.clean_air.specs.Broadcast.{SpokenWordIsDecoded, SentWordIsDecoded, HeardSlotDecodes};
 

@@ -1,12 +1,12 @@
-//! The cell list, and the promise that no cell that is heard is missing from it.
+//! The cell list, and the promise that it contains every cell that the receiver hears.
 //!
-//! The promise (`IsListBy`): each cell of the transmission scheme that sends a known plan (`IsKnownBy`) has exactly one
-//! entry with its identity, start and frame number, read at cost 0 from its first whole frame, if the receiver hears
-//! the cell (`heard`, `specs/Heard.antt`). A cell of any bandwidth whose MIB is heard has an entry too (`master`). A
-//! cell is heard if the recording
+//! The promise (`IsListBy`): if the receiver hears a cell of its transmission scheme that sends a known plan
+//! (`IsKnownBy`), the list has exactly one entry with the cell's identity, start and frame number, read at cost 0 from
+//! the cell's first whole frame (`heard`, `specs/Heard.antt`). A cell of any bandwidth whose MIB is heard has an entry
+//! too (`master`). A cell is heard if the recording
 //!
-//! - is faithful to the cell (`faithful`, `specs/Faithful.antt`): each symbol that the receiver reads is what the
-//!   antenna ports send, each times one gain, up to errors whose energy is small compared with the gains;
+//! - is faithful to the cell (`faithful`, `specs/Faithful.antt`): each symbol that the receiver reads is the sum of the
+//!   signals of the antenna ports, each times one gain, up to errors whose energy is small compared with the gains;
 //! - is clean for the cell, whatever else the cell sends (`loaded`), or with a numbered load or none (`holds`);
 //! - with one antenna port and the normal cyclic prefix, shows the cell through channels (`through`,
 //!   `specs/Through.antt`), such as a slowly varying gain (`specs/Fading.antt`) or faint echoes (`specs/Echo.antt`).
@@ -23,9 +23,10 @@ use explain::{EntryList, FrameReader, OnePort, Workspace, explain_by, explain_hi
 use lte_types::Hit;
 use sample_file::Recording;
 
-/// A receiver of one transmission scheme whose lists miss no cell that it hears. (own)
+/// A receiver of one transmission scheme whose cell list contains each cell that the receiver hears. (own)
 pub trait CleanReader: FrameReader {
-    /// A law: this receiver's lists contain each cell of its scheme that it hears, and each MIB of any bandwidth.
+    /// A law: the receiver's list contains each cell of its scheme that the receiver hears, and each MIB of any
+    /// bandwidth that the receiver hears.
     fn holds_cells()
         ensures { HoldsCells Self.receiver };
 }
@@ -35,7 +36,8 @@ impl CleanReader for OnePort {
 }
 
 /// Lists the cells of `reader`'s transmission scheme in `recording` into `list`, and stores in `work` how each entry
-/// was read. `hits` are the recording's PSS detections; `None` searches for them. No allocations. (own)
+/// was read. `hits` holds the recording's PSS detections; if it is `None`, the call searches for them. Allocates
+/// nothing. (own)
 pub fn explain_clean_by<F: CleanReader>(
     reader: &F,
     recording: &Recording,
@@ -54,7 +56,8 @@ pub fn explain_clean_by<F: CleanReader>(
     prove!(57_600 <= count);
 }
 
-// Lists a recording's cells from the given PSS detections, or searches for them first.
+// Lists the cells of a recording from its PSS detections `hits`, or searches for the detections first if `hits` is
+// `None`.
 fn list_by<F: CleanReader>(
     reader: &F,
     recording: &Recording,
@@ -73,7 +76,8 @@ fn list_by<F: CleanReader>(
     }
 }
 
-/// Lists the cells with one antenna port and the normal cyclic prefix by `explain_clean_by`, each with its SIB1. (own)
+/// Lists the cells with one antenna port and the normal cyclic prefix, as `explain_clean_by` does, each with its SIB1
+/// or the reason for a missing SIB1. (own)
 pub fn explain_clean(recording: &Recording, work: &mut Workspace, list: &mut EntryList)
     ensures list { IsListOfCells recording.now list.new }
     ensures readings { AllZip (IsReading recording.now) list.new work.new }

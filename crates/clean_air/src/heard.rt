@@ -1,15 +1,15 @@
-//! Laws of reception: which cells are heard.
+//! Laws of reception: the conditions under which a receiver hears a cell.
 //!
-//! A primary signal stands out by the list's rule if the error energy of its 128 samples is at most 14,000 times its
-//! gain's square (`primary`). Synchronisation signals that are received through a channel give the identity, with
-//! either cyclic prefix (`identity`).
+//! A primary signal stands out by the rule of PSS detections if the error energy of its 128 samples is at most 14,000
+//! times the square of its gain (`primary`). Synchronisation signals that are received through a channel give the
+//! identity, with either cyclic prefix (`identity`).
 
 ghost use Rattle.explain.specs.Receiver.{one_port_receiver};
 ghost use Rattle.clean_air.specs.HeardLaws.{PrimaryStandsOutByRule, ShownIdentityIsBest};
 ghost use Rattle.clean_air.specs.HeardLaws.{ThroughIsHeard, FaithfulIsHeard, FadingIsHeard, EchoesAreHeard};
 
-/// A law: a cell with one antenna port is heard, part by part (`IsHeardBy`), if it is received through channels, the
-/// recording is faithful to it, its gain turns and fades slowly, or it arrives over several paths.
+/// A law: the receiver hears a cell with one antenna port, part by part (`IsHeardBy`), if the recording is faithful to
+/// the cell, or the cell is received through channels, with a slowly varying gain, or over several paths.
 pub fn cells_are_heard()
     ensures primary { PrimaryStandsOutByRule }
     ensures identity { ShownIdentityIsBest }

@@ -1,9 +1,9 @@
 //! The plan with which a listed cell was sent.
 //!
-//! The identity, PHICH fields, spare bits and SIB1 are the entry's. The control format indicator, resource blocks,
-//! modulation and coding scheme and column are those of the grant with which SIB1 was read (`grant_of`). There is no
-//! plan exactly if `grant_of` returns `None`, if the entry has more than one antenna port or a bandwidth other than n6,
-//! or if `Cell::new` refuses the plan.
+//! The identity, PHICH fields, spare bits and SIB1 come from the entry. The control format indicator, resource blocks,
+//! modulation and coding scheme, and column come from the grant with which SIB1 was read (`grant_of`). There is no plan
+//! if `grant_of` returns `None`, if the entry has more than one antenna port or a bandwidth other than n6, or if
+//! `Cell::new` refuses the plan; otherwise there is one.
 
 ghost use Rattle.std.specs.Prelude.{◌≡◌, ◌↔◌, IsTrue};
 ghost use Rattle.lte_types.specs.declared.bandwidth.Bandwidth.TheVariants.{N6};
@@ -18,8 +18,8 @@ use explain::{Workspace, grant_of};
 use lte_types::{Bandwidth, Cfi, Entry, Sib1};
 use sample_file::Recording;
 
-/// Returns the plan of the cell of `entry`, listed for `recording`, or `None` if there is none; reads the frames again.
-/// If the recording is clean for the cell, or faithful to it, this is the sent plan. (own)
+/// Returns the plan with which the cell of `entry` was sent, or `None` if there is none, and reads the frames of
+/// `recording` again. For a clean or faithful recording, this is the sent plan. (own)
 pub fn plan_of(recording: &Recording, entry: &Entry, work: &mut Workspace) -> Option<Cell>
     requires { IsInList recording.now entry.now }
     ensures plan { IsPlanOf recording.now entry.now result }
@@ -30,8 +30,8 @@ pub fn plan_of(recording: &Recording, entry: &Entry, work: &mut Workspace) -> Op
     plan_granted(recording, entry, grant_of(recording, entry, work))
 }
 
-/// Returns the plan of `plan_of` for a known indicator and grant (`Workspace::readings`), without reading a frame.
-/// `entry` is in the list of `recording`. (own)
+/// Returns the result of `plan_of` from an indicator and grant that are already known (`Workspace::readings`), without
+/// reading any frame again. `entry` must be in the list of `recording`. (own)
 pub fn plan_granted(
     recording: &Recording,
     entry: &Entry,
@@ -48,8 +48,8 @@ pub fn plan_granted(
     decoded_plan(recording, entry, granted)
 }
 
-// Returns the result of `plan_granted`, without its promises on faithful and clean recordings, which follow from this
-// clause.
+// Returns the result of `plan_granted`. The promises of `plan_granted` on faithful and clean recordings follow from
+// this function's clause.
 fn decoded_plan(recording: &Recording, entry: &Entry, granted: Option<(Cfi, Grant)>) -> Option<Cell>
     requires listed { IsInList recording.now entry.now }
     requires granted { IsGrantOf recording.now entry.now granted }
@@ -77,7 +77,7 @@ fn is_plain(entry: &Entry) -> bool
     entry.ports == 1 && entry.mib.bandwidth == Bandwidth::N6
 }
 
-// Returns the plan of an entry with an indicator, a grant and a SIB1.
+// Returns the plan that combines the fields of `entry` with the indicator `cfi`, `grant` and `sib1`.
 fn plan_by(entry: &Entry, cfi: Cfi, grant: &Grant, sib1: &Sib1) -> CellPlan
     ensures { result ≡ plan_made_by entry.now cfi grant.now sib1.now }
 {
@@ -95,18 +95,18 @@ fn plan_by(entry: &Entry, cfi: Cfi, grant: &Grant, sib1: &Sib1) -> CellPlan
     }
 }
 
-/// A law: an entry has exactly one plan, or none.
+/// A law: an entry has at most one plan.
 pub fn one_plan()
     ensures { IsOnePlan }
 {}
 
-/// A law: the entry of a cell to which the recording is faithful has the sent plan, if the plan can be sent, whatever
+/// A law: if the recording is faithful to a cell whose plan can be sent, the cell's entry has the sent plan, whatever
 /// else the cell sends.
 pub fn faithful_entry_has_plan()
     ensures { FaithfulEntryHasPlan }
 {}
 
-/// A law: the entry of a cell for which the recording is clean has the sent plan, if the plan can be sent.
+/// A law: if the recording is clean for a cell whose plan can be sent, the cell's entry has the sent plan.
 pub fn sent_entry_has_plan()
     ensures { SentEntryHasPlan }
 {}

@@ -1,13 +1,13 @@
-//! The word that clean soft values determine.
+//! The word that soft values determine if each has the sign of its coded bit.
 //!
-//! The sums of the values by coded bit have the bits' signs. The word costs 0, and every other word of its length costs
-//! more.
+//! The sums of the soft values by coded bit have the bits' signs. The sent word costs 0, and every other word of the
+//! same length costs more.
 
 ghost use Rattle.clean_air.specs.Words.{FourSpeakTogether, DescramblingKeeps, SumsSpeakByReading, SumsSpeakFrom};
 ghost use Rattle.clean_air.specs.Words.{SumsSpeak, SpokenWordIsOnly};
 
-/// A law: the sent word is the only one of minimum cost if each soft value has the sign of its coded bit, with at least
-/// one value per coded bit, in sending order from any bit.
+/// A law: the sent word is the only one of minimum cost if each soft value has its coded bit's sign, with at least one
+/// value per coded bit, in sending order from any bit.
 pub fn spoken_word_is_the_least()
     ensures together { FourSpeakTogether }
     ensures descrambled { DescramblingKeeps }
