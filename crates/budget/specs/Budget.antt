@@ -1,4 +1,4 @@
--- How far a demodulated value is from 64 times the transmitted amplitude times the gain. (own)
+-- The deviation of a demodulated value from 64 times the transmitted amplitude times the gain. (own)
 use Rattle.std.specs.Prelude.{◌≡◌, ℕ, ◌+◌, ◌*◌, ◌^◌, ◌<◌, ◌≤◌, List}
 use Rattle.cs_num.specs.declared.Cpx.{Cpx}
 use Rattle.cs_num.specs.declared.Sample.{Sample}
@@ -13,31 +13,31 @@ use Rattle.budget.specs.Received.{AreAmplitudes, in_parts, off_by, IsReceived, I
 use Rattle.budget.specs.Received.{IsSeenAs, IsSeenBy}
 use Rattle.lte_types.specs.Numerology.{subcarriers, useful_length}
 
--- the samples' demodulated value at subcarrier k
+-- the demodulated value of 128 samples at subcarrier `k`
 abbrev pub seen_in : (ℕ → Cpx) → ℕ → Cpx
 seen_in samples k = rounded (spectrum_at samples k) 12
 
--- the transmit error: 2^17 times the transmitted samples' demodulated value before rounding, less 2^35 times the
--- amplitude
+-- the transmit error at subcarrier `k`: 2^17 times the demodulated value of the transmitted samples before rounding,
+-- less 2^35 times the amplitude
 abbrev pub sending_off : (ℕ → Cpx) → Cpx → ℕ → Cpx
 sending_off sent amplitude k = minus (multiple (2 ^ 17) (spectrum_at sent k)) (multiple (2 ^ 35) amplitude)
 
--- the transmit error of one symbol is at most 97 units of 2^31
+-- the transmit error of one symbol has a magnitude of at most 97 units of 2^31
 abbrev pub SendingIsSmall : Type 0
 SendingIsSmall =
     (grid : ℕ → Cpx) (k : ℕ) → AreAmplitudes grid → k < subcarriers →
     square (sending_off (useful_at grid) (grid k) k) ≤ (97 * 2 ^ 31) * (97 * 2 ^ 31)
 
--- 2^17 times sample n of a useful part, before rounding
+-- 2^17 times sample `n` of a symbol's useful part, before rounding
 abbrev pub unrounded : (ℕ → Cpx) → ℕ → Cpx
 unrounded grid n = complex_sum_below subcarriers (useful_term grid n)
 
--- the leakage: the unrounded useful part's demodulated value, less 2^35 times the amplitude; it is not 0 because the
--- tables are rounded
+-- the leakage at subcarrier `k`: the demodulated value of the unrounded useful part, less 2^35 times the amplitude; the
+-- rounding of the tables causes it
 abbrev pub leakage : (ℕ → Cpx) → ℕ → Cpx
 leakage grid k = minus (spectrum_at (unrounded grid) k) (multiple (2 ^ 35) (grid k))
 
--- the demodulated rounding errors of the samples
+-- the demodulated value, at subcarrier `k`, of the rounding errors of the useful part's samples
 abbrev pub rounding_sent : (ℕ → Cpx) → ℕ → Cpx
 rounding_sent grid k = spectrum_at (λ n. minus (multiple (2 ^ 17) (useful_at grid n)) (unrounded grid n)) k
 
@@ -47,7 +47,7 @@ SendingHasTwoCauses =
     (grid : ℕ → Cpx) (k : ℕ) → k < subcarriers →
     sending_off (useful_at grid) (grid k) k ≡ plus (leakage grid k) (rounding_sent grid k)
 
--- in units of 2^31, the leakage is at most 6.1, and the demodulated rounding errors are at most 90.7
+-- in units of 2^31, the leakage has a magnitude of at most 6.1, and the demodulated rounding errors of at most 90.7
 abbrev pub LeakageIsSmall : Type 0
 LeakageIsSmall =
     (grid : ℕ → Cpx) (k : ℕ) → AreAmplitudes grid → k < subcarriers →
@@ -56,15 +56,16 @@ LeakageIsSmall =
 abbrev pub RoundingSentIsSmall : Type 0
 RoundingSentIsSmall = (grid : ℕ → Cpx) (k : ℕ) → 100 * square (rounding_sent grid k) ≤ (907 * 2 ^ 31) * (907 * 2 ^ 31)
 
--- the transmit errors of several ports add up, each times its gain
+-- the transmit error of a sum of two signals is the sum of the transmit errors; a signal's gain multiplies its transmit
+-- error
 abbrev pub SendingIsLinear : Type 0
 SendingIsLinear =
     (gain : Cpx) (sent others : ℕ → Cpx) (amplitude other : Cpx) (k : ℕ) →
     sending_off (λ n. plus (times gain (sent n)) (others n)) (plus (times gain amplitude) other) k
     ≡ plus (times gain (sending_off sent amplitude k)) (sending_off others other k)
 
--- 2^29 times the deviation of a demodulated value (in parts) from 64 times an amplitude has three causes: the transmit
--- error, the sample errors, and the demodulated value's rounding
+-- 2^29 times the deviation of a demodulated value, in units of 2^-14, from 64 times an amplitude is a sum of three
+-- causes: the transmit error, the sample errors (`errors`), and the rounding of the demodulated value (`rounding`).
 pub record HasThreeCauses (sent samples : ℕ → Cpx) (amplitude : Cpx) (k : ℕ) : Type 0 where
   pub errors : Cpx
   pub rounding : Cpx
@@ -75,16 +76,17 @@ pub record HasThreeCauses (sent samples : ℕ → Cpx) (amplitude : Cpx) (k : �
   pub errors_small : square errors ≤ 2 ^ 41 * energy_below useful_length (off_by samples sent) * (16385 * 16385)
   pub rounding_small : square rounding ≤ 2 ^ 85
 
--- a demodulated value's deviation has three causes, whatever was transmitted, gains included
+-- the deviation of a demodulated value always has three causes, whatever was transmitted, gains included
 abbrev pub DeviationHasThreeCauses : Type 0
 DeviationHasThreeCauses = (sent samples : ℕ → Cpx) (amplitude : Cpx) (k : ℕ) → HasThreeCauses sent samples amplitude k
 
--- the sum of two numbers, each times its gain
+-- `a` times `gain`, plus `b` times `other`
 abbrev pub with_gains : Cpx → Cpx → Cpx → Cpx → Cpx
 with_gains gain other a b = plus (times gain a) (times other b)
 
--- 2^29 times the demodulated value's deviation (in parts) for two symbols, each with a gain, has four causes: both
--- leakages, both symbols' rounding errors, the sample errors, and the demodulated value's rounding
+-- Two symbols are received, each with its gain. 2^29 times the deviation of their demodulated value, in units of 2^-14,
+-- is a sum of four causes: the leakage of both symbols, the transmitted rounding errors of both symbols, the sample
+-- errors (`errors`), and the rounding of the demodulated value (`rounding`).
 pub record HasFourCauses (gain other : Cpx) (grid second_grid samples : ℕ → Cpx) (k : ℕ) : Type 0 where
   pub errors : Cpx
   pub rounding : Cpx
@@ -98,7 +100,8 @@ pub record HasFourCauses (gain other : Cpx) (grid second_grid samples : ℕ → 
       * (16385 * 16385)
   pub rounding_small : square rounding ≤ 2 ^ 85
 
--- a demodulated value's deviation has four causes; one gain is the case where the other is 0
+-- the deviation of a demodulated value of two symbols always has four causes; if the second gain is 0, there is one
+-- symbol
 abbrev pub DeviationHasFourCauses : Type 0
 DeviationHasFourCauses =
     (gain other : Cpx) (grid second_grid samples : ℕ → Cpx) (k : ℕ) → k < subcarriers →
@@ -120,26 +123,29 @@ AmplitudesAreSeen ports quota most =
     IsReceivedBy ports quota gains grids samples → k < subcarriers →
     IsSeenBy ports most gains (λ port. grids port k) (seen_in samples k)
 
--- the deviation bound for one gain in a recording, with the demodulated values that `observe` gives at a sample
+-- the deviation bound for one gain also holds in a recording, for the demodulated values that `observe` computes from
+-- sample `start`
 abbrev pub AmplitudeIsSeenInRecording : ℕ → ℕ → Type 0
 AmplitudeIsSeenInRecording quota most =
     (gain : Cpx) (grid : ℕ → Cpx) (recording : List Sample) (start k : ℕ) → AreAmplitudes grid →
     IsReceived quota gain grid (samples_from recording start) → k < subcarriers →
     IsSeenAs most gain (grid k) (seen recording start k)
 
--- error energy of `quota` times the gain's square makes a deviation of at most `most` times the gain's magnitude: 97
--- units of 2^31 for transmission, a number of units for the errors, and 1 for rounding; a unit is 4 of `most`
+-- An error energy of at most `quota` times the gain's square causes a deviation of at most `most` times the gain's
+-- magnitude. In units of 2^31, the transmit error has a magnitude of at most 97, the sample errors of at most `errors`,
+-- and rounding of at most 1. One unit corresponds to 4 in `most`.
 pub record AreUnitsOf (quota most : ℕ) : Type 0 where
   pub errors : ℕ
   pub enough : 2 ^ 41 * quota * (16385 * 16385) ≤ (errors * 2 ^ 31) * (errors * 2 ^ 31)
   pub fits : 4 * (97 + errors + 1) ≤ most
 
--- the deviation bound holds for every quota with such units, in a recording too
+-- the deviation bound holds, also in a recording, for every `quota` and `most` that satisfy `AreUnitsOf`
 abbrev pub UnitsAreSeen : Type 0
 UnitsAreSeen =
     (quota most : ℕ) → AreUnitsOf quota most → AmplitudeIsSeen quota most × AmplitudeIsSeenInRecording quota most
 
--- the deviation bound for several ports in a recording
+-- the deviation bound for several ports also holds in a recording, for the demodulated values that `observe` computes
+-- from sample `start`
 abbrev pub AmplitudesAreSeenInRecording : ℕ → ℕ → ℕ → Type 0
 AmplitudesAreSeenInRecording ports quota most =
     (gains : ℕ → Cpx) (grids : ℕ → ℕ → Cpx) (recording : List Sample) (start k : ℕ) →
@@ -149,22 +155,22 @@ AmplitudesAreSeenInRecording ports quota most =
 
 -- ---- integer gains, and errors by component
 
--- if each component of 128 samples deviates by at most eps, the deviations' energy, in parts, is at most 2^36 times the
--- square of eps
+-- if each component of 128 samples deviates by at most `eps`, the error energy, in units of 2^-28, is at most 2^36
+-- times the square of `eps`
 abbrev pub ErrorsHaveEnergy : Type 0
 ErrorsHaveEnergy =
     (eps : ℕ) (values samples : ℕ → Cpx) → ((n : ℕ) → n < useful_length → IsWithin eps (minus (samples n) (values n))) →
     energy_below useful_length (off_by samples (λ n. in_parts (values n))) ≤ 2 ^ 36 * (eps * eps)
 
--- if each component deviates by at most eps from a useful part times an integer gain that is not 0, and eps is at most
--- twice the gain's magnitude, the useful part is received with a quota of 1024
+-- if each sample component deviates by at most `eps` from a useful part times an integer gain that is not 0, and `eps`
+-- is at most twice the gain's magnitude, the error energy is at most 1024 times the gain's square
 abbrev pub WholeGainIsReceived : Type 0
 WholeGainIsReceived =
     (eps : ℕ) (gain : Cpx) (grid samples : ℕ → Cpx) → 1 ≤ square gain → eps * eps ≤ 4 * square gain →
     ((n : ℕ) → n < useful_length → IsWithin eps (minus (samples n) (times gain (useful_at grid n)))) →
     IsReceived 1024 (in_parts gain) grid samples
 
--- reception with a quota implies reception with any greater one
+-- reception with an error energy of at most `quota` times the gain's square implies reception with any greater quota
 abbrev pub IsReceivedByMore : Type 0
 IsReceivedByMore =
     (quota more : ℕ) (gain : Cpx) (grid samples : ℕ → Cpx) → quota ≤ more → IsReceived quota gain grid samples →

@@ -1,8 +1,8 @@
--- A symbol received over several paths. (own) On each path the transmitted signal arrives, direct or reflected, with a
--- gain of its own and a delay in samples after the first path. A symbol begins with the cyclic prefix, a copy of the
--- end of its useful part, of at least 9 samples (TS 36.211 section 6.12: 144 samples for a DFT size of 2048, so 9 for
--- 128). Over a path that is up to 9 samples late, 128 samples therefore hold the whole useful part, cyclically shifted.
--- Several paths are then a channel, with a gain for each subcarrier.
+-- A symbol received over several paths. (own) On each path, direct or reflected, the transmitted signal arrives with
+-- the path's gain and with a delay in samples after the first path. A symbol begins with the cyclic prefix, a copy of
+-- the end of its useful part, of at least 9 samples (TS 36.211 section 6.12: 144 samples for a DFT size of 2048, so 9
+-- for 128). Over a path that is up to 9 samples late, 128 samples therefore hold the complete useful part, cyclically
+-- shifted. Several paths are then a channel, with a gain for each subcarrier.
 use Rattle.std.specs.Prelude.{◌≡◌, ℕ, ◌+◌, ◌-◌, ◌*◌, ◌%◌, ◌^◌, ◌<◌, ◌≤◌, Bool, List, [], nat_le}
 use Rattle.std.specs.Prelude.{if◌then◌else◌, slice_index_or}
 use Rattle.finite.specs.Sums.{total_below}
@@ -25,49 +25,51 @@ use Rattle.lte_types.specs.Numerology.{subcarriers, useful_length}
 
 -- ---- paths
 
--- the gain of the first path, and for the later ones the delays in samples and the gains; gains are in parts
+-- The paths over which a signal arrives: the gain of the first path, the number of later paths (`later`), and the delay
+-- in samples and the gain of each later path. Gains are in units of 2^-14.
 pub record Paths : Type 0 where
   pub first : Cpx
   pub later : ℕ
   pub delay : ℕ → ℕ
   pub gain : ℕ → Cpx
 
--- 128 samples, cyclically shifted by a delay
+-- 128 samples, cyclically shifted to later samples by `delay`
 abbrev pub turned_round : ℕ → (ℕ → Cpx) → ℕ → Cpx
 turned_round delay part n = part ((n + (useful_length - delay)) % useful_length)
 
--- a useful part as received over several paths
+-- sample `n` of a useful part that is received over several paths
 abbrev pub received_over : Paths → (ℕ → Cpx) → ℕ → Cpx
 received_over paths part n =
     plus (times paths.first (part n))
     (received_of paths.later paths.gain (λ path. turned_round (paths.delay path) part n))
 
--- 128 samples are received over several paths from a symbol with this grid; the deviations' energy is at most `quota`
--- times the first gain's square, which is at least 1 in magnitude
+-- 128 samples are received over several paths from a symbol with elements `grid`. The error energy is at most `quota`
+-- times the square of the first path's gain, which has a magnitude of at least 1.
 pub record IsReceivedOver (quota : ℕ) (paths : Paths) (grid samples : ℕ → Cpx) : Type 0 where
   pub sounds : 2 ^ 28 ≤ square paths.first
   pub quiet : energy_below useful_length (off_by samples (received_over paths (useful_at grid))) ≤ quota * square paths.first
 
 -- ---- the cyclic prefix
 
--- from an index, a sequence holds the last 9 samples of a useful part, followed by the part
+-- a sequence holds the last 9 samples of a useful part from index `place`, followed by the useful part
 pub record HasPrefix (part : ℕ → Cpx) (place : ℕ) (sent : ℕ → Cpx) : Type 0 where
   pub before : (n : ℕ) → n < 9 → sent (place + n) ≡ part (119 + n)
   pub useful : (n : ℕ) → n < useful_length → sent (place + 9 + n) ≡ part n
 
--- a transmitted sequence as it arrives over several paths
+-- sample `i` of a transmitted sequence as it arrives over several paths
 abbrev pub arriving : Paths → (ℕ → Cpx) → ℕ → Cpx
 arriving paths sent i =
     plus (times paths.first (sent i)) (received_of paths.later paths.gain (λ path. sent (i - paths.delay path)))
 
--- delays of at most 9 samples shift a useful part cyclically, if its prefix comes before it
+-- paths that are at most 9 samples late shift a useful part cyclically, if its cyclic prefix is in front of it
 abbrev pub PrefixTurnsRound : Type 0
 PrefixTurnsRound =
     (paths : Paths) (part sent : ℕ → Cpx) (place n : ℕ) →
     ((path : ℕ) → path < paths.later → paths.delay path ≤ 9) → HasPrefix part place sent → n < useful_length →
     arriving paths sent (place + 9 + n) ≡ received_over paths part n
 
--- samples near the arriving sequence are received over the paths
+-- samples close to a transmitted symbol as it arrives over several paths are received over these paths, with error
+-- energy at most `quota` times the square of the first path's gain
 abbrev pub ArrivingIsReceived : Type 0
 ArrivingIsReceived =
     (quota : ℕ) (paths : Paths) (grid sent samples : ℕ → Cpx) (place : ℕ) →
@@ -78,12 +80,12 @@ ArrivingIsReceived =
 
 -- ---- faint later paths
 
--- the weight of a path with this delay: the later the path, the more it bends the channel
+-- the weight of a path with delay `delay`: a greater delay makes the channel differ more between subcarriers
 abbrev pub weight : ℕ → ℕ
 weight delay = if nat_le delay 7 then 17 else 2 * delay + 3
 
--- later paths are faint: each is 1 to 9 samples late, and the bounds on their magnitudes, each times its path's weight,
--- sum to at most the first gain's magnitude
+-- Later paths are faint: each is 1 to 9 samples late, and `magnitudes` bounds the magnitudes of their gains. The
+-- bounds, each times its path's weight, add up to at most the magnitude of the first gain.
 pub record AreFaint (magnitudes : ℕ → ℕ) (paths : Paths) : Type 0 where
   pub late : (path : ℕ) → path < paths.later → 1 ≤ paths.delay path
   pub near : (path : ℕ) → path < paths.later → paths.delay path ≤ 9
@@ -93,11 +95,11 @@ pub record AreFaint (magnitudes : ℕ → ℕ) (paths : Paths) : Type 0 where
       * total_below paths.later (λ path. weight (paths.delay path) * magnitudes path) ≤
       square paths.first
 
--- one path, without later ones
+-- the case of one path, with no later paths
 abbrev pub only_path : Cpx → Paths
 only_path gain = record { first = gain; later = 0; delay = λ path. 0; gain = λ path. nothing }
 
--- reception with one gain is reception over one path; since there are no later ones, they are faint
+-- reception with one gain is reception over one path; the later paths, of which there are none, are faint
 abbrev pub OnePathIsReceivedOver : Type 0
 OnePathIsReceivedOver =
     (quota : ℕ) (gain : Cpx) (grid samples : ℕ → Cpx) → IsReceived quota gain grid samples →
@@ -105,27 +107,28 @@ OnePathIsReceivedOver =
 
 -- ---- the channel
 
--- the factor that a delay makes at subcarrier k: 16384 times a phase rotation
+-- the factor that `delay` samples cause at subcarrier `k`: 16384 times a phase rotation
 abbrev pub delayed : ℕ → ℕ → Cpx
 delayed delay k = conjugate (w_at (frequency k * delay))
 
--- 16384 times the channel at subcarrier k, before rounding
+-- 16384 times the channel's gain at subcarrier `k`, before rounding
 abbrev pub whole_channel : Paths → ℕ → Cpx
 whole_channel paths k =
     plus (multiple 16384 paths.first) (received_of paths.later paths.gain (λ path. delayed (paths.delay path) k))
 
--- the channel at subcarrier k: the gains' sum, each rotated by its delay
+-- the channel's gain at subcarrier `k`: the sum of the paths' gains, each rotated by the phase of its delay
 unfoldable pub channel_over : Paths → ℕ → Cpx
 channel_over paths k = rounded (whole_channel paths k) 14
 
--- paths as a channel, the same for all symbols
+-- the channel of several paths, equal for all symbols
 abbrev pub over : Paths → Channel
 over paths symbol k = channel_over paths k
 
 -- ---- demodulation
 
--- 16384 times the unrounded demodulated value of a shifted useful part is the part's own, times the delay's phase
--- rotation, within 25 * 2^28: the table is not quite multiplicative
+-- the demodulated value of a cyclically shifted useful part, unrounded and times 16384, is the value of the useful part
+-- itself times the phase rotation of the delay, within 25 * 2^28; the deviation arises because the table is not exactly
+-- multiplicative
 abbrev pub TurnedPartIsSeen : Type 0
 TurnedPartIsSeen =
     (grid : ℕ → Cpx) (delay k : ℕ) → AreAmplitudes grid → delay ≤ useful_length →
@@ -133,18 +136,21 @@ TurnedPartIsSeen =
     (times (delayed delay k) (spectrum_at (useful_at grid) k))) ≤
     (25 * 2 ^ 28) * (25 * 2 ^ 28)
 
--- 2^31 times the samples' unrounded demodulated value, less 2^35 times a number: 16384 times the transmit error
+-- 16384 times the transmit error at subcarrier `k`: 2^31 times the unrounded demodulated value of the samples, less
+-- 2^35 times `number`
 abbrev pub turned_off : (ℕ → Cpx) → Cpx → ℕ → Cpx
 turned_off sent number k = minus (multiple (2 ^ 31) (spectrum_at sent k)) (multiple (2 ^ 35) number)
 
--- a shifted useful part is demodulated as 64 times its amplitude times the delay's phase rotation, within 123 units
+-- the transmit error of a cyclically shifted useful part, times 16384, has a magnitude of at most 123 units of 2^45;
+-- the amplitude is rotated by the phase of the delay
 abbrev pub TurnedSendingIsSmall : Type 0
 TurnedSendingIsSmall =
     (grid : ℕ → Cpx) (delay k : ℕ) → AreAmplitudes grid → delay ≤ useful_length → k < subcarriers →
     square (turned_off (turned_round delay (useful_at grid)) (times (delayed delay k) (grid k)) k) ≤
     (123 * 2 ^ 45) * (123 * 2 ^ 45)
 
--- over faint paths, the transmit error is at most 106 units of 2^31 times the first gain
+-- over faint later paths, the transmit error has a magnitude of at most 106 units of 2^31 times the magnitude of the
+-- first gain
 abbrev pub SendingOverIsSmall : Type 0
 SendingOverIsSmall =
     (magnitudes : ℕ → ℕ) (paths : Paths) (grid : ℕ → Cpx) (k : ℕ) → AreAmplitudes grid → AreFaint magnitudes paths →
@@ -152,15 +158,16 @@ SendingOverIsSmall =
     square (sending_off (received_over paths (useful_at grid)) (times (channel_over paths k) (grid k)) k) ≤
     (106 * 2 ^ 31) * (106 * 2 ^ 31) * square paths.first
 
--- over faint paths, each amplitude is demodulated through their channel within 1880 times the first gain's magnitude,
--- if the error energy is at most 1024 times its square
+-- over faint later paths, each amplitude is demodulated through the paths' channel with a deviation of at most 1880
+-- times the magnitude of the first gain, if the error energy is at most 1024 times the square of that gain
 abbrev pub AmplitudeIsSeenOver : Type 0
 AmplitudeIsSeenOver =
     (magnitudes : ℕ → ℕ) (paths : Paths) (grid samples : ℕ → Cpx) (k : ℕ) → AreAmplitudes grid →
     AreFaint magnitudes paths → IsReceivedOver 1024 paths grid samples → k < subcarriers →
     IsSeenNear 1880 (square paths.first) (times (channel_over paths k) (grid k)) (seen_in samples k)
 
--- the bound over faint paths in a recording, with the demodulated values that `observe` gives at a sample
+-- the bound over faint later paths also holds in a recording, for the demodulated values that `observe` computes from
+-- sample `start`
 abbrev pub AmplitudeIsSeenOverInRecording : Type 0
 AmplitudeIsSeenOverInRecording =
     (magnitudes : ℕ → ℕ) (paths : Paths) (grid : ℕ → Cpx) (recording : List Sample) (start k : ℕ) →
@@ -169,16 +176,18 @@ AmplitudeIsSeenOverInRecording =
 
 -- ---- a slot over faint paths
 
--- in thousandths of the first gain, the channel is at least 940, and at the pilots at most 1060; in thousandths of the
--- channel itself, the line through the pilots deviates from it by at most 43
+-- The bounds of a channel of faint later paths. In thousandths of the first gain, the channel is at least 940, and at
+-- the pilots at most 1060. In thousandths of the channel itself, the line through the pilots deviates from the channel
+-- by at most 43.
 abbrev pub path_bounds : Bounds
 path_bounds = record { most = 1880; least = 940; mean = 1060; bend = 43 }
 
--- the bounds of faint paths leave room for soft values with magnitude 1 and more
+-- the bounds of faint later paths leave room for soft values of magnitude 1
 abbrev pub PathsLeaveRoom : Type 0
 PathsLeaveRoom = LeaveRoom 1 path_bounds
 
--- pilots demodulated through the channel of faint paths are within these bounds, and each resource element can be read
+-- Pilots demodulated through the channel of faint later paths are within `path_bounds`, and the channel at each
+-- resource element is strong enough and close enough to the line through the pilots to decode soft values.
 abbrev pub PathsAreThrough : Type 0
 PathsAreThrough =
     (magnitudes : ℕ → ℕ) (paths : Paths) (pattern : Pattern) (slot : SeenSlot) → AreFaint magnitudes paths →
@@ -195,8 +204,9 @@ PathsAreRead =
     AreFaint magnitudes paths → 2 ^ 28 ≤ square paths.first → k < subcarriers →
     IsReadThrough path_bounds (square paths.first) pattern (over paths) slot symbol k
 
--- the first `count` symbols of a slot are received in a recording over several paths, each from its start sample, and
--- hold the reference signals for the slot's identity and number in a pattern
+-- The first `count` symbols of a slot are received in a recording over several paths, symbol `l` from sample `starts
+-- l`, with an error energy of at most 1024 times the square of the first gain. They contain the reference signals of
+-- the slot's identity and number, at the positions of the pattern.
 pub record IsSlotReceivedOver (paths : Paths) (pattern : Pattern) (count : ℕ) (recording : List Sample)
     (starts : ℕ → ℕ) (grids : ℕ → ℕ → Cpx) (slot : SeenSlot) : Type 0 where
   pub seen : (l : ℕ) → l < count → slice_index_or slot.symbols l [] ≡ seen_symbol recording (starts l)
@@ -206,7 +216,7 @@ pub record IsSlotReceivedOver (paths : Paths) (pattern : Pattern) (count : ℕ) 
       grids (pattern_symbol pattern slot.identity i) (pilot_subcarrier slot.identity i)
       ≡ pattern_sent pattern slot.identity slot.number i
 
--- if later paths are faint, each resource element that carries two bits has soft values that support them
+-- if later paths are faint, both soft values of each resource element that carries two bits support the bits
 abbrev pub SlotOverIsHeard : Type 0
 SlotOverIsHeard =
     (magnitudes : ℕ → ℕ) (paths : Paths) (pattern : Pattern) (count : ℕ) (recording : List Sample) (starts : ℕ → ℕ)

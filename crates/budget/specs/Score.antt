@@ -1,5 +1,5 @@
--- The score of a clean cell: the transmitted group and half have the maximum. (own; the signals are in TS 36.211
--- section 6.11)
+-- The score of a clean cell's synchronisation signals: the transmitted group and half frame have the maximum. (own; the
+-- signals are in TS 36.211 section 6.11)
 use Rattle.std.specs.Prelude.{◌≡◌, ℕ, ◌+◌, ◌-◌, ◌*◌, ◌<◌, ◌≤◌, List, pos, ◌*ℤ◌, ◌<ℤ◌, ◌^◌}
 use Rattle.cs_num.specs.declared.Cpx.{Cpx}
 use Rattle.cs_num.specs.declared.Sample.{Sample}
@@ -17,11 +17,12 @@ use Rattle.sss_detect.specs.Identity.{best_pair, prefix_identity}
 use Rattle.observe.specs.Seen.{seen}
 use Rattle.budget.specs.Received.{IsReceived, IsSeenAs, IsSeenNear, samples_from}
 
--- the grid of a symbol that holds only the secondary sequence
+-- the elements of a symbol that holds only the SSS in the middle 62 subcarriers
 abbrev pub sss_grid : ℕ → ℕ → Half → ℕ → Cpx
 sss_grid n1 n2 half = in_middle (sss_amplitude n1 n2 half)
 
--- both synchronisation signals for a cell's identity and half are demodulated with one gain, which is not 0
+-- The 62 elements of both synchronisation signals, for an identity and half frame, are demodulated with one gain of
+-- magnitude at least 1. Each deviates by less than 37 units of amplitude.
 pub record AreSeen (gain : Cpx) (n1 n2 : ℕ) (half : Half) (pss_seen sss_seen : ℕ → Cpx) : Type 0 where
   pub group : n1 ≤ 167
   pub root : n2 ≤ 2
@@ -29,27 +30,28 @@ pub record AreSeen (gain : Cpx) (n1 n2 : ℕ) (half : Half) (pss_seen sss_seen :
   pub primary : (n : ℕ) → n < 62 → IsSeenAs 2316 gain (pss_at n2 n) (pss_seen (middle n))
   pub secondary : (n : ℕ) → n < 62 → IsSeenAs 2316 gain (sss_amplitude n1 n2 half n) (sss_seen (middle n))
 
--- each term in the transmitted pair's score is above 0
+-- each of the 62 terms in the score of the transmitted group and half frame is positive
 abbrev pub TermsArePositive : Type 0
 TermsArePositive =
     (gain : Cpx) (n1 n2 : ℕ) (half : Half) (pss_seen sss_seen : ℕ → Cpx) → AreSeen gain n1 n2 half pss_seen sss_seen →
     (n : ℕ) → n < 62 →
     pos 0 <ℤ (sss_at n1 n2 half n *ℤ agreement pss_seen sss_seen n2 n)
 
--- every other group and half score less than the transmitted ones
+-- every other group and half frame have a smaller score than the transmitted ones
 abbrev pub SentPairIsGreatest : Type 0
 SentPairIsGreatest =
     (gain : Cpx) (n1 n2 : ℕ) (half : Half) (pss_seen sss_seen : ℕ → Cpx) → AreSeen gain n1 n2 half pss_seen sss_seen →
     (m : ℕ) (other : Half) → m ≤ 167 →
     ((m ≡ n1) × (other ≡ half) → ⊥) → score pss_seen sss_seen n2 m other <ℤ score pss_seen sss_seen n2 n1 half
 
--- the transmitted group and half are the best pair
+-- the transmitted group and half frame are the best pair
 abbrev pub SentPairIsBest : Type 0
 SentPairIsBest =
     (gain : Cpx) (n1 n2 : ℕ) (half : Half) (pss_seen sss_seen : ℕ → Cpx) → AreSeen gain n1 n2 half pss_seen sss_seen →
     best_pair (score pss_seen sss_seen n2) ≡ (n1, half)
 
--- the PSS of a cell is received from sample t on in a recording, and the SSS one symbol with this prefix earlier
+-- The PSS of a cell is received from sample `t` of a recording, and the SSS one symbol earlier (a symbol with
+-- `prefix`), both with one gain. The error energy of each is at most 1800 times the gain's square.
 pub record AreSignals (prefix : Prefix) (recording : List Sample) (t n1 n2 : ℕ) (half : Half) : Type 0 where
   pub group : n1 ≤ 167
   pub root : n2 ≤ 2
@@ -57,7 +59,7 @@ pub record AreSignals (prefix : Prefix) (recording : List Sample) (t n1 n2 : ℕ
   pub primary : IsReceived 1800 gain (pss_grid n2) (samples_from recording t)
   pub secondary : IsReceived 1800 gain (sss_grid n1 n2 half) (samples_from recording (t - symbol_step prefix))
 
--- a hit at the PSS identifies the transmitted group and half
+-- a PSS detection at the primary signal identifies the transmitted group and half frame
 abbrev pub SentPairIsIdentified : Type 0
 SentPairIsIdentified =
     (prefix : Prefix) (recording : List Sample) (hit : Hit) (n1 : ℕ) (half : Half) →
@@ -66,9 +68,9 @@ SentPairIsIdentified =
 
 -- ---- through a channel
 
--- Both synchronisation signals for a cell's identity and half are demodulated through the same gains, one in parts for
--- each subcarrier, relative to a magnitude whose square is n: they deviate by at most `most` times that magnitude, and
--- each gain is at least `least` thousandths of it.
+-- Both synchronisation signals, for an identity and half frame, are demodulated through one channel with a gain for
+-- each subcarrier. Bounds are relative to a magnitude whose square is `n`: demodulated values deviate by at most `most`
+-- times that magnitude, and each gain is at least `least` thousandths of the magnitude.
 pub record AreSeenThrough (most least n : ℕ) (gain : ℕ → Cpx) (n1 n2 : ℕ) (half : Half) (pss_seen sss_seen : ℕ → Cpx) :
     Type 0 where
   pub group : n1 ≤ 167
@@ -79,26 +81,29 @@ pub record AreSeenThrough (most least n : ℕ) (gain : ℕ → Cpx) (n1 n2 : ℕ
   pub secondary : (k : ℕ) → k < 62 →
       IsSeenNear most n (times (gain (middle k)) (sss_amplitude n1 n2 half k)) (sss_seen (middle k))
 
--- the main part of each term outweighs its deviation: 1016 for the PSS, 1000 for the SSS, and 125 for their product
+-- The main part of each term of the score outweighs the term's deviation. The factors bound the contributions to the
+-- deviation: 1016 for the PSS, 1000 for the SSS, and 125 for the product of both.
 abbrev pub LeaveTermsRoom : ℕ → ℕ → Type 0
 LeaveTermsRoom most least = 2016 * (least * most) + 125 * (most * most) < 8128 * (least * least)
 
--- a group and a half are the only best pair: each term of their score is above 0, and every other pair scores less
+-- A group and a half frame are the only best pair: each term of their score is positive, and every other pair has a
+-- smaller score.
 pub record PairStandsAlone (n1 n2 : ℕ) (half : Half) (pss_seen sss_seen : ℕ → Cpx) : Type 0 where
   pub terms : (n : ℕ) → n < 62 → pos 0 <ℤ (sss_at n1 n2 half n *ℤ agreement pss_seen sss_seen n2 n)
   pub greatest : (m : ℕ) (other : Half) → m ≤ 167 → ((m ≡ n1) × (other ≡ half) → ⊥) →
       score pss_seen sss_seen n2 m other <ℤ score pss_seen sss_seen n2 n1 half
   pub best : best_pair (score pss_seen sss_seen n2) ≡ (n1, half)
 
--- the transmitted group and half are the only best pair, if they are demodulated through a channel that leaves room
+-- the transmitted group and half frame are the only best pair, if both synchronisation signals are demodulated through
+-- a channel whose bounds leave room
 abbrev pub SentPairStandsAlone : Type 0
 SentPairStandsAlone =
     (most least n : ℕ) (gain : ℕ → Cpx) (n1 n2 : ℕ) (half : Half) (pss_seen sss_seen : ℕ → Cpx) →
     LeaveTermsRoom most least → AreSeenThrough most least n gain n1 n2 half pss_seen sss_seen →
     PairStandsAlone n1 n2 half pss_seen sss_seen
 
--- a hit identifies the transmitted group and half, if both signals are demodulated through such a channel, at the hit
--- and one symbol with this prefix earlier
+-- a PSS detection identifies the transmitted group and half frame, if both signals are demodulated through a channel
+-- whose bounds leave room, the PSS at the detection and the SSS one symbol earlier (a symbol with `prefix`)
 abbrev pub SentPairIsIdentifiedThrough : Type 0
 SentPairIsIdentifiedThrough =
     (most least n : ℕ) (gain : ℕ → Cpx) (prefix : Prefix) (recording : List Sample) (hit : Hit) (n1 : ℕ) (half : Half) →

@@ -1,5 +1,5 @@
--- A cell's synchronisation signals in a recording, demodulated through a channel, such as several paths. (own; the
--- signals are in TS 36.211 section 6.11)
+-- A cell's synchronisation signals in a recording, demodulated through a channel, such as that of several paths. (own;
+-- the signals are in TS 36.211 section 6.11)
 use Rattle.std.specs.Prelude.{ℕ, ◌-◌, ◌≤◌, List}
 use Rattle.cs_num.specs.declared.Cpx.{Cpx}
 use Rattle.cs_num.specs.declared.Sample.{Sample}
@@ -13,8 +13,9 @@ use Rattle.budget.specs.Peak.{IsPrimaryWithin}
 use Rattle.budget.specs.Score.{sss_grid, AreSignals, AreSeenThrough, LeaveTermsRoom}
 use Rattle.budget.specs.Paths.{Paths, AreFaint, IsReceivedOver}
 
--- both signals are demodulated through a channel that leaves room, the PSS at a sample of a recording and the SSS one
--- symbol with this prefix earlier
+-- Both synchronisation signals are demodulated through a channel whose bounds leave room, the PSS at sample `t` of a
+-- recording and the SSS one symbol earlier (a symbol with `prefix`). Bounds are relative to a magnitude whose square is
+-- `size`.
 pub record AreSignalsThrough (prefix : Prefix) (recording : List Sample) (t n1 n2 : ℕ) (half : Half) : Type 0 where
   pub most : ℕ
   pub least : ℕ
@@ -24,13 +25,14 @@ pub record AreSignalsThrough (prefix : Prefix) (recording : List Sample) (t n1 n
   pub through :
       AreSeenThrough most least size channel n1 n2 half (seen recording t) (seen recording (t - symbol_step prefix))
 
--- signals received with one gain are demodulated through a channel
+-- synchronisation signals received with one gain are demodulated through a channel whose bounds leave room
 abbrev pub SignalsAreThrough : Type 0
 SignalsAreThrough =
     (prefix : Prefix) (recording : List Sample) (t n1 n2 : ℕ) (half : Half) →
     AreSignals prefix recording t n1 n2 half → AreSignalsThrough prefix recording t n1 n2 half
 
--- both signals are received over the same paths
+-- both synchronisation signals are received over the same paths, the PSS at sample `t` and the SSS one symbol earlier,
+-- with error energies of at most 1024 times the square of the first gain
 pub record AreSignalsOver (paths : Paths) (prefix : Prefix) (recording : List Sample) (t n1 n2 : ℕ) (half : Half) :
     Type 0 where
   pub group : n1 ≤ 167
@@ -38,15 +40,16 @@ pub record AreSignalsOver (paths : Paths) (prefix : Prefix) (recording : List Sa
   pub primary : IsReceivedOver 1024 paths (pss_grid n2) (samples_from recording t)
   pub secondary : IsReceivedOver 1024 paths (sss_grid n1 n2 half) (samples_from recording (t - symbol_step prefix))
 
--- signals received over the same paths are demodulated through a channel, if later paths are faint
+-- synchronisation signals received over the same paths are demodulated through a channel whose bounds leave room, if
+-- later paths are faint
 abbrev pub SignalsOverAreThrough : Type 0
 SignalsOverAreThrough =
     (magnitudes : ℕ → ℕ) (paths : Paths) (prefix : Prefix) (recording : List Sample) (t n1 n2 : ℕ) (half : Half) →
     AreFaint magnitudes paths → AreSignalsOver paths prefix recording t n1 n2 half →
     AreSignalsThrough prefix recording t n1 n2 half
 
--- later paths may count as errors of the PSS: together with the sample errors, their energy is at most 14000 times the
--- first gain's square
+-- if faint later paths count as errors of the PSS, the error energy, sample errors included, is at most 14,000 times
+-- the square of the first gain
 abbrev pub PrimaryOverIsWithin : Type 0
 PrimaryOverIsWithin =
     (magnitudes : ℕ → ℕ) (paths : Paths) (recording : List Sample) (t n2 : ℕ) → AreFaint magnitudes paths → n2 ≤ 2 →

@@ -1,27 +1,27 @@
 //! The deviation of a demodulated amplitude.
 //!
-//! With one gain, of magnitude at least 1 in parts of 2^-14, the demodulated value is 64 times the amplitude times the
-//! gain. It deviates by less than 37 units of amplitude if the error energy of the symbol's 128 samples is at most 1800
-//! times the gain's square, and by at most 30 if it is at most 1024 times that, as when each component deviates by at
-//! most twice the gain's magnitude.
+//! With one gain, of magnitude at least 1 in units of 2^-14, the demodulated value is close to 64 times the product of
+//! amplitude and gain. The deviation is less than 37 units of amplitude if the error energy of the symbol's 128 samples
+//! is at most 1800 times the gain's square. It is at most 30 units at 1024 times the gain's square, as when each sample
+//! component deviates by at most twice the gain's magnitude.
 //!
-//! With several gains the demodulated value is the sum over the ports. Its deviation is relative to the gains' root sum
-//! square, and the error energy to their summed squares:
+//! With several gains, the demodulated value is close to 64 times the sum over the ports. Its deviation is relative to
+//! the root of the sum of the gains' squares, and the error energy is relative to that sum:
 //!
 //! - two gains: less than 23 units at 400 times the sum, and 16 at 64 times;
-//! - four gains: little more than 14 units at 7 times the sum, and less than 14 at 4 times.
+//! - four gains: less than 14.1 units at 7 times the sum, and less than 14 at 4 times.
 //!
 //! The deviation has four causes, each with a bound: the leakage of the tables, the rounding of the transmitted
-//! samples, the errors of the received samples, and the rounding of the demodulated value. The first two make up the
-//! transmit error, to which each port adds its own times its gain.
+//! samples, the errors of the received samples, and the rounding of the demodulated value. Leakage and rounding of the
+//! transmitted samples make up the transmit error; each port adds its own transmit error times its gain.
 
 ghost use Rattle.budget.specs.Budget.{SendingHasTwoCauses, LeakageIsSmall, RoundingSentIsSmall, SendingIsSmall};
 ghost use Rattle.budget.specs.Budget.{SendingIsLinear, DeviationHasThreeCauses, DeviationHasFourCauses};
 ghost use Rattle.budget.specs.Budget.{AmplitudeIsSeen, AmplitudeIsSeenInRecording};
 ghost use Rattle.budget.specs.Budget.{AmplitudesAreSeen, AmplitudesAreSeenInRecording, UnitsAreSeen};
 
-/// A law: a demodulated amplitude is 64 times the amplitude times the gain, within bounds that follow from the ratio
-/// between the error energy and the gain's square; with two or four ports, the sum is within such bounds.
+/// A law: a demodulated amplitude is 64 times the amplitude times the gain, within a bound that follows from the ratio
+/// of the error energy to the gain's square; two or four ports' sum is within a similar bound.
 pub fn seen_amplitude_is_near()
     ensures two_causes { SendingHasTwoCauses }
     ensures leakage { LeakageIsSmall }

@@ -1,11 +1,12 @@
-//! The score of both synchronisation signals.
+//! The score that both synchronisation signals give to an identity group and half frame.
 
 ghost use Rattle.budget.specs.Score.{TermsArePositive, SentPairIsGreatest, SentPairIsBest, SentPairIsIdentified};
 ghost use Rattle.budget.specs.Score.{SentPairStandsAlone, SentPairIsIdentifiedThrough};
 ghost use Rattle.budget.specs.Score.{OneGainLeavesTermsRoom, OneGainIsSeenThrough};
 
 /// A law: if a cell's two synchronisation signals are demodulated with one gain, each amplitude within 37 units, the
-/// transmitted group and half have the only maximum score, and a hit at the primary signal identifies them.
+/// transmitted group and half frame have the only maximum score, and a PSS detection at the primary signal identifies
+/// them.
 pub fn sent_pair_is_best()
     ensures terms { TermsArePositive }
     ensures greatest { SentPairIsGreatest }
@@ -13,8 +14,8 @@ pub fn sent_pair_is_best()
     ensures recording { SentPairIsIdentified }
 {}
 
-/// A law: the transmitted group and half have the only maximum score if both signals are demodulated through a channel
-/// whose bounds leave room, as those for one gain do.
+/// A law: the transmitted group and half frame have the only maximum score if both synchronisation signals are
+/// demodulated through a channel whose bounds leave room, as the bounds for one gain do.
 pub fn sent_pair_stands_alone_through_a_channel()
     ensures alone { SentPairStandsAlone }
     ensures recording { SentPairIsIdentifiedThrough }

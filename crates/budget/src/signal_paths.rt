@@ -2,8 +2,8 @@
 
 ghost use Rattle.budget.specs.SignalPaths.{SignalsAreThrough, SignalsOverAreThrough, PrimaryOverIsWithin};
 
-/// A law: synchronisation signals received with one gain, or over the same paths with faint later ones, are demodulated
-/// through a channel that leaves room. As errors of the primary signal, faint paths are small enough for a hit.
+/// A law: synchronisation signals received with one gain, or over common paths with faint later ones, are demodulated
+/// through a channel that leaves room. If faint paths count as errors of the primary signal, it is still a hit.
 pub fn signals_stand_over_several_paths()
     ensures one_gain { SignalsAreThrough }
     ensures through { SignalsOverAreThrough }
