@@ -1,4 +1,4 @@
-//! A cell's PBCH.
+//! The broadcast channel (PBCH) of a cell.
 
 ghost use Rattle.std.specs.Prelude.{◌≡◌, ◌+◌, ◌*◌, ◌<◌, ◌≤◌, false, length, slice_index_or};
 ghost use Rattle.finite.specs.Lists.{values_below};
@@ -18,8 +18,8 @@ use cs_num::Cpx;
 use grid_map::pbch_c_init;
 use lte_types::{Bandwidth, CellId, Duration, Resource, Sfn};
 
-// Returns the MIB for 6 resource blocks followed by its masked CRC (TS 36.331 section 6.2.2, TS 36.212 section
-// 5.3.1.1).
+// Returns the MIB for 6 resource blocks, followed by its CRC masked with `mask` (TS 36.331 section 6.2.2, TS 36.212
+// section 5.3.1.1).
 fn master_word(mask: u16, duration: Duration, resource: Resource, sfn: Sfn, spare: u16) -> Bits<40>
     ensures { result ≡ master_word_of mask duration resource sfn spare }
 {
@@ -34,7 +34,7 @@ fn master_word(mask: u16, duration: Duration, resource: Resource, sfn: Sfn, spar
     Bits::new(bits)
 }
 
-// Returns the plan's MIB followed by its CRC.
+// Returns the MIB of the cell's plan in frame `sfn`, followed by its CRC masked for `port`.
 fn word_of(cell: &Cell, port: Port, sfn: Sfn) -> Bits<40>
     ensures { result ≡ port_word port cell.now sfn }
 {
@@ -42,7 +42,7 @@ fn word_of(cell: &Cell, port: Port, sfn: Sfn) -> Bits<40>
     master_word(port.mask(), plan.duration, plan.resource, sfn, plan.spare)
 }
 
-// Returns bit `n` after rate matching, scrambled.
+// Returns bit `n` of the sequence after rate matching, scrambled with bit `n` of `scrambling`.
 fn scrambled<const N: usize>(coded: &[[bool; 3]; N], scrambling: &[bool], n: usize) -> bool
     requires low { 6 ≤ N }
     requires high { N ≤ 64 }
@@ -52,8 +52,8 @@ fn scrambled<const N: usize>(coded: &[[bool; 3]; N], scrambling: &[bool], n: usi
     match_out(coded, n) != scrambling[n]
 }
 
-// Fills `points` with QPSK symbols for the encoded, rate-matched and scrambled word, from bit `first` (TS 36.212
-// section 5.3.1, TS 36.211 section 6.6).
+// Fills `points` with the QPSK symbols for the encoded, rate-matched and scrambled `word`, starting at bit `first` of
+// the four-frame sequence (TS 36.212 section 5.3.1, TS 36.211 section 6.6).
 fn fill_broadcast(id: CellId, word: &Bits<40>, first: usize, points: &mut [Cpx])
     requires { first + 2 * length points.old ≤ 1920 }
     ensures { points.new ≡ values_below (length points.old)
@@ -72,7 +72,8 @@ fn fill_broadcast(id: CellId, word: &Bits<40>, first: usize, points: &mut [Cpx])
     }
 }
 
-/// Returns the 240 PBCH symbols in a frame at `port`. With the extended prefix only the first 216 are transmitted.
+/// Returns the 240 PBCH symbols of frame `sfn` with the CRC mask for `port`. With the extended cyclic prefix only the
+/// first 216 are transmitted.
 pub(crate) fn broadcast_points(cell: &Cell, port: Port, sfn: Sfn) -> [Cpx; 240]
     ensures { result ≡ values_below 240 (port_point port cell.now sfn) }
 {

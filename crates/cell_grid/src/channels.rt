@@ -1,4 +1,4 @@
-//! The channels' values at each resource element in a frame.
+//! The channels' values at each resource element of a frame.
 
 ghost use Rattle.std.specs.Prelude.{◌≡◌, ◌<◌, true};
 ghost use Rattle.cell_grid.specs.Ports.{has_control};
@@ -13,14 +13,14 @@ use cs_num::Cpx;
 use grid_map::Place;
 use lte_types::Sfn;
 
-// Returns whether a subframe carries system information.
+// Returns whether a subframe carries system information: subframe 5 of even-numbered frames.
 fn has_system_information(sfn: Sfn, subframe: u8) -> bool
     ensures { result ≡ has_system_information sfn subframe }
 {
     subframe == 5 && sfn.value() % 2 == 0
 }
 
-// Returns whether a symbol lies in the PBCH slot.
+// Returns whether a symbol lies in slot 1, which carries the PBCH.
 fn may_broadcast(port: Port, subframe: u8, symbol: u8) -> bool
     requires subframe { subframe < 10 }
     requires symbol { symbol < 14 }
@@ -29,7 +29,8 @@ fn may_broadcast(port: Port, subframe: u8, symbol: u8) -> bool
     2 * subframe + symbol / port.symbols() == 1
 }
 
-// Returns a symbol's index as the PBCH mapping numbers it.
+// Returns the symbol index that the PBCH mapping uses: the symbol in the subframe or, with the extended cyclic prefix,
+// in the slot.
 fn broadcast_symbol(port: Port, symbol: u8) -> u8
     requires { symbol < 14 }
     ensures value { result ≡ broadcast_symbol port symbol }
@@ -42,7 +43,7 @@ fn broadcast_symbol(port: Port, symbol: u8) -> u8
     }
 }
 
-// Returns the PBCH value at a resource element.
+// Returns the PBCH value at resource element `here`, or `None` if the PBCH does not occupy it.
 fn broadcast_at(signals: &Signals, subframe: u8, here: Place) -> Option<Cpx>
     requires subframe { subframe < 10 }
     requires symbol { here.symbol < 14 }
@@ -61,7 +62,8 @@ fn broadcast_at(signals: &Signals, subframe: u8, here: Place) -> Option<Cpx>
     )
 }
 
-// Returns the PCFICH value at a resource element; every subframe has PCFICH.
+// Returns the PCFICH value at resource element `here`, or `None` if the PCFICH, which every subframe has, does not
+// occupy it.
 fn indicator_at(signals: &Signals, subframe: u8, here: Place) -> Option<Cpx>
     requires subframe { subframe < 10 }
     requires symbol { here.symbol < 14 }
@@ -72,7 +74,8 @@ fn indicator_at(signals: &Signals, subframe: u8, here: Place) -> Option<Cpx>
     value_at(signals.port, &signals.layout.indicator, points, here)
 }
 
-// Returns the PDCCH value at a resource element; `None` outside subframe 5 of even frames.
+// Returns the PDCCH value at resource element `here`, or `None` if the PDCCH does not occupy it, as outside subframe 5
+// of even frames.
 fn control_at(signals: &Signals, subframe: u8, here: Place) -> Option<Cpx>
     requires control { has_control signals.now.port ≡ true }
     requires symbol { here.symbol < 14 }
@@ -86,7 +89,8 @@ fn control_at(signals: &Signals, subframe: u8, here: Place) -> Option<Cpx>
     value_at(signals.port, &signals.layout.control, points, here)
 }
 
-// Returns the PDSCH value at a resource element; `None` outside subframe 5 of even frames.
+// Returns the PDSCH value at resource element `here`, or `None` if the PDSCH does not occupy it, as outside subframe 5
+// of even frames.
 fn shared_at(signals: &Signals, subframe: u8, here: Place) -> Option<Cpx>
     requires control { has_control signals.now.port ≡ true }
     requires symbol { here.symbol < 14 }
@@ -100,7 +104,7 @@ fn shared_at(signals: &Signals, subframe: u8, here: Place) -> Option<Cpx>
     value_at(signals.port, &signals.layout.shared, points, here)
 }
 
-// Returns the PCFICH, PDCCH or PDSCH value at a resource element.
+// Returns the PCFICH, PDCCH or PDSCH value at resource element `here`, or `None` if none of these channels occupies it.
 fn system_at(signals: &Signals, subframe: u8, here: Place) -> Option<Cpx>
     requires control { has_control signals.now.port ≡ true }
     requires subframe { subframe < 10 }
@@ -117,7 +121,8 @@ fn system_at(signals: &Signals, subframe: u8, here: Place) -> Option<Cpx>
     shared_at(signals, subframe, here)
 }
 
-/// Returns the value of the first channel that occupies a resource element.
+/// Returns the value of the first channel that occupies resource element `here`, or `None` if no channel does: PBCH,
+/// then PCFICH, PDCCH and PDSCH.
 pub(crate) fn channel_at(signals: &Signals, subframe: u8, here: Place) -> Option<Cpx>
     requires subframe { subframe < 10 }
     requires symbol { here.symbol < 14 }

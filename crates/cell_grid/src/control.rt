@@ -21,7 +21,7 @@ use grid_map::{Place, candidate_places, indicator_bit, pcfich_c_init, pdcch, pdc
 use lte_types::{Bandwidth, Mib, Sfn};
 use std::marker::Model;
 
-/// The PCFICH symbols in a subframe. Contracts see them as a list.
+/// The 16 PCFICH symbols in a subframe. Contracts see them as a list.
 #[derive(Drop)]
 pub(crate) struct Indicator {
     points: [Cpx; 16],
@@ -37,7 +37,7 @@ impl Model for Indicator {
 }
 
 impl Indicator {
-    /// Returns the 16 symbols.
+    /// Returns the 16 PCFICH symbols.
     pub(crate) fn slice(&self) -> &[Cpx]
         ensures points { result.now ≡ self.now }
         ensures count { length self.now ≡ 16 }
@@ -46,7 +46,7 @@ impl Indicator {
     }
 }
 
-// Returns the 32-bit CFI codeword.
+// Returns the 32-bit codeword of a control format indicator (TS 36.212 section 5.3.4).
 fn indicator_bits(indicator: u8) -> [bool; 32]
     requires { 1 ≤ indicator }
     ensures { result ≡ values_below 32 (indicator_bit indicator) }
@@ -58,7 +58,7 @@ fn indicator_bits(indicator: u8) -> [bool; 32]
     bits
 }
 
-// Returns the PCFICH symbols in a subframe.
+// Returns the 16 PCFICH symbols in a subframe.
 fn indicator_of(cell: &Cell, subframe: u8) -> Indicator
     requires { subframe < 10 }
     ensures { result ≡ values_below 16 (indicator_point cell.now subframe) }
@@ -69,7 +69,7 @@ fn indicator_of(cell: &Cell, subframe: u8) -> Indicator
     Indicator { points }
 }
 
-/// Returns the PCFICH symbols in each subframe.
+/// Returns the 16 PCFICH symbols in each of the 10 subframes of a frame.
 pub(crate) fn indicators(cell: &Cell) -> [Indicator; 10]
     ensures { result ≡ values_below 10 (λ subframe. values_below 16 (indicator_point cell.now subframe)) }
 {
@@ -87,7 +87,8 @@ pub(crate) fn indicators(cell: &Cell) -> [Indicator; 10]
     ]
 }
 
-/// Returns the redundancy version in frame `sfn`.
+/// Returns the redundancy version of system information in frame `sfn`: 0, 2, 3, 1 for successive even-numbered frames
+/// (TS 36.321 section 5.3.1).
 pub(crate) fn version_of(sfn: Sfn) -> u8
     ensures value { result ≡ version_of sfn }
     ensures bound { result < 4 }
@@ -95,7 +96,7 @@ pub(crate) fn version_of(sfn: Sfn) -> u8
     [0, 2, 3, 1][(sfn.value() % 8 / 2) as usize]
 }
 
-// Returns the system information grant in frame `sfn`.
+// Returns the grant of system information in frame `sfn`.
 fn grant_of(cell: &Cell, sfn: Sfn) -> Grant
     ensures grant { result ≡ grant_of cell.now sfn }
     ensures valid { IsGrant result }
@@ -111,14 +112,14 @@ fn grant_of(cell: &Cell, sfn: Sfn) -> Grant
     }
 }
 
-// Copies `message` over the first bits.
+// Copies `message` over the first 21 bits.
 fn put_message(bits: &mut [bool; 37], message: &Bits<21>)
     ensures { take 21 bits.new ≡ message.now }
 {
     bits[..21].copy_from_slice(message.slice());
 }
 
-// Returns `message` followed by its CRC, masked with SI-RNTI.
+// Returns `message` followed by its CRC-16, masked with the SI-RNTI (TS 36.212 section 5.3.3.2).
 fn with_check(message: &Bits<21>) -> Bits<37>
     ensures { result ≡ with_check_16 system_information_rnti message.now }
 {
@@ -129,14 +130,14 @@ fn with_check(message: &Bits<21>) -> Bits<37>
     Bits::new(bits)
 }
 
-// Returns the grant bits followed by their CRC.
+// Returns the 21 grant bits of frame `sfn`, followed by their masked CRC.
 fn word_of(cell: &Cell, sfn: Sfn) -> Bits<37>
     ensures { result ≡ control_word cell.now sfn }
 {
     with_check(&dci::write(&grant_of(cell, sfn)))
 }
 
-// Returns the grant bits after encoding and rate matching.
+// Returns the grant of frame `sfn` after encoding and rate matching: the 288 bits of four control channel elements.
 fn control_bits(cell: &Cell, sfn: Sfn) -> [bool; 288]
     ensures { result ≡ values_below 288 (coded_bit (control_word cell.now sfn)) }
 {
@@ -148,7 +149,7 @@ fn control_bits(cell: &Cell, sfn: Sfn) -> [bool; 288]
     bits
 }
 
-/// Returns the PDCCH symbols that carry the grant in frame `sfn`.
+/// Returns the 144 PDCCH symbols that carry the grant in frame `sfn`.
 pub(crate) fn control_points(cell: &Cell, sfn: Sfn) -> [Cpx; 144]
     ensures { result ≡ values_below 144 (control_point cell.now sfn) }
 {
@@ -161,8 +162,8 @@ pub(crate) fn control_points(cell: &Cell, sfn: Sfn) -> [Cpx; 144]
     points
 }
 
-/// Returns the resource elements in control channel elements 0 to 3, the candidate at aggregation level 4 (TS 36.213
-/// section 9.1.1).
+/// Returns the 144 resource elements in control channel elements 0 to 3, the first candidate at aggregation level 4 (TS
+/// 36.213 section 9.1.1).
 pub(crate) fn control_places(cell: &Cell) -> [Place; 144]
     ensures { result ≡ control_places cell.now }
 {

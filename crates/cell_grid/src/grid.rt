@@ -1,4 +1,4 @@
-//! The resource grid of a frame, symbol by symbol.
+//! The resource grid of a frame, computed symbol by symbol.
 
 ghost use Rattle.std.specs.Prelude.{ℕ, ◌≡◌, ◌⊎◌, ◌+◌, ◌*◌, ◌/◌, ◌%◌, ◌<◌, ◌≤◌, true, Some, None, All, nat_abs};
 ghost use Rattle.std.specs.Prelude.{if◌then◌else◌, nat_eq};
@@ -28,7 +28,7 @@ use grid_map::Place;
 use lte_types::{Carrier, CellId, SUBCARRIERS, Sfn};
 use sync_seq::{MIDDLE, amplitude, is_middle};
 
-/// One frame's channels and load at one antenna port, computed once for all its symbols.
+/// One frame's channels and load at one antenna port, computed once for all symbols of the frame.
 #[derive(Drop)]
 pub struct Signals<'a> {
     pub cell: &'a Cell,
@@ -46,8 +46,8 @@ pub struct Signals<'a> {
 }
 
 impl<'a> Signals<'a> {
-    /// Computes the channels and the load of frame `sfn` at `port`. `layout` and `carried` belong to the same cell and
-    /// port.
+    /// Computes the channels and the load of frame `sfn` at `port`. `layout` and `carried` must belong to the same
+    /// cell, port and frame. `load` is the load's number, or `None` for no load.
     pub fn new(
         cell: &'a Cell,
         port: Port,
@@ -78,8 +78,8 @@ impl<'a> Signals<'a> {
     }
 }
 
-// Returns the value at a reference position, given the symbol's twelve `pilots` at port 0. Port 1 is three subcarriers
-// higher; ports 2 and 3 have none in these symbols.
+// Returns the value at subcarrier `k` of a symbol that ports 0 and 1 use, or `None` outside reference positions.
+// `pilots` holds port 0's twelve pilots; port 1's are three subcarriers higher.
 fn reference_of(port: Port, pilots: &[(u8, Cpx); 12], k: usize) -> Option<Cpx>
     requires { k < subcarriers }
     ensures { (identity slot symbol : ℕ) → (symbol ≡ 0) ⊎ (symbol ≡ (first_pattern port).later) →
@@ -96,29 +96,31 @@ fn reference_of(port: Port, pilots: &[(u8, Cpx); 12], k: usize) -> Option<Cpx>
     )
 }
 
-// Selects the test for port `number` in a symbol that ports 0 and 1 use.
+// Returns whether port `number` has a reference position, given whether port 0 (`zero`) and port 1 (`one`) have one in
+// a symbol that ports 0 and 1 use.
 fn lower_test(number: u8, zero: bool, one: bool) -> bool
     ensures { result ≡ lower_test number zero one }
 {
     number < 2 && own_test(number, zero, one)
 }
 
-// Returns `zero` for port 0, otherwise `one`.
+// Returns `zero` for port number 0, and otherwise `one`.
 fn own_test(number: u8, zero: bool, one: bool) -> bool
     ensures { result ≡ (if nat_eq number 0 then zero else one) }
 {
     if number == 0 { zero } else { one }
 }
 
-// Returns whether any port has a reference position in a symbol that ports 0 and 1 use.
+// Returns whether any port has a reference position in a symbol that ports 0 and 1 use, given whether port 0 (`zero`)
+// and port 1 (`one`) have one there.
 fn any_lower_test(carrier: Carrier, zero: bool, one: bool) -> bool
     ensures { result ≡ any_lower_test carrier zero one }
 {
     zero || carrier.ports() > 1 && one
 }
 
-// Returns the value at a reference position in symbol 1, given the twelve `pilots` and port 2's `first` subcarrier.
-// Port 3 is three subcarriers higher.
+// Returns the value at subcarrier `k` of symbol 1, or `None` outside the reference positions of ports 2 and 3. `first`
+// is port 2's lowest position; port 3's are three subcarriers higher.
 fn upper_of(port: Port, first: usize, pilots: &[(u8, Cpx); 12], k: usize) -> Option<Cpx>
     requires first { first < 6 }
     requires k { k < subcarriers }
@@ -135,21 +137,23 @@ fn upper_of(port: Port, first: usize, pilots: &[(u8, Cpx); 12], k: usize) -> Opt
     )
 }
 
-// Selects the test for port `number` in the symbol that ports 2 and 3 use.
+// Returns whether port `number` has a reference position, given whether port 2 (`two`) and port 3 (`three`) have one in
+// the symbol that ports 2 and 3 use.
 fn upper_test(number: u8, two: bool, three: bool) -> bool
     ensures { result ≡ upper_test number two three }
 {
     number >= 2 && own_test(number % 2, two, three)
 }
 
-// Returns whether any port has a reference position in the symbol that ports 2 and 3 use.
+// Returns whether any port has a reference position in the symbol that ports 2 and 3 use, given whether port 2 (`two`)
+// and port 3 (`three`) have one there.
 fn any_upper_test(carrier: Carrier, two: bool, three: bool) -> bool
     ensures { result ≡ any_upper_test carrier two three }
 {
     carrier.ports() > 2 && (two || three)
 }
 
-// Returns `value` at the port's own position, 0 at another port's, otherwise `None`.
+// Returns `value` at the port's own reference position, 0 at another port's, and otherwise `None`.
 fn value_or(own: bool, other: bool, value: Cpx) -> Option<Cpx>
     ensures { result ≡ (if own then Some value else (if other then Some nothing else None)) }
 {
@@ -170,7 +174,7 @@ fn pattern_of(port: Port) -> Pattern
     Pattern::of(port.carrier, 0)
 }
 
-// Returns the values at a symbol's reference positions, by subcarrier.
+// Returns the values at a symbol's reference positions, by subcarrier, and `None` at other subcarriers.
 fn references(id: CellId, port: Port, slot: u8, symbol: u8) -> [Option<Cpx>; SUBCARRIERS]
     requires slot { slot < 20 }
     requires symbol { symbol < 7 }
@@ -190,7 +194,7 @@ fn references(id: CellId, port: Port, slot: u8, symbol: u8) -> [Option<Cpx>; SUB
     row
 }
 
-// Returns the values at the reference positions in symbol 1, which ports 2 and 3 use.
+// Returns the values at the reference positions in symbol 1, which only ports 2 and 3 use.
 fn second_row(id: CellId, port: Port, slot: u8) -> [Option<Cpx>; SUBCARRIERS]
     requires { slot < 20 }
     ensures { result ≡ values_below subcarriers (port_reference_if port id slot 1) }
@@ -202,7 +206,7 @@ fn second_row(id: CellId, port: Port, slot: u8) -> [Option<Cpx>; SUBCARRIERS]
     }
 }
 
-// Returns the values at the reference positions of ports 2 and 3.
+// Returns the values at the reference positions of ports 2 and 3 in symbol 1.
 fn upper_row(id: CellId, port: Port, slot: u8) -> [Option<Cpx>; SUBCARRIERS]
     requires { slot < 20 }
     ensures { result ≡ values_below subcarriers (port_reference_if port id slot 1) }
@@ -216,14 +220,15 @@ fn upper_row(id: CellId, port: Port, slot: u8) -> [Option<Cpx>; SUBCARRIERS]
     row
 }
 
-// Returns whether the synchronisation signal in symbol `signal` occupies a resource element.
+// Returns whether a resource element belongs to the synchronisation signal that symbol `signal` carries in subframes 0
+// and 5.
 fn is_signal(signal: u8, subframe: u8, symbol: u8, k: u8) -> bool
     ensures { result ≡ is_synchronised signal subframe symbol k }
 {
     (subframe == 0 || subframe == 5) && symbol == signal && is_middle(k as usize)
 }
 
-// Returns SSS element `n` in a subframe.
+// Returns element `n` of the SSS in a subframe, 1 or -1.
 fn sign_of(signals: &Signals, subframe: u8, n: usize) -> i8
     requires { n < 62 }
     ensures value { result ≡ sss_at (signals.now.cell.now.identity / 3)
@@ -237,7 +242,7 @@ fn sign_of(signals: &Signals, subframe: u8, n: usize) -> i8
     }
 }
 
-// Returns the SSS value at subcarrier `k`.
+// Returns the SSS value at subcarrier `k`, which must be from 5 to 66.
 fn secondary_of(signals: &Signals, subframe: u8, k: u8) -> Cpx
     requires low { 5 ≤ k }
     requires high { k < 67 }
@@ -246,14 +251,14 @@ fn secondary_of(signals: &Signals, subframe: u8, k: u8) -> Cpx
     amplitude(sign_of(signals, subframe, k as usize - MIDDLE))
 }
 
-// Returns a synchronisation signal as `port` transmits it.
+// Returns the value of a synchronisation signal at `port`: `value` at port 0, and 0 at other ports. (own)
 fn sent_signal(port: Port, value: Cpx) -> Cpx
     ensures { result ≡ sent_signal port value }
 {
     if port.number == 0 { value } else { Cpx::ZERO }
 }
 
-// Returns whether a symbol carries a synchronisation signal.
+// Returns whether a symbol carries a synchronisation signal: the last two symbols of slots 0 and 10.
 fn is_signal_symbol(port: Port, subframe: u8, symbol: u8) -> bool
     ensures { result ≡ is_signal_symbol port subframe symbol }
 {
@@ -261,7 +266,7 @@ fn is_signal_symbol(port: Port, subframe: u8, symbol: u8) -> bool
     (subframe == 0 || subframe == 5) && (symbol == last - 1 || symbol == last)
 }
 
-// Returns the load's QPSK symbol at a resource element.
+// Returns the load's QPSK symbol at a resource element, from the frame's load bits.
 fn load_point(bits: &[bool; LOAD_BITS], subframe: u8, symbol: u8, k: u8) -> Cpx
     requires subframe { subframe < 10 }
     requires symbol { symbol < 14 }
@@ -273,7 +278,8 @@ fn load_point(bits: &[bool; LOAD_BITS], subframe: u8, symbol: u8, k: u8) -> Cpx
     point(bits[first], bits[first + 1])
 }
 
-// Returns the value at a resource element without signals and channels.
+// Returns the value at a resource element without reference signal and channel: load, if there is any, except in
+// synchronisation signal symbols.
 fn open_value(signals: &Signals, subframe: u8, symbol: u8, k: u8) -> Cpx
     requires subframe { subframe < 10 }
     requires symbol { symbol < 14 }
@@ -292,7 +298,7 @@ fn open_value(signals: &Signals, subframe: u8, symbol: u8, k: u8) -> Cpx
     }
 }
 
-// Returns the value at a resource element without signals: a channel's value, if there is one.
+// Returns the value at a resource element without a signal: a channel's value, or else load.
 fn value_beside(signals: &Signals, subframe: u8, symbol: u8, k: u8) -> Cpx
     requires subframe { subframe < 10 }
     requires symbol { symbol < 14 }
@@ -307,7 +313,8 @@ fn value_beside(signals: &Signals, subframe: u8, symbol: u8, k: u8) -> Cpx
     }
 }
 
-// Returns the value at a resource element.
+// Returns the value that the port transmits at a resource element. `references` are the values at the symbol's
+// reference positions.
 fn element_of(
     signals: &Signals,
     references: &[Option<Cpx>; SUBCARRIERS],
@@ -336,7 +343,8 @@ fn element_of(
     }
 }
 
-/// Returns the 72 resource elements in symbol `symbol` of `subframe`, by subcarrier (TS 36.211 section 6.2).
+/// Returns the values of the 72 resource elements in symbol `symbol` of `subframe`, by subcarrier (TS 36.211 section
+/// 6.2).
 pub fn grid_of(signals: &Signals, subframe: u8, symbol: u8) -> [Cpx; SUBCARRIERS]
     requires subframe { subframe < 10 }
     requires symbol { symbol < 2 * port_symbols signals.now.port }

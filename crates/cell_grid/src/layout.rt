@@ -15,8 +15,8 @@ use grid_map::{long_places, pbch_places, pcfich_places};
 use lte_types::{CellId, Half, Sfn};
 use sync_seq::{pss, sss};
 
-/// The parts that are equal in all frames of a cell: synchronisation signals, the channels' resource elements, and
-/// PCFICH symbols.
+/// The parts that are equal in all frames of a cell: the synchronisation signals (SSS in subframes 0 and 5), the
+/// channels' resource elements, and the PCFICH symbols of each subframe.
 #[derive(Drop)]
 pub struct Layout {
     pub(crate) primary: [Cpx; 62],
@@ -29,14 +29,14 @@ pub struct Layout {
     pub(crate) shared: PlaceTable,
 }
 
-/// The PDCCH and PDSCH symbols that carry system information in one frame.
+/// The PDCCH and PDSCH symbols that carry system information in one even-numbered frame.
 #[derive(Drop)]
 pub struct Carried {
     pub(crate) control: [Cpx; 144],
     pub(crate) shared: [Cpx; 612],
 }
 
-/// The PDCCH and PDSCH symbols for system information, one set per redundancy version.
+/// The PDCCH and PDSCH symbols for system information, one set for each of the four redundancy versions.
 #[derive(Drop)]
 pub struct Versions {
     first: Carried,
@@ -53,7 +53,7 @@ impl Layout {
     ghost use Rattle.cell_grid.specs.Control.{indicator_point};
     ghost use Rattle.cell_grid.specs.Rows.{IsLayout};
 
-    /// Returns the PCFICH symbols in a subframe.
+    /// Returns the 16 PCFICH symbols in a subframe.
     pub(crate) fn indicator_of(&self, subframe: u8) -> &[Cpx]
         requires { subframe < 10 }
         ensures points { (port : Antenna) (plan : Plan) → IsLayout port plan self.now →
@@ -64,7 +64,7 @@ impl Layout {
     }
 }
 
-// Returns the table for the PBCH resource elements.
+// Returns the table of the PBCH resource elements.
 fn broadcast_table(id: CellId, port: Port) -> PlaceTable
     ensures { IsTableOf (broadcast_places port id) result }
 {
@@ -75,7 +75,7 @@ fn broadcast_table(id: CellId, port: Port) -> PlaceTable
     }
 }
 
-/// Computes a cell's layout at `port`.
+/// Computes the layout of a cell at `port`: the data that all frames share.
 pub fn layout_of(cell: &Cell, port: Port) -> Layout
     ensures { IsLayout port cell.now result }
 {
@@ -102,7 +102,7 @@ pub fn layout_of(cell: &Cell, port: Port) -> Layout
     }
 }
 
-/// Computes the PDCCH and PDSCH symbols in frame `sfn`, all zero if the port has no control region.
+/// Computes the PDCCH and PDSCH symbols in frame `sfn`. All are zero if the port has no control region.
 pub fn carried_of(cell: &Cell, port: Port, sfn: Sfn) -> Carried
     ensures { has_control port ≡ true → IsCarried cell.now sfn result }
 {
@@ -119,7 +119,7 @@ pub fn carried_of(cell: &Cell, port: Port, sfn: Sfn) -> Carried
     }
 }
 
-/// Computes the PDCCH and PDSCH symbols for each redundancy version, all zero if the port has no control region.
+/// Computes the PDCCH and PDSCH symbols for each redundancy version. All are zero if the port has no control region.
 pub fn versions_of(cell: &Cell, port: Port) -> Versions
     ensures { has_control port ≡ true → AreVersions cell.now result }
 {
@@ -136,7 +136,7 @@ impl Versions {
     ghost use Rattle.cell_plan.specs.declared.cell.CellPlan.{CellPlan as Plan};
     ghost use Rattle.cell_grid.specs.Rows.{IsCarried, AreVersions};
 
-    /// Returns the symbols for frame `sfn`, an even frame.
+    /// Returns the PDCCH and PDSCH symbols for even-numbered frame `sfn`, by its redundancy version.
     pub fn of_frame(&self, sfn: Sfn) -> &Carried
         ensures { (plan : Plan) → AreVersions plan self.now → IsCarried plan sfn result.now }
     {

@@ -1,7 +1,9 @@
 //! The resource grid of a transmitted cell: the value at each resource element in a frame, for each transmission
-//! scheme. It holds synchronisation signals, reference signals and PBCH and, except with the extended cyclic prefix or
-//! four antenna ports, PCFICH, PDCCH and the PDSCH with SystemInformationBlockType1 (TS 36.211 section 6). The other
-//! resource elements are empty or carry load (own).
+//! scheme.
+//!
+//! A grid holds synchronisation signals, reference signals and PBCH. Except with the extended cyclic prefix or four
+//! antenna ports, it also holds PCFICH, PDCCH and the PDSCH with SystemInformationBlockType1 (TS 36.211 section 6). All
+//! other resource elements are empty or carry load (own).
 //!
 //! Tests: the crate `sent_tests`, through `cell_tx`.
 #![tactic(auto)]

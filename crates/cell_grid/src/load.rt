@@ -1,4 +1,4 @@
-//! A frame's load: the bits of its QPSK symbols. (own)
+//! The load of a frame: pseudo-random bits of QPSK symbols. (own)
 
 ghost use Rattle.std.specs.Prelude.{◌≡◌, ℕ, ◌+◌, ◌*◌, ◌^◌, ◌<◌, ◌≤◌, ◌++◌, Some, length, take};
 ghost use Rattle.gold.specs.Gold.{gold_bits};
@@ -8,13 +8,13 @@ ghost use Rattle.cell_grid.specs.Rows.{load_bits as bits_of};
 use crate::Port;
 use lte_types::Sfn;
 
-// The number of bits in a subframe: 14 symbols, 72 subcarriers, two bits each.
+// The number of load bits in a subframe: 14 symbols with 72 subcarriers, and two bits for each resource element.
 const SUBFRAME: usize = 2016;
 
-/// The number of bits in a frame.
+/// The number of load bits in a frame.
 pub(crate) const LOAD_BITS: usize = 10 * SUBFRAME;
 
-// Returns the load's `c_init` in a subframe.
+// Returns `c_init` of the Gold sequence that gives the load's bits in a subframe, at most 31 bits.
 fn c_init(load: u32, port: Port, sfn: Sfn, subframe: u8) -> u32
     requires { subframe < 10 }
     ensures value { result ≡ load_c_init load port sfn subframe }
@@ -27,7 +27,7 @@ fn c_init(load: u32, port: Port, sfn: Sfn, subframe: u8) -> u32
     (number % (1 << 31)) as u32
 }
 
-// Writes the bits for a subframe from index `first`.
+// Writes the 2,016 load bits of a subframe to `bits` from index `first`.
 fn put_subframe(bits: &mut [bool], first: usize, c_init: u32)
     requires inside { first + 2016 ≤ length bits.old }
     requires c_init { c_init < 2 ^ 31 }
@@ -37,7 +37,7 @@ fn put_subframe(bits: &mut [bool], first: usize, c_init: u32)
     gold::fill(c_init, &mut bits[first..first + SUBFRAME]);
 }
 
-// Returns the load's bits in a frame.
+// Returns the bits of load number `load` in frame `sfn`.
 fn bits_with(load: u32, port: Port, sfn: Sfn) -> [bool; LOAD_BITS]
     ensures { result ≡ bits_of load port sfn }
 {
@@ -49,7 +49,7 @@ fn bits_with(load: u32, port: Port, sfn: Sfn) -> [bool; LOAD_BITS]
     bits
 }
 
-/// Returns the bits for `load` in a frame, 2,016 per subframe.
+/// Returns the load's bits in frame `sfn`, 2,016 for each subframe, or zeros if there is no load.
 pub(crate) fn load_bits(load: Option<u32>, port: Port, sfn: Sfn) -> [bool; LOAD_BITS]
     ensures { (number : ℕ) → load ≡ Some number → result ≡ bits_of number port sfn }
 {

@@ -1,4 +1,4 @@
-//! QPSK symbols for scrambled bits, and their resource elements.
+//! QPSK symbols for scrambled bits, and the resource elements that carry them.
 
 ghost use Rattle.std.specs.Prelude.{◌≡◌, ℕ, ◌*◌, ◌/◌, ◌%◌, ◌^◌, ◌<◌, ◌≤◌, false, if◌then◌else◌, List, All};
 ghost use Rattle.std.specs.Prelude.{length, slice_index_or};
@@ -19,10 +19,10 @@ use cs_num::Cpx;
 use grid_map::Place;
 use lte_types::SUBCARRIERS;
 
-// The maximum number of bits in a channel: PDSCH over six resource blocks.
+// The maximum number of bits in a channel: those of the PDSCH over six resource blocks.
 const MOST: usize = 1224;
 
-// Returns the first bits of the Gold sequence for `c_init`.
+// Returns the first 1,224 bits of the Gold sequence for `c_init`.
 fn sequence_of(c_init: u32) -> [bool; MOST]
     requires { c_init < 2 ^ 31 }
     ensures { result ≡ gold_bits c_init 1224 }
@@ -32,7 +32,7 @@ fn sequence_of(c_init: u32) -> [bool; MOST]
     sequence
 }
 
-// Returns bit `n`, scrambled.
+// Returns bit `n` of `bits`, scrambled with bit `n` of `sequence`.
 fn scrambled_at(bits: &[bool], sequence: &[bool; MOST], n: usize) -> bool
     requires few { length bits.now ≤ 1224 }
     requires n { n < length bits.now }
@@ -62,14 +62,16 @@ pub(crate) fn fill_points(c_init: u32, bits: &[bool], points: &mut [Cpx])
 // The number of resource elements in a subframe: 14 symbols with 72 subcarriers each.
 const PLACES: usize = 14 * 72;
 
-/// The index that each resource element in a subframe has in a list, or the list's length if it is not in the list.
+/// The index that each resource element of a subframe has in a list of resource elements (`numbers`, symbol by symbol),
+/// or the list's length (`count`) if the element is not in the list.
 #[derive(Drop)]
 pub(crate) struct PlaceTable {
     pub count: u16,
     pub numbers: [u16; PLACES],
 }
 
-// Writes `number` at a resource element, if the table has no index there yet.
+// Writes `number` for the resource element `here`, if the table has no index for this element yet. `none` marks
+// elements without an index.
 fn put_number(numbers: &mut [u16; PLACES], none: u16, here: Place, number: u16)
     ensures here { (c : ℕ) → c < 1008 → place (c / subcarriers) (c % subcarriers) ≡ here → slice_index_or numbers.old c 0 ≡ none →
         slice_index_or numbers.new c 0 ≡ number }
@@ -86,7 +88,7 @@ fn put_number(numbers: &mut [u16; PLACES], none: u16, here: Place, number: u16)
     }
 }
 
-/// Returns the table for at most 612 resource elements.
+/// Returns the table for a list of at most 612 resource elements.
 pub(crate) fn table_of(places: &[Place]) -> PlaceTable
     requires { length places.now ≤ 612 }
     ensures { IsTableOf places.now result }
@@ -99,7 +101,8 @@ pub(crate) fn table_of(places: &[Place]) -> PlaceTable
     PlaceTable { count, numbers }
 }
 
-// Returns the symbol that a port transmits at index `i` in a channel.
+// Returns the symbol that `port` transmits at index `i` in a channel (TS 36.211 section 6.3.4.3), given the channel's
+// symbols `points`.
 fn sent_point(port: Port, points: &[Cpx], i: usize) -> Cpx
     requires i { i < length points.now }
     requires pairs { length points.now % 2 ≡ 0 }
@@ -113,8 +116,8 @@ fn sent_point(port: Port, points: &[Cpx], i: usize) -> Cpx
     }
 }
 
-// Returns symbol `i` at one of four ports: even pairs use ports 0 and 2, odd pairs ports 1 and 3, each like a two-port
-// cell.
+// Returns symbol `i` at one of four ports, as for a two-port cell: ports 0 and 2 transmit the even pairs, and ports 1
+// and 3 the odd pairs. Other symbols are 0.
 fn point_of_four(number: u8, points: &[Cpx], i: usize) -> Cpx
     requires i { i < length points.now }
     requires pairs { length points.now % 2 ≡ 0 }
@@ -128,7 +131,7 @@ fn point_of_four(number: u8, points: &[Cpx], i: usize) -> Cpx
     }
 }
 
-// Returns symbol `i` unchanged on ports below `half`, and crossed on the others.
+// Returns symbol `i` unchanged for ports below `half`, and otherwise from `crossed_point`.
 fn paired_point(half: u8, number: u8, points: &[Cpx], i: usize) -> Cpx
     requires i { i < length points.now }
     requires pairs { length points.now % 2 ≡ 0 }
@@ -157,8 +160,8 @@ fn crossed_point(points: &[Cpx], i: usize) -> Cpx
     }
 }
 
-/// Returns the symbol that a port transmits at a resource element, given the channel's `table` and `points` in the
-/// same order; `None` if the channel does not occupy it.
+/// Returns the symbol that a port transmits at resource element `here`, or `None` if the channel does not occupy
+/// `here`. `table` gives the channel's resource elements, and `points` its symbols in the same order.
 pub(crate) fn value_at(port: Port, table: &PlaceTable, points: &[Cpx], here: Place) -> Option<Cpx>
     requires symbol { here.symbol < 14 }
     requires k { here.k < subcarriers }

@@ -1,4 +1,4 @@
-//! A frame's PDSCH, which carries system information.
+//! The PDSCH of a frame, which carries system information.
 
 ghost use Rattle.std.specs.Prelude.{◌≡◌, ◌≤◌, length, take};
 ghost use Rattle.finite.specs.Lists.{values_below};
@@ -13,7 +13,7 @@ use grid_map::{Place, pdsch_c_init, shared_count, shared_place};
 use lte_types::{Carrier, Sfn};
 use turbo_code::match_all;
 
-// Returns the codeword's bits after rate matching for a frame.
+// Returns the 1,224 bits after rate matching of the PDSCH codeword in frame `sfn`.
 fn shared_bits(cell: &Cell, sfn: Sfn) -> [bool; 1224]
     ensures { result ≡ values_below 1224 (shared_bit cell.now sfn) }
 {
@@ -22,7 +22,7 @@ fn shared_bits(cell: &Cell, sfn: Sfn) -> [bool; 1224]
     bits
 }
 
-/// Returns the QPSK symbols for six resource blocks in a frame.
+/// Returns the 612 PDSCH symbols for all six resource blocks in frame `sfn`.
 pub(crate) fn shared_points(cell: &Cell, sfn: Sfn) -> [Cpx; 612]
     ensures { result ≡ values_below 612 (shared_point cell.now sfn) }
 {
@@ -32,7 +32,8 @@ pub(crate) fn shared_points(cell: &Cell, sfn: Sfn) -> [Cpx; 612]
     points
 }
 
-/// Returns the resource elements in the assigned resource blocks, and their count.
+/// Returns the count of PDSCH resource elements in the assigned resource blocks, and the elements themselves in the
+/// first entries.
 pub(crate) fn shared_places(cell: &Cell, carrier: Carrier) -> (usize, [Place; 612])
     ensures places { take result.0 result.1 ≡ assigned_places carrier cell.now }
     ensures count { result.0 ≤ 612 }
