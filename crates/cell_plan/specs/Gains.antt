@@ -12,71 +12,71 @@ use Rattle.lte_types.specs.declared.carrier.Carrier.{Carrier}
 use Rattle.lte_types.specs.Carrier.{ports_of}
 use Rattle.lte_types.specs.Numerology.{least_samples, most_samples}
 
--- the range of a transmission's sample count
+-- a transmission's sample count is from 57,600 to 1,920,000
 pub record IsCount (samples : ℕ) : Type 0 where
   pub least : least_samples ≤ samples
   pub most : samples ≤ most_samples
 
 -- ---- two antenna ports
 
--- two ports' gains: the first is not 0, and the squared magnitudes add up to at most 392
+-- the gains of two antenna ports: port 0's gain is not 0, and the squared magnitudes add up to at most 392
 pub record AreGains (first second : Cpx) : Type 0 where
   pub least : 1 ≤ square first
   pub most : square first + square second ≤ 392
 
--- error components of magnitude eps are allowed: its square is at most a quarter of both gains' squares together, and
--- at most four times the first gain's square
+-- Errors whose components have magnitude `eps` are allowed: the square of `eps` is at most a quarter of the sum of both
+-- gains' squared magnitudes, and at most four times the squared magnitude of the first gain.
 pub record IsAllowed (first second : Cpx) (eps : ℕ) : Type 0 where
   pub both : 4 * (eps * eps) ≤ square first + square second
   pub one : eps * eps ≤ 4 * square first
 
 -- ---- four antenna ports
 
--- the power of four gains: the sum of their squared magnitudes
+-- the power of four ports' gains: the sum of their squared magnitudes
 abbrev pub power_of_four : List Cpx → ℕ
 power_of_four gains = squares_of_four (value_at gains)
 
--- four ports' gains: port 0's is not 0, and their power is at most 196
+-- the gains of four antenna ports: port 0's gain is not 0, and the power is at most 196
 pub record AreGainsOfFour (gains : List Cpx) : Type 0 where
   pub least : 1 ≤ square (value_at gains 0)
   pub most : power_of_four gains ≤ 196
 
--- each pair of ports with transmit diversity has at least three eighths of the power
+-- each transmit diversity pair of ports, 0 and 2 or 1 and 3, has at least three eighths of the power
 abbrev pub HavePairs : List Cpx → Type 0
 HavePairs gains = ArePaired (value_at gains)
 
--- no pair of ports is weak, and error components of magnitude eps are allowed: its square is at most 1/64 of the power,
--- so that eps is 0 or 1
+-- Errors whose components have magnitude `eps` are allowed: the square of `eps` is at most 1/64 of the power, so `eps`
+-- is 0 or 1. Also, no transmit diversity pair of ports is weak.
 pub record IsAllowedOfFour (gains : List Cpx) (eps : ℕ) : Type 0 where
   pub pairs : HavePairs gains
   pub quiet : 64 * (eps * eps) ≤ power_of_four gains
 
 -- ---- any scheme, by its port count
 
--- one of three types, by the scheme's port count of 1, 2 or 4
+-- the type for the port count of a transmission scheme: `One`, `Two` or `Four`
 abbrev pub ByPorts : Carrier → Type 0 → Type 0 → Type 0 → Type 0
 ByPorts carrier One Two Four =
     MatchBool (nat_eq (ports_of carrier) 1) One (MatchBool (nat_eq (ports_of carrier) 2) Two Four)
 
--- the power of a scheme's gains: the sum of their squared magnitudes
+-- the power of the gains of a transmission scheme's ports: the sum of their squared magnitudes
 abbrev pub power_of : Carrier → List Cpx → ℕ
 power_of carrier gains = total_below (ports_of carrier) (λ port. square (value_at gains port))
 
--- gains of clean recordings: port 0's is not 0, and the power is at most 784, 392 or 196 with 1, 2 or 4 ports
+-- the gains of clean recordings: port 0's gain is not 0, and the power is at most 784, 392 or 196 for 1, 2 or 4 ports
 abbrev pub AreGainsOf : Carrier → List Cpx → Type 0
 AreGainsOf carrier gains =
     ByPorts carrier (IsGain (value_at gains 0)) (AreGains (value_at gains 0) (value_at gains 1)) (AreGainsOfFour gains)
 
--- a law: being gains of clean recordings is a proposition
+-- a law: `AreGainsOf` is a proposition (any two proofs are equal)
 pub are_gains_prop : (carrier : Carrier) (gains : List Cpx) → IsProp (AreGainsOf carrier gains)
 are_gains_prop carrier gains = hlevel props
 
--- the errors that a clean recording with these gains allows
+-- a clean recording whose ports have gains `gains` may have errors with components of at most `eps`
 abbrev pub IsAllowedBy : Carrier → List Cpx → ℕ → Type 0
 IsAllowedBy carrier gains eps =
     ByPorts carrier (eps * eps ≤ 4 * square (value_at gains 0)) (IsAllowed (value_at gains 0) (value_at gains 1) eps)
     (IsAllowedOfFour gains eps)
 
--- a condition on the gains for detection: with more than two ports no pair is weak
+-- a condition on the gains for detection: with four ports, no transmit diversity pair is weak
 abbrev pub ArePairedBy : Carrier → List Cpx → Type 0
 ArePairedBy carrier gains = OnTrue (nat_lt 2 (ports_of carrier)) (HavePairs gains)

@@ -1,4 +1,4 @@
--- Gains as pairs of integers. (own)
+-- Complex gains as pairs of integers. (own)
 use Rattle.std.specs.Prelude.{ℤ}
 use Rattle.cs_num.specs.declared.Cpx.{Cpx}
 use Rattle.cs_num.specs.Gain.{with_parts}

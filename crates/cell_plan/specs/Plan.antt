@@ -18,8 +18,8 @@ use Rattle.cell_plan.specs.Transport.{block_size, text_fits, has_block, is_whole
 use Rattle.cell_plan.specs.Transport.{is_whole, is_resolvable}
 use Rattle.lte_types.specs.Numerology.{block_count}
 
--- a plan can be sent: the conditions that do not depend on the antenna ports hold, and `Enough`: the sent part of its
--- block is enough. The MIB has bandwidth n6.
+-- A plan can be sent. The conditions that do not depend on the antenna ports hold, and `Enough` states that enough of
+-- the transport block is sent. The MIB has bandwidth n6.
 pub record IsSendableWith (Enough : Type 0) (plan : CellPlan) : Type 0 where
   pub valid : IsValid plan.sib1
   pub identity : plan.identity ≤ 503
@@ -33,22 +33,24 @@ pub record IsSendableWith (Enough : Type 0) (plan : CellPlan) : Type 0 where
   pub extension : plan.sib1.extended ≡ false
   pub text : IsSomeAnd (text_of plan.sib1) (λ text. length text ≤ block_size plan)
 
--- a plan can be sent with one antenna port: the sent bits resolve its block, which they do if each coded bit is sent
+-- A plan can be sent with one antenna port: the bits that are sent resolve the transport block, as they do if each
+-- coded bit is sent.
 abbrev pub IsSendable : CellPlan → Type 0
 IsSendable plan = IsSendableWith (is_resolvable plan ≡ true) plan
 
--- each coded bit of a block has to be sent with two antenna ports, in the resource elements that both ports' reference
--- signals leave. With the extended cyclic prefix, or four ports, no block is sent.
+-- Two antenna ports must send each coded bit of a transport block, in the resource elements that neither port's
+-- reference signals occupy. With the extended cyclic prefix, or four ports, no transport block is sent.
 abbrev pub needs_each_bit : Carrier → Bool
 needs_each_bit carrier = has_control_by carrier && nat_eq (ports_of carrier) 2
 
--- a scheme can send a plan: each coded bit is sent if that is needed, and otherwise the plan can be sent with one
--- antenna port, though its block may not be sent at all
+-- A transmission scheme can send a plan: each coded bit is sent if that is needed, and otherwise the plan can be sent
+-- with one antenna port, even if the scheme sends no transport block.
 abbrev pub IsSendableBy : Carrier → CellPlan → Type 0
 IsSendableBy carrier plan =
     IsSendableWith ((if needs_each_bit carrier then is_whole_of carrier plan else is_resolvable plan) ≡ true) plan
 
--- the conditions on a plan, in order, given whether enough of its block is sent
+-- the conditions on a plan in the order in which they are checked; `enough` states whether enough of the plan's
+-- transport block is sent
 abbrev pub conditions_with : Bool → CellPlan → List Condition
 conditions_with enough plan =
     condition (nat_le plan.identity 503) Identity
@@ -62,21 +64,21 @@ conditions_with enough plan =
     ∷ condition (text_fits plan) Sib1Long
     ∷ []
 
--- enough of the plan's block is sent. If the scheme need not send every coded bit, and one antenna port does not, the
--- plan must have a block that is resolved.
+-- A transmission scheme sends enough of the plan's transport block: each coded bit, if the scheme must send each.
+-- Otherwise one antenna port sends each coded bit, or the plan has a block that the sent bits resolve.
 abbrev pub is_enough : Carrier → CellPlan → Bool
 is_enough carrier plan =
     if needs_each_bit carrier then is_whole_of carrier plan
     else is_whole plan || (has_block plan && is_resolvable plan)
 
--- the conditions on a plan that this scheme sends
+-- the conditions on a plan that a transmission scheme sends, in order
 abbrev pub conditions_of : Carrier → CellPlan → List Condition
 conditions_of carrier plan = conditions_with (is_enough carrier plan) plan
 
--- the error of the first failed condition for this scheme
+-- the error of the first failed condition on a plan, or `None` if the transmission scheme can send the plan
 abbrev pub refusal_of : Carrier → CellPlan → Option CellError
 refusal_of carrier plan = first_failed (conditions_of carrier plan)
 
--- the error of the first failed condition for one antenna port
+-- the error of the first failed condition on a plan for one antenna port, or `None` if all conditions hold
 abbrev pub plan_refusal : CellPlan → Option CellError
 plan_refusal plan = refusal_of OnePort plan

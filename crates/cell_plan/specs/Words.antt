@@ -1,11 +1,11 @@
--- The text that reports a refused description. (own)
+-- The text for a refused cell description. (own)
 use Rattle.std.specs.Prelude.{ℕ, List, ◌++◌, codes}
 use Rattle.cell_plan.specs.declared.error.CellError.{CellError}
 use Rattle.cell_plan.specs.declared.error.CellError.TheVariants.{Form, Sfn, Offset, Samples, Gain, Sib1Range, Identity}
 use Rattle.cell_plan.specs.declared.error.CellError.TheVariants.{Spare, Cfi, Assignment, Mcs, Punctured, Duplex}
 use Rattle.cell_plan.specs.declared.error.CellError.TheVariants.{Extension, Sib1Long}
 
--- the name of a condition
+-- the name of a condition, in lower case
 abbrev pub condition_word : CellError → List ℕ
 condition_word Form = codes "form"
 condition_word Sfn = codes "sfn"
@@ -23,6 +23,6 @@ condition_word Duplex = codes "duplex"
 condition_word Extension = codes "extension"
 condition_word Sib1Long = codes "sib1long"
 
--- the text for a description that fails this condition
+-- the text for a cell description that fails the condition `cause`
 abbrev pub refusal_text : CellError → List ℕ
 refusal_text cause = codes "bad cell: " ++ condition_word cause

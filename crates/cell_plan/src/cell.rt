@@ -21,42 +21,43 @@ use std::marker::Model;
 use turbo_code::Coded;
 use uper::Writer;
 
-/// The content of a cell, for any transmission scheme. Its MIB has bandwidth n6 and the upper bits of the frame number;
-/// its CRC mask gives the antenna port count. With the extended cyclic prefix or four antenna ports, only the identity,
-/// the PHICH fields and the spare bits are sent, without control region and SIB1 (own).
+/// The content of a cell, for any transmission scheme. The MIB has bandwidth n6 and the upper bits of the frame number,
+/// and its CRC mask states the antenna port count. With the extended cyclic prefix or four antenna ports, only the
+/// identity, the PHICH fields and the spare bits are sent, without control region and SIB1 (own).
 #[derive(Debug, Drop)]
 pub struct CellPlan {
     /// The physical-layer cell identity, 0 to 503 (TS 36.211 section 6.11).
     pub identity: u16,
-    /// phich-Duration.
+    /// The PHICH duration, phich-Duration of the MIB (TS 36.331 section 6.2.2).
     pub duration: Duration,
-    /// phich-Resource.
+    /// The PHICH resource, phich-Resource of the MIB (TS 36.331 section 6.2.2).
     pub resource: Resource,
     /// The 10 spare bits of the MIB, 0 to 1023.
     pub spare: u16,
     /// The control format indicator, 2 or 3 (TS 36.212 section 5.3.4).
     pub cfi: u8,
-    /// The first resource block of SIB1, 0 to 5.
+    /// The first resource block that carries SIB1, 0 to 5.
     pub start: u8,
-    /// SIB1's resource block count, 1 to 6; with `start` at most 6.
+    /// The number of resource blocks that carry SIB1, 1 to 6. `start + blocks` is at most 6.
     pub blocks: u8,
-    /// The modulation and coding scheme of SIB1, for which `column` has a transport block size.
+    /// The modulation and coding scheme of SIB1 (I_TBS). The table has a transport block size for this scheme in
+    /// `column`.
     pub mcs: u8,
-    /// The column of the transport block size table (TS 36.213 section 7.1.7.2), 2 or 3.
+    /// The column of the transport block size table (TS 36.213 section 7.1.7.2): N_PRB, 2 or 3.
     pub column: u8,
-    /// SIB1 itself, without TDD-Config and extension.
+    /// The fields of SIB1, which has neither TDD-Config nor an extension.
     pub sib1: Sib1,
 }
 
-/// An accepted plan. Contracts see it as the plan.
+/// A cell that can be sent: a plan that meets all conditions. Contracts see a cell as its plan.
 #[derive(Drop)]
 pub struct Cell {
     plan: CellPlan,
-    // The plan's identity, assignment and transport block size, as values in their ranges.
+    // The plan's identity, resource assignment and transport block size, as values of types with their ranges.
     id: CellId,
     assignment: Assignment,
     size: u16,
-    // The plan's encoded transport block, computed once.
+    // The turbo-encoded transport block of the plan.
     coded: Coded,
 }
 
@@ -64,8 +65,8 @@ impl CellPlan {
     ghost use Rattle.std.specs.Prelude.{◌*◌};
     ghost use Rattle.grid_map.specs.Shared.{block_places_of};
 
-    /// Returns how many resource elements the assigned blocks have for the shared channel of `carrier`; at most 612 for
-    /// six blocks.
+    /// Returns the number of resource elements that the assigned blocks have for the shared channel of `carrier`: at
+    /// most 612 with six blocks.
     pub fn assigned_places(&self, carrier: Carrier) -> usize
         ensures value { result ≡ block_places_of carrier self.now.cfi * self.now.blocks }
         ensures bound { self.now.blocks ≤ block_count → result ≤ 612 }
@@ -74,7 +75,7 @@ impl CellPlan {
     }
 }
 
-// Returns a plan's control format indicator if it is 2 or 3.
+// Returns the plan's control format indicator, or `None` if it is neither 2 nor 3.
 fn indicator_of(plan: &CellPlan) -> Option<Cfi>
     ensures { MatchOption result ((nat_le 2 plan.now.cfi && nat_le plan.now.cfi 3) ≡ false)
         (λ cfi. ((nat_le 2 plan.now.cfi && nat_le plan.now.cfi 3) ≡ true) × (cfi ≡ plan.now.cfi)) }
@@ -86,7 +87,7 @@ fn indicator_of(plan: &CellPlan) -> Option<Cfi>
     }
 }
 
-// Returns a plan's resource blocks if they are consecutive and among the six.
+// Returns the plan's resource assignment, or `None` if the resource blocks are not among the six.
 fn assignment_of(plan: &CellPlan, cfi: Cfi) -> Option<Assignment>
     requires indicator { cfi ≡ plan.now.cfi }
     requires wide { 2 ≤ plan.now.cfi }
@@ -97,7 +98,7 @@ fn assignment_of(plan: &CellPlan, cfi: Cfi) -> Option<Assignment>
     Assignment::new(cfi, plan.start, plan.blocks)
 }
 
-// Returns the transport block size if the plan's column is in the table and has one.
+// Returns the plan's transport block size in bits, or `None` if `column` is neither 2 nor 3 or has no size for `mcs`.
 fn size_of(plan: &CellPlan) -> Option<u16>
     ensures value { result ≡ (if nat_eq plan.now.column 2 || nat_eq plan.now.column 3
         then size_of plan.now.mcs plan.now.column else None) }
@@ -111,7 +112,7 @@ fn size_of(plan: &CellPlan) -> Option<u16>
     }
 }
 
-// Returns the text of a SIB1 without extension, or `None` if it has more than `size` bits.
+// Returns the encoded SIB1 `fields`, which have no extension, or `None` if the text has more than `size` bits.
 fn text_of(fields: &Sib1, size: u16) -> Option<Writer>
     requires valid { IsValid fields.now }
     requires plain { fields.now.extended ≡ false }
@@ -128,8 +129,8 @@ fn text_of(fields: &Sib1, size: u16) -> Option<Writer>
     }
 }
 
-// Returns whether the assigned resource blocks carry each coded bit of the transport block and its CRC: three streams,
-// each with four tail bits.
+// Returns whether the assigned resource blocks carry each coded bit of the transport block of `size` bits and its CRC:
+// three streams, each with four tail bits.
 fn is_sent_whole(carrier: Carrier, plan: &CellPlan, size: u16) -> bool
     requires blocks { plan.now.blocks ≤ block_count }
     requires size { block_size plan.now ≡ size }
@@ -138,7 +139,7 @@ fn is_sent_whole(carrier: Carrier, plan: &CellPlan, size: u16) -> bool
     3 * (size as usize + 24 + 4) <= 2 * plan.assigned_places(carrier)
 }
 
-// Returns whether the plan has a transport block that is resolved by the bits that its resource blocks carry.
+// Returns whether the plan has a transport block, and the bits that its resource blocks carry resolve this block.
 fn has_resolvable_block(plan: &CellPlan, size: u16) -> bool
     requires valid { IsValid plan.now.sib1 }
     requires blocks { plan.now.blocks ≤ block_count }
@@ -160,14 +161,16 @@ fn has_resolvable_block(plan: &CellPlan, size: u16) -> bool
     }
 }
 
-// Returns whether a transmission scheme has to send each coded bit of a block.
+// Returns whether a transmission scheme must send each coded bit of the transport block: only two antenna ports with a
+// control region must.
 fn needs_each_bit(carrier: Carrier) -> bool
     ensures { result ≡ needs_each_bit carrier }
 {
     carrier.has_control() && carrier.ports() == 2
 }
 
-// Returns whether the transport block's bits that a transmission scheme sends are enough.
+// Returns whether a transmission scheme sends enough of the plan's transport block of `size` bits: each coded bit or,
+// if not all are needed, enough bits with one antenna port to resolve the block.
 fn is_sent_enough(carrier: Carrier, plan: &CellPlan, size: u16) -> bool
     requires valid { IsValid plan.now.sib1 }
     requires blocks { plan.now.blocks ≤ block_count }
@@ -208,8 +211,9 @@ impl Cell {
     ghost use Rattle.cell_plan.specs.Plan.{IsSendable, IsSendableBy, plan_refusal, refusal_of};
     ghost use Rattle.cell_plan.specs.Transport.{IsCoded};
 
-    /// Accepts a plan for `carrier`, or returns the first failed condition, in the order of `CellError`'s variants.
-    /// With the extended cyclic prefix or four antenna ports, the conditions are those for one port. (own)
+    /// Creates the cell of `plan` for `carrier`, or returns the error of the first failed condition, in the order of
+    /// `CellError`'s variants. With the extended cyclic prefix or four antenna ports, the conditions are those for one
+    /// port. (own)
     pub fn of(carrier: Carrier, plan: CellPlan) -> Result<Cell, CellError>
         requires { IsValid plan.sib1 }
         ensures refusal { MatchResult result (λ _. refusal_of carrier plan ≡ None)
@@ -254,7 +258,8 @@ impl Cell {
         })
     }
 
-    /// Accepts a plan for one antenna port and the normal cyclic prefix.
+    /// Creates the cell of `plan` for one antenna port and the normal cyclic prefix, or returns the error of the first
+    /// failed condition.
     pub fn new(plan: CellPlan) -> Result<Cell, CellError>
         requires { IsValid plan.sib1 }
         ensures refusal { MatchResult result (λ _. plan_refusal plan ≡ None)
@@ -265,7 +270,7 @@ impl Cell {
         Cell::of(Carrier::OnePort, plan)
     }
 
-    /// Returns the plan.
+    /// Returns the cell's plan.
     pub fn plan(&self) -> &CellPlan
         ensures plan { result.now ≡ self.now }
         ensures sendable { IsSendable self.now }
@@ -273,7 +278,7 @@ impl Cell {
         &self.plan
     }
 
-    /// Returns the physical-layer cell identity.
+    /// Returns the physical-layer cell identity, 0 to 503.
     pub fn id(&self) -> CellId
         ensures value { result ≡ self.now.identity }
         ensures sendable { IsSendable self.now }
@@ -288,7 +293,7 @@ impl Cell {
         self.assignment.cfi()
     }
 
-    /// Returns the assigned resource blocks with the control format indicator.
+    /// Returns the assigned resource blocks together with the control format indicator.
     pub fn assignment(&self) -> &Assignment
         ensures { result.now ≡ assignment_of self.now }
     {
@@ -303,7 +308,7 @@ impl Cell {
         self.size
     }
 
-    /// Returns the encoded transport block with its CRC (TS 36.212 section 5.3.2).
+    /// Returns the turbo-encoded transport block with its CRC (TS 36.212 section 5.3.2).
     pub fn coded(&self) -> &Coded
         ensures { IsCoded self.now result.now }
     {

@@ -12,17 +12,17 @@ use lte_types::{Carrier, Timing};
 /// gains. (own)
 #[derive(Debug, Drop)]
 pub struct Emission {
-    /// The cell. With the extended cyclic prefix or four antenna ports its SIB1 is not sent.
+    /// The cell that is sent. With the extended cyclic prefix or four antenna ports, its SIB1 is not sent.
     pub cell: Cell,
-    /// The transmission scheme: cyclic prefix and antenna ports.
+    /// The transmission scheme: the cyclic prefix and the antenna ports.
     pub carrier: Carrier,
-    /// The first frame number, and the first sample sent within this frame.
+    /// The first frame number, and the offset in samples at which sending begins in that frame.
     pub timing: Timing,
     /// The number of samples, 57,600 to 1,920,000.
     pub samples: u32,
-    /// One gain per antenna port. Entries beyond the scheme's ports are ignored.
+    /// One gain per antenna port. Entries beyond the scheme's port count are ignored.
     pub gains: [Cpx; 4],
-    /// The number of the load in the resource elements that the plan leaves open, if there is one.
+    /// The number of the load in the resource elements that the plan leaves open, or `None` for no load.
     pub load: Option<u32>,
     pub ghost samples_range: { IsCount samples },
     pub ghost gains_are: { AreGainsOf carrier gains } by { are_gains_prop carrier gains },

@@ -1,4 +1,4 @@
-//! The conditions of a cell description.
+//! The conditions that a cell description must meet.
 
 ghost use Rattle.std.specs.Prelude.{◌≡◌, Some};
 ghost use Rattle.cell_plan.specs.Words.{condition_word};
@@ -6,11 +6,11 @@ ghost use Rattle.cell_plan.specs.Words.{condition_word};
 use std::fmt;
 use thiserror::Error;
 
-/// The first failed condition of a description, in the order of the variants, which state the conditions. It is printed
-/// as its name in lower case. (own)
+/// The first failed condition of a cell description. The variants are in the order in which the conditions are checked,
+/// and each states its condition. An error is printed as its name in lower case. (own)
 #[derive(Clone, Copy, Debug, PartialEq, Eq, Error)]
 pub enum CellError {
-    /// The description has its form: each key with a value of its type.
+    /// The description is well-formed: each key has a value of its type.
     Form,
     /// The first frame number is at most 1023.
     Sfn,
@@ -18,8 +18,8 @@ pub enum CellError {
     Offset,
     /// The sample count is 57,600 to 1,920,000.
     Samples,
-    /// A clean recording may have these gains: port 0's is not 0, and the squared magnitudes add up to at most 784
-    /// divided by the port count.
+    /// The gains are those of a clean recording: port 0's gain is not 0, and the squared magnitudes add up to at most
+    /// 784 divided by the port count.
     Gain,
     /// Each field of SIB1 is in its range.
     Sib1Range,
@@ -29,20 +29,22 @@ pub enum CellError {
     Spare,
     /// The control format indicator is 2 or 3.
     Cfi,
-    /// `blocks` is at least 1, and `start` + `blocks` at most 6.
+    /// `blocks` is at least 1, and `start` plus `blocks` is at most 6.
     Assignment,
-    /// `column` is 2 or 3, and has a transport block size for `mcs`.
+    /// `column` is 2 or 3, and the table has a transport block size for `mcs` in this column (TS 36.213 section
+    /// 7.1.7.2).
     Mcs,
-    /// The resource blocks carry each coded bit at least once or, except with two antenna ports, enough bits to resolve
-    /// the transport block for each redundancy version (`erasure::fills`). Each carries 204 bits with `cfi` 2 and 180
-    /// with 3, or 192 and 168 with two ports; a block of n bits with its CRC has 3 (n + 24) + 12. Only a plan that
-    /// meets the next three conditions has a block that can be resolved.
+    /// The resource blocks carry each coded bit at least once. Except with two antenna ports, it is also enough that
+    /// the bits which they carry resolve the transport block for each redundancy version (`erasure::fills`). A resource
+    /// block carries 204 bits with `cfi` 2 and 180 with `cfi` 3, or 192 and 168 with two antenna ports. A transport
+    /// block of n bits and its CRC have 3 (n + 24) + 12 coded bits. A block can be resolved only in a plan that meets
+    /// the next three conditions.
     Punctured,
-    /// SIB1 has no TDD-Config.
+    /// SIB1 has no TDD-Config (TS 36.331 section 6.2.2), since cells are FDD.
     Duplex,
     /// SIB1 has no extension.
     Extension,
-    /// The text of SIB1 fits the transport block size.
+    /// The encoded SIB1 fits in the transport block.
     Sib1Long,
 }
 
@@ -55,7 +57,7 @@ impl fmt::Display for CellError {
 }
 
 impl CellError {
-    // Returns the name of a condition in lower case.
+    // Returns the name of the condition in lower case, as `refusal_text` prints it.
     fn word(&self) -> &'static str
         ensures { result.now ≡ condition_word self.now }
     {

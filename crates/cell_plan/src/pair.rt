@@ -1,4 +1,4 @@
-//! Gains as pairs of 16-bit numbers, real part first.
+//! Complex gains as pairs of 16-bit numbers, real part first.
 
 ghost use Rattle.std.specs.Prelude.{◌≡◌};
 ghost use Rattle.cs_num.specs.Complex.{IsWithin};
@@ -7,7 +7,8 @@ ghost use Rattle.cell_plan.specs.Pair.{gain_of};
 
 use cs_num::{Cpx, Gain};
 
-/// Returns `number` as a pair, real part first. Its components have magnitude at most 32,767.
+/// Returns the complex number `number` as a pair, real part first. Its components must have magnitudes of at most
+/// 32,767.
 pub fn pair_of(number: Cpx) -> (i16, i16)
     requires { IsWithin 32767 number }
     ensures { gain_of result ≡ number }
@@ -16,7 +17,7 @@ pub fn pair_of(number: Cpx) -> (i16, i16)
     (parts.re, parts.im)
 }
 
-/// Returns the gain of a pair. The square of its magnitude is 1 to 784.
+/// Returns the gain of a pair, real part first. The square of its magnitude must be from 1 to 784.
 pub fn gain_of_pair(pair: (i16, i16)) -> Gain
     requires { IsGain (gain_of pair) }
     ensures { result ≡ gain_of pair }

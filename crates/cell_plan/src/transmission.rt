@@ -10,18 +10,19 @@ use crate::{Cell, Emission, gain_of_pair, pair_of};
 use cs_num::Gain;
 use lte_types::{Sfn, Timing};
 
-/// A cell's transmission: `samples` samples from sample `offset` of frame number `sfn`, each times the gain. (own)
+/// A cell's transmission from one antenna port: `samples` samples from sample `offset` of the frame numbered `sfn`,
+/// each times the gain. (own)
 #[derive(Debug, Drop)]
 pub struct Transmission {
-    /// The cell.
+    /// The cell that is sent.
     pub cell: Cell,
-    /// The first frame number.
+    /// The first frame number, 0 to 1023.
     pub sfn: Sfn,
-    /// The first sample sent within this frame, 0 to 19,199.
+    /// The first sample sent within the first frame, 0 to 19,199.
     pub offset: u32,
     /// The number of samples, 57,600 to 1,920,000.
     pub samples: u32,
-    /// The gain, real part first; the square of its magnitude is 1 to 784.
+    /// The gain, real part first. The square of its magnitude is from 1 to 784.
     pub gain: (i16, i16),
     pub ghost offset_range: { IsOffset offset },
     pub ghost samples_range: { IsCount samples },
@@ -33,7 +34,7 @@ impl Transmission {
     ghost use Rattle.cs_num.specs.Complex.{value_at};
     ghost use Rattle.lte_types.specs.declared.carrier.Carrier.TheVariants.{OnePort};
 
-    /// Returns `emission`, which has one antenna port, the normal cyclic prefix and no load, as a transmission.
+    /// Returns the transmission of `emission`, which must have one antenna port, the normal cyclic prefix and no load.
     pub fn of(emission: Emission) -> Transmission
         requires carrier { emission.carrier ≡ OnePort }
         requires load { emission.load ≡ None }
@@ -52,7 +53,7 @@ impl Transmission {
         }
     }
 
-    /// Returns the first frame number and the first sample sent within this frame.
+    /// Returns the first frame number, and the first sample sent within that frame.
     pub fn timing(&self) -> Timing
         ensures sfn { result.sfn ≡ self.now.sfn }
         ensures offset { result.offset ≡ self.now.offset }

@@ -1,4 +1,4 @@
-//! The transport block, which carries SIB1: its CRC and its turbo encoding.
+//! The transport block, which carries SIB1: the encoded SIB1, its CRC and its turbo encoding.
 
 ghost use Rattle.std.specs.Prelude.{◌≡◌, ℕ, ◌+◌, ◌≤◌, ◌++◌, length, take, drop};
 ghost use Rattle.cs_bits.specs.Checks.{with_check_24};
@@ -10,7 +10,7 @@ use cs_bits::{crc24a, put_number};
 use erasure::fills;
 use turbo_code::{Coded, encode, row_of};
 
-// Writes a text over the first bits of a word.
+// Writes `text` over the first bits of `word`.
 fn put_text(word: &mut [bool; 1024], text: &[bool])
     requires { length text.now ≤ 1000 }
     ensures { word.new ≡ text.now ++ drop (length text.now) word.old }
@@ -18,7 +18,7 @@ fn put_text(word: &mut [bool; 1024], text: &[bool])
     word[..text.len()].copy_from_slice(text);
 }
 
-// Returns a text followed by zeros.
+// Returns `text` followed by zeros, 1,024 bits in all.
 fn filled(text: &[bool]) -> [bool; 1024]
     requires { length text.now ≤ 1000 }
     ensures { (size : ℕ) → length text.now ≤ size → size ≤ 1024 → take size result ≡ filled size text.now }
@@ -28,7 +28,7 @@ fn filled(text: &[bool]) -> [bool; 1024]
     word
 }
 
-// Writes the CRC of the first `size` bits after them.
+// Writes the 24-bit CRC of the first `size` bits of `word` after these bits.
 fn put_check(word: &mut [bool; 1024], size: usize)
     requires { size ≤ 1000 }
     ensures { take (size + 24) word.new ≡ with_check_24 (take size word.old) }
@@ -37,7 +37,7 @@ fn put_check(word: &mut [bool; 1024], size: usize)
     put_number(check as u64, &mut word[size..size + 24]);
 }
 
-// Returns a transport block of this size with its CRC: a text, followed by zeros.
+// Returns a transport block of `size` bits, which is `text` followed by zeros, with its 24-bit CRC.
 fn checked_block(text: &[bool], size: u16) -> [bool; 1024]
     requires room { size ≤ 1000 }
     requires fits { length text.now ≤ size }
@@ -48,8 +48,8 @@ fn checked_block(text: &[bool], size: u16) -> [bool; 1024]
     word
 }
 
-/// Returns the turbo-encoded transport block of `size` bits, a text followed by zeros (TS 36.212 section 5.3.2). The
-/// interleaver table has a row for `size` + 24.
+/// Returns the turbo-encoded transport block of `size` bits, which is `text` followed by zeros, with its CRC (TS 36.212
+/// section 5.3.2). The interleaver table must have a row for `size + 24`.
 pub(crate) fn coded_block(text: &[bool], size: u16) -> Coded
     requires size { IsSize (size + 24) }
     requires room { size ≤ 1000 }
@@ -63,8 +63,8 @@ pub(crate) fn coded_block(text: &[bool], size: u16) -> Coded
     encode(&checked_block(text, size)[..size as usize + 24], row)
 }
 
-/// Returns whether `count` bits resolve a transport block of `size` bits, a text followed by zeros, and its CRC for
-/// each redundancy version. The interleaver table has a row for `size` + 24.
+/// Returns whether, for each redundancy version, `count` bits resolve a transport block of `size` bits, which is `text`
+/// followed by zeros, with its CRC. The interleaver table must have a row for `size + 24`.
 pub(crate) fn block_fills(text: &[bool], size: u16, count: u16) -> bool
     requires size { IsSize (size + 24) }
     requires room { size ≤ 1000 }
