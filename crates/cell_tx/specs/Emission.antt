@@ -16,15 +16,15 @@ use Rattle.cell_tx.specs.Sent.{prefix_sent}
 use Rattle.cell_plan.specs.Gains.{AreGainsOf, IsAllowedBy}
 use Rattle.cell_tx.specs.Clean.{AreNear}
 
--- sample i that a port transmits from frame `sfn`
+-- sample `i` of the sequence that a port transmits from frame `sfn`
 abbrev pub sent_by : Option ℕ → Port → CellPlan → ℕ → ℕ → Cpx
 sent_by load port plan sfn i = prefix_sent (port_prefix port) (sent_element load port plan) sfn i
 
--- one port's received value, over a channel with one complex gain
+-- the value received from port `number`: the port's value times its gain
 abbrev pub part_of : Carrier → (Port → Cpx) → List Cpx → ℕ → Cpx
 part_of carrier values gains number = times (value_at gains number) (values (port_by carrier number))
 
--- the received sum over all ports, one, two or four
+-- the sum of the values received from all ports of a transmission scheme, one, two or four
 abbrev pub mixed : Carrier → (Port → Cpx) → List Cpx → Cpx
 mixed carrier values gains =
     let part = part_of carrier values gains in
@@ -32,19 +32,21 @@ mixed carrier values gains =
     else (if nat_eq (ports_of carrier) 2 then plus (part 0) (part 1)
     else plus (plus (part 0) (part 1)) (plus (part 2) (part 3)))
 
--- the received sum over all ports from sample `offset`, each over a channel with one complex gain
+-- the value received at sample `i`: the sum, over all ports, of sample `i + offset` of the port's sequence times the
+-- port's gain
 abbrev pub received_by : Carrier → Option ℕ → CellPlan → ℕ → ℕ → List Cpx → ℕ → Cpx
 received_by carrier load plan sfn offset gains i =
     mixed carrier (λ port. sent_by load port plan sfn (i + offset)) gains
 
--- the received emission without errors
+-- sample `i` of an emission, received without errors; `emitted_samples` lists all samples with 16-bit components
 abbrev pub emitted : Emission → ℕ → Cpx
 emitted e i = received_by e.carrier e.load e.cell e.timing.sfn e.timing.offset e.gains i
 
 abbrev pub emitted_samples : Emission → List Sample
 emitted_samples e = values_below e.samples (λ i. sample_of (emitted e i))
 
--- the samples are the received sum over all ports; each component is off by at most eps
+-- A recording is clean for a cell of a transmission scheme: the samples are the received sum over all ports, and each
+-- component is off by at most `eps`, which is small enough for the gains.
 pub record IsCleanBy (carrier : Carrier) (load : Option ℕ) (recording : List Sample) (plan : CellPlan)
     (sfn offset : ℕ) (gains : List Cpx) (eps : ℕ) : Type 0 where
   pub number : sfn ≤ 1023

@@ -1,4 +1,4 @@
--- Frame-by-frame computation of samples, which recomputes only the symbols that differ between frames. (own)
+-- The computation of samples frame by frame, which computes anew only the symbols that differ between frames. (own)
 use Rattle.std.specs.Prelude.{◌≡◌, ℕ, ◌+◌, ◌-◌, ◌*◌, ◌%◌, ◌<◌, ◌≤◌, Bool, true, false, ◌&&◌, ◌||◌, nat_le, nat_lt, min}
 use Rattle.std.specs.Prelude.{if◌then◌else◌, Option, List, length, take, drop, slice_index_or}
 use Rattle.finite.specs.Lists.{values_below}
@@ -23,7 +23,7 @@ use Rattle.cell_tx.specs.Sent.{prefix_frame_sample}
 
 -- ---- samples of a source
 
--- sample i of a source
+-- sample `i` of a source; `made_samples` lists all samples with 16-bit components
 abbrev pub made : Source → ℕ → Cpx
 made s i = mixed_by s.ports (λ port. sent_by s.load port s.cell.now s.timing.sfn (i + s.timing.offset)) s.gains
 
@@ -32,42 +32,42 @@ made_samples s = values_below s.samples (λ i. sample_of (made s i))
 
 -- ---- frames of a source
 
--- sample i of frame n as a port transmits it
+-- sample `i` of the frame numbered `n`, as a port transmits it
 abbrev pub sent_in_frame : Option ℕ → Port → CellPlan → ℕ → ℕ → Cpx
 sent_in_frame load port plan n i = prefix_frame_sample (port_prefix port) (sent_element load port plan) n i
 
--- sample i of frame n as received
+-- sample `i` of the frame numbered `n`, as the source's ports are received
 abbrev pub framed : Source → ℕ → ℕ → Cpx
 framed s n i = mixed_by s.ports (λ port. sent_in_frame s.load port s.cell.now n i) s.gains
 
--- the samples equal frame n
+-- `samples` are those of the frame numbered `n`
 abbrev pub AreFrame : Source → ℕ → List Sample → Type 0
 AreFrame s n samples = (i : ℕ) → i < frame_length → slice_index_or samples i silence ≡ sample_of (framed s n i)
 
 -- ---- symbol ranges in a frame
 
--- whether i is at least `first` and below `last`
+-- whether `i` is at least `first` and below `last`
 abbrev pub is_between : ℕ → ℕ → ℕ → Bool
 is_between first last i = nat_le first i && nat_lt i last
 
--- whether sample i in a frame lies in these symbols
+-- whether sample `i` of a frame lies in one of the two ranges of symbols
 abbrev pub is_made_anew : Prefix → Symbols → ℕ → Bool
 is_made_anew prefix symbols i =
     is_between (first_sample prefix symbols.first) (first_sample prefix symbols.last) i
     || is_between (first_sample prefix symbols.again) (first_sample prefix symbols.end) i
 
--- the symbols are two ranges in order, within a frame
+-- `symbols` has two ranges in order, within a frame
 pub record AreSpans (prefix : Prefix) (symbols : Symbols) : Type 0 where
   pub first : symbols.first ≤ symbols.last
   pub again : symbols.last ≤ symbols.again
   pub end : symbols.again ≤ symbols.end
   pub most : symbols.end ≤ 20 * symbols_of_slot prefix
 
--- the symbols cover all samples in a frame
+-- the two ranges of symbols contain each sample of a frame
 abbrev pub AreAll : Prefix → Symbols → Type 0
 AreAll prefix symbols = (i : ℕ) → i < frame_length → is_made_anew prefix symbols i ≡ true
 
--- outside these symbols, no port's samples depend on the frame
+-- outside the two ranges of symbols, the samples of every port are equal in all frames
 abbrev pub AreOwn : Carrier → Option ℕ → Symbols → Type 0
 AreOwn carrier load symbols =
     (port : Port) (plan : CellPlan) (a b i : ℕ) → port.carrier ≡ carrier → i < frame_length →
@@ -76,45 +76,47 @@ AreOwn carrier load symbols =
 
 -- ---- partially changed samples
 
--- the change is applied to each sample that satisfies the test, and the others are unchanged
+-- Where `there` holds, `new` is the changed sample of `old`; elsewhere `new` and `old` are equal. Indices are those of
+-- a frame.
 abbrev pub AreChanged : (ℕ → Bool) → (ℕ → Sample → Sample) → List Sample → List Sample → Type 0
 AreChanged there change old new =
     (i : ℕ) → i < frame_length →
     slice_index_or new i silence
     ≡ (if there i then change i (slice_index_or old i silence) else slice_index_or old i silence)
 
--- a sample plus a value times a gain
+-- sample `before` plus value `i` times `gain`
 abbrev pub added : Cpx → (ℕ → Cpx) → ℕ → Sample → Sample
 added gain values i before = sample_of (plus (value_of before) (times gain (values i)))
 
--- where the test holds, the sums of samples and values times a gain fit 16 bits
+-- where `there` holds, sample plus value times `gain` fits 16 bits
 abbrev pub FitSamples : (ℕ → Bool) → Cpx → (ℕ → Cpx) → List Sample → Type 0
 FitSamples there gain values samples =
     (i : ℕ) → i < frame_length → there i ≡ true → IsWithin 32767 (plus (sample_at samples i) (times gain (values i)))
 
--- samples are silent where the test holds
+-- samples are silent where `there` holds
 abbrev pub AreSilent : (ℕ → Bool) → List Sample → Type 0
 AreSilent there samples = (i : ℕ) → i < frame_length → there i ≡ true → slice_index_or samples i silence ≡ silence
 
 -- ---- pieces in order
 
--- the emission's samples and the current position: the last piece begins at `from`, and the next one at `at`. The
--- first frame begins `offset` samples earlier than the emission
+-- The samples of an emission and the current position: the last piece begins at sample `from`, and the next piece at
+-- sample `at`. The first frame begins `offset` samples before the emission.
 pub record Progress : Type 0 where
   pub samples : List Sample
   pub offset : ℕ
   pub from : ℕ
   pub at : ℕ
 
--- the end of the piece that begins at `at`: the end of its frame, or of the samples
+-- the end of the piece that begins at `at`: the end of its frame, or the end of the samples
 abbrev pub piece_end : Progress → ℕ
 piece_end p = min (p.at + (frame_length - (p.at + p.offset) % frame_length)) (length p.samples)
 
--- the last piece
+-- the samples of the last piece
 abbrev pub piece_of : Progress → List Sample
 piece_of p = take (p.at - p.from) (drop p.from p.samples)
 
--- an emitter's invariant: the last piece lies in one frame, and `frame` holds it
+-- The invariant of an emitter: the last piece, from `from` to `at`, lies in one frame, and `frame` holds that frame.
+-- `begun`: in the middle of the samples, the last piece is not empty.
 pub record IsMade (s : Source) (from at : ℕ) (frame : List Sample) : Type 0 where
   pub order : from ≤ at
   pub most : at ≤ s.samples

@@ -1,4 +1,4 @@
--- Laws for transmitted cells.
+-- Laws on the samples of transmitted cells.
 use Rattle.std.specs.Prelude.{◌≡◌, ℕ, ◌+◌, ◌-◌, ◌*◌, ◌/◌, ◌%◌, ◌<◌, ◌≤◌, Option, List}
 use Rattle.cs_num.specs.declared.Sample.{Sample}
 use Rattle.cs_num.specs.Complex.{IsWithin, square, plus, times, sample_of}
@@ -20,14 +20,14 @@ use Rattle.cell_plan.specs.Gains.{AreGains, IsAllowed, AreGainsOf, IsAllowedBy}
 use Rattle.cell_tx.specs.Clean.{IsCleanOf, IsClean, received_of_two, IsCleanOfTwo}
 use Rattle.cell_tx.specs.Emission.{received_by, IsCleanBy}
 
--- the useful part of symbol l in a slot begins at `useful_start`, for either cyclic prefix
+-- the useful part of symbol `l` in a slot begins at sample `useful_start` of the frame, with either cyclic prefix
 abbrev pub UsefulPartsStand : Type 0
 UsefulPartsStand =
     (prefix : Prefix) (grid : Elements) (sfn slot l n : ℕ) → IsPrefix prefix → l < symbols_of_slot prefix → n < useful_length →
     prefix_frame_sample prefix grid sfn (useful_start prefix 0 slot l + n)
     ≡ useful_at (grid sfn (slot / 2) (symbols_of_slot prefix * (slot % 2) + l)) n
 
--- the cyclic prefix repeats the end of the symbol's useful part
+-- the cyclic prefix of a symbol repeats the end of the symbol's useful part
 abbrev pub PrefixesRepeat : Type 0
 PrefixesRepeat =
     (prefix : Prefix) (grid : Elements) (sfn slot l d : ℕ) → IsPrefix prefix → l < symbols_of_slot prefix → 1 ≤ d →
@@ -35,19 +35,21 @@ PrefixesRepeat =
     prefix_frame_sample prefix grid sfn (useful_start prefix 0 slot l - d)
     ≡ useful_at (grid sfn (slot / 2) (symbols_of_slot prefix * (slot % 2) + l)) (useful_length - d)
 
--- the number of frame j in a sequence is the first frame's number plus j
+-- frame `j` of a sequence is the frame whose number is the first frame's number plus `j`, modulo 1024
 abbrev pub FramesFollow : Type 0
 FramesFollow = (prefix : Prefix) (grid : Elements) (sfn j i : ℕ) → i < frame_length →
     prefix_sent prefix grid sfn (frame_length * j + i) ≡ prefix_frame_sample prefix grid ((sfn + j) % 1024) i
 
--- a sequence that begins at an offset has its first whole frame at the start sample, and the others follow in order
+-- in a sequence from sample `offset` of a frame, the first whole frame begins at sample `start_of offset`, and the
+-- following frames come in order
 abbrev pub FramesBeginAtStart : Type 0
 FramesBeginAtStart =
     (prefix : Prefix) (grid : Elements) (sfn offset j i : ℕ) → sfn ≤ 1023 → IsOffset offset → i < frame_length →
     prefix_sent prefix grid sfn (start_of offset + frame_length * j + i + offset)
     ≡ prefix_frame_sample prefix grid ((number_at_start sfn offset + j) % 1024) i
 
--- a resource element at any port, with or without load, has components of at most 127, and magnitude at most 128
+-- a resource element at any port, with or without load, has components with magnitudes of at most 127, and a magnitude
+-- of at most 128
 abbrev pub ElementsAreWithin : Type 0
 ElementsAreWithin =
     (load : Option ℕ) (port : Port) (plan : CellPlan) (sfn subframe symbol k : ℕ) →
@@ -58,55 +60,55 @@ ElementsAreSmall =
     (load : Option ℕ) (port : Port) (plan : CellPlan) (sfn subframe symbol k : ℕ) →
     square (sent_element load port plan sfn subframe symbol k) ≤ 128 * 128
 
--- if no resource element exceeds magnitude 128, no sample exceeds magnitude 1,153
+-- if no resource element has a magnitude above 128, no sample has a magnitude above 1,153
 abbrev pub SmallElementsMakeSmallSamples : Type 0
 SmallElementsMakeSmallSamples =
     (prefix : Prefix) (grid : Elements) →
     ((sfn subframe symbol k : ℕ) → square (grid sfn subframe symbol k) ≤ 128 * 128) → (sfn i : ℕ) →
     square (prefix_sent prefix grid sfn i) ≤ 1153 * 1153
 
--- no sample of a cell exceeds magnitude 1,153
+-- no sample of a port of a cell has a magnitude above 1,153
 abbrev pub SamplesAreSmall : Type 0
 SamplesAreSmall =
     (load : Option ℕ) (port : Port) (plan : CellPlan) (sfn i : ℕ) →
     square (prefix_sent (port_prefix port) (sent_element load port plan) sfn i) ≤ 1153 * 1153
 
--- values plus errors, as samples
+-- the values plus the errors, as samples `0` to `count - 1`
 abbrev pub values_with : ℕ → (ℕ → Cpx) → (ℕ → Cpx) → List Sample
 values_with count values errors = values_below count (λ i. sample_of (plus (values i) (errors i)))
 
--- a received sequence plus errors
+-- `count` samples of a sequence from sample `offset`, times the gain, plus errors
 abbrev pub received_with : (ℕ → Cpx) → ℕ → ℕ → Cpx → (ℕ → Cpx) → List Sample
 received_with sequence offset count gain errors = values_with count (λ i. times gain (sequence (i + offset))) errors
 
--- a received sequence plus any errors within the bound is a clean recording
+-- a sequence times a gain, plus any errors within the bound, is a clean recording
 abbrev pub ReceivedWithErrorsIsClean : Type 0
 ReceivedWithErrorsIsClean =
     (sequence : ℕ → Cpx) (offset count : ℕ) (gain : Cpx) (eps : ℕ) (errors : ℕ → Cpx) → IsOffset offset → IsGain gain →
     eps * eps ≤ 4 * square gain → ((i : ℕ) → i < count → IsWithin eps (errors i)) →
     IsCleanOf sequence (received_with sequence offset count gain errors) offset gain eps
 
--- if no sample of a sequence exceeds magnitude 1,153, the received samples with errors have components of at most
--- 32,340 and fit 16 bits
+-- if no sample of a sequence has a magnitude above 1,153, its samples times the gain, plus errors, have components of
+-- at most 32,340 and fit 16 bits
 abbrev pub ReceivedWithErrorsFits : Type 0
 ReceivedWithErrorsFits =
     (clean gain error : Cpx) (eps : ℕ) → square clean ≤ 1153 * 1153 → IsGain gain → eps * eps ≤ 4 * square gain →
     IsWithin eps error →
     IsWithin 32340 (plus (times gain clean) error)
 
--- a cell received without errors is a clean recording
+-- the samples of a cell times a gain are a clean recording, without errors
 abbrev pub ReceivedIsClean : Type 0
 ReceivedIsClean = (plan : CellPlan) (sfn offset count : ℕ) (gain : Cpx) → sfn ≤ 1023 → IsOffset offset → IsGain gain →
     IsClean (values_below count (λ i. sample_of (received plan sfn offset gain i))) plan sfn offset gain 0
 
 -- ---- two antenna ports
 
--- two received sequences plus errors
+-- `count` samples of two sequences from sample `offset`, each times its gain, plus errors
 abbrev pub received_of_two_with : (ℕ → Cpx) → (ℕ → Cpx) → ℕ → ℕ → Cpx → Cpx → (ℕ → Cpx) → List Sample
 received_of_two_with first second offset count gain other errors =
     values_with count (received_of_two first second offset gain other) errors
 
--- two received sequences plus any errors within the bound are a clean recording of both
+-- two sequences times their gains, plus any errors within the bound, are a clean recording of both
 abbrev pub ReceivedOfTwoIsClean : Type 0
 ReceivedOfTwoIsClean =
     (first second : ℕ → Cpx) (offset count : ℕ) (gain other : Cpx) (eps : ℕ) (errors : ℕ → Cpx) →
@@ -114,15 +116,15 @@ ReceivedOfTwoIsClean =
     IsAllowed gain other eps → ((i : ℕ) → i < count → IsWithin eps (errors i)) →
     IsCleanOfTwo first second (received_of_two_with first second offset count gain other errors) offset gain other eps
 
--- if no sample of two sequences exceeds magnitude 1,153, the received samples without errors have components of at
--- most 32,284
+-- if no sample of two sequences has a magnitude above 1,153, the sum of their samples times the gains has components of
+-- at most 32,284
 abbrev pub ReceivedOfTwoIsSmall : Type 0
 ReceivedOfTwoIsSmall =
     (first second gain other : Cpx) → square first ≤ 1153 * 1153 → square second ≤ 1153 * 1153 → AreGains gain other →
     IsWithin 32284 (plus (times gain first) (times other second))
 
--- if no sample of two sequences exceeds magnitude 1,153, the received samples with errors have components of at most
--- 32,293 and fit 16 bits
+-- if no sample of two sequences has a magnitude above 1,153, the sum of their samples times the gains, plus errors, has
+-- components of at most 32,293 and fits 16 bits
 abbrev pub ReceivedOfTwoFits : Type 0
 ReceivedOfTwoFits =
     (first second gain other error : Cpx) (eps : ℕ) →
@@ -132,7 +134,7 @@ ReceivedOfTwoFits =
 
 -- ---- transmission schemes
 
--- a received emission plus any errors within the bound is a clean recording
+-- the samples of an emission plus any errors within the bound are a clean recording
 abbrev pub EmittedIsClean : Type 0
 EmittedIsClean =
     (carrier : Carrier) (load : Option ℕ) (plan : CellPlan) (sfn offset count : ℕ) (gains : List Cpx) (eps : ℕ)
@@ -142,7 +144,7 @@ EmittedIsClean =
     IsCleanBy carrier load (values_with count (received_by carrier load plan sfn offset gains) errors)
     plan sfn offset gains eps
 
--- a received emission without errors has components of at most 32,284
+-- the samples of an emission without errors have components of at most 32,284
 abbrev pub EmittedIsSmall : Type 0
 EmittedIsSmall =
     (carrier : Carrier) (load : Option ℕ) (plan : CellPlan) (sfn offset : ℕ) (gains : List Cpx) (i : ℕ) →

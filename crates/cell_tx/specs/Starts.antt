@@ -3,14 +3,16 @@ use Rattle.std.specs.Prelude.{ℕ, ◌+◌, ◌-◌, ◌*◌, ◌/◌, ◌%◌, 
 use Rattle.lte_types.specs.declared.numerology.Prefix.{Prefix}
 use Rattle.lte_types.specs.Numerology.{slot_length, useful_length, symbol_step, symbols_of_slot, symbol_of}
 
--- the index in the symbol's useful part for sample i of a slot
+-- the index that sample `i` of a slot has in the useful part of its symbol; a cyclic prefix sample has the index of the
+-- useful sample that it repeats
 abbrev pub useful_place : Prefix → ℕ → ℕ
 useful_place prefix i = (i + (useful_length - prefix.first) - symbol_step prefix * symbol_of prefix i) % useful_length
 
--- the first sample of symbol l in a slot, at its cyclic prefix
+-- the first sample of symbol `l` in a slot, where the cyclic prefix begins
 abbrev pub first_in_slot : Prefix → ℕ → ℕ
 first_in_slot prefix l = if nat_eq l 0 then 0 else prefix.first - prefix.other + symbol_step prefix * l
 
--- the first sample of symbol n in a frame with 140 or 120 symbols; for the next number, the frame's end
+-- the first sample of symbol `n` in a frame with 140 symbols, or 120 with the extended cyclic prefix; for the number
+-- that follows the last symbol's, the frame's end
 abbrev pub first_sample : Prefix → ℕ → ℕ
 first_sample prefix n = slot_length * (n / symbols_of_slot prefix) + first_in_slot prefix (n % symbols_of_slot prefix)

@@ -1,4 +1,4 @@
-//! Computes samples one frame at a time.
+//! Computes the samples of a transmission, one frame at a time.
 
 ghost use Rattle.std.specs.Prelude.{ℕ, ◌≡◌, ◌+◌, ◌<◌, ◌≤◌, ◌++◌, true, length, take};
 ghost use Rattle.cs_num.specs.Complex.{IsWithin, square, value_at};
@@ -18,7 +18,7 @@ use cs_num::Sample;
 use lte_types::{Carrier, FRAME_LENGTH, Sfn};
 use std::marker::Model;
 
-// A source with the data that all its frames and ports share; `port` is its first port.
+// A source of samples, with the data that all its frames and ports share. `port` is the source's first port.
 #[derive(Drop)]
 struct FrameMaker<'a> {
     source: Source<'a>,
@@ -38,7 +38,7 @@ impl<'a> FrameMaker<'a> {
     ghost use Rattle.cell_tx.specs.Emitting.{sent_in_frame, framed, AreFrame, is_made_anew, AreSpans, AreChanged};
     ghost use Rattle.cell_tx.specs.Emitting.{added, FitSamples, AreSilent};
 
-    // Creates the frame maker for `source`.
+    // Creates the frame maker for `source`, and computes the data that its frames share.
     fn new(source: &Source<'a>) -> FrameMaker<'a>
         ensures { result.source ≡ source.now }
     {
@@ -53,7 +53,8 @@ impl<'a> FrameMaker<'a> {
         }
     }
 
-    // Adds the port's samples in some symbols of a frame, times its gain.
+    // Adds the samples of `port`, times the gain of port `number`, to `frame` in the ranges `symbols`. The frame has
+    // number `sfn`.
     fn add(&self, port: Port, number: usize, sfn: Sfn, symbols: &Symbols, frame: &mut [Sample])
         requires port { port.carrier ≡ carrier_by self.now.source.ports }
         requires number { number < 4 }
@@ -73,7 +74,7 @@ impl<'a> FrameMaker<'a> {
         add_symbols(&signals, &source.gains[number], symbols, frame);
     }
 
-    // Adds the samples of all ports to silence.
+    // Adds the samples of all ports of `carrier` to `frame`, which must be silent in the ranges `symbols`.
     fn add_ports(&self, carrier: Carrier, sfn: Sfn, symbols: &Symbols, frame: &mut [Sample])
         requires ports { self.now.source.ports ≡ All carrier }
         requires order { AreSpans (prefix_of carrier) symbols.now }
@@ -88,7 +89,7 @@ impl<'a> FrameMaker<'a> {
         }
     }
 
-    // Adds the samples of the source's ports to silence.
+    // Adds the samples of the source's ports to `frame`, which must be silent in the ranges `symbols`.
     fn add_all(&self, sfn: Sfn, symbols: &Symbols, frame: &mut [Sample])
         requires order { AreSpans (prefix_of (carrier_by self.now.source.ports)) symbols.now }
         requires room { length frame.old ≡ frame_length }
@@ -103,7 +104,7 @@ impl<'a> FrameMaker<'a> {
         }
     }
 
-    // Computes some symbols of a frame.
+    // Computes the ranges `symbols` of `frame`, the frame numbered `sfn`, anew.
     fn make(&self, sfn: Sfn, symbols: &Symbols, frame: &mut [Sample])
         requires order { AreSpans (prefix_of (carrier_by self.now.source.ports)) symbols.now }
         requires room { length frame.old ≡ frame_length }
@@ -114,7 +115,8 @@ impl<'a> FrameMaker<'a> {
         self.add_all(sfn, symbols, frame);
     }
 
-    // Computes the frame that contains sample `at`; unless it is the first, `frame` holds another frame of the source.
+    // Computes the frame that contains sample `at` of the source. Except for the first frame, `frame` must already hold
+    // another frame of the source.
     fn make_frame_of(&self, at: usize, frame: &mut [Sample])
         requires at { at < self.now.source.samples }
         requires room { length frame.old ≡ frame_length }
@@ -128,9 +130,9 @@ impl<'a> FrameMaker<'a> {
     }
 }
 
-/// Computes an emission's samples frame by frame, and holds one frame. Samples that all frames share are computed
-/// once. Contracts see it as the emission's samples and the indices at which the last piece and the next one begin.
-/// (own)
+/// Computes an emission's samples frame by frame, and holds one frame. Samples that are equal in all frames are
+/// computed once. Contracts see an emitter as the emission's samples, and the positions `from` and `at` at which the
+/// last and the next piece begin. (own)
 #[derive(Drop)]
 pub struct Emitter<'a> {
     maker: FrameMaker<'a>,
@@ -158,7 +160,7 @@ impl<'a> Emitter<'a> {
     ghost use Rattle.std.specs.Prelude.{nat_lt};
     ghost use Rattle.cell_tx.specs.Emitting.{made_samples, piece_end, piece_of};
 
-    /// Creates an emitter positioned before its first piece.
+    /// Creates an emitter for `emission`, positioned before the first piece.
     pub fn new(emission: &'a Emission) -> Emitter<'a>
         ensures samples { result.samples ≡ emitted_samples emission.now }
         ensures offset { result.offset ≡ emission.now.timing.offset }
@@ -168,7 +170,7 @@ impl<'a> Emitter<'a> {
         Emitter::by(&Source::of(emission))
     }
 
-    /// Creates an emitter for `source`, positioned before its first piece.
+    /// Creates an emitter for `source`, positioned before the first piece.
     pub(crate) fn by(source: &Source<'a>) -> Emitter<'a>
         ensures samples { result.samples ≡ made_samples source.now }
         ensures offset { result.offset ≡ source.now.timing.offset }
@@ -183,7 +185,8 @@ impl<'a> Emitter<'a> {
         }
     }
 
-    /// Computes the next piece, up to the end of its frame or of the emission. Returns whether there was one.
+    /// Computes the next piece of samples, up to the end of its frame or of the emission. Returns whether there was
+    /// such a piece.
     pub fn advance(&mut self) -> bool
         ensures samples { self.new.samples ≡ self.old.samples }
         ensures offset { self.new.offset ≡ self.old.offset }
@@ -204,7 +207,7 @@ impl<'a> Emitter<'a> {
         more
     }
 
-    /// Returns the samples of the last piece.
+    /// Returns the samples of the last piece, at most one frame.
     pub fn piece(&self) -> &[Sample]
         ensures { result.now ≡ piece_of self.now }
     {
@@ -223,7 +226,8 @@ fn put_piece(at: usize, piece: &[Sample], out: &mut [Sample])
     out[at..at + piece.len()].copy_from_slice(piece);
 }
 
-/// Writes all samples of an emitter, positioned before its first piece, to `out`, which has the same length.
+/// Writes all samples of `emitter` to `out`, which must have the same length. The emitter must be positioned before its
+/// first piece.
 pub(crate) fn put_all(mut emitter: Emitter, out: &mut [Sample])
     requires start { emitter.at ≡ 0 }
     requires room { length out.old ≡ length emitter.samples }
@@ -237,8 +241,8 @@ pub(crate) fn put_all(mut emitter: Emitter, out: &mut [Sample])
     }
 }
 
-/// Writes all samples of an emission into `out`, which has the same length: the sum over the antenna ports of sample
-/// `i + offset` of the port's sequence, times its gain. Components have magnitude at most 32,284.
+/// Writes all samples of `emission` to `out`, which must have the same length. Sample `i` is the sum over the ports of
+/// their sample `i + offset`, times the port's gain. Components have magnitudes of at most 32,284.
 pub fn emit(emission: &Emission, out: &mut [Sample])
     requires { length out.old ≡ emission.now.samples }
     ensures samples { out.new ≡ emitted_samples emission.now }

@@ -1,4 +1,4 @@
-//! Symbol ranges in a frame, and the samples that a port adds in them.
+//! The ranges of symbols in a frame that are computed anew, and the samples that a port adds in these ranges.
 
 ghost use Rattle.std.specs.Prelude.{◌≡◌, ◌+◌, ◌*◌, ◌/◌, ◌%◌, ◌<◌, ◌≤◌, true, None, length};
 ghost use Rattle.cs_num.specs.Complex.{IsWithin, square, plus, times, value_of, sample_of, silence};
@@ -19,7 +19,7 @@ use lte_types::{Carrier, SLOT_LENGTH, USEFUL_LENGTH};
 
 // ---- symbol ranges
 
-/// Two symbol ranges in a frame: `first..last` and `again..end`.
+/// Two ranges of symbols in a frame: `first..last` and `again..end`, numbered from the frame's start.
 #[derive(Clone, Copy)]
 pub(crate) struct Symbols {
     pub first: usize,
@@ -28,7 +28,7 @@ pub(crate) struct Symbols {
     pub end: usize,
 }
 
-// Returns the first `count` symbols of a frame.
+// Returns the range of the first `count` symbols of a frame; the second range is empty.
 fn first_symbols(count: usize) -> Symbols
     ensures { result ≡ record { first = 0; last = count; again = count; end = count } }
 {
@@ -40,7 +40,7 @@ fn first_symbols(count: usize) -> Symbols
     }
 }
 
-/// Returns all symbols of a frame.
+/// Returns the range of all symbols of a frame: 140, or 120 with the extended cyclic prefix.
 pub(crate) fn all_symbols(carrier: Carrier) -> Symbols
     ensures order { AreSpans (prefix_of carrier) result }
     ensures all { AreAll (prefix_of carrier) result }
@@ -48,8 +48,8 @@ pub(crate) fn all_symbols(carrier: Carrier) -> Symbols
     first_symbols(20 * carrier.prefix().symbols())
 }
 
-// Returns the symbols in which frames without load differ: the four PBCH symbols in slot 1, and subframe 5 if system
-// information is transmitted.
+// Returns the symbols that differ between frames without load: the four PBCH symbols in slot 1 and, if the transmission
+// scheme sends system information, subframe 5.
 fn channel_symbols(carrier: Carrier) -> Symbols
     ensures order { AreSpans (prefix_of carrier) result }
     ensures own { AreOwn carrier None result }
@@ -73,8 +73,8 @@ fn channel_symbols(carrier: Carrier) -> Symbols
     }
 }
 
-/// Returns the symbols to recompute when another frame is in the buffer: all with load, otherwise those in which
-/// frames differ.
+/// Returns the symbols to compute anew when the buffer holds another frame: all symbols with load, and otherwise those
+/// that differ between frames.
 pub(crate) fn own_symbols(carrier: Carrier, load: Option<u32>) -> Symbols
     ensures order { AreSpans (prefix_of carrier) result }
     ensures own { AreOwn carrier load result }
@@ -86,7 +86,7 @@ pub(crate) fn own_symbols(carrier: Carrier, load: Option<u32>) -> Symbols
     }
 }
 
-/// Returns the symbols to recompute: all in the first frame, otherwise `own_symbols`.
+/// Returns the symbols to compute anew: all symbols for the first frame, and otherwise `own_symbols`.
 pub(crate) fn symbols_at(carrier: Carrier, load: Option<u32>, is_first: bool) -> Symbols
     ensures order { AreSpans (prefix_of carrier) result }
     ensures all { is_first ≡ true → AreAll (prefix_of carrier) result }
@@ -104,7 +104,7 @@ pub(crate) fn symbols_at(carrier: Carrier, load: Option<u32>, is_first: bool) ->
 // A sample of silence.
 pub(crate) const SILENCE: Sample = Sample { re: 0, im: 0 };
 
-// Returns the first sample of symbol `l` in a slot.
+// Returns the first sample of symbol `l` in a slot, where the cyclic prefix begins.
 fn first_in_slot(port: Port, l: usize) -> usize
     requires { l < port_symbols port }
     ensures value { result ≡ first_in_slot (port_prefix port) l }
@@ -118,7 +118,8 @@ fn first_in_slot(port: Port, l: usize) -> usize
     }
 }
 
-// Returns the first sample of a symbol in a frame, or the frame's end for the number after the last symbol.
+// Returns the first sample of symbol `symbol` in a frame, or the frame's end for the number that follows the last
+// symbol's.
 fn first_sample_of(port: Port, symbol: usize) -> usize
     requires { symbol ≤ 20 * port_symbols port }
     ensures value { result ≡ first_sample (port_prefix port) symbol }
@@ -128,7 +129,7 @@ fn first_sample_of(port: Port, symbol: usize) -> usize
     SLOT_LENGTH * (symbol / symbols) + first_in_slot(port, symbol % symbols)
 }
 
-// Returns the useful part of a symbol in a frame.
+// Returns the 128 samples of the useful part of symbol `symbol` in the frame.
 fn useful_at(signals: &Signals, symbol: usize) -> [Cpx; USEFUL_LENGTH]
     requires { symbol < 20 * port_symbols signals.now.port }
     ensures { result ≡ useful_part (elements_of signals.now signals.now.sfn (symbol / port_symbols signals.now.port / 2)
@@ -139,7 +140,7 @@ fn useful_at(signals: &Signals, symbol: usize) -> [Cpx; USEFUL_LENGTH]
     useful_of(signals, (symbol / symbols) as u8, (symbol % symbols) as u8)
 }
 
-// Overwrites the samples `first..last` with silence.
+// Overwrites the samples `first..last` of a frame with silence.
 fn clear_between(first: usize, last: usize, out: &mut [Sample])
     requires order { first ≤ last }
     requires last { last ≤ frame_length }
@@ -151,7 +152,7 @@ fn clear_between(first: usize, last: usize, out: &mut [Sample])
     }
 }
 
-/// Overwrites some symbols of a frame with silence.
+/// Overwrites the ranges `symbols` of a frame with silence.
 pub(crate) fn clear_symbols(port: Port, symbols: &Symbols, out: &mut [Sample])
     requires order { AreSpans (port_prefix port) symbols.now }
     requires room { length out.old ≡ frame_length }
@@ -169,7 +170,7 @@ pub(crate) fn clear_symbols(port: Port, symbols: &Symbols, out: &mut [Sample])
     );
 }
 
-// Returns a sample plus a value times a gain.
+// Returns sample `before` plus `value` times `gain`. The sum must fit 16 bits.
 fn sum_of(before: Sample, gain: &Cpx, value: Cpx) -> Sample
     requires gain { square gain.now ≤ 784 }
     requires value { square value ≤ 1153 * 1153 }
@@ -180,8 +181,8 @@ fn sum_of(before: Sample, gain: &Cpx, value: Cpx) -> Sample
     (Cpx::from(before) + product).exact_sample()
 }
 
-// Adds the port's samples in a symbol, times a gain. The symbol ends with its useful part, and its cyclic prefix
-// repeats the last samples.
+// Adds the port's samples in one symbol of a frame, times `gain`. The symbol ends with its useful part, and its cyclic
+// prefix repeats the last samples of that part.
 fn add_symbol(signals: &Signals, gain: &Cpx, symbol: usize, out: &mut [Sample])
     requires symbol { symbol < 20 * port_symbols signals.now.port }
     requires gain { square gain.now ≤ 784 }
@@ -198,7 +199,7 @@ fn add_symbol(signals: &Signals, gain: &Cpx, symbol: usize, out: &mut [Sample])
     }
 }
 
-// Adds the port's samples in the symbols `first..last`, times a gain.
+// Adds the port's samples in the symbols `first..last` of a frame, times `gain`.
 fn add_between(signals: &Signals, gain: &Cpx, first: usize, last: usize, out: &mut [Sample])
     requires order { first ≤ last }
     requires last { last ≤ 20 * port_symbols signals.now.port }
@@ -214,7 +215,7 @@ fn add_between(signals: &Signals, gain: &Cpx, first: usize, last: usize, out: &m
     }
 }
 
-/// Adds the port's samples in some symbols of a frame, times a gain.
+/// Adds the port's samples in the ranges `symbols` of a frame, times `gain`.
 pub(crate) fn add_symbols(signals: &Signals, gain: &Cpx, symbols: &Symbols, out: &mut [Sample])
     requires order { AreSpans (port_prefix signals.now.port) symbols.now }
     requires gain { square gain.now ≤ 784 }

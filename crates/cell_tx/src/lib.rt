@@ -1,5 +1,5 @@
-//! The transmitter for a described cell, for each transmission scheme: the endless frame sequence that its resource
-//! grid produces, at one antenna port or summed over all ports (TS 36.211 section 6.12).
+//! The transmitter of a cell, for each transmission scheme: the samples of the endless frame sequence that the cell's
+//! resource grid produces, at one antenna port or summed over all ports (TS 36.211 section 6.12).
 //!
 //! Tests: the crate `sent_tests`, in `transmissions.rt` and `emissions.rt`.
 #![tactic(auto)]

@@ -1,4 +1,4 @@
-//! A cell's samples.
+//! The samples that a cell transmits.
 
 ghost use Rattle.std.specs.Prelude.{◌≡◌, ◌+◌, ◌*◌, ◌/◌, ◌%◌, ◌<◌, ◌≤◌, length, None};
 ghost use Rattle.finite.specs.Lists.{values_below};
@@ -23,19 +23,20 @@ use cell_plan::{Cell, Transmission};
 use cs_num::{Cpx, Gain, Sample};
 use lte_types::{Carrier, FRAME_LENGTH, SLOT_LENGTH, Sfn, Timing, USEFUL_LENGTH};
 
-// The number of samples in a frame.
+// The number of samples in a frame: 19,200.
 const FRAME: u64 = FRAME_LENGTH as u64;
 
-// The only port, with the normal cyclic prefix.
+// The only antenna port of a cell with one port and the normal cyclic prefix.
 const ONLY: Port = Port {
     carrier: Carrier::OnePort,
     number: 0,
 };
 
-// The unit gain.
+// The gain of 1.
 const ONE: Cpx = Cpx { re: 1, im: 0 };
 
-// Returns the index in the symbol's useful part for sample `i` of a slot.
+// Returns the index that sample `i` of a slot has in the useful part of its symbol. A cyclic prefix sample has the
+// index of the useful sample that it repeats.
 fn place_at(port: Port, i: usize) -> usize
     requires { i < slot_length }
     ensures value { result ≡ useful_place (port_prefix port) i }
@@ -46,7 +47,7 @@ fn place_at(port: Port, i: usize) -> usize
     (i + first - prefix.step() * prefix.symbol_of(i)) % USEFUL_LENGTH
 }
 
-// Returns the symbol in the slot that contains sample `i`.
+// Returns the number of the symbol in a slot that contains sample `i` of the slot.
 fn symbol_at(port: Port, i: usize) -> u8
     requires { i < slot_length }
     ensures value { result ≡ symbol_of (port_prefix port) i }
@@ -55,7 +56,7 @@ fn symbol_at(port: Port, i: usize) -> u8
     port.carrier.prefix().symbol_of(i) as u8
 }
 
-// Returns sample `i` of a slot, given the useful part of its symbol.
+// Returns sample `i` of slot `slot`, given the useful part of the symbol that contains the sample.
 fn sample_of_slot(signals: &Signals, useful: &[Cpx; USEFUL_LENGTH], slot: usize, i: usize) -> Sample
     requires i { i < slot_length }
     requires useful { useful.now ≡ useful_part (elements_of signals.now signals.now.sfn (slot / 2)
@@ -66,7 +67,7 @@ fn sample_of_slot(signals: &Signals, useful: &[Cpx; USEFUL_LENGTH], slot: usize,
     useful[place_at(signals.port, i)].exact_sample()
 }
 
-// Returns sample `i` of a frame.
+// Returns sample `i` of the frame, with its useful part computed anew.
 fn sample_of_frame(signals: &Signals, i: usize) -> Sample
     requires { i < frame_length }
     ensures { result ≡ sample_of (sample_in signals.now i) }
@@ -80,8 +81,8 @@ fn sample_of_frame(signals: &Signals, i: usize) -> Sample
     sample_of_slot(signals, &useful, slot, i % SLOT_LENGTH)
 }
 
-/// Returns sample `i` of the endless frame sequence that a cell sends at `port` from frame `sfn`, without load (TS
-/// 36.211 section 6.12, in whole numbers). Its magnitude is at most 1,153.
+/// Returns sample `i` of the endless frame sequence that a cell sends at `port`, starting with frame `sfn`, without
+/// load (TS 36.211 section 6.12, in integers). Its magnitude is at most 1,153.
 pub fn port_sample(cell: &Cell, port: Port, sfn: Sfn, i: u64) -> Sample
     ensures value { result ≡ sample_of (sent_by None port cell.now sfn i) }
     ensures size { square (sent_by None port cell.now sfn i) ≤ 1153 * 1153 }
@@ -93,8 +94,8 @@ pub fn port_sample(cell: &Cell, port: Port, sfn: Sfn, i: u64) -> Sample
     sample_of_frame(&signals, (i % FRAME) as usize)
 }
 
-/// Returns sample `i` of the endless frame sequence that a cell sends from frame `sfn`, with one antenna port and the
-/// normal cyclic prefix (TS 36.211 section 6.12, in whole numbers). Its magnitude is at most 1,153.
+/// Returns sample `i` of the endless frame sequence that a cell with one antenna port and the normal cyclic prefix
+/// sends, starting with frame `sfn` (TS 36.211 section 6.12, in integers). Its magnitude is at most 1,153.
 pub fn sample(cell: &Cell, sfn: Sfn, i: u64) -> Sample
     ensures value { result ≡ sample_of (sent (element cell.now) sfn i) }
     ensures size { square (sent (element cell.now) sfn i) ≤ 1153 * 1153 }
@@ -102,7 +103,7 @@ pub fn sample(cell: &Cell, sfn: Sfn, i: u64) -> Sample
     port_sample(cell, ONLY, sfn, i)
 }
 
-/// Writes frame `sfn` into `out`, which has 19,200 samples: `sample` for indices from 0.
+/// Writes the 19,200 samples of frame `sfn` to `out`, for one antenna port: `sample` with the indices from 0.
 pub fn frame(cell: &Cell, sfn: Sfn, out: &mut [Sample])
     requires { length out.old ≡ frame_length }
     ensures { out.new ≡ frame_samples normal (element cell.now) sfn }
@@ -118,7 +119,7 @@ pub fn frame(cell: &Cell, sfn: Sfn, out: &mut [Sample])
     sequence(&sender, out);
 }
 
-// Returns a sample times a gain. The sample's magnitude is at most 1,153.
+// Returns a sample times a gain. The magnitude of `clean` must be at most 1,153.
 fn amplified(gain: Gain, clean: Sample) -> Sample
     requires { square (value_of clean) ≤ 1153 * 1153 }
     ensures value { result ≡ sample_of (times gain (value_of clean)) }
@@ -127,8 +128,8 @@ fn amplified(gain: Gain, clean: Sample) -> Sample
     gain.value().mul(Cpx::from(clean)).exact_sample()
 }
 
-/// Returns sample `i` of a transmission: sample `i + offset` of the cell's sequence, times the gain. `i` is below the
-/// sample count. Components have magnitude at most 32,284.
+/// Returns sample `i` of a transmission: sample `i + offset` of the cell's sequence, times the gain. `i` must be below
+/// the sample count. Components have magnitudes of at most 32,284.
 pub fn send(t: &Transmission, i: u32) -> Sample
     requires { i < t.now.samples }
     ensures value { result ≡ sample_of (received t.now.cell t.now.sfn t.now.offset (gain_of t.now.gain) i) }
@@ -137,21 +138,22 @@ pub fn send(t: &Transmission, i: u32) -> Sample
     amplified(t.gain(), sample(&t.cell, t.sfn, i as u64 + t.offset as u64))
 }
 
-/// A cell transmitted at one antenna port, from a sample in a frame, with or without load.
+/// A cell that is transmitted at one antenna port, starting at a sample in a frame, with or without load.
 #[derive(Drop)]
 pub struct Sender<'a> {
-    /// The cell. Its system information is not transmitted with the extended cyclic prefix or four antenna ports.
+    /// The cell that is transmitted. With the extended cyclic prefix or four antenna ports, its system information is
+    /// not.
     pub cell: &'a Cell,
-    /// The antenna port.
+    /// The antenna port that transmits.
     pub port: Port,
-    /// The first frame, and the first transmitted sample in it.
+    /// The number of the first frame, and the first transmitted sample in that frame.
     pub timing: Timing,
-    /// The number of the load on the resource elements that the plan leaves open, if there is load.
+    /// The number of the load in the resource elements that the plan leaves open, or `None` for no load.
     pub load: Option<u32>,
 }
 
-/// Writes the port's transmission into `out`, at most 1,920,000 samples: sample `i + offset` of the port's sequence
-/// into item `i`. Magnitudes are at most 1,153 (`sizes`).
+/// Writes the samples of `sender` to `out`, which has room for at most 1,920,000: item `i` is sample `i + offset` of
+/// the port's sequence. Magnitudes are at most 1,153 (`sizes`).
 pub fn sequence(sender: &Sender, out: &mut [Sample])
     requires { length out.old ≤ most_samples }
     ensures { out.new ≡ values_below (length out.old) (λ i. sample_of (sample_by sender.now i)) }
@@ -160,7 +162,7 @@ pub fn sequence(sender: &Sender, out: &mut [Sample])
     put_all(Emitter::by(&source), out);
 }
 
-/// Writes all samples of a transmission into `out`, which has the same length: `send` for each index.
+/// Writes all samples of a transmission to `out`, which must have the same length: item `i` is `send` for index `i`.
 pub fn send_all(t: &Transmission, out: &mut [Sample])
     requires { length out.old ≡ t.now.samples }
     ensures { out.new ≡ received_samples t.now }

@@ -1,4 +1,4 @@
-//! The source of samples: a cell, its antenna ports with gains, the timing and the load.
+//! A source of samples: a cell, its antenna ports and their gains, the timing and the load.
 
 ghost use Rattle.std.specs.Prelude.{◌≤◌};
 ghost use Rattle.lte_types.specs.Numerology.{most_samples};
@@ -9,15 +9,15 @@ use cell_plan::{Cell, Emission};
 use cs_num::Cpx;
 use lte_types::{Carrier, Timing};
 
-/// The antenna ports that transmit simultaneously: a single one, or all in a transmission scheme.
+/// The antenna ports that transmit simultaneously: a single port, or all ports of a transmission scheme.
 #[derive(Clone, Copy)]
 pub(crate) enum Ports {
     Alone(Port),
     All(Carrier),
 }
 
-/// The first `samples` samples of a cell from `timing`: the sum of the ports' signals times their gains. For a single
-/// port the first gain is used.
+/// The first `samples` samples that a cell transmits from `timing`: the sum of the ports' signals, each times its gain.
+/// A single port has the first gain.
 #[derive(Drop)]
 pub(crate) struct Source<'a> {
     pub cell: &'a Cell,
@@ -53,7 +53,7 @@ impl<'a> Source<'a> {
         }
     }
 
-    /// Returns the source of one port's samples, times a gain.
+    /// Returns the source of one port's samples times `gain`, `samples` in number.
     pub(crate) fn of_port(sender: &Sender<'a>, gain: Cpx, samples: usize) -> Source<'a>
         requires samples { samples ≤ most_samples }
         requires gain { square gain ≤ 784 }
@@ -69,7 +69,7 @@ impl<'a> Source<'a> {
         }
     }
 
-    /// Returns a copy of this source.
+    /// Returns a copy of the source.
     pub(crate) fn again(&self) -> Source<'a>
         ensures { result ≡ self.now }
     {
@@ -88,7 +88,7 @@ impl Ports {
     ghost use Rattle.std.specs.Prelude.{◌≡◌};
     ghost use Rattle.cell_tx.specs.Mixing.{carrier_by};
 
-    /// Returns the first port.
+    /// Returns the first port: port 0 of a transmission scheme, or the single port.
     pub(crate) fn first(self) -> Port
         ensures { result.carrier ≡ carrier_by self }
     {

@@ -1,4 +1,4 @@
-//! The useful parts of symbols.
+//! The useful parts of symbols, 128 samples each.
 
 ghost use Rattle.std.specs.Prelude.{◌≡◌, ◌+◌, ◌*◌, ◌/◌, ◌%◌, ◌<◌};
 ghost use Rattle.fold128.specs.Symbol.{useful_part};
@@ -11,7 +11,7 @@ use cs_num::Cpx;
 use fold128::synth;
 use lte_types::USEFUL_LENGTH;
 
-// Returns the index in its subframe for a symbol of a slot.
+// Returns the position in its subframe of symbol `symbol` of slot `slot`, 0 to 13.
 fn symbol_of(port: Port, slot: u8, symbol: u8) -> u8
     requires { symbol < port_symbols port }
     ensures value { result ≡ port_symbols port * (slot % 2) + symbol }
@@ -24,7 +24,7 @@ fn symbol_of(port: Port, slot: u8, symbol: u8) -> u8
     }
 }
 
-/// Returns the useful part of symbol `symbol` in a slot.
+/// Returns the 128 samples of the useful part of symbol `symbol` in slot `slot` of the frame.
 pub(crate) fn useful_of(signals: &Signals, slot: u8, symbol: u8) -> [Cpx; USEFUL_LENGTH]
     requires slot { slot < 20 }
     requires symbol { symbol < port_symbols signals.now.port }
