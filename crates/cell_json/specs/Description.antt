@@ -26,7 +26,7 @@ use Rattle.cell_json.specs.Information.{sib1_in}
 
 -- ---- kinds of values in a description
 
--- a list of exactly two whole numbers: the real and the imaginary part
+-- the complex number of an array of exactly two integers, the real and the imaginary part
 abbrev pub pair_in : Items → Option Cpx
 pair_in (item a (item b no_items)) = option_and_then (λ x. option_map (λ y. with_parts x y) (whole_of b)) (whole_of a)
 pair_in _ = None
@@ -34,17 +34,17 @@ pair_in _ = None
 abbrev pub pair_of : Data → Option Cpx
 pair_of json = option_and_then pair_in (as_array json)
 
--- phich-Duration by its name
+-- the phich-Duration that a string names
 abbrev pub duration_of : Data → Option Duration
 duration_of json = option_and_then duration_named (as_str json)
 
--- phich-Resource by its name
+-- the phich-Resource that a string names
 abbrev pub resource_of : Data → Option Resource
 resource_of json = option_and_then resource_named (as_str json)
 
 -- ---- keys and their kinds
 
--- the keys of a network identity
+-- the keys of a network identity (PLMN), each with the type of its value
 abbrev pub network_keys : List (Data → Bool)
 network_keys =
     has (codes "mcc") (null_or as_str)
@@ -52,14 +52,14 @@ network_keys =
     ∷ has (codes "reserved") as_bool
     ∷ []
 
--- the keys of a schedule entry
+-- the keys of a schedule entry, each with the type of its value
 abbrev pub message_keys : List (Data → Bool)
 message_keys =
     has (codes "period") whole_of
     ∷ has (codes "sibs") (list_of whole_of)
     ∷ []
 
--- the keys of cellAccessRelatedInfo
+-- the keys of cellAccessRelatedInfo, each with the type of its value
 unfoldable pub access_keys : List (Data → Bool)
 access_keys =
     has (codes "plmns") (list_of (object_of network_keys))
@@ -71,7 +71,7 @@ access_keys =
     ∷ has (codes "csg_identity") (null_or whole_of)
     ∷ []
 
--- the keys of cellSelectionInfo with p-Max and freqBandIndicator
+-- the keys of cellSelectionInfo, p-Max and freqBandIndicator, each with the type of its value
 unfoldable pub selection_keys : List (Data → Bool)
 selection_keys =
     has (codes "q_rx") whole_of
@@ -80,7 +80,7 @@ selection_keys =
     ∷ has (codes "band") whole_of
     ∷ []
 
--- the keys of the schedule, and systemInfoValueTag
+-- the keys of the schedule and systemInfoValueTag, each with the type of its value
 unfoldable pub schedule_keys : List (Data → Bool)
 schedule_keys =
     has (codes "scheduling") (list_of (object_of message_keys))
@@ -88,11 +88,11 @@ schedule_keys =
     ∷ has (codes "tag") whole_of
     ∷ []
 
--- all keys of SystemInformationBlockType1
+-- the 14 keys of SystemInformationBlockType1
 abbrev pub sib1_keys : List (Data → Bool)
 sib1_keys = access_keys ++ selection_keys ++ schedule_keys
 
--- the keys for the transmission
+-- the keys of the transmission's frame number, offset and sample count
 unfoldable pub sending_keys : List (Data → Bool)
 sending_keys =
     has (codes "sfn") whole_of
@@ -100,7 +100,7 @@ sending_keys =
     ∷ has (codes "samples") whole_of
     ∷ []
 
--- the keys for the plan's numbers
+-- the keys of the plan's numbers
 unfoldable pub number_keys : List (Data → Bool)
 number_keys =
     has (codes "identity") whole_of
@@ -116,11 +116,11 @@ number_keys =
 abbrev pub gain_names : List (List ℕ)
 gain_names = codes "gain" ∷ codes "gain2" ∷ codes "gain3" ∷ codes "gain4" ∷ []
 
--- the keys for the gains of the transmission scheme's ports
+-- the keys of the gains of the transmission scheme's ports, each with a pair of integers
 abbrev pub gain_keys : Carrier → List (Data → Bool)
 gain_keys carrier = map (λ name. has name pair_of) (take (ports_of carrier) gain_names)
 
--- all keys of a description
+-- all keys of a description for a transmission scheme; `has_form` states that a JSON value has exactly these keys
 abbrev pub keys : Carrier → List (Data → Bool)
 keys carrier =
     sending_keys
@@ -135,19 +135,19 @@ has_form carrier json = has_exactly (keys carrier) json
 
 -- ---- values at the keys
 
--- the whole number at a key
+-- the integer at a key, or 0 if the key has no integer
 abbrev pub number_at : List ℕ → Data → ℤ
 number_at key json = unwrap_or (at_key whole_of key json) (pos 0)
 
--- a gain by its key
+-- the gain at a key, or 0 if the key has no pair of integers
 abbrev pub gain_by : List ℕ → Data → Cpx
 gain_by key json = unwrap_or (at_key pair_of key json) nothing
 
--- the gain of the first antenna port
+-- the gain of antenna port 0
 abbrev pub gain_at : Data → Cpx
 gain_at json = gain_by (codes "gain") json
 
--- four gains in port order; 0 for ports beyond the transmission scheme's, where it is not used
+-- four gains in port order, with 0 for ports beyond the transmission scheme's port count
 abbrev pub gains_at : Carrier → Data → List Cpx
 gains_at carrier json =
     map (λ name. gain_by name json) (take (ports_of carrier) gain_names) ++ replicate (4 - ports_of carrier) nothing
@@ -158,15 +158,15 @@ duration_at json = unwrap_or (at_key duration_of (codes "duration") json) Normal
 abbrev pub resource_at : Data → Resource
 resource_at json = unwrap_or (at_key resource_of (codes "resource") json) OneSixth
 
--- SystemInformationBlockType1, if each of its values is in range
+-- the SystemInformationBlockType1 of a description, or `None` if one of its values is out of range
 abbrev pub sib1_at : Data → Option Sib1
 sib1_at json = at_key sib1_in (codes "sib1") json
 
--- a number in a plan's field; a number that does not fit becomes the maximum, which no condition accepts
+-- a number in a field of a plan; a number that does not fit becomes `most`, which no condition accepts
 abbrev pub in_field : ℕ → ℤ → ℕ
 in_field most z = if is_between (pos 0) (pos most) z then nat_abs z else most
 
--- the cell's plan with this SystemInformationBlockType1
+-- the plan that a description gives, with `sib1` as its SystemInformationBlockType1
 abbrev pub plan_of : Data → Sib1 → CellPlan
 plan_of json sib1 = record {
   identity = in_field 65535 (number_at (codes "identity") json);
@@ -183,19 +183,19 @@ plan_of json sib1 = record {
 
 -- ---- the conditions
 
--- the gains suit a clean recording: the first port's is not 0, and the total power is at most 784 divided by the
--- number of ports
+-- the gains are those of a clean recording: the gain of port 0 is not 0, and the total power is at most 784 divided by
+-- the port count
 abbrev pub are_gains : Carrier → List Cpx → Bool
 are_gains carrier gains =
     nat_le 1 (square (value_at gains 0)) && nat_le (power_of carrier gains) (784 / ports_of carrier)
 
--- the plan's conditions, if SystemInformationBlockType1 is in range
+-- the conditions on the plan of a description, or none if a value of its SystemInformationBlockType1 is out of range
 unfoldable pub cell_conditions : Carrier → Data → List Condition
 cell_conditions carrier json =
     option_map_or (λ sib1. conditions_of carrier (plan_of json sib1)) (sib1_at json) []
 
--- all conditions in order: the form, the transmission, the ranges of SystemInformationBlockType1, and the plan's
--- conditions
+-- all conditions in order: the form, the transmission's numbers, the gains, the ranges of SystemInformationBlockType1,
+-- and the conditions on the plan
 abbrev pub conditions : Carrier → Data → List Condition
 conditions carrier json =
     condition (has_form carrier json) Form

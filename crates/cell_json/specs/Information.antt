@@ -1,4 +1,5 @@
--- A description's SystemInformationBlockType1, with each value in range. (own; ranges of TS 36.331 section 6.2.2)
+-- The SystemInformationBlockType1 of a description, with each value in its range. (own; ranges of TS 36.331 section
+-- 6.2.2)
 use Rattle.std.specs.Prelude.{ℕ, ◌-◌, Bool, false, ◌&&◌, nat_eq, nat_le, if◌then◌else◌, List, [], ◌∷◌, length, codes}
 use Rattle.std.specs.Prelude.{Option, Some, None, is_some, option_map, option_and_then, pos, negsuc}
 use Rattle.serde_json.specs.Data.{Data}
@@ -16,7 +17,7 @@ use Rattle.cell_json.specs.Kinds.{◌>>=◌, given, whole_within, natural_within
 
 -- ---- network identities
 
--- a digit by its character code; `0` to `9` are 48 to 57
+-- the digit with character code `code`; `0` to `9` have the codes 48 to 57
 abbrev pub digit_of : ℕ → Option ℕ
 digit_of code = given (nat_le 48 code && nat_le code 57) (code - 48)
 
@@ -35,11 +36,11 @@ three_digits (a ∷ b ∷ c ∷ []) = do
   Some (first ∷ second ∷ third ∷ [])
 three_digits _ = None
 
--- a mobile country code: three digits
+-- a mobile country code: a string of three digits
 abbrev pub mcc_of : Data → Option (List ℕ)
 mcc_of json = option_and_then three_digits (as_str json)
 
--- a mobile network code: two or three digits
+-- a mobile network code: a string of two or three digits
 abbrev pub mnc_in : List ℕ → Option Mnc
 mnc_in text = if nat_eq (length text) 2 then option_map Two (two_digits text) else option_map Three (three_digits text)
 
@@ -57,7 +58,7 @@ abbrev pub first_has_mcc : List Plmn → Bool
 first_has_mcc [] = false
 first_has_mcc (first ∷ rest) = is_some first.mcc
 
--- 1 to 6 network identities, the first with a country code
+-- 1 to 6 network identities, of which the first has a country code
 abbrev pub networks_of : Data → Option (List Plmn)
 networks_of json = do
   networks ← list_within 1 6 network_of json
@@ -65,19 +66,19 @@ networks_of json = do
 
 -- ---- the schedule
 
--- the code for a period in frames
+-- the code of a period, given in frames, 8 to 512
 abbrev pub period_in : Data → Option ℕ
 period_in json = do
   frames ← natural_within 8 512 json
   period_of frames
 
--- the code for a window in milliseconds
+-- the code of a system information window, given in milliseconds, 1 to 40
 abbrev pub window_in : Data → Option ℕ
 window_in json = do
   milliseconds ← natural_within 1 40 json
   window_of milliseconds
 
--- an entry: the code for its period, and the codes for at most 31 blocks
+-- a schedule entry: the code of its period, and at most 31 SIB codes from 0 to 79
 abbrev pub message_of : Data → Option SiMessage
 message_of json = do
   period ← at_key period_in (codes "period") json
@@ -86,7 +87,7 @@ message_of json = do
 
 -- ---- SystemInformationBlockType1; a description has no TDD-Config and no extension
 
--- the access fields: who may use the cell
+-- the fields of cellAccessRelatedInfo, each in its range
 abbrev pub access_in : Data → Option CellAccessRelatedInfo
 access_in json = do
   plmns ← at_key networks_of (codes "plmns") json
@@ -106,7 +107,7 @@ access_in json = do
     csg_identity = csg_identity;
   })
 
--- the minimum levels for cell selection
+-- the fields of cellSelectionInfo, each in its range: q-RxLevMin and q-RxLevMinOffset
 abbrev pub selection_in : Data → Option CellSelectionInfo
 selection_in json = do
   q_rx ← at_key (whole_within (negsuc 69) (negsuc 21)) (codes "q_rx") json

@@ -1,17 +1,17 @@
--- A description's values, unchecked. (own)
+-- The values of a description, without a check of their ranges. (own)
 use Rattle.std.specs.Prelude.{◌≡◌, codes}
 use Rattle.serde_json.specs.Data.{Data}
 use Rattle.cell_json.specs.declared.description.Sending.{Sending}
 use Rattle.cell_json.specs.declared.description.Numbers.{Numbers}
 use Rattle.cell_json.specs.Description.{number_at}
 
--- the transmission's values come from the JSON value
+-- the frame number, offset and sample count are those in the description
 pub record HasSending (d : Sending) (json : Data) : Type 0 where
   pub sfn : d.sfn ≡ number_at (codes "sfn") json
   pub offset : d.offset ≡ number_at (codes "offset") json
   pub samples : d.samples ≡ number_at (codes "samples") json
 
--- the plan's numbers come from the JSON value
+-- the numbers of the plan are those in the description
 pub record HasNumbers (d : Numbers) (json : Data) : Type 0 where
   pub identity : d.identity ≡ number_at (codes "identity") json
   pub spare : d.spare ≡ number_at (codes "spare") json

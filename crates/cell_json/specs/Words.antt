@@ -1,4 +1,4 @@
--- The messages for descriptions that were refused. (own)
+-- The texts for descriptions that cannot be read. (own)
 use Rattle.std.specs.Prelude.{ℕ, List, codes}
 use Rattle.cell_plan.specs.Words.{refusal_text}
 use Rattle.cell_json.specs.declared.error.JsonError.{JsonError}

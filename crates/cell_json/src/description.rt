@@ -1,4 +1,4 @@
-//! The values in a description.
+//! The values in a cell description.
 
 ghost use Rattle.std.specs.Prelude.{◌≡◌, nat_lt, if◌then◌else◌, IsTrue, IsFalse, Some, MatchOption, codes, length};
 ghost use Rattle.serde_json.specs.View.{view};
@@ -15,7 +15,7 @@ use cs_num::Cpx;
 use lte_types::{Carrier, Duration, Resource};
 use serde_json::Value;
 
-/// Frame number, offset and sample count of the transmission, unchecked.
+/// The frame number, offset in samples and sample count of a transmission, without a check of their ranges.
 #[derive(Clone, Copy)]
 pub(crate) struct Sending {
     pub sfn: i64,
@@ -23,7 +23,7 @@ pub(crate) struct Sending {
     pub samples: i64,
 }
 
-/// The numbers of the cell's plan, unchecked.
+/// The numbers of a cell's plan, without a check of their ranges.
 #[derive(Clone, Copy)]
 pub(crate) struct Numbers {
     pub identity: i64,
@@ -35,7 +35,8 @@ pub(crate) struct Numbers {
     pub column: i64,
 }
 
-/// A JSON value in the form of a description, and its values except SystemInformationBlockType1.
+/// A JSON value that has the form of a description, and its values except SystemInformationBlockType1. No range has
+/// been checked yet.
 #[derive(Clone, Copy)]
 pub(crate) struct Description<'a> {
     pub value: &'a Value,
@@ -44,7 +45,7 @@ pub(crate) struct Description<'a> {
     pub numbers: Numbers,
     pub duration: Duration,
     pub resource: Resource,
-    /// One gain per antenna port; 0 for ports beyond the transmission scheme's.
+    /// One gain per antenna port, and 0 for ports beyond the transmission scheme's port count.
     pub gains: [Cpx; 4],
     pub ghost has_form: { IsTrue (has_form carrier (view value.now)) },
     pub ghost has_sending: { HasSending sending (view value.now) },
@@ -54,7 +55,7 @@ pub(crate) struct Description<'a> {
     pub ghost has_gains: { gains ≡ gains_at carrier (view value.now) },
 }
 
-// Returns a list of exactly two whole numbers as a complex number, real part first.
+// Returns the complex number that an array of exactly two integers gives, real part first.
 fn pair_in(value: &Value) -> Option<Cpx>
     ensures { result ≡ pair_of (view value.now) }
 {
@@ -68,28 +69,28 @@ fn pair_in(value: &Value) -> Option<Cpx>
     })
 }
 
-// Returns the complex number at a key.
+// Returns the complex number at `key`, or `None` if the key has no array of two integers.
 fn pair(value: &Value, key: &str) -> Option<Cpx>
     ensures { result ≡ at_key pair_of key.now (view value.now) }
 {
     pair_in(value.get(key)?)
 }
 
-// Returns phich-Duration at a key.
+// Returns the phich-Duration that the string at `key` names, or `None` if there is no such name.
 fn duration(value: &Value, key: &str) -> Option<Duration>
     ensures { result ≡ at_key duration_of key.now (view value.now) }
 {
     Duration::from_name(value.get(key)?.as_str()?)
 }
 
-// Returns phich-Resource at a key.
+// Returns the phich-Resource that the string at `key` names, or `None` if there is no such name.
 fn resource(value: &Value, key: &str) -> Option<Resource>
     ensures { result ≡ at_key resource_of key.now (view value.now) }
 {
     Resource::from_name(value.get(key)?.as_str()?)
 }
 
-// Returns the values for the transmission.
+// Returns the frame number, offset and sample count, or `None` if one of the keys has no integer.
 #[tactic(auto, unfolding(crate::specs::Description::sending_keys))]
 fn sending_of(value: &Value) -> Option<Sending>
     ensures { MatchOption result (IsFalse (has_all sending_keys (view value.now)))
@@ -102,7 +103,7 @@ fn sending_of(value: &Value) -> Option<Sending>
     })
 }
 
-// Returns the numbers for the cell's plan.
+// Returns the numbers of the cell's plan, or `None` if one of the keys has no integer.
 #[tactic(auto, unfolding(crate::specs::Description::number_keys))]
 fn numbers_of(value: &Value) -> Option<Numbers>
     ensures { MatchOption result (IsFalse (has_all number_keys (view value.now)))
@@ -119,7 +120,7 @@ fn numbers_of(value: &Value) -> Option<Numbers>
     })
 }
 
-// Returns whether the key `sib1` has a value in the form of SystemInformationBlockType1.
+// Returns whether the key `sib1` has a value with the form of SystemInformationBlockType1.
 fn has_sib1(value: &Value) -> bool
     ensures { result ≡ has (codes "sib1") (object_of sib1_keys) (view value.now) }
 {
@@ -129,7 +130,7 @@ fn has_sib1(value: &Value) -> bool
     }
 }
 
-// Returns the number of keys in a description.
+// Returns the number of keys in a description: 13, plus one gain for each antenna port.
 #[tactic(auto, using(crate::proofs::Tables::count_by_ports))]
 fn key_count(carrier: Carrier) -> usize
     ensures { result ≡ length (keys carrier) }
@@ -137,7 +138,8 @@ fn key_count(carrier: Carrier) -> usize
     13 + carrier.ports() as usize
 }
 
-// Returns a port's gain at its key; 0 for ports beyond the transmission scheme's.
+// Returns the gain of `port` at `key`, or 0 for ports beyond the transmission scheme's port count. `None` means that
+// the key has no pair of integers.
 fn gain_of(carrier: Carrier, port: u8, value: &Value, key: &str) -> Option<Cpx>
     ensures { result ≡ (if nat_lt port (ports_of carrier) then at_key pair_of key.now (view value.now)
         else Some nothing) }
@@ -149,7 +151,8 @@ fn gain_of(carrier: Carrier, port: u8, value: &Value, key: &str) -> Option<Cpx>
     }
 }
 
-// Returns the gains of the transmission scheme's ports, padded with zeros to four.
+// Returns the gains of the transmission scheme's ports, padded with zeros to four, or `None` if a port's key has no
+// pair of integers.
 fn gains_of(carrier: Carrier, value: &Value) -> Option<[Cpx; 4]>
     ensures { MatchOption result (IsFalse (has_all (gain_keys carrier) (view value.now)))
         (λ gains. IsTrue (has_all (gain_keys carrier) (view value.now))
@@ -163,7 +166,8 @@ fn gains_of(carrier: Carrier, value: &Value) -> Option<[Cpx; 4]>
     ])
 }
 
-/// Returns the description in `value`, or `None` if `value` does not have the form of one.
+/// Returns the description in `value` for transmission scheme `carrier`, or `None` if `value` does not have the form of
+/// a description.
 #[tactic(auto, using(crate::proofs::Tables::form_parts))]
 pub(crate) fn description_of(carrier: Carrier, value: &Value) -> Option<Description<'_>>
     ensures { MatchOption result (IsFalse (has_form carrier (view value.now)))

@@ -1,4 +1,4 @@
-//! Why a description was refused.
+//! The errors for a description that cannot be read as an emission.
 
 ghost use Rattle.std.specs.Prelude.{Some};
 ghost use Rattle.cell_json.specs.Words.{error_text};
@@ -7,10 +7,10 @@ use cell_plan::CellError;
 use std::fmt;
 use thiserror::Error;
 
-/// Why a description was refused. (own)
+/// The error for a description that cannot be read as an emission. (own)
 #[derive(Clone, Copy, Debug, PartialEq, Eq, Error)]
 pub enum JsonError {
-    /// The first failed condition.
+    /// The first condition, in the crate's order, that the description fails.
     Cell(CellError),
     /// An allocation failed.
     OutOfMemory,

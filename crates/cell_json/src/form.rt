@@ -1,4 +1,4 @@
-//! The form of the values in a description.
+//! The form of the JSON values in a description: which keys are there, and which types their values have.
 
 ghost use Rattle.std.specs.Prelude.{◌≡◌, codes, is_some, Bool};
 ghost use Rattle.serde_json.specs.Find.{as_str, as_bool};
@@ -10,21 +10,21 @@ ghost use Rattle.cell_json.specs.Description.{schedule_keys, sib1_keys};
 use crate::kinds::{count_keys, truth, whole};
 use serde_json::Value;
 
-// Returns whether a key has a whole number.
+// Returns whether `key` has an integer.
 fn has_whole(value: &Value, key: &str) -> bool
     ensures { result ≡ has key.now whole_of (view value.now) }
 {
     whole(value, key).is_some()
 }
 
-// Returns whether a key has a truth value.
+// Returns whether `key` has a Boolean.
 fn has_truth(value: &Value, key: &str) -> bool
     ensures { result ≡ has key.now as_bool (view value.now) }
 {
     truth(value, key).is_some()
 }
 
-// Returns whether a key has a whole number or null.
+// Returns whether `key` has an integer or null.
 fn has_whole_or_null(value: &Value, key: &str) -> bool
     ensures { result ≡ has key.now (null_or whole_of) (view value.now) }
 {
@@ -34,7 +34,7 @@ fn has_whole_or_null(value: &Value, key: &str) -> bool
     }
 }
 
-// Returns whether a key has a text.
+// Returns whether `key` has a string.
 fn has_text(value: &Value, key: &str) -> bool
     ensures { result ≡ has key.now as_str (view value.now) }
 {
@@ -44,7 +44,7 @@ fn has_text(value: &Value, key: &str) -> bool
     }
 }
 
-// Returns whether a key has a text or null.
+// Returns whether `key` has a string or null.
 fn has_text_or_null(value: &Value, key: &str) -> bool
     ensures { result ≡ has key.now (null_or as_str) (view value.now) }
 {
@@ -54,7 +54,7 @@ fn has_text_or_null(value: &Value, key: &str) -> bool
     }
 }
 
-// Returns whether a value is a network identity.
+// Returns whether `value` has exactly the keys of a network identity (PLMN), each with a value of its type.
 fn is_network(value: &Value) -> bool
     ensures { result ≡ has_exactly network_keys (view value.now) }
 {
@@ -64,7 +64,7 @@ fn is_network(value: &Value) -> bool
         && has_truth(value, "reserved")
 }
 
-// Returns whether a key has a list of network identities.
+// Returns whether `key` has an array of network identities.
 fn has_networks(value: &Value, key: &str) -> bool
     ensures { result ≡ has key.now (list_of (object_of network_keys)) (view value.now) }
 {
@@ -83,7 +83,7 @@ fn are_networks(value: &Value) -> bool
     }
 }
 
-// Returns whether a key has a list of whole numbers.
+// Returns whether `key` has an array of integers.
 fn has_wholes(value: &Value, key: &str) -> bool
     ensures { result ≡ has key.now (list_of whole_of) (view value.now) }
 {
@@ -102,14 +102,14 @@ fn are_wholes(value: &Value) -> bool
     }
 }
 
-// Returns whether a value is a schedule entry.
+// Returns whether `value` has exactly the keys of a schedule entry, each with a value of its type.
 fn is_message(value: &Value) -> bool
     ensures { result ≡ has_exactly message_keys (view value.now) }
 {
     count_keys(value) == 2 && has_whole(value, "period") && has_wholes(value, "sibs")
 }
 
-// Returns whether a key has a list of schedule entries.
+// Returns whether `key` has an array of schedule entries.
 fn has_messages(value: &Value, key: &str) -> bool
     ensures { result ≡ has key.now (list_of (object_of message_keys)) (view value.now) }
 {
@@ -128,7 +128,7 @@ fn are_messages(value: &Value) -> bool
     }
 }
 
-// Returns whether a value has the keys of cellAccessRelatedInfo.
+// Returns whether `value` has the keys of cellAccessRelatedInfo, each with a value of its type.
 #[tactic(auto, unfolding(crate::specs::Description::access_keys))]
 fn has_access(value: &Value) -> bool
     ensures { result ≡ has_all access_keys (view value.now) }
@@ -142,7 +142,8 @@ fn has_access(value: &Value) -> bool
         && has_whole_or_null(value, "csg_identity")
 }
 
-// Returns whether a value has the keys of cellSelectionInfo, p-Max and freqBandIndicator.
+// Returns whether `value` has the keys of cellSelectionInfo, p-Max and freqBandIndicator, each with a value of its
+// type.
 #[tactic(auto, unfolding(crate::specs::Description::selection_keys))]
 fn has_selection(value: &Value) -> bool
     ensures { result ≡ has_all selection_keys (view value.now) }
@@ -153,7 +154,7 @@ fn has_selection(value: &Value) -> bool
         && has_whole(value, "band")
 }
 
-// Returns whether a value has the keys of the schedule and systemInfoValueTag.
+// Returns whether `value` has the keys of the schedule and systemInfoValueTag, each with a value of its type.
 #[tactic(auto, unfolding(crate::specs::Description::schedule_keys))]
 fn has_schedule(value: &Value) -> bool
     ensures { result ≡ has_all schedule_keys (view value.now) }
@@ -161,7 +162,8 @@ fn has_schedule(value: &Value) -> bool
     has_messages(value, "scheduling") && has_whole(value, "window") && has_whole(value, "tag")
 }
 
-/// Returns whether a value has the form of SystemInformationBlockType1.
+/// Returns whether `value` has the form of SystemInformationBlockType1: exactly its 14 keys, each with a value of its
+/// type.
 #[tactic(auto, using(crate::proofs::Tables::sib1_parts))]
 pub(crate) fn is_sib1(value: &Value) -> bool
     ensures { result ≡ has_exactly sib1_keys (view value.now) }

@@ -1,4 +1,5 @@
-//! A description's SystemInformationBlockType1.
+//! The SystemInformationBlockType1 of a description, with each value checked against its range (TS 36.331 section
+//! 6.2.2).
 
 ghost use Rattle.std.specs.Prelude.{◌≡◌, ◌≤◌, ◌<◌, pos, negsuc, length};
 ghost use Rattle.serde_json.specs.View.{view, items_view};
@@ -20,7 +21,7 @@ use lte_types::{
 };
 use serde_json::Value;
 
-// Returns a digit by its character code.
+// Returns the digit with character code `code`, or `None` if `code` is not the code of a digit.
 fn digit_of(code: u8) -> Option<u8>
     ensures { result ≡ digit_in code }
 {
@@ -49,7 +50,7 @@ fn three_digits(text: &str) -> Option<[u8; 3]>
     }
 }
 
-// Returns a mobile country code or null.
+// Returns a mobile country code of three digits, or null. `None` means that the value is neither.
 fn mcc_or_null(value: &Value) -> Option<Option<[u8; 3]>>
     ensures { result ≡ null_or mcc_of (view value.now) }
 {
@@ -59,7 +60,7 @@ fn mcc_or_null(value: &Value) -> Option<Option<[u8; 3]>>
     Some(Some(three_digits(value.as_str()?)?))
 }
 
-// Returns a mobile network code by its text.
+// Returns the mobile network code in `text`, which must have two or three digits.
 fn mnc_in_text(text: &str) -> Option<Mnc>
     ensures { result ≡ mnc_in text.now }
 {
@@ -76,7 +77,7 @@ fn mnc_of(value: &Value) -> Option<Mnc>
     mnc_in_text(value.as_str()?)
 }
 
-// Returns a network identity.
+// Returns the network identity (PLMN) that `value` describes, or `None` if a field is out of range.
 fn plmn_of(value: &Value) -> Option<Plmn>
     ensures { result ≡ network_of (view value.now) }
 {
@@ -87,21 +88,21 @@ fn plmn_of(value: &Value) -> Option<Plmn>
     })
 }
 
-// Returns the code for a period in frames.
+// Returns the code of a period, given as 8 to 512 frames.
 fn period_of(value: &Value) -> Option<u8>
     ensures { result ≡ period_in (view value.now) }
 {
     period::code_of(natural_within(value, 8, 512)? as u16)
 }
 
-// Returns the code for a window in milliseconds.
+// Returns the code of a system information window, given as 1 to 40 milliseconds.
 fn window_of(value: &Value) -> Option<u8>
     ensures { result ≡ window_in (view value.now) }
 {
     window::code_of(natural_within(value, 1, 40)? as u8)
 }
 
-// Returns 1 to 6 network identities, the first with a country code.
+// Returns 1 to 6 network identities. The first must have a country code.
 fn plmns_of(value: &Value) -> Option<Plmns>
     ensures { result ≡ networks_of (view value.now) }
 {
@@ -121,7 +122,7 @@ fn first_has_mcc(plmns: &Plmns) -> bool
     }
 }
 
-// Returns the items as network identities.
+// Returns the network identities that the items describe, or `None` if one item does not describe a network identity.
 fn plmns_in(items: &[Value]) -> Option<Plmns>
     requires { length items.now ≤ 6 }
     ensures { result ≡ each network_of (items_view items.now) }
@@ -133,7 +134,7 @@ fn plmns_in(items: &[Value]) -> Option<Plmns>
     Some(plmns)
 }
 
-// Returns the items as block codes.
+// Returns the SIB codes (0 to 79) in the items, or `None` if one item is out of range.
 fn sibs_in(items: &[Value]) -> Option<Sibs>
     requires { length items.now ≤ 31 }
     ensures { result ≡ each (natural_of 0 79) (items_view items.now) }
@@ -145,14 +146,14 @@ fn sibs_in(items: &[Value]) -> Option<Sibs>
     Some(sibs)
 }
 
-// Returns the codes in a list of at most 31 blocks.
+// Returns the SIB codes in an array of at most 31 items.
 fn sibs_of(value: &Value) -> Option<Sibs>
     ensures { result ≡ list_within 0 31 (natural_of 0 79) (view value.now) }
 {
     sibs_in(items_within(value, 0, 31)?)
 }
 
-// Returns a schedule entry.
+// Returns the schedule entry that `value` describes, or `None` if a field is out of range.
 fn message_of(value: &Value) -> Option<SiMessage>
     ensures { result ≡ entry_of (view value.now) }
 {
@@ -162,7 +163,7 @@ fn message_of(value: &Value) -> Option<SiMessage>
     })
 }
 
-// Returns the items as schedule entries.
+// Returns the schedule entries that the items describe, or `None` if one item is out of range.
 fn schedule_in(items: &[Value]) -> Option<Schedule>
     requires { length items.now ≤ 32 }
     ensures { result ≡ each entry_of (items_view items.now) }
@@ -174,14 +175,14 @@ fn schedule_in(items: &[Value]) -> Option<Schedule>
     Some(schedule)
 }
 
-// Returns a schedule with 1 to 32 entries.
+// Returns a schedule of 1 to 32 entries.
 fn schedule_of(value: &Value) -> Option<Schedule>
     ensures { result ≡ list_within 1 32 entry_of (view value.now) }
 {
     schedule_in(items_within(value, 1, 32)?)
 }
 
-// Returns p-Max at its key, or null.
+// Returns the p-Max at `key`, -30 to 33 dBm, or null. `None` means that the value is out of range.
 fn p_max_at(value: &Value, key: &str) -> Option<Option<i8>>
     ensures { result ≡ at_key (null_or (whole_of (negsuc 29) (pos 33))) key.now (view value.now) }
 {
@@ -192,7 +193,7 @@ fn p_max_at(value: &Value, key: &str) -> Option<Option<i8>>
     Some(Some(small_within(inner, -30, 33)?))
 }
 
-// Returns q-RxLevMinOffset at its key, or null.
+// Returns the q-RxLevMinOffset at `key`, 1 to 8 in steps of 2 dB, or null. `None` means that the value is out of range.
 fn q_offset_at(value: &Value, key: &str) -> Option<Option<u8>>
     ensures { result ≡ at_key (null_or (natural_of 1 8)) key.now (view value.now) }
 {
@@ -203,7 +204,7 @@ fn q_offset_at(value: &Value, key: &str) -> Option<Option<u8>>
     Some(Some(natural_within(inner, 1, 8)? as u8))
 }
 
-// Returns the access fields: who may use the cell.
+// Returns the fields of cellAccessRelatedInfo, or `None` if one of them is out of range.
 fn access_in(value: &Value) -> Option<CellAccessRelatedInfo>
     ensures { result ≡ described_access (view value.now) }
 {
@@ -218,7 +219,7 @@ fn access_in(value: &Value) -> Option<CellAccessRelatedInfo>
     })
 }
 
-// Returns the minimum levels for cell selection.
+// Returns the fields of cellSelectionInfo, q-RxLevMin and q-RxLevMinOffset, or `None` if one of them is out of range.
 fn selection_in(value: &Value) -> Option<CellSelectionInfo>
     ensures { result ≡ described_selection (view value.now) }
 {
@@ -228,7 +229,7 @@ fn selection_in(value: &Value) -> Option<CellSelectionInfo>
     })
 }
 
-/// Returns SystemInformationBlockType1, or `None` if one of its values is out of range.
+/// Returns the SystemInformationBlockType1 that `value` describes, or `None` if one of its values is out of range.
 #[tactic(auto, unfolding(crate::specs::Information::sib1_in))]
 pub(crate) fn sib1_in(value: &Value) -> Option<Sib1>
     ensures { result ≡ described_sib1 (view value.now) }

@@ -1,4 +1,4 @@
-//! Kinds of JSON values.
+//! The types of JSON values: integers, Booleans, strings and arrays, read with a range.
 
 ghost use Rattle.std.specs.Prelude.{◌≡◌, ℕ, ◌≤◌, ◌≤ℤ◌, pos, IsTrue, IsFalse, IfSome, MatchOption, option_map, length};
 ghost use Rattle.serde_json.specs.Find.{as_bool};
@@ -9,7 +9,7 @@ ghost use Rattle.cell_json.specs.Kinds.{items_within as items_of};
 
 use serde_json::Value;
 
-/// Returns the number of keys of `value`.
+/// Returns the number of keys of `value`, or 0 if `value` is not an object.
 pub(crate) fn count_keys(value: &Value) -> usize
     ensures { result ≡ key_count (view value.now) }
 {
@@ -19,21 +19,21 @@ pub(crate) fn count_keys(value: &Value) -> usize
     }
 }
 
-/// Returns the whole number at a key.
+/// Returns the integer at `key`, or `None` if the key has no integer.
 pub(crate) fn whole(value: &Value, key: &str) -> Option<i64>
     ensures { result ≡ at_key whole_of key.now (view value.now) }
 {
     value.get(key)?.as_i64()
 }
 
-/// Returns the truth value at a key.
+/// Returns the Boolean at `key`, or `None` if the key has no Boolean.
 pub(crate) fn truth(value: &Value, key: &str) -> Option<bool>
     ensures { result ≡ at_key as_bool key.now (view value.now) }
 {
     value.get(key)?.as_bool()
 }
 
-/// Returns `number` if it is in the range.
+/// Returns `number` if it is from `least` to `most`.
 pub(crate) fn within(number: &i64, least: u32, most: u32) -> Option<u32>
     ensures found { MatchOption result (IsFalse (is_between (pos least) (pos most) number.now))
         (λ _. IsTrue (is_between (pos least) (pos most) number.now)) }
@@ -47,7 +47,7 @@ pub(crate) fn within(number: &i64, least: u32, most: u32) -> Option<u32>
     }
 }
 
-/// Returns a whole number if it is in the range, which has no negative numbers.
+/// Returns the integer in `value` if it is from `least` to `most`, which are not negative.
 pub(crate) fn natural_within(value: &Value, least: u32, most: u32) -> Option<u32>
     ensures value { result ≡ natural_of least most (view value.now) }
     ensures range { IfSome result (λ n. (least ≤ n) × (n ≤ most)) }
@@ -56,7 +56,7 @@ pub(crate) fn natural_within(value: &Value, least: u32, most: u32) -> Option<u32
     within(&number, least, most)
 }
 
-/// Returns the whole number at a key if it is in the range, which has no negative numbers.
+/// Returns the integer at `key` if it is from `least` to `most`, which are not negative.
 pub(crate) fn natural_at(value: &Value, key: &str, least: u32, most: u32) -> Option<u32>
     ensures value { result ≡ at_key (natural_of least most) key.now (view value.now) }
     ensures range { IfSome result (λ n. (least ≤ n) × (n ≤ most)) }
@@ -64,7 +64,7 @@ pub(crate) fn natural_at(value: &Value, key: &str, least: u32, most: u32) -> Opt
     natural_within(value.get(key)?, least, most)
 }
 
-/// Returns null or the whole number at a key if it is in the range, which has no negative numbers.
+/// Returns the integer at `key` if it is from `least` to `most`, which are not negative, or `Some(None)` for null.
 pub(crate) fn natural_or_null_at(
     value: &Value,
     key: &str,
@@ -80,7 +80,7 @@ pub(crate) fn natural_or_null_at(
     Some(Some(natural_within(inner, least, most)?))
 }
 
-/// Returns a signed 8-bit whole number if it is in the range.
+/// Returns the integer in `value` if it is from `least` to `most`, which have 8 bits.
 pub(crate) fn small_within(value: &Value, least: i8, most: i8) -> Option<i8>
     ensures { result ≡ small_of least most (view value.now) }
 {
@@ -92,7 +92,7 @@ pub(crate) fn small_within(value: &Value, least: i8, most: i8) -> Option<i8>
     }
 }
 
-/// Returns the items of a list if its length is in the range.
+/// Returns the items of an array if their number is from `least` to `most`.
 pub(crate) fn items_within(value: &Value, least: usize, most: usize) -> Option<&[Value]>
     ensures value { option_map (λ items. items_view items.now) result ≡ items_of least most (view value.now) }
     ensures count { IfSome result (λ items. (least ≤ length items.now) × (length items.now ≤ most)) }

@@ -1,8 +1,8 @@
 //! JSON descriptions of a cell's transmission, for each transmission scheme.
 //!
-//! With two antenna ports a description has one more key, the second port's gain; with four it has three more. The
-//! gains must be those of a clean recording (`AreGainsOf`); with four ports a pair may be weak. If a key occurs twice,
-//! its last value counts.
+//! With two antenna ports, a description has one more key than with one port, and with four ports three more: the gains
+//! of the further ports. The gains must be those of a clean recording (`AreGainsOf`), except that with four ports a
+//! transmit diversity pair may be weak. If a key occurs twice, the last value counts.
 //!
 //! If several conditions fail, the first in this order is reported: `Form`, `Sfn`, `Offset`, `Samples`, `Gain`,
 //! `Sib1Range`, then those of `Cell::of`.

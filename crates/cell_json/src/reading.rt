@@ -1,4 +1,4 @@
-//! Descriptions as bytes.
+//! Descriptions as bytes, and the emissions that they describe.
 
 ghost use Rattle.std.specs.Prelude.{◌≡◌, ◌+◌, ◌<◌, nat_lt, nat_le, if◌then◌else◌, pos};
 ghost use Rattle.std.specs.Prelude.{IsTrue, IsFalse, IfSome, MatchOption, MatchResult};
@@ -20,13 +20,13 @@ use lte_types::{Carrier, LEAST_SAMPLES, MOST_SAMPLES, Sfn, Sib1, Timing};
 use serde_json::Value;
 use std::alloc::Global;
 
-// The minimum and the maximum sample count.
+// The minimum and the maximum sample count of an emission.
 const LEAST: u32 = LEAST_SAMPLES as u32;
 
 const MOST: u32 = MOST_SAMPLES as u32;
 
-/// Reads the emission, without load, that `bytes` describe in JSON for `carrier`. Reports the first failed condition,
-/// in the crate's order; `OutOfMemory` is possible for any bytes.
+/// Reads the emission, without load, that `bytes` describe in JSON for transmission scheme `carrier`. Returns the first
+/// failed condition, in the crate's order, or `OutOfMemory`, which is possible for any bytes.
 pub fn read_by(alloc: Global, carrier: Carrier, bytes: &[u8]) -> Result<Emission, JsonError>
     ensures { MatchResult result (DescribesBy carrier bytes.now) (IsRefusedBy carrier bytes.now) }
 {
@@ -44,7 +44,7 @@ pub fn read_by(alloc: Global, carrier: Carrier, bytes: &[u8]) -> Result<Emission
     }
 }
 
-/// Reads the transmission that `bytes` describe: `read_by` for one antenna port and the normal cyclic prefix.
+/// Reads the transmission that `bytes` describe, as `read_by` does for one antenna port and the normal cyclic prefix.
 pub fn read(alloc: Global, bytes: &[u8]) -> Result<Transmission, JsonError>
     ensures { MatchResult result (Describes bytes.now) (IsRefused bytes.now) }
 {
@@ -54,7 +54,7 @@ pub fn read(alloc: Global, bytes: &[u8]) -> Result<Transmission, JsonError>
     }
 }
 
-// Returns the frame number if it is in range.
+// Returns the frame number if it is from 0 to 1023.
 fn sfn_of(number: &i64) -> Option<Sfn>
     ensures { MatchOption result (IsFalse (is_between (pos 0) (pos 1023) number.now))
         (λ sfn. IsTrue (is_between (pos 0) (pos 1023) number.now) × (pos sfn ≡ number.now)) }
@@ -62,7 +62,7 @@ fn sfn_of(number: &i64) -> Option<Sfn>
     Sfn::new(within(number, 0, 1023)? as u16)
 }
 
-// Returns a number in a 16-bit field; a number that does not fit becomes the maximum.
+// Returns `number` in a 16-bit field. A number that does not fit becomes 65,535, which no condition accepts.
 fn in_16_bits(number: &i64) -> u16
     ensures { result ≡ in_field 65535 number.now }
 {
@@ -72,7 +72,7 @@ fn in_16_bits(number: &i64) -> u16
     }
 }
 
-// Returns a number in an 8-bit field; a number that does not fit becomes the maximum.
+// Returns `number` in an 8-bit field. A number that does not fit becomes 255, which no condition accepts.
 fn in_8_bits(number: &i64) -> u8
     ensures { result ≡ in_field 255 number.now }
 {
@@ -82,7 +82,7 @@ fn in_8_bits(number: &i64) -> u8
     }
 }
 
-// Returns the description's plan with this SystemInformationBlockType1.
+// Returns the plan that the description gives, with `sib1`. Numbers that do not fit their field fail a later condition.
 fn plan_of(description: &Description<'_>, sib1: Sib1) -> CellPlan
     ensures { result ≡ described_plan (view description.now.value.now) sib1 }
 {
@@ -101,7 +101,7 @@ fn plan_of(description: &Description<'_>, sib1: Sib1) -> CellPlan
     }
 }
 
-// Returns the description's SystemInformationBlockType1 if each value is in range.
+// Returns the SystemInformationBlockType1 of a description, or `None` if one of its values is out of range.
 fn information_of(value: &Value) -> Option<Sib1>
     ensures value { result ≡ sib1_at (view value.now) }
     ensures valid { IfSome result IsValid }
@@ -109,7 +109,7 @@ fn information_of(value: &Value) -> Option<Sib1>
     sib1_in(value.get("sib1")?)
 }
 
-// Returns the squared magnitude of a port's gain; 0 for ports beyond the transmission scheme's.
+// Returns the squared magnitude of the gain of `port`, or 0 for ports beyond the transmission scheme's port count.
 fn power(carrier: Carrier, gains: &[Cpx; 4], port: u8) -> u128
     requires { port < 4 }
     ensures { result ≡ (if nat_lt port (ports_of carrier) then square (value_at gains.now port) else 0) }
@@ -121,7 +121,7 @@ fn power(carrier: Carrier, gains: &[Cpx; 4], port: u8) -> u128
     }
 }
 
-// Returns whether the sum of four numbers is at most `most`.
+// Returns whether the sum of four numbers is at most `most`, without overflow.
 fn are_together(one: u128, two: u128, three: u128, four: u128, most: u128) -> bool
     ensures { result ≡ nat_le (one + two + three + four) most }
 {
@@ -131,7 +131,8 @@ fn are_together(one: u128, two: u128, three: u128, four: u128, most: u128) -> bo
         && four <= most - one - two - three
 }
 
-// Returns whether the gains suit a clean recording.
+// Returns whether the gains are those of a clean recording: the gain of port 0 is not 0, and the power is at most 784
+// divided by the port count.
 fn are_gains(carrier: Carrier, gains: &[Cpx; 4]) -> bool
     ensures { result ≡ are_gains carrier gains.now }
 {
@@ -142,7 +143,7 @@ fn are_gains(carrier: Carrier, gains: &[Cpx; 4]) -> bool
     1 <= first && are_together(first, second, third, fourth, 784 / carrier.ports() as u128)
 }
 
-// Returns the gains if they suit a clean recording.
+// Returns `gains` if they are those of a clean recording.
 fn clean_gains(carrier: Carrier, gains: &[Cpx; 4]) -> Option<[Cpx; 4]>
     ensures { MatchOption result (IsFalse (are_gains carrier gains.now))
         (λ clean. IsTrue (are_gains carrier gains.now) × (clean ≡ gains.now)) }
@@ -154,7 +155,7 @@ fn clean_gains(carrier: Carrier, gains: &[Cpx; 4]) -> Option<[Cpx; 4]>
     }
 }
 
-// Returns the described emission, or the first failed condition after the form.
+// Returns the emission that a description gives, or its first failed condition, which is not `Form`.
 fn emission_of(description: &Description<'_>) -> Result<Emission, CellError>
     ensures { MatchResult result (IsValueOf description.now.carrier (view description.now.value.now))
         (IsRefusedFor description.now.carrier (view description.now.value.now)) }
