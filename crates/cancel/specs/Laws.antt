@@ -1,4 +1,4 @@
--- Laws of cell cancellation. (own)
+-- Laws on the cancellation of a cell. (own)
 use Rattle.std.specs.Prelude.{◌≡◌, ℕ, ◌*◌, ◌<◌, ◌≤◌, List, Option}
 use Rattle.cs_num.specs.declared.Cpx.{Cpx}
 use Rattle.cs_num.specs.declared.Sample.{Sample}
@@ -12,24 +12,25 @@ use Rattle.cancel.specs.Gain.{estimate, IsCandidate, IsBest, greatest_below}
 use Rattle.cancel.specs.Residue.{IsSubtraction, TakesLoadedOff, TakesCleanOff}
 use Rattle.lte_types.specs.Numerology.{useful_length}
 
--- 128 samples are a signal times a gain, plus errors of at most twice the gain's magnitude in each component
+-- 128 samples are a signal times a gain of magnitude 1 to 28, plus errors. Each error component is at most `eps`, which
+-- is at most twice the gain's magnitude. `power`: the signal has an energy of at least 1,990,000, as the PSS has.
 pub record IsGainSeen (eps : ℕ) (gain : Cpx) (samples signal : ℕ → Cpx) : Type 0 where
   pub size : IsGain gain
   pub quiet : eps * eps ≤ 4 * square gain
   pub power : 1990000 ≤ energy_below useful_length signal
   pub near : (n : ℕ) → n < useful_length → IsWithin eps (minus (samples n) (times gain (signal n)))
 
--- if 128 samples are a signal times a gain, the estimate is the gain or one of its neighbours
+-- if 128 samples are a signal times a gain, plus small errors, the estimate has a distance of at most 1 from the gain
 abbrev pub EstimateIsNear : Type 0
 EstimateIsNear = (eps : ℕ) (gain : Cpx) (samples signal : ℕ → Cpx) → IsGainSeen eps gain samples signal →
     square (minus gain (estimate samples signal)) ≤ 1
 
--- if 128 samples are a signal times a gain, the gain is a candidate
+-- if 128 samples are a signal times a gain, plus small errors, the gain is a candidate near the estimate
 abbrev pub GainIsCandidate : Type 0
 GainIsCandidate = (eps : ℕ) (gain : Cpx) (samples signal : ℕ → Cpx) → IsGainSeen eps gain samples signal →
     IsCandidate (estimate samples signal) gain
 
--- the best candidate's residual does not exceed any other candidate's
+-- the largest residual component of the best candidate does not exceed that of any other candidate
 abbrev pub BestLeavesLeast : Type 0
 BestLeavesLeast =
     (count : ℕ) (left : Cpx → ℕ → Cpx) (middle best gain : Cpx) (bound : ℕ) →
@@ -37,31 +38,32 @@ BestLeavesLeast =
     ((i : ℕ) → i < count → IsWithin bound (left gain i)) →
     (greatest_below count (left best) ≤ bound) × ((i : ℕ) → i < count → IsWithin bound (left best i))
 
--- there is an answer for each recording and cell: the cell is cancelled, or there is no candidate
+-- each recording and cell have a result of cancellation: the cell is cancelled, or there is no candidate
 abbrev pub IsSomeSubtraction : Type 0
 IsSomeSubtraction = (recording : List Sample) (plan : CellPlan) (start number : ℕ) →
     (answer : Option Subtracted) × IsSubtraction recording plan start number answer
 
--- in a loaded recording, the residual does not exceed the residual for the true gain
+-- if the recording is clean for a cell with load, the residual does not exceed the residual for the true gain, provided
+-- that the latter is at most 32,767
 abbrev pub AnswerTakesLoadedOff : Type 0
 AnswerTakesLoadedOff =
     (recording : List Sample) (plan : CellPlan) (start number : ℕ) (answer : Option Subtracted) →
     IsRecording recording → IsSubtraction recording plan start number answer →
     TakesLoadedOff recording plan start number answer
 
--- in a clean recording, the residual does not exceed the errors
+-- if the recording is clean for a cell without load, the residual does not exceed the errors
 abbrev pub AnswerTakesCleanOff : Type 0
 AnswerTakesCleanOff =
     (recording : List Sample) (plan : CellPlan) (start number : ℕ) (answer : Option Subtracted) →
     IsRecording recording → IsSubtraction recording plan start number answer →
     TakesCleanOff recording plan start number answer
 
--- there is only one best candidate
+-- there is at most one best candidate
 abbrev pub IsOneBest : Type 0
 IsOneBest = (greatest : Cpx → ℕ) (middle gain other : Cpx) → IsBest greatest middle gain →
     IsBest greatest middle other → gain ≡ other
 
--- there is only one answer to a cancellation
+-- there is at most one result of the cancellation of a cell
 abbrev pub IsOneSubtraction : Type 0
 IsOneSubtraction = (recording : List Sample) (plan : CellPlan) (start number : ℕ) (a b : Option Subtracted) →
     IsSubtraction recording plan start number a → IsSubtraction recording plan start number b → a ≡ b

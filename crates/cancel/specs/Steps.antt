@@ -1,4 +1,4 @@
--- The steps of the code: a search for the best candidate through 25 gains in order. (own)
+-- The steps of the search for the best candidate through 25 gains, in order. (own)
 use Rattle.std.specs.Prelude.{◌≡◌, ℕ, ◌/◌, ◌%◌, ◌<◌, ◌≤◌, nat_lt, if◌then◌else◌, Option, Some, None, MatchOption}
 use Rattle.std.specs.Prelude.{IfSome, pos, ◌+ℤ◌, ◌-ℤ◌, List, length}
 use Rattle.std.specs.Option.{option_or}
@@ -13,11 +13,12 @@ use Rattle.cancel.specs.Residue.{power_of}
 use Rattle.cancel.specs.declared.choosing.GainChoice.{GainChoice}
 use Rattle.cancel.specs.Gain.{IsCandidate, GoesBefore, IsBest, greatest_below}
 
--- gain i out of 25 around `middle`, whose components differ by at most 2, ordered by real part, then by imaginary part
+-- gain `i` of the 25 whose components differ by at most 2 from those of `middle`, ordered by real part, then by
+-- imaginary part
 abbrev pub around : Cpx → ℕ → Cpx
 around middle i = record { re = middle.re +ℤ (pos (i / 5) -ℤ pos 2); im = middle.im +ℤ (pos (i % 5) -ℤ pos 2) }
 
--- the choice is the best candidate among the first n gains, with its residual
+-- `choice` is the best candidate among the first `n` of 25 gains, with its largest residual component
 pub record IsBestBefore (greatest : Cpx → ℕ) (middle : Cpx) (n : ℕ) (choice : GainChoice) : Type 0 where
   pub index : ℕ
   pub before : index < n
@@ -26,51 +27,53 @@ pub record IsBestBefore (greatest : Cpx → ℕ) (middle : Cpx) (n : ℕ) (choic
   pub first : (j : ℕ) → j < n → IsCandidate middle (around middle j) → GoesBefore greatest choice.gain (around middle j)
   pub leaves : choice.greatest ≡ greatest choice.gain
 
--- a residual at or above the limit, if there is one; the search skips such gains
+-- a residual's largest component `left` is at or above the limit, if there is a limit, so the search skips its gain
 abbrev pub IsPast : Option ℕ → ℕ → Type 0
 IsPast limit left = MatchOption limit ⊥ (λ end. end ≤ left)
 
--- a limit above the residual for `middle`, which is a candidate
+-- if there is a limit, `middle` is a candidate, and its largest residual component is below the limit
 abbrev pub IsLimit : (Cpx → ℕ) → Cpx → Option ℕ → Type 0
 IsLimit greatest middle limit = IfSome limit (λ end. IsCandidate middle middle × (greatest middle < end))
 
--- the best candidate among the first n gains, or none if no candidate is below the limit
+-- the best candidate among the first `n` gains, or `None` if no candidate among them is below the limit
 abbrev pub IsFoundBefore : (Cpx → ℕ) → Cpx → Option ℕ → ℕ → Option GainChoice → Type 0
 IsFoundBefore greatest middle limit n (Some choice) = IsBestBefore greatest middle n choice
 IsFoundBefore greatest middle limit n None =
     (j : ℕ) → j < n → IsCandidate middle (around middle j) → IsPast limit (greatest (around middle j))
 
--- the best candidate with its residual, or none if there is no candidate
+-- the best candidate with its largest residual component, or `None` if there is no candidate
 abbrev pub IsChosen : (Cpx → ℕ) → Cpx → Option GainChoice → Type 0
 IsChosen greatest middle (Some choice) = IsBest greatest middle choice.gain × (choice.greatest ≡ greatest choice.gain)
 IsChosen greatest middle None = (gain : Cpx) → IsCandidate middle gain → ⊥
 
--- the bound that a residual must stay below to improve on the best so far
+-- the bound that a better gain's largest residual component must stay below: the best gain's component so far, or else
+-- the limit
 abbrev pub end_of : Option ℕ → Option GainChoice → Option ℕ
 end_of limit None = limit
 end_of limit (Some found) = Some found.greatest
 
--- the choice, if its residual is below the end
+-- `choice`, if its largest residual component is below the bound, or if there is no bound
 abbrev pub choice_below : Option ℕ → GainChoice → Option GainChoice
 choice_below None choice = Some choice
 choice_below (Some end) choice = if nat_lt choice.greatest end then Some choice else None
 
--- the better choice: the new one only if its residual is smaller
+-- the better choice: `choice` only if its residual is smaller than that of `found`, and otherwise `found`
 abbrev pub better_choice : Option ℕ → Option GainChoice → GainChoice → Option GainChoice
 better_choice limit found choice = option_or (choice_below (end_of limit found) choice) found
 
--- the residual of samples for a gain, given the transmitted samples
+-- the residual of sample `i` for a gain, and its largest component over all samples (`greatest_of`), given the
+-- transmitted samples
 abbrev pub left_of : List Sample → List Sample → Cpx → ℕ → Cpx
 left_of samples sent gain i = minus (sample_at samples i) (times gain (sample_at sent i))
 
 abbrev pub greatest_of : List Sample → List Sample → Cpx → ℕ
 greatest_of samples sent gain = greatest_below (length samples) (left_of samples sent gain)
 
--- a gain with its residual
+-- a gain with its largest residual component
 abbrev pub choice_of : (Cpx → ℕ) → Cpx → GainChoice
 choice_of greatest gain = record { gain = gain; greatest = greatest gain }
 
--- the result of subtracting the transmitted samples times the choice's gain
+-- `taken` is the result of subtracting the transmitted samples times the gain of `choice`
 pub record IsTakenOff (samples sent : List Sample) (choice : GainChoice) (taken : Subtracted) : Type 0 where
   pub gain : gain_of taken.gain ≡ choice.gain
   pub greatest : taken.greatest ≡ choice.greatest

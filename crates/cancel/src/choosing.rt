@@ -1,4 +1,4 @@
-//! The best gain near an estimate.
+//! The search for the best gain near an estimate.
 
 ghost use Rattle.std.specs.Prelude.{◌≡◌, ◌+◌, ◌*◌, ◌^◌, ◌<◌, ◌≤◌, length, max, nat_abs, nat_lt, pos, ◌+ℤ◌, ◌-ℤ◌};
 ghost use Rattle.std.specs.Prelude.{if◌then◌else◌, MatchOption};
@@ -11,14 +11,14 @@ ghost use Rattle.cancel.specs.Steps.{IsFoundBefore, IsChosen};
 use crate::leaving::greatest_of;
 use cs_num::{Cpx, Gain, Sample};
 
-// A gain and the largest component magnitude of its residual.
+// A gain, and the largest component magnitude of the residual that it leaves.
 #[derive(Clone, Copy, PartialEq, Eq)]
 pub(crate) struct GainChoice {
     pub gain: Gain,
     pub greatest: u32,
 }
 
-// Returns `x` plus `by` minus 2.
+// Returns `x + by - 2`, for `by` from 0 to 4.
 fn moved(x: i64, by: u8) -> i64
     requires small { nat_abs x ≤ 2 ^ 40 }
     requires by { by < 5 }
@@ -28,7 +28,7 @@ fn moved(x: i64, by: u8) -> i64
     x + (by as i64 - 2)
 }
 
-// Returns gain `i` out of 25 around `middle`, whose components differ by at most 2.
+// Returns gain `i` of the 25 whose components differ by at most 2 from those of `middle`.
 fn around(middle: Cpx, i: u8) -> Cpx
     requires small { IsWithin (2 ^ 40) middle }
     requires i { i < 25 }
@@ -41,7 +41,7 @@ fn around(middle: Cpx, i: u8) -> Cpx
     }
 }
 
-// Returns `number` as a gain if it is a candidate.
+// Returns `number` as a gain if it is a candidate: a magnitude from 1 to 28, at a distance of at most 2 from `middle`.
 fn candidate(middle: Cpx, number: Cpx) -> Option<Gain>
     requires middle { IsWithin (2 ^ 40) middle }
     requires number { IsWithin (2 ^ 41) number }
@@ -56,7 +56,7 @@ fn candidate(middle: Cpx, number: Cpx) -> Option<Gain>
     }
 }
 
-// Returns the gain with its residual, if that is below `end`.
+// Returns `gain` with its largest residual component, or `None` if that is not below `end`.
 fn choice_of(
     samples: &[Sample],
     sent: &[Sample],
@@ -75,8 +75,8 @@ fn choice_of(
     }
 }
 
-// Returns 1 more than the residual for `middle` if `middle` is a candidate; a gain whose residual reaches this limit
-// is not the best.
+// Returns a limit that is 1 above the largest residual component for `middle`, or `None` if `middle` is not a gain. A
+// gain whose residual reaches the limit is not the best.
 fn limit_of(samples: &[Sample], sent: &[Sample], middle: Cpx) -> Option<u32>
     requires middle { IsWithin (2 ^ 40) middle }
     requires count { length sent.now ≡ length samples.now }
@@ -86,7 +86,8 @@ fn limit_of(samples: &[Sample], sent: &[Sample], middle: Cpx) -> Option<u32>
     Some(greatest_of(samples, sent, gain, u32::MAX) + 1)
 }
 
-// Returns the bound that a residual must stay below to improve on the best so far.
+// Returns the bound that a better gain's largest residual component must stay below: the best gain's component so far,
+// or else `limit`.
 fn end_of(limit: Option<u32>, found: &Option<GainChoice>) -> Option<u32>
     ensures { result ≡ end_with limit found.now }
 {
@@ -96,7 +97,7 @@ fn end_of(limit: Option<u32>, found: &Option<GainChoice>) -> Option<u32>
     }
 }
 
-// Returns the better choice of `found` and another gain.
+// Returns the better of `found`, the best choice so far, and `gain`, or `found` if the residuals are equal.
 fn better_gain(
     samples: &[Sample],
     sent: &[Sample],
@@ -111,7 +112,7 @@ fn better_gain(
     choice_of(samples, sent, gain, end).or(found)
 }
 
-// Extends the search by gain `i`.
+// Returns the best choice among the first `i + 1` gains around `middle`, given `found`, the best among the first `i`.
 fn with_gain(
     samples: &[Sample],
     sent: &[Sample],
@@ -132,7 +133,8 @@ fn with_gain(
     }
 }
 
-/// Returns the candidate near `middle` with the smallest residual, or `None` if there is no candidate.
+/// Returns the candidate near `middle` with the smallest residual (largest component magnitude), or `None` if there is
+/// no candidate.
 pub(crate) fn best(samples: &[Sample], sent: &[Sample], middle: Cpx) -> Option<GainChoice>
     requires middle { IsWithin (2 ^ 40) middle }
     requires count { length sent.now ≡ length samples.now }

@@ -1,4 +1,4 @@
-//! The gain estimate from a PSS.
+//! The estimate of a cell's gain from its PSS.
 
 ghost use Rattle.std.specs.Prelude.{◌≡◌, ◌+◌, ◌%◌, ◌^◌, ◌<◌, ◌≤◌, All, length};
 ghost use Rattle.finite.specs.Lists.{values_below};
@@ -16,7 +16,7 @@ use pss_search::signal_power;
 use sample_file::Recording;
 use sync_seq::{in_middle, pss};
 
-/// Estimates a cell's gain by the first PSS in the frame that begins at `start`, below 19,200.
+/// Estimates a cell's gain by correlation with the first PSS in the frame that begins at sample `start`, below 19,200.
 pub(crate) fn estimate(recording: &Recording, cell: &Cell, start: u32) -> Cpx
     requires { start < frame_length }
     ensures value { result ≡ estimate_at recording.now cell.now start }
@@ -30,7 +30,7 @@ pub(crate) fn estimate(recording: &Recording, cell: &Cell, start: u32) -> Cpx
     correlation(recording, first, n2, &wave).quotient(signal_power(n2))
 }
 
-// Returns the cell's identity within its group.
+// Returns the identity of the cell within its group, 0 to 2, which is the root of its PSS.
 fn root_of(cell: &Cell) -> u8
     ensures value { result ≡ cell.now.identity % 3 }
     ensures small { result ≤ 2 }
@@ -38,7 +38,7 @@ fn root_of(cell: &Cell) -> u8
     (cell.plan().identity % 3) as u8
 }
 
-// Returns a symbol's grid that holds only the PSS.
+// Returns the elements of a symbol that holds only the PSS of root `n2`.
 fn grid_of(n2: u8) -> [Cpx; SUBCARRIERS]
     requires { n2 ≤ 2 }
     ensures { result ≡ values_below subcarriers (pss_grid n2) }
@@ -46,7 +46,7 @@ fn grid_of(n2: u8) -> [Cpx; SUBCARRIERS]
     in_middle(&pss(n2))
 }
 
-// Returns the useful part of a symbol that holds only the PSS.
+// Returns the useful part of a symbol that holds only the PSS of root `n2`: 128 samples.
 fn wave_of(n2: u8) -> [Cpx; USEFUL_LENGTH]
     requires { n2 ≤ 2 }
     ensures value { result ≡ wave_list n2 }
@@ -56,7 +56,7 @@ fn wave_of(n2: u8) -> [Cpx; USEFUL_LENGTH]
     synth(&grid)
 }
 
-// Returns a sample times the conjugate of a signal's sample.
+// Returns `sample` times the conjugate of `signal`.
 fn term(sample: Sample, signal: Cpx) -> Cpx
     requires { IsWithin 1415 signal }
     ensures value { result ≡ times (value_of sample) (conjugate signal) }
@@ -65,7 +65,7 @@ fn term(sample: Sample, signal: Cpx) -> Cpx
     Cpx::from(sample).mul(signal.conj())
 }
 
-// Correlates the samples from index `first` with a signal.
+// Returns the correlation of the 128 samples from index `first` with `signal`.
 fn correlation(recording: &Recording, first: usize, n2: u8, signal: &[Cpx; USEFUL_LENGTH]) -> Cpx
     requires inside { first + useful_length ≤ length recording.now }
     requires signal { signal.now ≡ wave_list n2 }

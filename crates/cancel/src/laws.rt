@@ -1,4 +1,4 @@
-//! Laws of cell cancellation.
+//! Laws on the cancellation of a cell.
 
 ghost use Rattle.cancel.specs.Laws.{EstimateIsNear, GainIsCandidate, BestLeavesLeast, IsOneBest, IsOneSubtraction};
 ghost use Rattle.cancel.specs.Laws.{IsSomeSubtraction, AnswerTakesLoadedOff, AnswerTakesCleanOff};
@@ -11,18 +11,19 @@ pub fn clean_gain_is_candidate()
     ensures least { BestLeavesLeast }
 {}
 
-/// A law: there is only one best candidate, so `subtract` has one answer. (own)
+/// A law: there is at most one best candidate, so `subtract` has only one result. (own)
 pub fn best_candidate_is_one()
     ensures best { IsOneBest }
     ensures answer { IsOneSubtraction }
 {}
 
-/// A law: `subtract` has an answer for each recording and cell. (own)
+/// A law: `subtract` has a result for each recording and cell. (own)
 pub fn some_answer()
     ensures { IsSomeSubtraction }
 {}
 
-/// A law: the promises of `subtract` for clean recordings (`loaded`, `clean`) follow from its answer. (own)
+/// A law: the promises of `subtract` for clean recordings, with load (`loaded`) or without (`clean`), follow from the
+/// definition of its result. (own)
 pub fn answer_leaves_errors()
     ensures loaded { AnswerTakesLoadedOff }
     ensures clean { AnswerTakesCleanOff }

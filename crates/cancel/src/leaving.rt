@@ -1,4 +1,4 @@
-//! Residuals for a gain.
+//! The residual of samples for a gain: each sample less the transmitted sample times the gain.
 
 ghost use Rattle.std.specs.Prelude.{◌≡◌, ◌^◌, ◌<◌, ◌≤◌, length, max};
 ghost use Rattle.cs_num.specs.Complex.{IsWithin, value_of, minus, times, largest_part as greatest_part_of};
@@ -9,10 +9,11 @@ ghost use Rattle.cancel.specs.Steps.{left_of, greatest_of as greatest_left};
 use cs_num::{Cpx, Gain, Sample};
 use std::marker::Model;
 
-// The number of samples after which the search compares a residual with its end.
+// The number of samples after which the search compares the largest residual component with the limit.
 const PIECE: usize = 256;
 
-// A residual in 32 bits, so that the processor handles four numbers at a time. Contracts see it as a complex number.
+// A residual with 32-bit components, so that the processor handles four numbers at a time. Contracts see it as a
+// complex number.
 #[derive(Clone, Copy)]
 pub(crate) struct Remainder {
     re: i32,
@@ -30,7 +31,7 @@ impl Model for Remainder {
     ghost inverse = { λ z. record { re = z.re; im = z.im } };
 }
 
-/// Returns the residual of a sample for a gain, given the transmitted sample.
+/// Returns the residual `sample - gain * sent`.
 pub(crate) fn left(sample: Sample, sent: Sample, gain: Gain) -> Remainder
     ensures value { result ≡ minus (value_of sample) (times gain (value_of sent)) }
     ensures small { IsWithin (2 ^ 22) result }
@@ -38,7 +39,7 @@ pub(crate) fn left(sample: Sample, sent: Sample, gain: Gain) -> Remainder
     left_of_value(&Cpx::from(sample), &Cpx::from(sent), &gain.value())
 }
 
-// Returns the residual of a value for a gain, given the transmitted value.
+// Returns the residual `value - gain * sent`.
 fn left_of_value(value: &Cpx, sent: &Cpx, gain: &Cpx) -> Remainder
     requires value { IsWithin 32768 value.now }
     requires sent { IsWithin 32768 sent.now }
@@ -53,7 +54,7 @@ fn left_of_value(value: &Cpx, sent: &Cpx, gain: &Cpx) -> Remainder
 }
 
 impl Remainder {
-    // Returns the larger component magnitude.
+    // Returns the larger of the two component magnitudes.
     fn greatest_part(&self) -> u32
         requires { IsWithin (2 ^ 22) self.now }
         ensures value { result ≡ greatest_part_of self.now }
@@ -62,7 +63,7 @@ impl Remainder {
         greater_part(self.re.unsigned_abs(), self.im.unsigned_abs())
     }
 
-    /// Returns the nearest sample.
+    /// Returns the nearest sample: each component clamped to 16 bits.
     pub(crate) fn nearest_sample(&self) -> Sample
         ensures { result ≡ nearest_sample_of self.now }
     {
@@ -73,21 +74,22 @@ impl Remainder {
     }
 }
 
-// Returns the nearest 16-bit number.
+// Returns `x` clamped to 16 bits.
 fn in_16_bits(x: &i32) -> i16
     ensures { result ≡ in_16_bits_of x.now }
 {
     (*x).clamp(-32_768, 32_767) as i16
 }
 
-// Returns the larger magnitude.
+// Returns the larger of two magnitudes.
 fn greater_part(a: u32, b: u32) -> u32
     ensures { result ≡ max a b }
 {
     a.max(b)
 }
 
-// Returns the largest residual component below index `to`, given the largest below `from`.
+// Returns the largest residual component of the samples below index `to`, given the largest one (`before`) below index
+// `from`.
 fn greatest_to(
     samples: &[Sample],
     sent: &[Sample],
@@ -111,7 +113,7 @@ fn greatest_to(
     greatest
 }
 
-/// Returns the largest residual component if it is below `end`, otherwise a number of at least `end`.
+/// Returns the largest residual component if it is below `end`, and otherwise a number of at least `end`.
 pub(crate) fn greatest_of(samples: &[Sample], sent: &[Sample], gain: Gain, end: u32) -> u32
     requires { length sent.now ≡ length samples.now }
     ensures below { result < end → result ≡ greatest_left samples.now sent.now gain }

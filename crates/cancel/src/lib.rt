@@ -1,12 +1,13 @@
 //! Interference cancellation: subtracts a detected cell from a recording, with the gain at which it was received.
 //!
-//! The gain is estimated by correlation with the PSS. Candidates have magnitude 1 to 28 and lie within distance 2 from
-//! the estimate. The candidate whose residual has the smallest maximum component is used; ties go to the lowest real
-//! part, then to the lowest imaginary part.
+//! The gain is estimated by correlation with the PSS. Candidates have a magnitude from 1 to 28 and a distance of at
+//! most 2 from the estimate. The candidate with the smallest residual is used, where a residual counts by its largest
+//! component magnitude. Among equals, the candidate with the lowest real part is used, and then the one with the lowest
+//! imaginary part.
 //!
-//! If the recording is clean (the cell's samples times a gain, each component off by at most twice the gain's
-//! magnitude), the residual does not exceed the errors (`clean`). If the cell also carries load, the residual does not
-//! exceed the residual for the true gain, if that is at most 32,767 (`loaded`).
+//! In a clean recording, the samples are those of the cell times a gain, with each component off by at most twice the
+//! gain's magnitude. The residual then does not exceed the errors (`clean`). If the cell also carries load, the
+//! residual does not exceed the residual for the true gain, provided that this residual is at most 32,767 (`loaded`).
 //!
 //! Tests: the crate `list_tests`, in `taken_off.rt`.
 #![tactic(auto)]

@@ -1,4 +1,4 @@
-//! The result of a cancellation.
+//! The result of cancelling a cell.
 
 ghost use Rattle.std.specs.Prelude.{◌≡◌};
 ghost use Rattle.cs_num.specs.Gain.{IsGain};
@@ -8,18 +8,18 @@ use cell_plan::gain_of_pair;
 use cs_num::Gain;
 use sample_file::Recording;
 
-/// A recording with a cell cancelled. (own)
+/// A recording from which a cell has been cancelled. (own)
 #[derive(Drop)]
 pub struct Subtracted {
-    /// The gain used to cancel the cell, real part first; its squared magnitude is 1 to 784.
+    /// The gain that was used, real part first. Its squared magnitude is from 1 to 784.
     pub gain: (i16, i16),
-    /// The largest component magnitude of the residual, before the clamp to 16 bits.
+    /// The largest component magnitude of the residual, before the residual is clamped to 16 bits.
     pub greatest: u32,
-    /// The sum of the squared magnitudes of the recording's samples.
+    /// The power of the recording: the sum of its samples' squared magnitudes.
     pub before: u128,
-    /// The sum of the squared magnitudes of the residual's samples.
+    /// The power of the residual: the sum of its samples' squared magnitudes.
     pub after: u128,
-    /// The residual, each component clamped to 16 bits.
+    /// The residual, with each component clamped to 16 bits.
     pub residue: Recording,
     pub ghost gain_range: { IsGain (gain_of gain) },
 }

@@ -1,4 +1,4 @@
-//! Cell cancellation in a recording.
+//! The cancellation of a cell in a recording.
 
 ghost use Rattle.std.specs.Prelude.{◌≡◌, ◌+◌, ◌^◌, ◌≤◌, ◌<◌, IfOk, length};
 ghost use Rattle.finite.specs.Lists.{values_below};
@@ -20,8 +20,8 @@ use lte_types::{Carrier, Sfn, Timing};
 use sample_file::Recording;
 use std::alloc::{AllocError, Global};
 
-/// Cancels a cell that has a frame with number `sfn` at sample `start`, below 19,200: subtracts its samples times the
-/// best gain. Returns `None` exactly if there is no candidate. Fails only if an allocation fails. (own)
+/// Cancels a cell that begins the frame numbered `sfn` at sample `start`, below 19,200: subtracts its samples times the
+/// best gain. Returns `None` if there is no candidate. Fails only if an allocation fails. (own)
 pub fn subtract(
     alloc: Global,
     recording: &Recording,
@@ -40,7 +40,7 @@ pub fn subtract(
     subtract_from(alloc, recording, power, cell, start, sfn)
 }
 
-/// Cancels a cell as `subtract` does, for a recording whose `power` is known from an earlier round. (own)
+/// Cancels a cell as `subtract` does, with the recording's `power`, which is known from an earlier cancellation. (own)
 pub fn subtract_from(
     alloc: Global,
     recording: &Recording,
@@ -64,7 +64,7 @@ pub fn subtract_from(
     }
 }
 
-// Returns the cell's transmission from the recording's first sample.
+// Returns the `count` samples that the cell transmits, from the recording's first sample.
 fn sent_samples(
     alloc: Global,
     count: usize,
@@ -90,14 +90,14 @@ fn sent_samples(
     Ok(sent)
 }
 
-// Returns the residual of a sample for a gain, clamped to 16 bits.
+// Returns the residual `sample - gain * sent`, clamped to 16 bits.
 fn sample_left(sample: Sample, sent: Sample, gain: Gain) -> Sample
     ensures { result ≡ nearest_sample (minus (value_of sample) (times gain (value_of sent))) }
 {
     left(sample, sent, gain).nearest_sample()
 }
 
-// Writes the residual of `samples` for a gain.
+// Writes the residual of `samples` for `gain` to `residue`, clamped to 16 bits.
 fn write_left(samples: &[Sample], sent: &[Sample], gain: Gain, residue: &mut [Sample])
     requires count { length sent.now ≡ length samples.now }
     requires room { length residue.old ≡ length samples.now }
@@ -109,7 +109,7 @@ fn write_left(samples: &[Sample], sent: &[Sample], gain: Gain, residue: &mut [Sa
     }
 }
 
-// Returns the residual of `samples` for a gain.
+// Returns the residual of `samples` for `gain`, clamped to 16 bits, in newly allocated memory.
 fn residue_samples(
     alloc: Global,
     samples: &[Sample],
@@ -133,7 +133,7 @@ fn square_of(sample: Sample) -> u64
     Cpx::from(sample).norm() as u64
 }
 
-/// Returns a recording's power: the sum of its squared sample magnitudes. (own)
+/// Returns the power of a recording: the sum of its samples' squared magnitudes. (own)
 pub fn power_of(recording: &Recording) -> u64
     ensures { result ≡ sum_of recording.now }
 {
@@ -147,7 +147,7 @@ pub fn power_of(recording: &Recording) -> u64
     sum
 }
 
-// Returns the samples as a recording; they are as many as in `recording`.
+// Returns `samples` as a recording. Their number must be that of `recording`.
 fn recording_of(recording: &Recording, samples: Vec<Sample>) -> Recording
     requires { length samples.items ≡ length recording.now }
     ensures { result ≡ samples.items }
@@ -160,7 +160,7 @@ fn recording_of(recording: &Recording, samples: Vec<Sample>) -> Recording
     }
 }
 
-// Subtracts the transmitted samples times a gain from a recording with this `power`.
+// Subtracts the transmitted samples `sent`, times the gain of `choice`, from a recording with power `before`.
 fn taken_off(
     alloc: Global,
     recording: &Recording,
