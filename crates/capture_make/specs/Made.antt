@@ -1,4 +1,4 @@
--- Recording n for each transmission scheme. (own)
+-- Recording number `n` for each transmission scheme. (own)
 use Rattle.std.specs.Prelude.{◌≡◌, ℕ, nat_abs, List, None}
 use Rattle.cs_num.specs.declared.Sample.{Sample}
 use Rattle.lte_types.specs.declared.carrier.Carrier.{Carrier}
@@ -12,13 +12,14 @@ use Rattle.capture_make.specs.declared.made.MadeBy.{MadeBy}
 use Rattle.capture_make.specs.Recipe.{plan, number, offset, sample_count, gain, gains, IsBound}
 use Rattle.capture_make.specs.Errors.{error}
 
--- the samples of recording n, with errors up to `bound`: the received sum over all ports without load, plus the errors
+-- the samples of recording `n`, with errors up to `bound`: the received sum over all ports without load, plus the
+-- errors
 unfoldable pub samples_by : Carrier → ℕ → ℕ → List Sample
 samples_by carrier n bound =
     values_with (sample_count n) (received_by carrier None (plan n) (number n) (offset n) (gains carrier n))
     (error n bound)
 
--- the emission, the error bound and the samples are those of recording n
+-- `made` holds the emission, the error bound and the samples of recording `n` for a transmission scheme
 pub record IsMadeBy (carrier : Carrier) (n : ℕ) (made : MadeBy) : Type 0 where
   pub carrier_is : made.sent.carrier ≡ carrier
   pub plan_is : made.sent.cell ≡ plan n
@@ -30,7 +31,7 @@ pub record IsMadeBy (carrier : Carrier) (n : ℕ) (made : MadeBy) : Type 0 where
   pub bound : IsBound carrier n made.bound
   pub samples_are : made.recording ≡ samples_by carrier n (nat_abs made.bound)
 
--- a clean recording of emission n, with errors up to `eps`
+-- the recording is a clean recording of the emission of recording `n`, with error components of at most `eps`
 abbrev pub IsCleanNumber : Carrier → ℕ → List Sample → ℕ → Type 0
 IsCleanNumber carrier n recording eps =
     IsCleanBy carrier None recording (plan n) (number n) (offset n) (gains carrier n) eps
@@ -49,7 +50,7 @@ pub record IsMade (n : ℕ) (made : Made) : Type 0 where
   pub bound : IsBound OnePort n made.bound
   pub samples_are : made.recording ≡ samples n (nat_abs made.bound)
 
--- a clean recording of its transmission, with errors up to its bound
+-- the recording is a clean recording of its transmission, with error components of at most its bound
 abbrev pub IsCleanlyMade : Made → Type 0
 IsCleanlyMade made =
     IsClean made.recording made.sent.cell made.sent.sfn made.sent.offset (gain_of made.sent.gain) (nat_abs made.bound)

@@ -1,4 +1,4 @@
--- The recipe for recording n: the cell and its transmission. (own)
+-- The recipe for recording `n`: its cell and how the cell is transmitted. (own)
 use Rattle.std.specs.Prelude.{ℕ, ◌+◌, ◌*◌, ◌%◌, ◌^◌, pos, ℤ, neg_ℤ, ◌-ℤ◌, ◌≤ℤ◌, nat_abs, true, false, List, [], ◌∷◌}
 use Rattle.std.specs.Prelude.{nat_eq, if◌then◌else◌, Some, None}
 use Rattle.cs_num.specs.declared.Cpx.{Cpx}
@@ -16,15 +16,15 @@ use Rattle.cell_plan.specs.Gains.{IsAllowedBy}
 
 -- ---- the cell
 
--- the network 001/01
+-- the network 001/01 (country code 001, network code 01)
 abbrev pub network : Plmn
 network = record { mcc = Some (0 ∷ 0 ∷ 1 ∷ []); mnc = TwoDigits (0 ∷ 1 ∷ []); reserved = false }
 
--- a schedule entry, with the codes for its period and its blocks
+-- a schedule entry, with the codes of its period and of its SIB types
 abbrev pub message : ℕ → List ℕ → SiMessage
 message period sibs = record { period = period; sibs = sibs }
 
--- SystemInformationBlockType1 for cell n, 131 bits
+-- the SystemInformationBlockType1 of recording `n`, which has 131 bits
 abbrev pub information : ℕ → Sib1
 information n = record {
   plmns = network ∷ [];
@@ -45,7 +45,7 @@ information n = record {
   extended = false;
 }
 
--- the plan for cell n; its transport block has 144 bits
+-- the plan of the cell in recording `n`; its transport block has 144 bits
 abbrev pub plan : ℕ → CellPlan
 plan n = record {
   identity = n % 504;
@@ -62,30 +62,31 @@ plan n = record {
 
 -- ---- the transmission
 
--- the first frame number
+-- the number of the first frame in recording `n`
 abbrev pub number : ℕ → ℕ
 number n = n % 1024
 
--- the first transmitted sample in the first frame
+-- the sample of the first frame at which recording `n` begins
 abbrev pub offset : ℕ → ℕ
 offset n = n % frame_length
 
--- the sample count: 10 to 99 frames
+-- the sample count of recording `n`, which is 10 to 99 frames
 abbrev pub sample_count : ℕ → ℕ
 sample_count n = frame_length * (10 + n % 90)
 
--- the gain for one antenna port
+-- the gain in recording `n` for one antenna port
 abbrev pub gain : ℕ → Cpx
 gain n = record { re = pos (1 + n % 19); im = pos (n % 20) }
 
--- the gains for two antenna ports
+-- the gains in recording `n` for two antenna ports: port 0's and port 1's (`second_gain`)
 abbrev pub first_gain : ℕ → Cpx
 first_gain n = record { re = pos (1 + n % 9); im = pos (n % 10) }
 
 abbrev pub second_gain : ℕ → Cpx
 second_gain n = record { re = pos (n % 11); im = neg_ℤ (pos (n % 8)) }
 
--- the gains for four antenna ports: similar magnitudes, each around its own quarter cycle
+-- the gains in recording `n` for four antenna ports: similar magnitudes, with phases around 0, 1/4, 1/2 and 3/4 of a
+-- cycle
 abbrev pub gains_of_four : ℕ → List Cpx
 gains_of_four n =
     record { re = pos 4; im = pos (n % 7) -ℤ pos 3 }
@@ -94,7 +95,7 @@ gains_of_four n =
     ∷ record { re = pos (n % 3) -ℤ pos 1; im = neg_ℤ (pos 4) }
     ∷ []
 
--- the gains for a number of ports, and 0 up to four
+-- the gains in recording `n` for a number of ports, with zeros up to four
 abbrev pub gains_of_ports : ℕ → ℕ → List Cpx
 gains_of_ports ports n =
     if nat_eq ports 1 then gain n ∷ nothing ∷ nothing ∷ nothing ∷ []
@@ -103,7 +104,7 @@ gains_of_ports ports n =
 abbrev pub gains : Carrier → ℕ → List Cpx
 gains carrier n = gains_of_ports (ports_of carrier) n
 
--- the error bound: the maximum that a clean recording with these gains allows
+-- the error bound: the maximum that a clean recording with gains `gains` allows
 pub record IsBoundBy (carrier : Carrier) (gains : List Cpx) (bound : ℤ) : Type 0 where
   pub within : IsAllowedBy carrier gains (nat_abs bound)
   pub greatest : (m : ℕ) → IsAllowedBy carrier gains m → pos m ≤ℤ bound

@@ -1,4 +1,4 @@
-//! A recording's errors.
+//! The errors of a recording.
 
 ghost use Rattle.std.specs.Prelude.{◌≡◌, ◌≤◌, ◌+◌, ◌*◌, All, nat_abs};
 ghost use Rattle.cs_num.specs.Complex.{IsWithin, plus, value_of, sample_of};
@@ -9,7 +9,7 @@ use cs_num::Sample;
 use rand_core::utils::NextWord;
 use rand_pcg::Lcg64Xsh32;
 
-// Draws a number from `-bound` to `bound`.
+// Draws a number from `-bound` to `bound` with one output of the generator.
 fn draw(words: &mut Lcg64Xsh32, bound: u16) -> i16
     requires { bound ≤ 56 }
     ensures value { result ≡ drawn bound (pcg32 words.old).0 }
@@ -19,7 +19,7 @@ fn draw(words: &mut Lcg64Xsh32, bound: u16) -> i16
     (words.next_word() % (2 * bound as u32 + 1)) as i16 - bound as i16
 }
 
-// Draws a sample's error, real component first.
+// Draws the error of a sample, real component first.
 fn draw_error(words: &mut Lcg64Xsh32, bound: u16) -> Sample
     requires { bound ≤ 56 }
     ensures re { result.re ≡ drawn bound (pcg32 words.old).0 }
@@ -32,7 +32,7 @@ fn draw_error(words: &mut Lcg64Xsh32, bound: u16) -> Sample
     Sample { re, im }
 }
 
-// Returns a sample plus an error.
+// Returns sample `clean` plus `error`, component by component.
 fn with_error(clean: Sample, error: Sample) -> Sample
     requires clean { IsWithin 32284 (value_of clean) }
     requires error { IsWithin 56 (value_of error) }
@@ -44,8 +44,8 @@ fn with_error(clean: Sample, error: Sample) -> Sample
     }
 }
 
-/// Adds the errors of number `n` to `samples`, whose components have magnitude at most 32,284. No error component
-/// exceeds `bound`, which is at most 56.
+/// Adds the errors of recording `n` to `samples`, whose components have magnitudes of at most 32,284. Error components
+/// have magnitudes of at most `bound`, which is at most 56.
 pub(crate) fn add_errors(n: u32, bound: u16, samples: &mut [Sample])
     requires bound { bound ≤ 56 }
     requires room { All (λ s. IsWithin 32284 (value_of s)) samples.old }

@@ -1,4 +1,5 @@
-//! Synthetic recordings: for each 32-bit number and transmission scheme, a cell's samples with errors, by one recipe.
+//! Synthetic recordings: for each 32-bit number and transmission scheme, a recording with the samples of one cell and
+//! with errors, by one recipe.
 //!
 //! Tests: the crate `sent_tests`, in `made_recordings.rt`.
 #![tactic(auto)]

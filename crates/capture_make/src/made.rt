@@ -1,4 +1,4 @@
-//! Recordings by number.
+//! Synthetic recordings, each made from its number.
 
 ghost use Rattle.std.specs.Prelude.{◌≡◌, ◌≤◌, ℕ, All, IfOk, nat_abs, pos, ℤ};
 ghost use Rattle.lte_types.specs.declared.carrier.Carrier.{Carrier as AnyCarrier};
@@ -21,29 +21,30 @@ use lte_types::Carrier;
 use sample_file::Recording;
 use std::alloc::{AllocError, Global};
 
-/// Recording `n` for a transmission scheme, and the emission that it contains.
+/// Recording number `n` for a transmission scheme, and the emission that the recording contains.
 #[derive(Drop)]
 pub struct MadeBy {
-    /// The emission.
+    /// The emission that the recording contains.
     pub sent: Emission,
-    /// The maximum magnitude of an error component: the largest bound that a clean recording with these gains allows.
+    /// The maximum magnitude of an error component: the largest bound that a clean recording with the emission's gains
+    /// allows.
     pub bound: i16,
-    /// The samples, with the errors.
+    /// The samples of the recording, errors included.
     pub recording: Recording,
 }
 
-/// Recording `n` with one antenna port, and the transmission that it contains.
+/// Recording number `n` with one antenna port, and the transmission that the recording contains.
 #[derive(Drop)]
 pub struct Made {
-    /// The transmission.
+    /// The transmission that the recording contains.
     pub sent: Transmission,
-    /// The maximum magnitude of an error component: the largest whole number at most twice the gain's magnitude.
+    /// The maximum magnitude of an error component: the largest integer that is at most twice the gain's magnitude.
     pub bound: i16,
-    /// The samples, with the errors.
+    /// The samples of the recording, errors included.
     pub recording: Recording,
 }
 
-// Returns the received emission, in newly allocated memory.
+// Returns the samples of the emission without errors, in newly allocated memory.
 fn emitted_samples(alloc: Global, sent: &Emission) -> Result<Vec<Sample>, AllocError>
     ensures { IfOk result (λ samples. samples.items ≡ emitted_samples sent.now) }
 {
@@ -52,8 +53,8 @@ fn emitted_samples(alloc: Global, sent: &Emission) -> Result<Vec<Sample>, AllocE
     Ok(samples)
 }
 
-// Returns `samples` plus the errors of number `n`. Components have magnitude at most 32,284, and error components at
-// most `bound`, which is at most 56.
+// Returns `samples` plus the errors of recording `n`. Sample components must have magnitudes of at most 32,284; error
+// components have magnitudes of at most `bound`, which is at most 56.
 fn with_errors(n: u32, bound: u16, mut samples: Vec<Sample>) -> Vec<Sample>
     requires bound { bound ≤ 56 }
     requires room { All (λ s. IsWithin 32284 (value_of s)) samples.items }
@@ -63,7 +64,7 @@ fn with_errors(n: u32, bound: u16, mut samples: Vec<Sample>) -> Vec<Sample>
     samples
 }
 
-// Returns the recording with its emission and error bound.
+// Returns the recording together with its emission and error bound.
 fn with_bound(sent: Emission, bound: u16, recording: Recording) -> MadeBy
     requires { bound ≤ 56 }
     ensures sent { result.sent ≡ sent }
@@ -77,8 +78,9 @@ fn with_bound(sent: Emission, bound: u16, recording: Recording) -> MadeBy
     }
 }
 
-/// Makes recording `n` of `carrier`, 10 to 99 frames long, by the recipe in `docs/FORMATS.md`. Errors reach the
-/// largest bound that a clean recording allows. Fails only if an allocation fails. (own)
+/// Makes recording `n` for transmission scheme `carrier`, 10 to 99 frames long, by the recipe in `docs/FORMATS.md`.
+/// Error components are drawn up to the largest bound that a clean recording allows. Fails only if an allocation fails.
+/// (own)
 pub fn make_by(alloc: Global, carrier: Carrier, n: u32) -> Result<MadeBy, AllocError>
     ensures made { IfOk result (IsMadeBy carrier n) }
     ensures sendable { IsSendableBy carrier (plan n) }
@@ -96,7 +98,7 @@ pub fn make_by(alloc: Global, carrier: Carrier, n: u32) -> Result<MadeBy, AllocE
     }
 }
 
-// Returns a recording with one antenna port.
+// Returns the recording `made`, which has one antenna port, with its transmission.
 fn of_one_port(n: u32, made: MadeBy) -> Made
     requires { IsMadeBy OnePort n made }
     ensures made { IsMade n result }
@@ -109,8 +111,8 @@ fn of_one_port(n: u32, made: MadeBy) -> Made
     }
 }
 
-/// Makes recording `n` with one antenna port, as `make_by` does; its errors are at most twice the gain's magnitude.
-/// Fails only if an allocation fails. (own)
+/// Makes recording `n` with one antenna port, as `make_by` does. Error components are at most twice the gain's
+/// magnitude. Fails only if an allocation fails. (own)
 pub fn make(alloc: Global, n: u32) -> Result<Made, AllocError>
     ensures made { IfOk result (IsMade n) }
     ensures sendable { IsSendable (plan n) }
@@ -122,7 +124,7 @@ pub fn make(alloc: Global, n: u32) -> Result<Made, AllocError>
     Ok(of_one_port(n, made))
 }
 
-/// A law: every recording is a clean recording of its emission, for each transmission scheme.
+/// A law: every synthetic recording is a clean recording of its emission, for each transmission scheme.
 pub fn numbers_are_clean()
     ensures { (carrier : AnyCarrier) (n : ℕ) (bound : ℤ) → IsBound carrier n bound →
         IsCleanNumber carrier n (samples_by carrier n (nat_abs bound)) (nat_abs bound) }
@@ -130,7 +132,7 @@ pub fn numbers_are_clean()
     sum_is_clean();
 }
 
-/// A law: every recording with one antenna port is a clean recording of its transmission.
+/// A law: every synthetic recording with one antenna port is a clean recording of its transmission.
 pub fn made_is_clean()
     ensures { (n : ℕ) (made : MadeValue) → IsMade n made → IsCleanlyMade made }
 {

@@ -1,4 +1,4 @@
-//! The recipe: the cell and its transmission for each number.
+//! The recipe: the cell of each recording and how the cell is transmitted.
 
 ghost use Rattle.std.specs.Prelude.{◌≡◌, ◌⊎◌, ◌≤◌, ◌%◌, ◌-ℤ◌, [], ◌∷◌, pos, length, None};
 ghost use Rattle.lte_types.specs.declared.carrier.Carrier.TheVariants.{OnePort, TwoPorts, FourPorts};
@@ -18,7 +18,7 @@ use lte_types::{
 // The number of samples in a frame.
 const FRAME: u32 = lte_types::FRAME_LENGTH as u32;
 
-// Returns the network 001/01.
+// Returns the list with the network 001/01 (country code and network code).
 fn networks() -> Plmns
     ensures { result ≡ network ∷ [] }
 {
@@ -31,7 +31,7 @@ fn networks() -> Plmns
     plmns
 }
 
-// Returns a schedule entry.
+// Returns a schedule entry with the codes of its period and of its SIB types.
 fn message(period: u8, codes: &[u8]) -> SiMessage
     requires { length codes.now ≤ 31 }
     ensures { result ≡ message_of period codes.now }
@@ -43,7 +43,7 @@ fn message(period: u8, codes: &[u8]) -> SiMessage
     SiMessage { period, sibs }
 }
 
-// Returns two schedule entries: one without blocks, and one with SIB types 3 and 5.
+// Returns two schedule entries: one without SIB types, and one with SIB types 3 and 5.
 fn schedule(period: u8) -> Schedule
     ensures { result ≡ message_of period [] ∷ message_of period (0 ∷ 2 ∷ []) ∷ [] }
 {
@@ -53,7 +53,7 @@ fn schedule(period: u8) -> Schedule
     schedule
 }
 
-// Returns SystemInformationBlockType1.
+// Returns the SystemInformationBlockType1 of recording `n`.
 fn information(n: u32) -> Sib1
     ensures { result ≡ information_of n }
 {
@@ -77,7 +77,7 @@ fn information(n: u32) -> Sib1
     }
 }
 
-// Returns phich-Duration.
+// Returns the phich-Duration of recording `n`.
 fn duration(n: u32) -> Duration
     ensures { result ≡ duration_with (n % 2) }
 {
@@ -87,7 +87,7 @@ fn duration(n: u32) -> Duration
     }
 }
 
-// Returns phich-Resource.
+// Returns the phich-Resource of recording `n`.
 fn resource(n: u32) -> Resource
     ensures { result ≡ resource_with (n % 4) }
 {
@@ -115,7 +115,7 @@ pub fn plan(n: u32) -> CellPlan
     }
 }
 
-// Returns the cell; every plan is accepted for every transmission scheme (`Plans`).
+// Returns the cell of recording `n`; its plan meets the conditions of every transmission scheme (`Plans`).
 fn cell(carrier: Carrier, n: u32) -> Cell
     ensures plan { result ≡ plan_of n }
     ensures accepted { refusal_of carrier result ≡ None }
@@ -136,7 +136,7 @@ pub fn gain(n: u32) -> Gain
     }
 }
 
-// Returns the first port's gain for two antenna ports.
+// Returns port 0's gain for two antenna ports.
 fn first_gain(n: u32) -> Cpx
     ensures { result ≡ first_gain n }
 {
@@ -146,7 +146,7 @@ fn first_gain(n: u32) -> Cpx
     }
 }
 
-// Returns the second port's gain for two antenna ports, which may be 0.
+// Returns port 1's gain for two antenna ports, which may be 0.
 fn second_gain(n: u32) -> Cpx
     ensures { result ≡ second_gain n }
 {
@@ -164,7 +164,7 @@ fn about(n: u32, count: u32, middle: u32) -> i64
     (n % count) as i64 - middle as i64
 }
 
-// Returns the gains for four antenna ports.
+// Returns the gains of ports 0 to 3 for four antenna ports.
 fn gains_of_four(n: u32) -> [Cpx; 4]
     ensures { result ≡ gains_of_four n }
 {
@@ -187,7 +187,8 @@ fn gains_of_four(n: u32) -> [Cpx; 4]
     [first, second, third, fourth]
 }
 
-/// Returns the gains of the antenna ports in recording `n`; 0 for ports beyond the transmission scheme's.
+/// Returns the gains of the antenna ports in recording `n`, with 0 for ports beyond the transmission scheme's port
+/// count.
 pub fn gains(carrier: Carrier, n: u32) -> [Cpx; 4]
     ensures { result ≡ gains_of carrier n }
 {
@@ -198,7 +199,7 @@ pub fn gains(carrier: Carrier, n: u32) -> [Cpx; 4]
     }
 }
 
-/// Returns the frame number and the sample offset at which recording `n` begins.
+/// Returns the number of the first frame of recording `n`, and the sample of that frame at which the recording begins.
 pub fn timing(n: u32) -> Timing
     ensures number { result.sfn ≡ number n }
     ensures offset { result.offset ≡ offset n }
@@ -209,7 +210,7 @@ pub fn timing(n: u32) -> Timing
     }
 }
 
-// Returns the sample count of recording `n`: 10 to 99 frames.
+// Returns the sample count of recording `n`, which is 10 to 99 frames.
 fn sample_count(n: u32) -> u32
     ensures value { result ≡ sample_count n }
     ensures bound { IsCount result }
@@ -217,7 +218,7 @@ fn sample_count(n: u32) -> u32
     FRAME * (10 + n % 90)
 }
 
-/// Returns the emission of recording `n` of `carrier`.
+/// Returns the emission of recording `n` for transmission scheme `carrier`.
 pub(crate) fn emission(carrier: Carrier, n: u32) -> Emission
     ensures carrier { result.carrier ≡ carrier }
     ensures cell { result.cell ≡ plan_of n }
@@ -237,7 +238,7 @@ pub(crate) fn emission(carrier: Carrier, n: u32) -> Emission
     }
 }
 
-// Returns the error bound with one antenna port: the largest whole number at most twice the gain's magnitude.
+// Returns the error bound for one antenna port: the largest integer that is at most twice the gain's magnitude.
 fn bound_of_one(n: u32) -> u16
     ensures bound { IsBound OnePort n (pos result) }
     ensures small { result ≤ 56 }
@@ -246,7 +247,7 @@ fn bound_of_one(n: u32) -> u16
     (4 * (re * re + im * im)).isqrt() as u16
 }
 
-// Returns the lesser number.
+// Returns the smaller of two numbers.
 fn least(a: u32, b: u32) -> u32
     ensures first { result ≤ a }
     ensures second { result ≤ b }
@@ -255,8 +256,8 @@ fn least(a: u32, b: u32) -> u32
     if a < b { a } else { b }
 }
 
-// Returns the error bound with two antenna ports: the largest whole number whose square is at most a quarter of the
-// total power, and at most four times the first port's.
+// Returns the error bound for two antenna ports: the largest integer whose square is at most a quarter of the total
+// power, and at most four times the power of port 0.
 fn bound_of_two(n: u32) -> u16
     ensures bound { IsBound TwoPorts n (pos result) }
     ensures small { result ≤ 56 }
@@ -267,7 +268,7 @@ fn bound_of_two(n: u32) -> u16
     least(both / 4, 4 * first).isqrt() as u16
 }
 
-// Returns the total power of four gains: the sum of their squared magnitudes.
+// Returns the total power for four antenna ports: the sum of the gains' squared magnitudes.
 fn power_of_four(n: u32) -> u32
     ensures value { result ≡ power_of_four (gains_of_four n) }
     ensures small { result ≤ 75 }
@@ -277,8 +278,7 @@ fn power_of_four(n: u32) -> u32
     power as u32
 }
 
-// Returns the error bound with four antenna ports: the largest whole number whose square is at most 1/64 of the total
-// power.
+// Returns the error bound for four antenna ports: the largest integer whose square is at most 1/64 of the total power.
 fn bound_of_four(n: u32) -> u16
     ensures bound { IsBound FourPorts n (pos result) }
     ensures small { result ≤ 56 }
