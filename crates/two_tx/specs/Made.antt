@@ -1,4 +1,4 @@
--- Recording n with two antenna ports: the recipe for any transmission scheme, at two ports. (own)
+-- Recording number `n` with two antenna ports: the recipe for any transmission scheme, with two ports. (own)
 use Rattle.std.specs.Prelude.{◌≡◌, ℕ, nat_abs, [], ◌∷◌, map}
 use Rattle.cs_num.specs.declared.Cpx.{Cpx}
 use Rattle.cs_num.specs.Complex.{value_at}
@@ -9,7 +9,7 @@ use Rattle.capture_make.specs.Recipe.{plan, number, offset, first_gain, second_g
 use Rattle.capture_make.specs.Made.{samples_by}
 use Rattle.two_tx.specs.declared.made.TwoMade.{TwoMade}
 
--- the transmission, the gains, the error bound and the samples are those of recording n
+-- `made` holds the plan, the transmission, the gains, the error bound and the samples of recording `n`
 pub record IsMade (n : ℕ) (made : TwoMade) : Type 0 where
   pub plan_is : made.plan ≡ plan n
   pub number_is : made.sfn ≡ number n
@@ -18,11 +18,11 @@ pub record IsMade (n : ℕ) (made : TwoMade) : Type 0 where
   pub bound : IsBound TwoPorts n made.bound
   pub samples_are : made.recording ≡ samples_by TwoPorts n (nat_abs made.bound)
 
--- a port's gain
+-- the gain of a port
 abbrev pub gain_at : TwoMade → ℕ → Cpx
 gain_at made port = value_at (map gain_of made.gains) port
 
--- a clean recording of its transmission, with its gains and errors up to its bound
+-- the recording is a clean recording of its transmission, with its gains and with error components of at most its bound
 abbrev pub IsCleanlyMade : TwoMade → Type 0
 IsCleanlyMade made =
     IsCleanOfPorts made.recording made.plan made.sfn made.offset (gain_at made 0) (gain_at made 1)

@@ -8,7 +8,7 @@ use cell_plan::{Cell, CellError, CellPlan};
 use lte_types::Carrier;
 use std::marker::Model;
 
-/// A plan that was accepted for two antenna ports. Contracts see it as the plan.
+/// A cell whose plan can be sent with two antenna ports. Contracts see the cell as its plan.
 #[derive(Drop)]
 pub struct Cell2 {
     cell: Cell,
@@ -26,8 +26,8 @@ impl Model for Cell2 {
 }
 
 impl Cell2 {
-    /// Accepts a plan whose SystemInformationBlockType1 is in its ranges, or returns the first failed condition of
-    /// `Cell::of` with two antenna ports.
+    /// Creates the cell of `plan`, whose SystemInformationBlockType1 must be in its ranges, or returns the first failed
+    /// condition of `Cell::of` for two antenna ports.
     pub fn new(plan: CellPlan) -> Result<Cell2, CellError>
         requires { IsValid plan.sib1 }
         ensures refusal { MatchResult result (λ _. refusal_of_two plan ≡ None)
@@ -39,7 +39,7 @@ impl Cell2 {
         Ok(Cell2 { cell })
     }
 
-    /// Returns the plan.
+    /// Returns the plan of the cell.
     pub fn plan(&self) -> &CellPlan
         ensures plan { result.now ≡ self.now }
         ensures sendable { IsSendableOfTwo self.now }
@@ -47,7 +47,7 @@ impl Cell2 {
         self.cell.plan()
     }
 
-    // Returns the cell that transmits the plan.
+    // Returns the cell as one of any transmission scheme.
     pub(crate) fn cell(&self) -> &Cell
         ensures { result.now ≡ self.now }
     {

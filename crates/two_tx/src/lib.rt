@@ -1,4 +1,4 @@
-//! A cell with two antenna ports: the plans that it accepts, each port's samples, and synthetic recordings (TS 36.211
+//! A cell with two antenna ports: the plans that can be sent, each port's samples, and synthetic recordings (TS 36.211
 //! sections 6.3.3.3 and 6.3.4.3).
 //!
 //! Tests: the crate `sent_tests`, in `two_antenna_ports.rt`.

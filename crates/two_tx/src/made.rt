@@ -1,4 +1,4 @@
-//! Recordings by number.
+//! Synthetic recordings with two antenna ports, each made from its number.
 
 ghost use Rattle.std.specs.Prelude.{◌≡◌, ℕ, [], ◌∷◌, map, IfOk};
 ghost use Rattle.lte_types.specs.declared.carrier.Carrier.TheVariants.{TwoPorts};
@@ -16,24 +16,25 @@ use lte_types::{Carrier, Sfn};
 use sample_file::Recording;
 use std::alloc::{AllocError, Global};
 
-/// Recording `n` with two antenna ports, and the transmission that it contains.
+/// Recording number `n` with two antenna ports, and the transmission that the recording contains.
 #[derive(Drop)]
 pub struct TwoMade {
-    /// The cell's plan.
+    /// The plan of the cell that the recording contains.
     pub plan: CellPlan,
     /// The number of the first frame.
     pub sfn: Sfn,
-    /// The first transmitted sample in that frame, 0 to 19,199.
+    /// The first transmitted sample in the first frame, 0 to 19,199.
     pub offset: u32,
     /// The gains of ports 0 and 1, real part first; the gain of port 1 may be 0.
     pub gains: [(i16, i16); 2],
-    /// The maximum magnitude of an error component: the largest bound that a clean recording with these gains allows.
+    /// The maximum magnitude of an error component: the largest bound that a clean recording with the gains of this
+    /// transmission allows.
     pub bound: i16,
-    /// The samples of both ports, with the errors.
+    /// The samples of the recording: the received sum of both ports, errors included.
     pub recording: Recording,
 }
 
-// Returns the gains of both antenna ports.
+// Returns the gains of ports 0 and 1 in recording `n`.
 fn pairs(n: u32) -> [(i16, i16); 2]
     ensures { map gain_of result ≡ first_gain n ∷ second_gain n ∷ [] }
 {
@@ -41,7 +42,7 @@ fn pairs(n: u32) -> [(i16, i16); 2]
     [pair_of(gains[0]), pair_of(gains[1])]
 }
 
-// Returns a recording with two antenna ports.
+// Returns the recording `made`, which has two antenna ports, with its transmission.
 fn of_two_ports(n: u32, made: MadeBy) -> TwoMade
     requires made { IsMadeBy TwoPorts n made }
     requires valid { IsRecording made.recording }
@@ -72,7 +73,7 @@ pub fn make(alloc: Global, n: u32) -> Result<TwoMade, AllocError>
     Ok(of_two_ports(n, made))
 }
 
-/// A law: every recording is a clean recording of its transmission.
+/// A law: every synthetic recording with two antenna ports is a clean recording of its transmission.
 pub fn made_is_clean()
     ensures { (n : ℕ) (made : MadeValue) → IsMade n made → IsCleanlyMade made }
 {
