@@ -1,18 +1,19 @@
 -- The resource allocation of SIB1.
 use Rattle.std.specs.Prelude.{ℕ, ◌+◌, ◌≤◌}
 
--- an allocation: the control format indicator, the first resource block and the number of blocks
+-- a resource allocation: the control format indicator, the first resource block and the number of contiguous blocks
 pub record Assigned : Type 0 where
   pub cfi : ℕ
   pub start : ℕ
   pub blocks : ℕ
 
--- contiguous resource blocks among the six
+-- `blocks` resource blocks from block `start`: at least one, and all among the carrier's six
 pub record AreBlocks (start blocks : ℕ) : Type 0 where
   pub some : 1 ≤ blocks
   pub inside : start + blocks ≤ 6
 
--- a valid allocation; the control region is wide enough for a PDCCH candidate in the common search space
+-- a valid allocation: resource blocks of the carrier, and a control format indicator of at least 2, for which the
+-- control region has room for a PDCCH candidate in the common search space
 pub record IsAssignment (assigned : Assigned) : Type 0 where
   pub wide : 2 ≤ assigned.cfi
   pub are : AreBlocks assigned.start assigned.blocks

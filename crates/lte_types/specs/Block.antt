@@ -5,7 +5,8 @@ use Rattle.lte_types.specs.declared.duration.Duration.{Duration}
 use Rattle.lte_types.specs.declared.resource.Resource.{Resource}
 use Rattle.lte_types.specs.declared.mib.Mib.{Mib}
 
--- the MIB has these fields
+-- `mib` has the bandwidth `width`, the PHICH duration `length`, the PHICH resource `share`, the upper eight frame
+-- number bits `frame` and the last ten bits `bits`
 pub record HasFields (mib : Mib) (width : Bandwidth) (length : Duration) (share : Resource)
     (frame bits : ℕ) : Type 0 where
   pub bandwidth : mib.bandwidth ≡ width
@@ -14,10 +15,10 @@ pub record HasFields (mib : Mib) (width : Bandwidth) (length : Duration) (share 
   pub upper : mib.upper ≡ frame
   pub spare : mib.spare ≡ bits
 
--- schedulingInfoSIB1-BR: the first five of the last ten bits, which were spare before Release 13
+-- schedulingInfoSIB1-BR: the first five of the MIB's last ten bits, which were spare before Release 13
 abbrev pub br : Mib → ℕ
 br mib = mib.spare / 32
 
--- the five bits that are still spare in Release 13
+-- the MIB's last five bits, which are still spare in Release 13, as a number
 abbrev pub rest : Mib → ℕ
 rest mib = mib.spare % 32

@@ -19,7 +19,8 @@ ports_of TwoPorts = 2
 ports_of LongPrefix = 1
 ports_of FourPorts = 4
 
--- whether the control region and SIB1 are supported: with the normal prefix and at most two ports (own)
+-- whether the control region and SIB1 are supported for a transmission scheme: only with the normal prefix and at most
+-- two ports (own)
 abbrev pub has_control_by : Carrier → Bool
 has_control_by carrier = not (is_extended (prefix_of carrier)) && nat_le (ports_of carrier) 2
 

@@ -11,11 +11,11 @@ use Rattle.lte_types.specs.declared.resource.Resource.TheVariants.{OneSixth, Hal
 
 -- ---- dl-Bandwidth (section 6.2.2)
 
--- the bandwidth with this code, at most 5
+-- the bandwidth with dl-Bandwidth code `code`, 0 to 5
 abbrev pub bandwidth : ℕ → Bandwidth
 bandwidth code = slice_index_or (N6 ∷ N15 ∷ N25 ∷ N50 ∷ N75 ∷ N100 ∷ []) code N6
 
--- a bandwidth's code
+-- a bandwidth's dl-Bandwidth code
 abbrev pub bandwidth_code : Bandwidth → ℕ
 bandwidth_code N6 = 0
 bandwidth_code N15 = 1
@@ -24,7 +24,7 @@ bandwidth_code N50 = 3
 bandwidth_code N75 = 4
 bandwidth_code N100 = 5
 
--- a bandwidth's name
+-- a bandwidth's name in the standard, as character codes
 abbrev pub bandwidth_word : Bandwidth → List ℕ
 bandwidth_word N6 = codes "n6"
 bandwidth_word N15 = codes "n15"
@@ -35,21 +35,21 @@ bandwidth_word N100 = codes "n100"
 
 -- ---- phich-Duration (section 6.3.2, PHICH-Config)
 
--- the duration with this code, at most 1
+-- the PHICH duration with phich-Duration code `code`, 0 or 1
 abbrev pub duration : ℕ → Duration
 duration code = slice_index_or (Normal ∷ Extended ∷ []) code Normal
 
--- a duration's code
+-- a PHICH duration's phich-Duration code
 abbrev pub duration_code : Duration → ℕ
 duration_code Normal = 0
 duration_code Extended = 1
 
--- a duration's name
+-- a PHICH duration's name in the standard, as character codes
 abbrev pub duration_word : Duration → List ℕ
 duration_word Normal = codes "normal"
 duration_word Extended = codes "extended"
 
--- the duration with this name
+-- the PHICH duration with the standard's name `name`, if there is one
 abbrev pub duration_named : List ℕ → Option Duration
 duration_named name =
     if bytes_eq name (duration_word Normal) then Some Normal
@@ -58,25 +58,25 @@ duration_named name =
 
 -- ---- phich-Resource, Ng (section 6.3.2, PHICH-Config)
 
--- the resource with this code, at most 3
+-- the PHICH resource with phich-Resource code `code`, 0 to 3
 abbrev pub resource : ℕ → Resource
 resource code = slice_index_or (OneSixth ∷ Half ∷ One ∷ Two ∷ []) code OneSixth
 
--- a resource's code
+-- a PHICH resource's phich-Resource code
 abbrev pub resource_code : Resource → ℕ
 resource_code OneSixth = 0
 resource_code Half = 1
 resource_code One = 2
 resource_code Two = 3
 
--- a resource's name
+-- a PHICH resource's name in the standard, as character codes
 abbrev pub resource_word : Resource → List ℕ
 resource_word OneSixth = codes "oneSixth"
 resource_word Half = codes "half"
 resource_word One = codes "one"
 resource_word Two = codes "two"
 
--- the resource with this name
+-- the PHICH resource with the standard's name `name`, if there is one
 abbrev pub resource_named : List ℕ → Option Resource
 resource_named name =
     if bytes_eq name (resource_word OneSixth) then Some OneSixth
@@ -87,40 +87,40 @@ resource_named name =
 
 -- ---- si-WindowLength (section 6.2.2)
 
--- the windows in milliseconds, in the order of their codes
+-- the SI window lengths in milliseconds, in the order of their codes
 abbrev pub windows : List ℕ
 windows = 1 ∷ 2 ∷ 5 ∷ 10 ∷ 15 ∷ 20 ∷ 40 ∷ []
 
--- the window with this code, at most 6, in milliseconds
+-- the length in milliseconds of the SI window with code `code`, 0 to 6
 abbrev pub window_length : ℕ → ℕ
 window_length code = slice_index_or windows code 1
 
--- the name of the window with this code
+-- the standard's name for the SI window with code `code`, 0 to 6
 abbrev pub window_word : ℕ → List ℕ
 window_word code =
     slice_index_or (codes "ms1" ∷ codes "ms2" ∷ codes "ms5" ∷ codes "ms10" ∷ codes "ms15" ∷ codes "ms20"
     ∷ codes "ms40" ∷ []) code (codes "ms1")
 
--- the code of a window in milliseconds
+-- the code of an SI window of `milliseconds`, if the standard has one
 abbrev pub window_of : ℕ → Option ℕ
 window_of milliseconds = position (nat_eq milliseconds) windows
 
 -- ---- si-Periodicity (section 6.2.2)
 
--- the periods in frames, in the order of their codes
+-- the SI periods in frames, in the order of their codes
 abbrev pub periods : List ℕ
 periods = 8 ∷ 16 ∷ 32 ∷ 64 ∷ 128 ∷ 256 ∷ 512 ∷ []
 
--- the period with this code, at most 6, in frames
+-- the length in frames of the SI period with code `code`, 0 to 6
 abbrev pub period_frames : ℕ → ℕ
 period_frames code = slice_index_or periods code 8
 
--- the name of the period with this code
+-- the standard's name for the SI period with code `code`, 0 to 6
 abbrev pub period_word : ℕ → List ℕ
 period_word code =
     slice_index_or (codes "rf8" ∷ codes "rf16" ∷ codes "rf32" ∷ codes "rf64" ∷ codes "rf128" ∷ codes "rf256"
     ∷ codes "rf512" ∷ []) code (codes "rf8")
 
--- the code of a period in frames
+-- the code of an SI period of `frames` frames, if the standard has one
 abbrev pub period_of : ℕ → Option ℕ
 period_of frames = position (nat_eq frames) periods

@@ -6,33 +6,39 @@ use Rattle.lte_types.specs.declared.numerology.Prefix.{Prefix}
 
 -- ---- lengths
 
+-- samples per frame
 abbrev pub frame_length : ℕ
 frame_length = 19200
 
+-- samples per half frame
 abbrev pub half_frame_length : ℕ
 half_frame_length = 9600
 
+-- samples per slot; a frame has 20 slots
 abbrev pub slot_length : ℕ
 slot_length = 960
 
+-- samples in the useful part of a symbol
 abbrev pub useful_length : ℕ
 useful_length = 128
 
--- six resource blocks of twelve subcarriers each (TS 36.211 section 6.2.3)
+-- the resource blocks of the carrier, with twelve subcarriers each (TS 36.211 section 6.2.3)
 abbrev pub block_count : ℕ
 block_count = 6
 
+-- the subcarriers of the carrier's resource blocks
 abbrev pub subcarriers : ℕ
 subcarriers = 12 * block_count
 
--- 1,024 frames, after which frame numbers repeat
+-- samples in 1,024 frames, after which frame numbers repeat
 abbrev pub cycle_length : ℕ
 cycle_length = 19660800
 
--- the minimum and maximum length of a recording, in samples: 30 ms and one second (own)
+-- the minimum length of a recording, in samples: 30 ms (own)
 abbrev pub least_samples : ℕ
 least_samples = 57600
 
+-- the maximum length of a recording, in samples: one second (own)
 abbrev pub most_samples : ℕ
 most_samples = 1920000
 
@@ -46,7 +52,7 @@ normal = record { first = 10; other = 9 }
 abbrev pub extended : Prefix
 extended = record { first = 32; other = 32 }
 
--- a normal or extended prefix
+-- a prefix is the normal or the extended one
 abbrev pub IsPrefix : Prefix → Type 0
 IsPrefix prefix = (prefix ≡ normal) ⊎ (prefix ≡ extended)
 
@@ -54,11 +60,11 @@ IsPrefix prefix = (prefix ≡ normal) ⊎ (prefix ≡ extended)
 abbrev pub is_extended : Prefix → Bool
 is_extended prefix = nat_eq prefix.first 32 && nat_eq prefix.other 32
 
--- the length of the prefix in a symbol of a slot
+-- the number of prefix samples in symbol `symbol` of a slot
 abbrev pub prefix_length : Prefix → ℕ → ℕ
 prefix_length prefix symbol = if nat_eq symbol 0 then prefix.first else prefix.other
 
--- the distance between the useful parts of consecutive symbols in a slot
+-- the distance, in samples, between the useful parts of consecutive symbols in a slot
 abbrev pub symbol_step : Prefix → ℕ
 symbol_step prefix = useful_length + prefix.other
 
@@ -66,11 +72,12 @@ symbol_step prefix = useful_length + prefix.other
 abbrev pub symbols_of_slot : Prefix → ℕ
 symbols_of_slot prefix = slot_length / symbol_step prefix
 
--- the sample at which the useful part of a symbol begins, for a frame that begins at the given sample
+-- the sample at which the useful part of symbol `symbol` in slot `slot` begins, for a frame that begins at sample
+-- `frame`
 abbrev pub useful_start : Prefix → ℕ → ℕ → ℕ → ℕ
 useful_start prefix frame slot symbol = frame + slot_length * slot + prefix.first + symbol_step prefix * symbol
 
--- the symbol of a slot that contains the slot's sample i
+-- the index of the symbol that contains sample `i` of a slot, as part of its prefix or its useful part
 abbrev pub symbol_of : Prefix → ℕ → ℕ
 symbol_of prefix i = (i - (prefix.first - prefix.other)) / symbol_step prefix
 
@@ -85,7 +92,7 @@ subframe_of Five = 5
 abbrev pub half_of : ℕ → Half
 half_of subframe = if nat_eq subframe 0 then Zero else Five
 
--- the offset from the start of a frame to the useful part of a half's PSS, which is in the last symbol of slot 0 or
--- 10 (TS 36.211 section 6.11.1.2): 832 or 10,432
+-- the offset, in samples, from the start of a frame to the useful part of a half frame's PSS, which is in the last
+-- symbol of slot 0 or 10 (TS 36.211 section 6.11.1.2): 832 or 10,432
 abbrev pub primary_start : Half → ℕ
 primary_start half = useful_start normal 0 (2 * subframe_of half) 6

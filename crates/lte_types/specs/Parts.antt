@@ -5,7 +5,7 @@ use Rattle.lte_types.specs.declared.cell_selection_info.CellSelectionInfo.{CellS
 use Rattle.lte_types.specs.declared.si_message.SiMessage.{SiMessage}
 use Rattle.lte_types.specs.declared.sib1.Sib1.{Sib1}
 
--- cellAccessRelatedInfo
+-- the fields of SIB1 in cellAccessRelatedInfo
 abbrev pub access_of : Sib1 → CellAccessRelatedInfo
 access_of sib1 = record {
   plmns = sib1.plmns;
@@ -17,12 +17,12 @@ access_of sib1 = record {
   csg_identity = sib1.csg_identity;
 }
 
--- cellSelectionInfo
+-- the fields of SIB1 in cellSelectionInfo
 abbrev pub selection_of : Sib1 → CellSelectionInfo
 selection_of sib1 = record { q_rx = sib1.q_rx; q_offset = sib1.q_offset }
 
--- SIB1 from its parts in order: cellAccessRelatedInfo, cellSelectionInfo, p-Max, freqBandIndicator, the schedule,
--- TDD-Config, the window, systemInfoValueTag, and whether an extension is present
+-- SIB1 from its parts in order: cellAccessRelatedInfo, cellSelectionInfo, p-Max, freqBandIndicator, schedulingInfoList,
+-- TDD-Config, the si-WindowLength code, systemInfoValueTag, and whether an extension is present
 abbrev pub sib1_of :
     CellAccessRelatedInfo → CellSelectionInfo → Option ℤ → ℕ → List SiMessage → Option (ℕ × ℕ) → ℕ → ℕ → Bool →
     Sib1

@@ -9,7 +9,7 @@ use Rattle.lte_types.specs.declared.si_message.SiMessage.{SiMessage}
 use Rattle.lte_types.specs.declared.sib1.Sib1.{Sib1}
 use Rattle.lte_types.specs.Parts.{access_of, selection_of}
 
--- each item is a decimal digit
+-- each number in `digits` is a decimal digit
 abbrev pub AreDigits : List ℕ → Type 0
 AreDigits digits = All (λ digit. digit ≤ 9) digits
 
@@ -18,32 +18,32 @@ abbrev pub HasDigits : Mnc → Type 0
 HasDigits (Two digits) = AreDigits digits
 HasDigits (Three digits) = AreDigits digits
 
--- a valid PLMN identity
+-- a PLMN identity whose network code and, if present, country code consist of decimal digits
 pub record IsValidPlmn (plmn : Plmn) : Type 0 where
   pub mcc : IfSome plmn.mcc AreDigits
   pub mnc : HasDigits plmn.mnc
 
--- the first identity has a country code
+-- a nonempty list of PLMN identities, the first with a country code
 abbrev pub FirstHasMcc : List Plmn → Type 0
 FirstHasMcc [] = ⊥
 FirstHasMcc (plmn ∷ rest) = IsSome plmn.mcc
 
--- 1 to 6 identities, the first with a country code
+-- 1 to 6 valid PLMN identities, the first with a country code
 pub record ArePlmns (plmns : List Plmn) : Type 0 where
   pub count : (1 ≤ length plmns) × (length plmns ≤ 6)
   pub valid : All IsValidPlmn plmns
   pub first_mcc : FirstHasMcc plmns
 
--- a valid si-Periodicity code
+-- a valid si-Periodicity code, 0 to 6
 abbrev pub IsPeriod : ℕ → Type 0
 IsPeriod code = code ≤ 6
 
--- a schedule entry with a valid period and valid SIB codes
+-- a schedule entry with a valid period and SIB codes of at most 79
 pub record IsValidMessage (message : SiMessage) : Type 0 where
   pub period : IsPeriod message.period
   pub sibs : All (λ code. code ≤ 79) message.sibs
 
--- a schedule has 1 to 32 valid entries
+-- a schedule of 1 to 32 valid entries
 pub record AreMessages (messages : List SiMessage) : Type 0 where
   pub count : (1 ≤ length messages) × (length messages ≤ 32)
   pub valid : All IsValidMessage messages
@@ -52,27 +52,27 @@ pub record AreMessages (messages : List SiMessage) : Type 0 where
 abbrev pub IsGroup : ℕ → Type 0
 IsGroup identity = identity < 2 ^ 27
 
--- a valid q-RxLevMin
+-- a valid q-RxLevMin, -70 to -22, in units of 2 dBm
 abbrev pub IsLevel : ℤ → Type 0
 IsLevel level = (negsuc 69 ≤ℤ level) × (level ≤ℤ negsuc 21)
 
--- a valid q-RxLevMinOffset
+-- a valid q-RxLevMinOffset, 1 to 8, in units of 2 dB
 abbrev pub IsLevelOffset : ℕ → Type 0
 IsLevelOffset offset = (1 ≤ offset) × (offset ≤ 8)
 
--- a valid p-Max
+-- a valid p-Max, -30 to 33 dBm
 abbrev pub IsPower : ℤ → Type 0
 IsPower power = (negsuc 29 ≤ℤ power) × (power ≤ℤ pos 33)
 
--- a valid freqBandIndicator
+-- a valid freqBandIndicator, 1 to 64
 abbrev pub IsBand : ℕ → Type 0
 IsBand band = (1 ≤ band) × (band ≤ 64)
 
--- valid subframeAssignment and specialSubframePatterns
+-- a valid subframeAssignment, 0 to 6, and valid specialSubframePatterns, 0 to 8
 abbrev pub IsTddConfig : ℕ × ℕ → Type 0
 IsTddConfig config = (config.0 ≤ 6) × (config.1 ≤ 8)
 
--- a valid si-WindowLength code
+-- a valid si-WindowLength code, 0 to 6
 abbrev pub IsWindow : ℕ → Type 0
 IsWindow code = code ≤ 6
 
@@ -87,7 +87,7 @@ pub record IsSelection (selection : CellSelectionInfo) : Type 0 where
   pub q_rx : IsLevel selection.q_rx
   pub q_offset : IfSome selection.q_offset IsLevelOffset
 
--- every field is in its range
+-- every field of `sib1` is in its range
 pub record IsValid (sib1 : Sib1) : Type 0 where
   pub access : IsAccess (access_of sib1)
   pub selection : IsSelection (selection_of sib1)

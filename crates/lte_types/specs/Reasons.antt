@@ -10,6 +10,7 @@ use Rattle.lte_types.specs.declared.sib1_reason.Words.{Words}
 use Rattle.lte_types.specs.declared.sib1_reason.Words.TheVariants.{Plain, WithNumber, WithWidth}
 use Rattle.lte_types.specs.Codes.{bandwidth_word}
 
+-- the text of a reason: its name, followed by its number or bandwidth if it has one
 abbrev pub reason_words : Sib1Reason → List ℕ
 reason_words (NotOnePort ports) = codes "ports " ++ decimal ports
 reason_words (OtherWidth width) = codes "bandwidth " ++ bandwidth_word width
@@ -25,7 +26,7 @@ reason_words NotSib1 = codes "not-sib1"
 reason_words (BadFields bit) = codes "bad-fields " ++ decimal bit
 reason_words LongPrefix = codes "long-prefix"
 
--- the text of a reason, from its parts in the code
+-- the text that the parts of a reason, `Words` in the code, spell together
 abbrev pub words_text : Words → List ℕ
 words_text (Plain word) = word.now
 words_text (WithNumber word number) = word.now ++ decimal number

@@ -6,9 +6,9 @@ ghost use Rattle.lte_types.specs.Assignment.{IsAssignment};
 use crate::Cfi;
 use std::marker::Model;
 
-/// The allocation of the PDSCH that carries SIB1: contiguous resource blocks, at most six (TS 36.213 section
-/// 7.1.6.3), after a control region whose control format indicator is 2 or 3 (TS 36.212 section 5.3.4). In contracts
-/// it is the indicator, the first block and the block count.
+/// The allocation of the PDSCH that carries SIB1: contiguous resource blocks, at most six (TS 36.213 section 7.1.6.3),
+/// after a control region whose control format indicator is 2 or 3 (TS 36.212 section 5.3.4). In contracts the value is
+/// the indicator, the first block and the block count.
 #[derive(Debug, Drop)]
 pub struct Assignment {
     cfi: Cfi,

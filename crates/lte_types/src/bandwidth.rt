@@ -18,7 +18,7 @@ pub enum Bandwidth {
 impl Bandwidth {
     ghost use Rattle.lte_types.specs.Codes.{bandwidth, bandwidth_code, bandwidth_word};
 
-    /// Returns the bandwidth with this dl-Bandwidth code, or `None` if the code is above 5.
+    /// Returns the bandwidth with the dl-Bandwidth code `code`, or `None` if `code` is above 5.
     pub fn from_code(code: u8) -> Option<Self>
         ensures value { MatchOption result (5 < code) (λ width. (code ≤ 5) × (width ≡ bandwidth code)) }
         ensures back { IfSome result (λ width. bandwidth_code width ≡ code) }

@@ -49,7 +49,8 @@ impl Carrier {
         }
     }
 
-    /// Returns whether the control region and SIB1 are supported: with the normal prefix and at most two ports. (own)
+    /// Returns whether the control region and SIB1 are supported: only with the normal prefix and at most two ports.
+    /// (own)
     pub fn has_control(self) -> bool
         ensures { result ≡ has_control_by self }
     {

@@ -5,7 +5,7 @@ ghost use Rattle.lte_types.specs.Identity.{cell_of};
 
 use std::marker::Model;
 
-/// A physical-layer cell identity, 0 to 503 (TS 36.211 section 6.11). In contracts it is that number.
+/// A physical-layer cell identity, 0 to 503 (TS 36.211 section 6.11). In contracts the value is the number.
 #[derive(Clone, Copy, Debug, PartialEq, Eq)]
 pub struct CellId {
     value: u16,
@@ -22,7 +22,7 @@ impl Model for CellId {
 }
 
 impl CellId {
-    /// Returns the identity with this number, or `None` if `value` is above 503.
+    /// Returns the cell identity with the number `value`, or `None` if `value` is above 503.
     pub fn new(value: u16) -> Option<Self>
         ensures valid { IsSome result ↔ (value ≤ 503) }
         ensures value { IfSome result (λ id. id ≡ value) }

@@ -7,8 +7,7 @@ ghost use Rattle.lte_types.specs.Numerology.{frame_length};
 use crate::{CellId, FRAME_LENGTH};
 use std::marker::Model;
 
-/// The identity of a cell, and the sample at which its first frame starts, 0 to 19,199. In contracts it is this pair.
-/// (own)
+/// The identity of a cell, and the sample at which its first frame starts, 0 to 19,199. (own)
 #[derive(Clone, Copy, Debug, PartialEq, Eq)]
 pub struct CellPlace {
     id: CellId,

@@ -4,7 +4,7 @@ ghost use Rattle.std.specs.Prelude.{◌≡◌, ℕ, ◌≤◌, IsSome, IfSome, �
 
 use std::marker::Model;
 
-/// A control format indicator, 1 to 3 (TS 36.212 section 5.3.4). In contracts it is that number.
+/// A control format indicator, 1 to 3 (TS 36.212 section 5.3.4). In contracts the value is the number.
 #[derive(Clone, Copy, Debug, PartialEq, Eq)]
 pub struct Cfi {
     value: u8,
@@ -21,7 +21,7 @@ impl Model for Cfi {
 }
 
 impl Cfi {
-    /// Returns the indicator with this value, or `None` if `value` is not 1, 2 or 3.
+    /// Returns the control format indicator `value`, or `None` if `value` is not 1, 2 or 3.
     pub fn new(value: u8) -> Option<Self>
         ensures valid { IsSome result ↔ ((1 ≤ value) × (value ≤ 3)) }
         ensures value { IfSome result (λ cfi. cfi ≡ value) }

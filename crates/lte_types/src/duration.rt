@@ -14,7 +14,7 @@ pub enum Duration {
 impl Duration {
     ghost use Rattle.lte_types.specs.Codes.{duration, duration_code, duration_word, duration_named};
 
-    /// Returns the duration with this phich-Duration code, or `None` if the code is above 1.
+    /// Returns the PHICH duration with the phich-Duration code `code`, or `None` if `code` is above 1.
     pub fn from_code(code: u8) -> Option<Self>
         ensures value { MatchOption result (1 < code) (λ d. (code ≤ 1) × (d ≡ duration code)) }
         ensures back { IfSome result (λ d. duration_code d ≡ code) }
@@ -38,7 +38,7 @@ impl Duration {
         }
     }
 
-    /// Returns the duration with this name in the standard, if there is one.
+    /// Returns the PHICH duration with the standard's name `name`, or `None` if there is none.
     pub fn from_name(name: &str) -> Option<Self>
         ensures value { result ≡ duration_named name.now }
         ensures back { IfSome result (λ d. duration_word d ≡ name.now) }

@@ -17,11 +17,11 @@ pub struct Entry {
     pub mib: Mib,
     /// The number of frames, 1 to 4, whose soft values were added to decode the MIB.
     pub frames: u8,
-    /// The first of these frames, counted from the cell's first frame.
+    /// The first frame whose soft values were added, counted from the cell's first frame.
     pub frame: u8,
-    /// The frame number of the first of these frames, modulo 4.
+    /// The frame number, modulo 4, of the first frame whose soft values were added.
     pub phase: u8,
-    /// The cost of the MIB's codeword.
+    /// The cost of the MIB's codeword: the sum of the magnitudes of the soft values that contradict it.
     pub cost: u32,
     /// SIB1, or the reason why it was not decoded.
     pub sib1: Result<Sib1, Sib1Reason>,

@@ -6,7 +6,7 @@ ghost use Rattle.lte_types.specs.Numerology.{frame_length, subframe_of, primary_
 use crate::Prefix;
 use std::marker::Model;
 
-/// A system frame number, 0 to 1023 (TS 36.331 section 6.2.2). In contracts it is that number.
+/// A system frame number, 0 to 1023 (TS 36.331 section 6.2.2). In contracts the value is the number.
 #[derive(Clone, Copy, Debug, PartialEq, Eq)]
 pub struct Sfn {
     value: u16,
@@ -23,7 +23,7 @@ impl Model for Sfn {
 }
 
 impl Sfn {
-    /// Returns the frame number with this value, or `None` if `value` is above 1023.
+    /// Returns the frame number `value`, or `None` if `value` is above 1023.
     pub fn new(value: u16) -> Option<Self>
         ensures valid { IsSome result ↔ (value ≤ 1023) }
         ensures value { IfSome result (λ sfn. sfn ≡ value) }
@@ -71,8 +71,8 @@ impl Half {
         }
     }
 
-    /// Returns the offset, in samples, from the start of a frame to the useful part of this half's PSS: 832 or 10,432
-    /// (TS 36.211 section 6.11.1.2).
+    /// Returns the offset, in samples, from the start of a frame to the useful part of the half frame's PSS: 832 or
+    /// 10,432 (TS 36.211 section 6.11.1.2).
     pub fn primary_start(self) -> u32
         ensures value { result ≡ primary_start_of self }
         ensures inside { result < frame_length }

@@ -6,9 +6,9 @@ ghost use Rattle.lte_types.specs.Frames.{Frames as FramesValue, AreFrames, first
 use crate::Sfn;
 use std::marker::Model;
 
-/// Consecutive frames of a cell in one period of four, in which the MIB does not change (TS 36.331 section 5.2.1.2):
-/// 1 to 4 of the cell's first eight. In contracts they are their count, the first frame, and its position in the
-/// period. (own)
+/// Consecutive frames of a cell in one period of four, in which the MIB does not change (TS 36.331 section 5.2.1.2): 1
+/// to 4 of the cell's first eight. In contracts the value is the frame count, the first frame, and the first frame's
+/// position in the period. (own)
 #[derive(Clone, Copy, Debug, PartialEq, Eq)]
 pub struct Frames {
     count: u8,
@@ -68,7 +68,7 @@ impl Frames {
         self.phase
     }
 
-    /// Returns the frame number of the cell's first frame, given the upper eight bits of the frame number from the
+    /// Returns the frame number of the cell's first frame. `upper` is the upper eight bits of the frame number in the
     /// MIB.
     pub fn first_number(self, upper: u8) -> Sfn
         ensures { result ≡ first_number upper self }

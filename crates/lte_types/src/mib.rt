@@ -15,7 +15,7 @@ pub struct Mib {
     pub resource: Resource,
     /// The upper 8 bits of the frame number.
     pub upper: u8,
-    /// The last 10 bits as a number, 0 to 1023: `32 * br + rest`.
+    /// The last 10 bits as a number, 0 to 1023: schedulingInfoSIB1-BR in the upper five, spare bits in the lower five.
     pub spare: u16,
     ghost spare_range: { spare ≤ 1023 },
 }
@@ -47,8 +47,7 @@ impl Mib {
         }
     }
 
-    /// Returns schedulingInfoSIB1-BR, 0 to 31: the first five of the last ten bits. They were spare before
-    /// Release 13.
+    /// Returns schedulingInfoSIB1-BR, 0 to 31: the first five of the last ten bits, which were spare before Release 13.
     pub fn br(&self) -> u8
         ensures value { result ≡ br_of self.now }
         ensures small { result ≤ 31 }
@@ -56,7 +55,7 @@ impl Mib {
         (self.spare / 32) as u8
     }
 
-    /// Returns the bits that are still spare in Release 13, 0 to 31: the last five.
+    /// Returns the last five bits as a number, 0 to 31. They are still spare in Release 13.
     pub fn rest(&self) -> u8
         ensures value { result ≡ rest_of self.now }
         ensures small { result ≤ 31 }

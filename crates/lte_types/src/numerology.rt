@@ -64,14 +64,15 @@ impl Prefix {
         SLOT_LENGTH / self.step()
     }
 
-    /// Returns whether this is the extended prefix.
+    /// Returns whether the prefix is the extended one.
     pub fn is_extended(self) -> bool
         ensures { result ≡ is_extended self }
     {
         self.first == 32 && self.other == 32
     }
 
-    /// Returns the sample at which the useful part of a symbol begins, for a frame that begins at sample `frame`.
+    /// Returns the sample at which the useful part of `symbol` in `slot` begins, for a frame that begins at sample
+    /// `frame`.
     pub fn useful_start(self, frame: usize, slot: usize, symbol: usize) -> usize
         requires { useful_start_of self frame slot symbol < 2 ^ 64 }
         ensures { result ≡ useful_start_of self frame slot symbol }
@@ -79,7 +80,7 @@ impl Prefix {
         frame + SLOT_LENGTH * slot + self.first as usize + self.step() * symbol
     }
 
-    /// Returns the symbol of a slot that contains the slot's sample `i`.
+    /// Returns the index of the symbol that contains sample `i` of a slot, as part of its prefix or its useful part.
     pub fn symbol_of(self, i: usize) -> usize
         ensures { result ≡ symbol_in self i }
     {

@@ -3,7 +3,7 @@
 ghost use Rattle.std.specs.Prelude.{◌≡◌, ◌≤◌, Some, IfSome};
 ghost use Rattle.lte_types.specs.Codes.{period_word, period_frames, period_of};
 
-/// Returns the standard's name for the period with this code, 0 to 6. Invalid codes give the name for 0.
+/// Returns the standard's name for the SI period with code `code`, 0 to 6. For invalid codes, returns the name for 0.
 pub fn name(code: u8) -> &'static str
     ensures { result.now ≡ period_word code }
 {
@@ -18,7 +18,7 @@ pub fn name(code: u8) -> &'static str
     }
 }
 
-/// Returns the period with this code in frames: 8 to 512 for the codes 0 to 6. Invalid codes give 8.
+/// Returns the length in frames, 8 to 512, of the SI period with code `code`, 0 to 6. For invalid codes, returns 8.
 pub fn frames(code: u8) -> u16
     ensures value { result ≡ period_frames code }
     ensures back { code ≤ 6 → period_of result ≡ Some code }
@@ -34,7 +34,7 @@ pub fn frames(code: u8) -> u16
     }
 }
 
-/// Returns the code of a period of `frames` frames, or `None` if there is none.
+/// Returns the code of an SI period of `frames` frames, or `None` if the standard has no such period.
 pub fn code_of(frames: u16) -> Option<u8>
     ensures value { result ≡ period_of frames }
     ensures back { IfSome result (λ code. (code ≤ 6) × (period_frames code ≡ frames)) }

@@ -10,7 +10,7 @@ use crate::Plmn;
 use arrayvec::ArrayVec;
 use std::marker::Model;
 
-/// At most 6 PLMN identities (TS 36.331 section 6.2.2). In contracts they are a list.
+/// At most 6 PLMN identities (TS 36.331 section 6.2.2). In contracts the value is their list.
 #[derive(Debug, Drop)]
 pub struct Plmns {
     items: ArrayVec<Plmn, 6>,
@@ -50,7 +50,7 @@ impl Plmns {
         self.items.try_push(item).is_ok()
     }
 
-    /// Returns the items.
+    /// Returns the PLMN identities in order, at most 6.
     pub fn slice(&self) -> &[Plmn]
         ensures items { result.now ≡ self.now }
         ensures count { length self.now ≤ 6 }

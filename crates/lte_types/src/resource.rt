@@ -16,7 +16,7 @@ pub enum Resource {
 impl Resource {
     ghost use Rattle.lte_types.specs.Codes.{resource, resource_code, resource_word, resource_named};
 
-    /// Returns the resource with this phich-Resource code, or `None` if the code is above 3.
+    /// Returns the PHICH resource with the phich-Resource code `code`, or `None` if `code` is above 3.
     pub fn from_code(code: u8) -> Option<Self>
         ensures value { MatchOption result (3 < code) (λ r. (code ≤ 3) × (r ≡ resource code)) }
         ensures back { IfSome result (λ r. resource_code r ≡ code) }
@@ -44,7 +44,7 @@ impl Resource {
         }
     }
 
-    /// Returns the resource with this name in the standard, if there is one.
+    /// Returns the PHICH resource with the standard's name `name`, or `None` if there is none.
     pub fn from_name(name: &str) -> Option<Self>
         ensures value { result ≡ resource_named name.now }
         ensures back { IfSome result (λ r. resource_word r ≡ name.now) }

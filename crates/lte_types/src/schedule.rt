@@ -10,7 +10,7 @@ use crate::SiMessage;
 use arrayvec::ArrayVec;
 use std::marker::Model;
 
-/// At most 32 entries of schedulingInfoList (TS 36.331 section 6.2.2). In contracts they are a list.
+/// At most 32 entries of schedulingInfoList (TS 36.331 section 6.2.2). In contracts the value is their list.
 #[derive(Debug, Drop)]
 pub struct Schedule {
     items: ArrayVec<SiMessage, 32>,
@@ -50,7 +50,7 @@ impl Schedule {
         self.items.try_push(item).is_ok()
     }
 
-    /// Returns the items.
+    /// Returns the entries in order, at most 32.
     pub fn slice(&self) -> &[SiMessage]
         ensures items { result.now ≡ self.now }
         ensures count { length self.now ≤ 32 }

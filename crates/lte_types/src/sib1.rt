@@ -8,7 +8,7 @@ ghost use Rattle.lte_types.specs.Parts.{access_of, selection_of};
 
 use crate::{Mnc, Plmn, Plmns, Schedule, SiMessage, Sib1Reason};
 
-/// SystemInformationBlockType1 (TS 36.331 section 6.2.2). Periods and windows are given by their codes.
+/// SystemInformationBlockType1 (TS 36.331 section 6.2.2). Periods and the window are given by their codes.
 #[derive(Debug, PartialEq, Drop)]
 pub struct Sib1 {
     /// 1 to 6 PLMN identities, the first with a country code.
@@ -25,11 +25,11 @@ pub struct Sib1 {
     pub csg: bool,
     /// csg-Identity, 27 bits.
     pub csg_identity: Option<u32>,
-    /// q-RxLevMin, -70 to -22.
+    /// q-RxLevMin, -70 to -22, in units of 2 dBm.
     pub q_rx: i8,
-    /// q-RxLevMinOffset, 1 to 8.
+    /// q-RxLevMinOffset, 1 to 8, in units of 2 dB.
     pub q_offset: Option<u8>,
-    /// p-Max, -30 to 33.
+    /// p-Max, -30 to 33 dBm.
     pub p_max: Option<i8>,
     /// freqBandIndicator, 1 to 64.
     pub band: u8,
@@ -199,7 +199,7 @@ fn tdd_fits(config: Option<(u8, u8)>) -> bool
     }
 }
 
-/// Returns whether both results have the same SIB1 or the same reason.
+/// Returns whether `answer` and `other` hold the same SIB1 or the same reason.
 pub fn same_answers(answer: &Result<Sib1, Sib1Reason>, other: &Result<Sib1, Sib1Reason>) -> bool
     ensures { IsTrue result ↔ (answer.now ≡ other.now) }
 {

@@ -9,11 +9,11 @@ use std::fmt;
 /// The reason why a cell's SIB1 was not decoded. (own)
 #[derive(Clone, Copy, Debug, PartialEq, Eq)]
 pub enum Sib1Reason {
-    /// The cell has this many antenna ports, 2 or 4.
+    /// The cell has the given number of antenna ports, 2 or 4, for which the receiver does not decode SIB1.
     NotOnePort(u8),
     /// The carrier is not 6 resource blocks wide.
     Bandwidth(Bandwidth),
-    /// The control region has only this many control channel elements, too few for a PDCCH candidate.
+    /// The control region has only the given number of control channel elements, too few for a PDCCH candidate.
     NoSearchSpace(u8),
     /// No DCI passed its CRC.
     NoControl,
@@ -21,9 +21,9 @@ pub enum Sib1Reason {
     NotFormat1A,
     /// The DCI allocates distributed virtual resource blocks.
     Distributed,
-    /// This resource indication value does not denote a range of resource blocks.
+    /// The given resource indication value does not denote a range of resource blocks.
     BadRiv(u8),
-    /// This modulation and coding scheme is reserved.
+    /// The given modulation and coding scheme is reserved.
     ReservedMcs(u8),
     /// The modulation and coding scheme gives no transport block size up to 1,000 bits.
     BlockTooLarge,
@@ -31,7 +31,7 @@ pub enum Sib1Reason {
     NotDecoded,
     /// The message is not a SIB1.
     NotSib1,
-    /// The field that begins at this bit is truncated or out of range.
+    /// The field that begins at the given bit is truncated or out of range.
     BadFields(u16),
     /// The cell uses the extended cyclic prefix, for which only the MIB is decoded.
     LongPrefix,

@@ -8,7 +8,7 @@ ghost use Rattle.std.specs.Cmp.Lexicographic.{pointwise};
 use arrayvec::ArrayVec;
 use std::marker::Model;
 
-/// The codes of at most 31 SIBs (TS 36.331 section 6.2.2). In contracts they are a list.
+/// The codes of at most 31 SIBs (TS 36.331 section 6.2.2). In contracts the value is their list.
 #[derive(Debug, Drop)]
 pub struct Sibs {
     items: ArrayVec<u8, 31>,
@@ -40,7 +40,7 @@ impl Sibs {
         }
     }
 
-    /// Appends `item`. Returns false, and changes nothing, if the list is full.
+    /// Appends the SIB code `item`. Returns false, and changes nothing, if the list is full.
     pub fn push(&mut self, item: u8) -> bool
         ensures room { IsTrue result ↔ (length self.old < 31) }
         ensures items { self.new ≡ (if result then self.old ++ item ∷ [] else self.old) }
@@ -48,7 +48,7 @@ impl Sibs {
         self.items.try_push(item).is_ok()
     }
 
-    /// Returns the items.
+    /// Returns the SIB codes in order, at most 31.
     pub fn slice(&self) -> &[u8]
         ensures items { result.now ≡ self.now }
         ensures count { length self.now ≤ 31 }

@@ -3,7 +3,7 @@
 ghost use Rattle.std.specs.Prelude.{◌≡◌, ◌≤◌, Some, IfSome};
 ghost use Rattle.lte_types.specs.Codes.{window_word, window_length, window_of};
 
-/// Returns the standard's name for the window with this code, 0 to 6. Invalid codes give the name for 0.
+/// Returns the standard's name for the SI window with code `code`, 0 to 6. For invalid codes, returns the name for 0.
 pub fn name(code: u8) -> &'static str
     ensures { result.now ≡ window_word code }
 {
@@ -18,7 +18,8 @@ pub fn name(code: u8) -> &'static str
     }
 }
 
-/// Returns the window with this code in milliseconds: 1 to 40 for the codes 0 to 6. Invalid codes give 1.
+/// Returns the length in milliseconds, 1 to 40, of the SI window with code `code`, 0 to 6. For invalid codes, returns
+/// 1.
 pub fn milliseconds(code: u8) -> u8
     ensures value { result ≡ window_length code }
     ensures back { code ≤ 6 → window_of result ≡ Some code }
@@ -34,7 +35,7 @@ pub fn milliseconds(code: u8) -> u8
     }
 }
 
-/// Returns the code of a window of `milliseconds`, or `None` if there is none.
+/// Returns the code of an SI window of `milliseconds`, or `None` if the standard has no such window.
 pub fn code_of(milliseconds: u8) -> Option<u8>
     ensures value { result ≡ window_of milliseconds }
     ensures back { IfSome result (λ code. (code ≤ 6) × (window_length code ≡ milliseconds)) }
