@@ -3,11 +3,11 @@ use Rattle.std.specs.Prelude.{◌≤◌, ℤ}
 use Rattle.cs_num.specs.declared.Cpx.{Cpx}
 use Rattle.cs_num.specs.Complex.{square}
 
--- the number with these components
+-- the complex integer `re` + j `im`
 abbrev pub with_parts : ℤ → ℤ → Cpx
 with_parts re im = record { re = re; im = im }
 
--- the squared magnitude of a gain is 1 to 784
+-- `gain` has a squared magnitude of 1 to 784
 pub record IsGain (gain : Cpx) : Type 0 where
   pub least : 1 ≤ square gain
   pub most : square gain ≤ 784

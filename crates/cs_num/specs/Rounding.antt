@@ -25,15 +25,15 @@ rounded_quotient x d = floor_div (pos 2 *ℤ x +ℤ pos d) (2 * d)
 abbrev pub quotient : Cpx → ℕ → Cpx
 quotient a d = record { re = rounded_quotient a.re d; im = rounded_quotient a.im d }
 
--- the nearest signed 16-bit number
+-- the signed 16-bit number nearest to `x`
 abbrev pub in_16_bits : ℤ → ℤ
 in_16_bits x = saturate_signed w16 x
 
--- the sample nearest to a number
+-- the sample nearest to a complex integer, component by component
 abbrev pub nearest_sample : Cpx → Sample
 nearest_sample a = record { re = in_16_bits a.re; im = in_16_bits a.im }
 
--- the nearest number from -limit to limit
+-- an integer, clamped to -`limit` to `limit`
 abbrev pub clamped : ℤ → ℕ → ℤ
 clamped (pos n) limit = pos (min n limit)
 clamped (negsuc n) limit = neg_ℤ (pos (min (n + 1) limit))

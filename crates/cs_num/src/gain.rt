@@ -7,8 +7,8 @@ ghost use Rattle.cs_num.specs.Gain.{IsGain, with_parts};
 use crate::Cpx;
 use std::marker::Model;
 
-/// A complex integer of magnitude 1 to 28: the square of its magnitude is 1 to 784. In contracts a gain is that
-/// number.
+/// A complex integer of magnitude 1 to 28: its squared magnitude is 1 to 784. In contracts a gain is the complex
+/// integer.
 #[derive(Clone, Copy, Debug, PartialEq, Eq)]
 pub struct Gain {
     re: i16,
@@ -29,7 +29,7 @@ impl Model for Gain {
 }
 
 impl Gain {
-    /// Returns `number` as a gain, or `None` if the square of its magnitude is not 1 to 784.
+    /// Returns `number` as a gain, or `None` if its squared magnitude is not 1 to 784.
     pub fn of(number: Cpx) -> Option<Gain>
         ensures valid { IsSome result ↔ IsGain number }
         ensures value { IfSome result (λ gain. gain ≡ number) }
@@ -45,7 +45,7 @@ impl Gain {
         }
     }
 
-    /// Returns the gain `re + j im`, or `None` if the square of its magnitude is not 1 to 784.
+    /// Returns the gain `re + j im`, or `None` if its squared magnitude is not 1 to 784.
     pub fn new(re: i16, im: i16) -> Option<Gain>
         ensures valid { IsSome result ↔ IsGain (with_parts re im) }
         ensures value { IfSome result (λ gain. gain ≡ with_parts re im) }

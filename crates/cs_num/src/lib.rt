@@ -143,7 +143,7 @@ impl Cpx {
         }
     }
 
-    /// Returns the squared magnitude, `re^2 + im^2`, which always fits.
+    /// Returns the squared magnitude, `re^2 + im^2`, which is at most 2^127 and so always fits.
     pub fn norm(self) -> u128
         ensures { result ≡ square self }
     {
@@ -227,8 +227,8 @@ fn in_16_bits(x: i64) -> i16
     x.clamp(-32_768, 32_767) as i16
 }
 
-/// Divides `top` by `bottom`, rounding toward zero, and clamps the quotient to `-limit` to `limit`. `bottom` is
-/// positive and `limit` is not negative.
+/// Divides `top` by `bottom`, rounds toward zero, and clamps the quotient to `-limit` to `limit`. `bottom` is positive,
+/// and `limit` is not negative.
 pub fn clamp_div(top: i64, bottom: i64, limit: i16) -> i16
     requires bottom { pos 0 <ℤ bottom }
     requires limit { pos 0 ≤ℤ limit }
