@@ -3,29 +3,29 @@
 use Rattle.std.specs.Prelude.{ℕ, zero, suc, Bool, false, ◌||◌, cond, List, [], ◌∷◌, ◌++◌, length, replicate, nat_eq}
 use Rattle.finite.specs.Bits.{xor}
 
--- the first polynomial with the second added to its highest coefficients
+-- a dividend with a divisor's coefficients added, modulo 2, to its highest coefficients
 unfoldable pub xor_onto : List Bool → List Bool → List Bool
 xor_onto [] gs = []
 xor_onto (x ∷ xs) [] = x ∷ xs
 xor_onto (x ∷ xs) (g ∷ gs) = xor x g ∷ xor_onto xs gs
 
--- the remainder after n steps of long division; the divisor is written without its leading 1. If the highest
--- coefficient is 1, the divisor is subtracted, which modulo 2 is addition.
+-- the remainder of a dividend after n steps of long division; `divisor` is written without its leading 1. If the
+-- dividend's highest coefficient is 1, the divisor is subtracted, which modulo 2 is addition.
 unfoldable pub divide : ℕ → List Bool → List Bool → List Bool
 divide zero divisor xs = xs
 divide (suc n) divisor [] = []
 divide (suc n) divisor (x ∷ xs) = divide n divisor (cond x (xor_onto xs divisor) xs)
 
--- the remainder of D^w times the message modulo a divisor of degree w, as w coefficients
+-- the remainder of D^w times `message` modulo `divisor`, which has degree w, as w coefficients
 unfoldable pub remainder : ℕ → List Bool → List Bool → List Bool
 remainder w divisor message = divide (length message) divisor (message ++ replicate w false)
 
--- whether k is among the powers
+-- whether `k` is in a list of powers
 unfoldable pub has_power : List ℕ → ℕ → Bool
 has_power [] k = false
 has_power (p ∷ ps) k = nat_eq p k || has_power ps k
 
--- the coefficients below D^w of the sum of these powers of D
+-- the coefficients below D^w of a polynomial that is the sum of D raised to each of the powers `ps`
 unfoldable pub powers_below : ℕ → List ℕ → List Bool
 powers_below zero ps = []
 powers_below (suc w) ps = has_power ps w ∷ powers_below w ps

@@ -3,7 +3,7 @@ use Rattle.std.specs.Prelude.{ℕ, suc, ◌*◌, ◌%◌, ◌^◌, Bool, cond, b
 use Rattle.std.specs.Int.{bit_at}
 use Rattle.finite.specs.Bits.{xor}
 
--- the register of suc k bits after the input bit x; g holds the divisor's coefficients below the leading one
+-- the CRC register of k + 1 bits after the input bit `x`; `g` holds the divisor's coefficients below the leading one
 abbrev pub next : ℕ → ℕ → ℕ → Bool → ℕ
 next k g register x =
     let shifted = (register * 2) % 2 ^ suc k in cond (xor x (nat_eq (bit_at register k) 1)) (bit_xor shifted g) shifted

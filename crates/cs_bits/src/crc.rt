@@ -6,10 +6,11 @@ ghost use Rattle.cs_bits.specs.Register.{next};
 
 use crate::number_of;
 
-/// D^16 + D^12 + D^5 + 1, without its leading term.
+/// The CRC16's generator polynomial, D^16 + D^12 + D^5 + 1, without its leading term.
 const GENERATOR_16: u16 = 0x1021;
 
-/// D^24 + D^23 + D^18 + D^17 + D^14 + D^11 + D^10 + D^7 + D^6 + D^5 + D^4 + D^3 + D + 1, without its leading term.
+/// The CRC24A's generator polynomial without its leading term: D^24 + D^23 + D^18 + D^17 + D^14 + D^11 + D^10 + D^7 +
+/// D^6 + D^5 + D^4 + D^3 + D + 1.
 const GENERATOR_24A: u32 = 0x86_4cfb;
 
 /// Returns the CRC16 register after one more bit.
@@ -38,7 +39,7 @@ fn take_in_24(register: u32, bit: bool) -> u32
     }
 }
 
-/// Returns the CRC16 of a message; the first bit is the highest coefficient (TS 36.212 section 5.1.1).
+/// Returns the CRC16 of the message `bits`, whose first bit is the highest coefficient (TS 36.212 section 5.1.1).
 pub fn crc16(bits: &[bool]) -> u16
     ensures { result ≡ crc16_of bits.now }
 {
@@ -49,7 +50,7 @@ pub fn crc16(bits: &[bool]) -> u16
     register
 }
 
-/// Returns the CRC24A of a message; the first bit is the highest coefficient (TS 36.212 section 5.1.1).
+/// Returns the CRC24A of the message `bits`, whose first bit is the highest coefficient (TS 36.212 section 5.1.1).
 pub fn crc24a(bits: &[bool]) -> u32
     ensures value { result ≡ crc24a_of bits.now }
     ensures fits { result < 2 ^ 24 }
@@ -61,7 +62,7 @@ pub fn crc24a(bits: &[bool]) -> u32
     register
 }
 
-/// Returns whether the last 24 bits are the CRC24A of the bits before them (TS 36.212 section 5.1.1).
+/// Returns whether the last 24 bits of `word` are the CRC24A of the bits before them (TS 36.212 section 5.1.1).
 pub fn has_check_24(word: &[bool]) -> bool
     requires { 24 ≤ length word.now }
     ensures { result ≡ has_check_24 word.now }

@@ -3,7 +3,7 @@
 ghost use Rattle.std.specs.Prelude.{◌≡◌, ◌^◌, ◌<◌, ◌≤◌, length};
 ghost use Rattle.cs_bits.specs.Numbers.{number, bits_of};
 
-/// Returns the number with these bits, the most significant first. There are at most 64.
+/// Returns the number that `bits` represent, the most significant bit first. There are at most 64 bits.
 pub fn number_of(bits: &[bool]) -> u64
     requires { length bits.now ≤ 64 }
     ensures value { result ≡ number bits.now }

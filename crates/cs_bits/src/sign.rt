@@ -3,8 +3,8 @@
 ghost use Rattle.std.specs.Prelude.{◌≡◌};
 ghost use Rattle.cs_bits.specs.Signs.{disagreement};
 
-/// Returns the magnitude of a soft value if its sign contradicts `bit`, otherwise 0. A positive value means 0, a
-/// negative one 1 (own).
+/// Returns the magnitude of the soft value `value` if its sign contradicts `bit`, otherwise 0. A positive value means
+/// the bit 0, a negative one the bit 1 (own).
 pub fn disagreement_of(value: i32, bit: bool) -> u32
     ensures { result ≡ disagreement value bit }
 {

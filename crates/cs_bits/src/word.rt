@@ -6,7 +6,7 @@ ghost use Rattle.cs_bits.specs.Numbers.{bits_of, field};
 use crate::{number_of, put_number};
 use std::marker::Model;
 
-/// A word of `N` bits, at most 64. In contracts it is the list of its bits.
+/// A word of `N` bits, at most 64. In contracts the value is the list of its bits.
 #[derive(Clone, Copy, Debug, Drop, PartialEq, Eq)]
 pub struct Bits<const N: usize> {
     bits: [bool; N],
