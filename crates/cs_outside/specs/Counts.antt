@@ -9,6 +9,6 @@ last_count = 2 ^ 64 - 1
 abbrev pub next_count : ℕ → ℕ
 next_count count = min (count + 1) last_count
 
--- the count has increased, or was already saturated
+-- a count rose from `before` to `now`, or is saturated
 abbrev pub Rose : ℕ → ℕ → Type 0
 Rose before now = next_count before ≤ now

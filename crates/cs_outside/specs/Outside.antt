@@ -16,12 +16,12 @@ pub record SinkState : Type 0 where
 abbrev pub Outside : Type 0
 Outside = SourceState × SinkState
 
--- nothing was read, and no read failed
+-- between the source states `before` and `now`, nothing was read and no read failed
 pub record NothingRead (before now : SourceState) : Type 0 where
   pub left : now.left ≡ before.left
   pub faults : now.faults ≡ before.faults
 
--- nothing was written, and no write failed
+-- between the sink states `before` and `now`, nothing was written and no write failed
 pub record NothingWritten (before now : SinkState) : Type 0 where
   pub taken : now.taken ≡ before.taken
   pub room : now.room ≡ before.room

@@ -9,8 +9,8 @@ use crate::{Failed, Sink, Source};
 use std::io::{Read, Write};
 use std::marker::Model;
 
-/// A std reader as a source. A generic caller learns nothing about the remaining bytes. In contracts it is the reader
-/// and the number of failed calls.
+/// A std reader as a source. A generic caller learns nothing about the remaining bytes. In contracts the value is the
+/// reader and the number of failed calls.
 #[derive(Drop)]
 pub struct StdSource<R: Read> {
     inner: R,
@@ -59,8 +59,8 @@ impl<R: Read> Source for StdSource<R> {
     }
 }
 
-/// A std writer as a sink. A generic caller learns nothing about the written bytes. In contracts it is the writer and
-/// the number of failed calls.
+/// A std writer as a sink. A generic caller learns nothing about the written bytes. In contracts the value is the
+/// writer and the number of failed calls.
 #[derive(Drop)]
 pub struct StdSink<W: Write> {
     inner: W,

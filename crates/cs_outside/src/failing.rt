@@ -8,7 +8,8 @@ use crate::{Failed, MemSink, MemSource, Sink, Source};
 use std::alloc::{AllocError, Global};
 use std::marker::Model;
 
-// The calls that fail. Calls are numbered from 0; the number saturates at `u64::MAX`.
+// The numbers of the calls that fail, and the number of the next call. Calls are numbered from 0; the number saturates
+// at `u64::MAX`.
 #[derive(Drop)]
 struct Script {
     fails: Vec<u64>,
@@ -16,7 +17,7 @@ struct Script {
 }
 
 impl Script {
-    // Returns whether the current call fails, and moves on to the next.
+    // Returns whether the current call fails, and advances to the next call.
     fn fails_now(&mut self) -> bool
         ensures listed { IsTrue result ↔ Contains self.old.fails.items self.old.call }
         ensures next { self.new ≡ record self.old { call = next_count self.old.call } }
@@ -27,7 +28,7 @@ impl Script {
     }
 }
 
-/// An in-memory source that fails in the listed calls and returns at most `most` bytes per call. Calls are numbered
+/// An in-memory source that fails in the scripted calls and returns at most `most` bytes per call. Calls are numbered
 /// from 0; the number saturates at `u64::MAX`.
 #[derive(Drop)]
 pub struct FailSource {
@@ -76,7 +77,7 @@ impl FailSource {
 impl Source for FailSource {
     ghost state = { λ s. record { left = Some s.left; faults = s.faults } };
 
-    /// Fails in the listed calls only. Any other call returns as many bytes as `most`, `into` and the rest of the
+    /// Fails in the scripted calls only. Any other call returns as many bytes as `most`, `into` and the rest of the
     /// input allow.
     fn read(&mut self, into: &mut [u8]) -> Result<usize, Failed>
         requires { 0 < length into.old }
@@ -105,7 +106,7 @@ impl Source for FailSource {
     }
 }
 
-/// An in-memory sink that fails in the listed calls and takes at most `most` bytes per call. Writing does not
+/// An in-memory sink that fails in the scripted calls and takes at most `most` bytes per call. Writing does not
 /// allocate. Calls are numbered from 0; the number saturates at `u64::MAX`. A generic caller does not learn the free
 /// space.
 #[derive(Drop)]
@@ -131,7 +132,8 @@ impl Model for FailSink {
 }
 
 impl FailSink {
-    /// Allocates space for `room` bytes. If the allocation fails, `fails` is dropped.
+    /// Creates a sink with space for `room` bytes that fails in the calls numbered in `fails` and takes at most `most`
+    /// bytes per call. If the allocation fails, `fails` is dropped.
     pub fn new(alloc: Global, fails: Vec<u64>, most: usize, room: usize) -> Result<Self, AllocError>
         requires { 0 < most }
         ensures { IfOk result (λ sink. sink ≡ record {
@@ -161,7 +163,7 @@ impl FailSink {
 impl Sink for FailSink {
     ghost state = { λ s. record { taken = Some s.taken; room = None; faults = s.faults } };
 
-    /// Fails in the listed calls and when no space is left. Any other call takes as many bytes as `piece`, `most` and
+    /// Fails in the scripted calls and when no space is left. Any other call takes as many bytes as `piece`, `most` and
     /// the free space allow.
     fn write(&mut self, piece: &[u8]) -> Result<usize, Failed>
         requires { 0 < length piece.now }

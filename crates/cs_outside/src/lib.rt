@@ -1,5 +1,5 @@
-//! Byte input and output: sources and sinks that count their faults. There are in-memory ones for tests, some with
-//! scripted faults, and adapters for std readers and writers.
+//! Byte input and output: sources and sinks that count their faults. There are in-memory sources and sinks for tests,
+//! some with scripted faults, and adapters for std readers and writers.
 //! Tests: the crates `low_tests` and `fault_tests`.
 #![tactic(auto)]
 
@@ -50,8 +50,8 @@ pub trait Sink {
     /// `u64::MAX`.
     ghost state: { Self → SinkState };
 
-    /// Writes at least one byte from the start of `piece`, which is not empty, and returns their number. Each
-    /// `Failed` is counted as a fault; if the free space is known, it is then 0.
+    /// Writes at least one byte from the start of `piece`, which is not empty, and returns their number. After
+    /// `Failed`, which is counted as a fault, the free space is 0 if it is known.
     fn write(&mut self, piece: &[u8]) -> Result<usize, Failed>
         requires { 0 < length piece.now }
         ensures some { IfOk result (λ n. 0 < n) }

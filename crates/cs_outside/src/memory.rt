@@ -9,7 +9,7 @@ use crate::{Failed, Sink, Source};
 use std::alloc::{AllocError, Global};
 use std::marker::Model;
 
-/// An in-memory source, which never fails. In contracts it is the remaining bytes.
+/// An in-memory source, which never fails. In contracts the value is the list of the remaining bytes.
 #[derive(Drop)]
 pub struct MemSource {
     bytes: Vec<u8>,
@@ -51,8 +51,8 @@ impl Source for MemSource {
     }
 }
 
-/// An in-memory sink with a fixed capacity. Writing does not allocate. In contracts it is the bytes written, the free
-/// space and the number of failed calls.
+/// An in-memory sink with a fixed capacity. Writing does not allocate. In contracts the value is the bytes written, the
+/// free space and the number of failed calls.
 #[derive(Drop)]
 pub struct MemSink {
     bytes: Vec<u8>,
@@ -70,7 +70,7 @@ impl Model for MemSink {
 }
 
 impl MemSink {
-    /// Allocates space for `room` bytes.
+    /// Creates a sink with space for `room` bytes. Fails only if the allocation fails.
     pub fn new(alloc: Global, room: usize) -> Result<Self, AllocError>
         ensures { IfOk result (λ sink. sink ≡ record { taken = []; room = room; faults = 0 }) }
     {

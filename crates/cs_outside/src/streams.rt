@@ -24,8 +24,8 @@ pub enum ReadError {
 // The maximum number of bytes requested per call to a source.
 const PIECE: usize = 4_096;
 
-/// Reads a source to its end, which must come within `limit` bytes. From a longer input, `limit + 1` bytes are read
-/// and no more. After an error the bytes read are lost.
+/// Reads a source to its end, and returns its bytes, at most `limit`. A longer input is `TooLong`, and exactly `limit +
+/// 1` of its bytes are read. After an error the bytes read are lost.
 pub fn read_to_end<S: Source>(
     alloc: Global,
     source: &mut S,
