@@ -2,7 +2,7 @@
 use Rattle.std.specs.Prelude.{ℕ, zero, suc, List, [], ◌++◌, map}
 use Rattle.std.specs.List.{range_with_len}
 
--- f 0, .., f (n - 1)
+-- the list f 0, .., f (n - 1)
 abbrev pub values_below : {A : Type 0} → ℕ → (ℕ → A) → List A
 values_below n f = map f (range_with_len 0 n)
 

@@ -1,12 +1,12 @@
 -- Finite sums over the numbers below n.
 use Rattle.std.specs.Prelude.{ℕ, zero, suc, ◌+◌, ℤ, pos, ◌+ℤ◌}
 
--- f 0 + .. + f (n - 1), as an integer
+-- the integer sum f 0 + .. + f (n - 1)
 unfoldable pub sum_below : ℕ → (ℕ → ℤ) → ℤ
 sum_below zero f = pos 0
 sum_below (suc n) f = sum_below n f +ℤ f n
 
--- f 0 + .. + f (n - 1), as a natural number
+-- the sum of natural numbers f 0 + .. + f (n - 1)
 unfoldable pub total_below : ℕ → (ℕ → ℕ) → ℕ
 total_below zero f = 0
 total_below (suc n) f = total_below n f + f n
