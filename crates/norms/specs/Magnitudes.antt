@@ -5,8 +5,8 @@ use Rattle.cs_num.specs.declared.Cpx.{Cpx}
 use Rattle.cs_num.specs.Complex.{times, conjugate, square}
 use Rattle.cs_num.specs.Sums.{complex_sum_below}
 
--- |z| is at most c times the magnitude of a gain whose square is n. Magnitudes in units of a gain need no square
--- root.
+-- the magnitude of `z` is at most `c` times that of a gain whose squared magnitude is `n`; squares are compared, so no
+-- square root is needed
 pub record IsBounded (c n : ℕ) (z : Cpx) : Type 0 where
   pub bounded : square z ≤ c * c * n
 
@@ -14,26 +14,26 @@ pub record IsBounded (c n : ℕ) (z : Cpx) : Type 0 where
 abbrev pub real : ℕ → Cpx
 real n = record { re = pos n; im = pos 0 }
 
--- the real part, re (x conj y)
+-- the real part of x conj(y)
 abbrev pub inner : Cpx → Cpx → ℤ
 inner x y = x.re *ℤ y.re +ℤ x.im *ℤ y.im
 
--- |f 0|^2 + .. + |f (n - 1)|^2
+-- the energy |f 0|^2 + .. + |f (n - 1)|^2
 abbrev pub energy_below : ℕ → (ℕ → Cpx) → ℕ
 energy_below n f = total_below n (λ k. square (f k))
 
--- f 0 * conj (g 0) + .. + f (n - 1) * conj (g (n - 1))
+-- the correlation f 0 * conj (g 0) + .. + f (n - 1) * conj (g (n - 1))
 abbrev pub correlation_below : ℕ → (ℕ → Cpx) → (ℕ → Cpx) → Cpx
 correlation_below n f g = complex_sum_below n (λ k. times (f k) (conjugate (g k)))
 
 -- ---- the gains of four antenna ports
 
--- the sum of the squared magnitudes
+-- the sum of the squared magnitudes of four complex integers, `numbers` 0 to 3
 abbrev pub squares_of_four : (ℕ → Cpx) → ℕ
 squares_of_four numbers = square (numbers 0) + square (numbers 1) + square (numbers 2) + square (numbers 3)
 
--- the first and third gains together have at least three eighths of the sum of squares, and so do the second and
--- fourth
+-- the gains `numbers` 0 and 2 together have at least three eighths of the four gains' sum of squared magnitudes, and so
+-- do the gains 1 and 3
 pub record ArePaired (numbers : ℕ → Cpx) : Type 0 where
   pub even : 3 * squares_of_four numbers ≤ 8 * (square (numbers 0) + square (numbers 2))
   pub odd : 3 * squares_of_four numbers ≤ 8 * (square (numbers 1) + square (numbers 3))
