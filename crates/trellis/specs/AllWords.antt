@@ -2,7 +2,7 @@
 use Rattle.std.specs.Prelude.{ℕ, zero, suc, Bool, true, false, ◌&&◌, List, [], ◌∷◌, ℤ}
 use Rattle.std.specs.Int.{int_max}
 
--- whether every word of n bits passes
+-- whether the test `p` is true for every word of n bits
 unfoldable pub every_word : ℕ → (List Bool → Bool) → Bool
 every_word zero p = p []
 every_word (suc n) p = every_word n (λ word. p (false ∷ word)) && every_word n (λ word. p (true ∷ word))

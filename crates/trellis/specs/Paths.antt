@@ -1,12 +1,12 @@
 -- Paths through a trellis: a state machine that consumes one bit per step (own).
 use Rattle.std.specs.Prelude.{ℕ, zero, suc, ◌+◌, min, nat_lt, Bool, true, false, List, [], ◌∷◌}
 
--- the state reached from x by these bits
+-- the state that a word's bits reach from state `x`
 abbrev pub end_of : (ℕ → Bool → ℕ) → ℕ → List Bool → ℕ
 end_of next x [] = x
 end_of next x (b ∷ bs) = end_of next (next x b) bs
 
--- the cost of these bits from step k and state x: the sum over the steps
+-- the cost of a word's path from step `k` and state `x`: the sum of the costs of its steps
 abbrev pub path_cost : (ℕ → Bool → ℕ) → (ℕ → ℕ → Bool → ℕ) → ℕ → ℕ → List Bool → ℕ
 path_cost next c k x [] = 0
 path_cost next c k x (b ∷ bs) = c k x b + path_cost next c (suc k) (next x b) bs
@@ -24,7 +24,7 @@ best_bit next c ends k n x =
     nat_lt (c k x true + best next c ends (suc k) n (next x true))
     (c k x false + best next c ends (suc k) n (next x false))
 
--- the word of n bits from step k and state x; each bit is chosen by its step and state
+-- the word of n bits on the path from step `k` and state `x`, where `choice` selects each bit by its step and state
 abbrev pub walked : (ℕ → Bool → ℕ) → (ℕ → ℕ → Bool) → ℕ → ℕ → ℕ → List Bool
 walked next choice k zero x = []
 walked next choice k (suc n) x = choice k x ∷ walked next choice (suc k) n (next x (choice k x))
