@@ -8,7 +8,7 @@ use Rattle.cs_num.specs.Sums.{complex_sum_below}
 use Rattle.fold128.specs.Tables.{w_at}
 use Rattle.lte_types.specs.Numerology.{subcarriers, useful_length}
 
--- subcarrier k's frequency, from -36 to 36 without 0, modulo 128
+-- the frequency of subcarrier `k`, from -36 to 36 without 0, modulo 128
 abbrev pub frequency : ℕ → ℕ
 frequency k = if nat_lt k 36 then k + 92 else k - 35
 

@@ -3,7 +3,7 @@ use Rattle.std.specs.Prelude.{ℕ, ◌+◌, ◌-◌, ◌%◌, List, [], ◌∷�
 use Rattle.cs_num.specs.declared.Cpx.{Cpx}
 use Rattle.cs_num.specs.Complex.{conjugate}
 
--- C(0) to C(32)
+-- C(0) to C(32), where C(m) approximates 16384 cos(2 pi m / 128)
 unfoldable pub quarter : List ℕ
 quarter =
     16384 ∷ 16364 ∷ 16305 ∷ 16207 ∷ 16069 ∷ 15893 ∷ 15679 ∷ 15426 ∷ 15137 ∷ 14811 ∷ 14449 ∷ 14053 ∷ 13623 ∷ 13160 ∷
@@ -18,6 +18,7 @@ half_turn m = if nat_le m 32 then pos (slice_index quarter m) else neg_ℤ (pos 
 abbrev pub folded : ℕ → ℕ
 folded m = if nat_le (m % 128) 64 then m % 128 else 128 - m % 128
 
+-- C(m), for any index m
 unfoldable pub cosine : ℕ → ℤ
 cosine m = half_turn (folded m)
 

@@ -14,8 +14,8 @@ pub use spectrum::transform;
 pub use symbol::synth;
 pub use tables::{w, z63};
 
-/// A law: the table W is exactly symmetric. It has period 128, half a period negates, a quarter multiplies by j, and
-/// reversal conjugates.
+/// A law: the table W is exactly symmetric. It has period 128, half a period negates W, a quarter period multiplies W
+/// by j, and reversal conjugates W.
 pub fn table_is_symmetric()
     ensures period { WHasPeriod }
     ensures half_turn { HalfTurnNegates }
@@ -28,7 +28,7 @@ pub fn tones_cancel()
     ensures { TonesCancel }
 {}
 
-/// A law: the table Z has period 63, and reversal conjugates.
+/// A law: the table Z has period 63, and reversal conjugates Z.
 pub fn short_table_is_symmetric()
     ensures period { ZHasPeriod }
     ensures backward { ZBackwardIsConjugate }

@@ -14,7 +14,7 @@ macro_rules! butterfly {
     };
 }
 
-// One number per residue modulo 4: the residue of a frequency, or of a sample's quarter.
+// Four numbers: one per frequency residue modulo 4 or, after `unfold_four`, one per quarter of the symbol's samples.
 #[derive(Clone, Copy)]
 pub(crate) struct Quartet {
     pub zero: Cpx,
@@ -31,7 +31,7 @@ impl Quartet {
         three: Cpx::ZERO,
     };
 
-    // Returns the number for a residue.
+    // Returns the number for `residue`, 0 to 3.
     pub(crate) fn of_residue(&self, residue: usize) -> Cpx
         ensures { result ≡ taken self.now residue }
     {
@@ -43,7 +43,7 @@ impl Quartet {
         }
     }
 
-    // Adds `number` to the number for a residue.
+    // Adds `number` to the number for `residue`, 0 to 3.
     pub(crate) fn add(&mut self, residue: usize, number: Cpx)
         requires residue { residue < 4 }
         requires small { AreWithin 1073741824 self.old }
@@ -60,7 +60,7 @@ impl Quartet {
 }
 
 // Folds four samples at distance 32 with four butterflies, and returns their contribution to the frequencies of each
-// residue.
+// residue modulo 4.
 pub(crate) fn fold_four(a: Cpx, b: Cpx, c: Cpx, d: Cpx) -> Quartet
     requires a { IsWithin 32768 a }
     requires b { IsWithin 32768 b }

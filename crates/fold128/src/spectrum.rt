@@ -13,7 +13,7 @@ use crate::tables::w;
 use cs_num::{Cpx, Sample};
 use lte_types::{SUBCARRIERS, USEFUL_LENGTH};
 
-// The samples m and 32 - m combined: the factors that multiply W's real and imaginary part.
+// The combined term of the indices m and 32 - m: the factors that multiply W's real and imaginary part.
 #[derive(Clone, Copy)]
 struct Mirror {
     real: Cpx,
@@ -27,8 +27,8 @@ impl Mirror {
     };
 }
 
-/// Computes the unnormalised DFT of a symbol's 128 samples on the 72 subcarriers, without rounding. Components have
-/// magnitude at most 97,182,023,680.
+/// Computes the unnormalised DFT of a symbol's 128 samples on the 72 subcarriers, without rounding. Components of the
+/// result have magnitude at most 97,182,023,680.
 pub fn transform(samples: &[Sample; USEFUL_LENGTH]) -> [Cpx; SUBCARRIERS]
     ensures value { result ≡ spectrum (sample_at samples.now) }
     ensures small { All (IsWithin 97182023680) result }
@@ -65,7 +65,7 @@ fn fold(samples: &[Sample; USEFUL_LENGTH]) -> [Quartet; 32]
     folded
 }
 
-// Multiplies by -j, `turns` times.
+// Multiplies `z` by -j, `turns` times.
 fn back(z: Cpx, turns: usize) -> Cpx
     requires small { IsWithin 131072 z }
     requires turns { turns < 4 }
@@ -79,8 +79,8 @@ fn back(z: Cpx, turns: usize) -> Cpx
     }
 }
 
-// Returns the number opposite index `m` for a residue: index 32 - m with its phase corrected, and 0 opposite 0 and
-// 16.
+// Returns the number opposite index `m` for `residue`: that at index 32 - m with its phase corrected, or 0 for the
+// indices 0 and 16.
 fn opposite_of(folded: &[Quartet; 32], residue: usize, m: usize) -> Cpx
     requires small { All (AreWithin 131072) folded.now }
     requires residue { residue < 4 }
@@ -139,7 +139,7 @@ fn mirrored_sum(row: &[Mirror; 17], frequency: usize) -> Cpx
     sum
 }
 
-// Returns a combined term's contribution, where W is `w` at its index.
+// Returns a combined term's contribution to the DFT, where `w` is W's value at the term's index.
 fn product(mirror: Mirror, w: Cpx) -> Cpx
     requires mirror { IsSmallMirror mirror }
     requires w { IsWithin 16384 w }
@@ -152,7 +152,7 @@ fn product(mirror: Mirror, w: Cpx) -> Cpx
     }
 }
 
-// Returns one component of a combined term's contribution.
+// Returns one component, real or imaginary, of a combined term's contribution.
 fn component(real: i64, cosine: i64, imaginary: i64, sine: i64) -> i64
     requires real { nat_abs real ≤ 262144 }
     requires cosine { nat_abs cosine ≤ 16384 }

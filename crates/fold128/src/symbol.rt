@@ -31,7 +31,7 @@ pub fn synth(grid: &[Cpx; SUBCARRIERS]) -> [Cpx; USEFUL_LENGTH]
     out
 }
 
-// Adds one subcarrier's contribution to the samples 0 to 31, under its frequency's residue.
+// Adds one subcarrier's contribution to each quartet, at the residue of `frequency` modulo 4.
 fn add_tone(parts: &mut [Quartet; 32], value: Cpx, frequency: usize)
     requires small { All (AreWithin 1073741824) parts.old }
     requires value { IsWithin 127 value }
@@ -47,7 +47,7 @@ fn add_tone(parts: &mut [Quartet; 32], value: Cpx, frequency: usize)
     }
 }
 
-// Unfolds the 32 quartets to 128 samples; each quartet gives four at distance 32.
+// Unfolds the 32 quartets to 128 samples. Each quartet gives four samples at distance 32.
 fn unfold(parts: &[Quartet; 32]) -> [Quartet; 32]
     requires { All (AreWithin 1073741824) parts.now }
     ensures value { result ≡ values_below 32 (λ m. unfolded (slice_index_or parts.now m empty_quartet)) }

@@ -1,4 +1,4 @@
-//! The tables W and Z. W is stored for a period, Z for half a period.
+//! The tables W and Z. W's real parts are stored for a period and three quarters, Z for half a period.
 
 ghost use Rattle.std.specs.Prelude.{◌≡◌, ◌<◌};
 ghost use Rattle.cs_num.specs.Complex.{IsWithin};
@@ -6,7 +6,7 @@ ghost use Rattle.fold128.specs.Tables.{z_half, cosine, w_at, z_at};
 
 use cs_num::Cpx;
 
-// C(0) to C(223): the real parts of W over one period, continued so that they contain the imaginary parts.
+// C(0) to C(223): the real parts of W over one period, and 96 more, because W(m) has the imaginary part C(m + 96).
 const COSINES: [i64; 224] = [
     16384, 16364, 16305, 16207, 16069, 15893, 15679, 15426, 15137, 14811, 14449, 14053, 13623,
     13160, 12665, 12140, 11585, 11003, 10394, 9760, 9102, 8423, 7723, 7005, 6270, 5520, 4756, 3981,
@@ -46,7 +46,7 @@ macro_rules! by_symmetry {
     };
 }
 
-// Returns C(m).
+// Returns C(`m`), an integer approximation to 16384 cos(2 pi `m` / 128).
 fn cosine_of(m: usize) -> i64
     requires { m < 224 }
     ensures { result ≡ cosine m }
