@@ -1,5 +1,5 @@
-//! LTE's pseudo-random sequence c, a length-31 Gold sequence (TS 36.211 section 7.2): the XOR of two 31-bit LFSR
-//! sequences x1 and x2, from index 1600. It scrambles channels and generates reference signals.
+//! LTE's pseudo-random sequence c, a length-31 Gold sequence (TS 36.211 section 7.2): the XOR of the 31-bit LFSR
+//! sequences x1 and x2, from index 1600. The sequence scrambles channels and generates reference signals.
 //! Tests: the crate `low_tests`.
 #![tactic(auto)]
 
@@ -9,13 +9,14 @@ ghost use Rattle.finite.specs.Bits.{xor};
 ghost use Rattle.gold.specs.Register.{low_bits, window};
 ghost use Rattle.gold.specs.Sequence.{x1, x2, x1_taps, x2_taps};
 
-// The bits per step. A 31-bit register determines its next 28 bits, and 64 steps of 25 skip the 1,600 bits before c.
+// The number of bits computed at once. A 31-bit register determines its next 28 bits, and 64 blocks of 25 bits skip the
+// 1,600 bits before c.
 const BLOCK: usize = 25;
 
 // A mask for the low 25 bits.
 const LOW: u32 = 0x1ff_ffff;
 
-// Returns the register 25 steps later, where `bits` are the new bits.
+// Returns the register 25 steps later, where `bits` are the 25 new bits.
 fn shift_in(register: u32, bits: u32) -> u32
     requires register { register < 2 ^ 31 }
     requires bits { bits < 2 ^ 25 }
@@ -24,6 +25,7 @@ fn shift_in(register: u32, bits: u32) -> u32
     (register >> 25) | (bits << 6)
 }
 
+// Returns the register of x1 25 steps later.
 fn later_x1(register: u32) -> u32
     requires { register < 2 ^ 31 }
     ensures fits { result < 2 ^ 31 }
@@ -32,6 +34,7 @@ fn later_x1(register: u32) -> u32
     shift_in(register, ((register >> 3) ^ register) & LOW)
 }
 
+// Returns the register of x2 25 steps later.
 fn later_x2(register: u32) -> u32
     requires { register < 2 ^ 31 }
     ensures fits { result < 2 ^ 31 }
@@ -54,7 +57,7 @@ fn put_low_bits(number: u32, out: &mut [bool])
     }
 }
 
-/// Fills `out` with the first bits of c. `c_init` is below 2^31; its bit i is x2(i).
+/// Fills `out` with the first bits of the sequence c for `c_init`, which is below 2^31. Bit i of `c_init` is x2(i).
 pub fn fill(c_init: u32, out: &mut [bool])
     requires { c_init < 2 ^ 31 }
     ensures { out.new ≡ gold_bits c_init (length out.old) }
