@@ -1,4 +1,4 @@
--- A law for the SSS. (TS 36.211 section 6.11)
+-- The law that the SSS identifies group and half frame. (TS 36.211 section 6.11)
 use Rattle.std.specs.Prelude.{◌≡◌, ℕ, ◌≤◌}
 use Rattle.lte_types.specs.declared.frame.Half.{Half}
 use Rattle.sync_seq.specs.Secondary.{sss_list}

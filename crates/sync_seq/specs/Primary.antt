@@ -4,18 +4,18 @@ use Rattle.cs_num.specs.declared.Cpx.{Cpx}
 use Rattle.finite.specs.Lists.{values_below}
 use Rattle.fold128.specs.Tables.{z_at}
 
--- the root index for an identity within the group
+-- the Zadoff-Chu root index for the identity `n2` within the group
 abbrev pub root_of : ℕ → ℕ
 root_of n2 = if n2 == 0 then 25 else if n2 == 1 then 29 else 34
 
--- the phase of value n, divided by minus the root, in 1/63 of a cycle
+-- the phase of PSS value `n` in 1/63 of a cycle, divided by minus the root index
 abbrev pub turns : ℕ → ℕ
 turns n = if nat_lt n 31 then n * (n + 1) / 2 else (n + 1) * (n + 2) / 2
 
--- value n: Z at minus the root times the phase, modulo 63
+-- PSS value `n`: Z at minus the root index times `turns n`, modulo 63
 unfoldable pub pss_at : ℕ → ℕ → Cpx
 pss_at n2 n = z_at ((63 - root_of n2) * turns n)
 
--- the complete PSS
+-- the 62 PSS values for the identity `n2` within the group
 unfoldable pub pss_list : ℕ → List Cpx
 pss_list n2 = values_below 62 (pss_at n2)

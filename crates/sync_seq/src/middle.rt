@@ -9,7 +9,8 @@ ghost use Rattle.lte_types.specs.Numerology.{subcarriers};
 use cs_num::Cpx;
 use lte_types::SUBCARRIERS;
 
-/// The subcarrier of the sequence's first value; the others follow (TS 36.211 sections 6.11.1.2 and 6.11.2.2).
+/// The subcarrier that carries the first of a sequence's 62 values; the other values follow in order (TS 36.211
+/// sections 6.11.1.2 and 6.11.2.2).
 pub const MIDDLE: usize = 5;
 
 /// Returns whether subcarrier `k` is one of the central 62.
@@ -19,7 +20,7 @@ pub fn is_middle(k: usize) -> bool
     MIDDLE <= k && k < MIDDLE + 62
 }
 
-/// Returns the 72 subcarriers of a symbol that carries only these central values.
+/// Returns the 72 subcarriers of a symbol that carries `values` on the central 62, and 0 elsewhere.
 pub fn in_middle(values: &[Cpx; 62]) -> [Cpx; SUBCARRIERS]
     ensures { result ≡ values_below subcarriers (middle_grid (value_at values.now)) }
 {
@@ -30,7 +31,7 @@ pub fn in_middle(values: &[Cpx; 62]) -> [Cpx; SUBCARRIERS]
     grid
 }
 
-// Returns the value on subcarrier `k`.
+// Returns the value on subcarrier `k`, 0 outside the central 62.
 #[tactic(auto, using(std::proofs::lemmas::Bool::Decides::nat_tests))]
 fn middle_value(values: &[Cpx; 62], k: usize) -> Cpx
     requires { k < subcarriers }

@@ -6,7 +6,7 @@ ghost use Rattle.sync_seq.specs.Primary.{root_of, pss_at, pss_list};
 use cs_num::Cpx;
 use fold128::z63;
 
-/// Returns the 62 PSS values for the identity within the group, `n2`, 0 to 2 (TS 36.211 section 6.11.1). They are
+/// Returns the 62 PSS values for the identity `n2` within the group, 0 to 2 (TS 36.211 section 6.11.1). The values are
 /// entries in the table of 63rd roots of unity.
 pub fn pss(n2: u8) -> [Cpx; 62]
     requires { n2 ≤ 2 }
@@ -19,7 +19,7 @@ pub fn pss(n2: u8) -> [Cpx; 62]
     values
 }
 
-// Returns value `n`.
+// Returns PSS value `n`, 0 to 61.
 fn pss_value(n2: u8, n: usize) -> Cpx
     requires identity { n2 ≤ 2 }
     requires n { n < 62 }
@@ -33,7 +33,7 @@ fn pss_value(n2: u8, n: usize) -> Cpx
     z63((63 - root(n2)) * turns)
 }
 
-// Returns the Zadoff-Chu root index.
+// Returns the Zadoff-Chu root index: 25, 29 or 34.
 fn root(n2: u8) -> usize
     requires { n2 ≤ 2 }
     ensures value { result ≡ root_of n2 }

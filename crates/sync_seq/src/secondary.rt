@@ -6,19 +6,21 @@ ghost use Rattle.sync_seq.specs.Secondary.{S, C, Z, period_bits, sign_at, shift_
 use cs_num::Cpx;
 use lte_types::Half;
 
-// The signs of the three m-sequences, over two periods of 31.
+// The signs 1 - 2 s(n) of the m-sequence s, over two periods of 31.
 const S_SIGNS: [i8; 62] = [
     1, 1, 1, 1, -1, 1, 1, -1, 1, -1, -1, 1, 1, -1, -1, -1, -1, -1, 1, 1, 1, -1, -1, 1, -1, -1, -1,
     1, -1, 1, -1, 1, 1, 1, 1, -1, 1, 1, -1, 1, -1, -1, 1, 1, -1, -1, -1, -1, -1, 1, 1, 1, -1, -1,
     1, -1, -1, -1, 1, -1, 1, -1,
 ];
 
+// The signs 1 - 2 c(n) of the m-sequence c, over two periods of 31.
 const C_SIGNS: [i8; 62] = [
     1, 1, 1, 1, -1, 1, -1, 1, -1, -1, -1, 1, -1, -1, 1, 1, 1, -1, -1, -1, -1, -1, 1, 1, -1, -1, 1,
     -1, 1, 1, -1, 1, 1, 1, 1, -1, 1, -1, 1, -1, -1, -1, 1, -1, -1, 1, 1, 1, -1, -1, -1, -1, -1, 1,
     1, -1, -1, 1, -1, 1, 1, -1,
 ];
 
+// The signs 1 - 2 z(n) of the m-sequence z, over two periods of 31.
 const Z_SIGNS: [i8; 62] = [
     1, 1, 1, 1, -1, -1, -1, 1, 1, -1, -1, 1, -1, -1, -1, -1, -1, 1, -1, 1, 1, 1, -1, 1, 1, -1, 1,
     -1, 1, -1, -1, 1, 1, 1, 1, -1, -1, -1, 1, 1, -1, -1, 1, -1, -1, -1, -1, -1, 1, -1, 1, 1, 1, -1,
@@ -40,7 +42,7 @@ pub fn sss(n1: u16, n2: u8, half: Half) -> [i8; 62]
     values
 }
 
-/// Returns the subcarrier value for a sign: 127 times the sign. (own)
+/// Returns the subcarrier value for an SSS sign: 127 times `sign`. (own)
 pub fn amplitude(sign: i8) -> Cpx
     requires { nat_abs sign ≤ 1 }
     ensures { result ≡ amplitude_of sign }
@@ -69,7 +71,7 @@ pub fn sss_shifts(n1: u16, half: Half) -> (usize, usize)
     }
 }
 
-// Returns m'.
+// Returns the standard's m' for group `n1`, from which m0 and m1 are computed.
 fn shift_sum_of(n1: usize) -> usize
     requires { n1 ≤ 167 }
     ensures value { result ≡ shift_sum n1 }
@@ -80,8 +82,8 @@ fn shift_sum_of(n1: usize) -> usize
     n1 + q * (q + 1) / 2
 }
 
-/// Returns sign `k`, 0 to 61, of the SSS with these cyclic shifts, below 31 (TS 36.211 section 6.11.2.1). Even
-/// positions ignore `odd`; odd ones use `even` modulo 8. `n2` is 0 to 2.
+/// Returns sign `k`, 0 to 61, of the SSS with the cyclic shifts `even` and `odd`, below 31 (TS 36.211 section
+/// 6.11.2.1). Even positions ignore `odd`; odd ones use `even` modulo 8. `n2` is 0 to 2.
 pub fn sss_sign(n2: u8, even: usize, odd: usize, k: usize) -> i8
     requires member { n2 ≤ 2 }
     requires even { even < 31 }
@@ -99,7 +101,7 @@ pub fn sss_sign(n2: u8, even: usize, odd: usize, k: usize) -> i8
     }
 }
 
-// Returns sign `n` of s.
+// Returns sign `n`, 0 to 61, of the m-sequence s.
 fn s_sign(n: usize) -> i8
     requires { n < 62 }
     ensures value { result ≡ sign_at (period_bits S) n }
@@ -108,7 +110,7 @@ fn s_sign(n: usize) -> i8
     S_SIGNS[n]
 }
 
-// Returns sign `n` of c.
+// Returns sign `n`, 0 to 61, of the m-sequence c.
 fn c_sign(n: usize) -> i8
     requires { n < 62 }
     ensures value { result ≡ sign_at (period_bits C) n }
@@ -117,7 +119,7 @@ fn c_sign(n: usize) -> i8
     C_SIGNS[n]
 }
 
-// Returns sign `n` of z.
+// Returns sign `n`, 0 to 61, of the m-sequence z.
 fn z_sign(n: usize) -> i8
     requires { n < 62 }
     ensures value { result ≡ sign_at (period_bits Z) n }
