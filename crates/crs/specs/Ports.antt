@@ -5,13 +5,14 @@ use Rattle.lte_types.specs.declared.carrier.Carrier.{Carrier}
 use Rattle.lte_types.specs.Carrier.{ports_of}
 use Rattle.crs.specs.Reference.{pattern_of, is_pattern_place, is_upper_reference}
 
--- whether a resource element of a slot carries a reference signal of this antenna port
+-- whether the resource element at `symbol` and subcarrier `k` of a slot carries a reference signal of antenna port
+-- `number`
 abbrev pub is_reference_by : Carrier → ℕ → ℕ → ℕ → ℕ → ℕ → Bool
 is_reference_by carrier number identity slot symbol k =
     if nat_lt number 2 then is_pattern_place (pattern_of carrier number) identity symbol k
     else is_upper_reference number identity slot symbol k
 
--- whether a resource element of a slot carries a reference signal of any antenna port
+-- whether the resource element at `symbol` and subcarrier `k` of a slot carries a reference signal of any antenna port
 abbrev pub is_reference_of_any : Carrier → ℕ → ℕ → ℕ → ℕ → Bool
 is_reference_of_any carrier identity slot symbol k =
     list_any (λ number. is_reference_by carrier number identity slot symbol k) (range_with_len 0 (ports_of carrier))

@@ -2,7 +2,7 @@
 use Rattle.std.specs.Prelude.{◌≡◌, ◌⊎◌, Bool, true, false, ℤ, pos, negsuc}
 use Rattle.cs_num.specs.declared.Cpx.{Cpx}
 
--- the component for a bit: 90 for 0 and -90 for 1
+-- the component of a QPSK symbol for a bit: 90 for 0 and -90 for 1
 abbrev pub component : Bool → ℤ
 component false = pos 90
 component true = negsuc 89
@@ -11,11 +11,11 @@ component true = negsuc 89
 abbrev pub point : Bool → Bool → Cpx
 point first second = record { re = component first; im = component second }
 
--- a component is 90 or -90
+-- the component `z` is 90 or -90
 abbrev pub IsFull : ℤ → Type 0
 IsFull z = (z ≡ pos 90) ⊎ (z ≡ negsuc 89)
 
--- both components of a QPSK symbol are 90 or -90
+-- both components of `a` are 90 or -90, as in a QPSK symbol
 pub record IsPoint (a : Cpx) : Type 0 where
   pub re : IsFull a.re
   pub im : IsFull a.im

@@ -39,8 +39,7 @@ pub fn c_init(pattern: Pattern, id: CellId, slot: u8, symbol: u8) -> u32
 }
 
 /// Returns reference signal value `m` in a symbol for `blocks` resource blocks, at most 110 (TS 36.211 section
-/// 6.10.1.1). `bits` begin the sequence: 2(`m` + 110 - `blocks`) + 2 suffice, 440 always do. Components are
-/// 90 or -90.
+/// 6.10.1.1). `bits` begin the sequence; 2(`m` + 110 - `blocks`) + 2 bits suffice. Components are 90 or -90.
 pub fn value_of_width(blocks: u8, bits: &[bool], m: u8) -> Cpx
     requires blocks { blocks ≤ 110 }
     requires bits { 2 * (m + (110 - blocks)) + 1 < length bits.now }
@@ -51,7 +50,8 @@ pub fn value_of_width(blocks: u8, bits: &[bool], m: u8) -> Cpx
     point(bits[first], bits[first + 1])
 }
 
-// Returns reference signal value `m` for six resource blocks, from the bits of the symbol's sequence.
+// Returns reference signal value `m`, 0 to 11, for six resource blocks, from the first 232 bits of the symbol's
+// sequence.
 fn value_of(bits: &[bool], m: u8) -> Cpx
     requires bits { length bits.now ≡ 232 }
     requires m { m < 12 }
@@ -77,7 +77,7 @@ pub fn first_of_pattern(pattern: Pattern, id: CellId, symbol: u8) -> u8
 }
 
 /// Returns the pilots of `pattern` in a symbol as subcarriers and values, in order. `slot` is 0 to 19, and `symbol` 0
-/// or the pattern's later symbol. Components of the values are 90 or -90.
+/// or the pattern's later symbol. Components are 90 or -90.
 pub fn pattern_pilots(pattern: Pattern, id: CellId, slot: u8, symbol: u8) -> [(u8, Cpx); 12]
     requires pattern { IsPattern pattern }
     requires slot { slot < 20 }
@@ -95,8 +95,8 @@ pub fn pattern_pilots(pattern: Pattern, id: CellId, slot: u8, symbol: u8) -> [(u
     pilots
 }
 
-/// Returns the pilots of port 0 in a symbol as subcarriers and values, in order. `symbol` is 0 or 4, `slot` 0 to 19.
-/// Components of the values are 90 or -90.
+/// Returns the pilots of port 0 in a symbol as subcarriers and values, in order. `symbol` is 0 or 4, and `slot` 0 to
+/// 19. Components of the values are 90 or -90.
 pub fn pilots(id: CellId, slot: u8, symbol: u8) -> [(u8, Cpx); 12]
     requires slot { slot < 20 }
     requires symbol { (symbol ≡ 0) ⊎ (symbol ≡ 4) }
@@ -106,8 +106,8 @@ pub fn pilots(id: CellId, slot: u8, symbol: u8) -> [(u8, Cpx); 12]
     pattern_pilots(Pattern::FIRST_PORT, id, slot, symbol)
 }
 
-/// A law: the twelve subcarriers of a symbol are its reference signal positions. In symbols 0 and 4 of a slot
-/// together, they are every third subcarrier from the identity modulo 3.
+/// A law: the twelve pilots of port 0 in a symbol are at exactly its reference signal positions. In symbols 0 and 4
+/// together, the positions are every third subcarrier, from the identity modulo 3.
 pub fn reference_places()
     ensures inside { (identity symbol m : ℕ) → m < 12 → subcarrier identity symbol m < subcarriers }
     ensures each { (identity symbol m : ℕ) → (symbol ≡ 0) ⊎ (symbol ≡ 4) →
@@ -129,8 +129,8 @@ pub fn reference_places()
         IsTrue (is_reference identity 0 k) → ¬ IsTrue (is_reference identity 4 k) }
 {}
 
-/// A law: the reference signals of ports 0 and 1 are disjoint, and together they occupy every third subcarrier in
-/// symbols 0 and 4 of a slot, from the identity modulo 3.
+/// A law: the reference signals of ports 0 and 1 are disjoint. In symbols 0 and 4 of a slot, both together occupy every
+/// third subcarrier, from the identity modulo 3.
 pub fn reference_places_of_two()
     ensures both { (identity symbol k : ℕ) →
         (is_reference identity symbol k || is_second_reference identity symbol k)

@@ -10,9 +10,9 @@ use lte_types::Carrier;
 pub struct Pattern {
     /// The second symbol of a slot with reference signals: 4, or 3 with the extended prefix.
     pub later: u8,
-    /// v in symbol 0: 0 for port 0 and 3 for port 1. In the later symbol v is 3 minus this.
+    /// The standard's v in symbol 0: 0 for port 0 and 3 for port 1. In the later symbol v is 3 minus `shift`.
     pub shift: u8,
-    /// N_CP: 1 with the normal prefix, 0 with the extended one.
+    /// The standard's N_CP: 1 with the normal prefix, 0 with the extended one.
     pub prefix: u8,
 }
 

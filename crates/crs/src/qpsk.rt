@@ -10,7 +10,7 @@ use cs_num::Cpx;
 /// The squared magnitude of each QPSK symbol: 90^2 + 90^2.
 pub const POINT_POWER: u32 = 16_200;
 
-// Returns the component for a bit.
+// Returns the QPSK component for `bit`: 90 for 0 and -90 for 1.
 fn component_of(bit: bool) -> i64
     ensures { result ≡ component bit }
 {

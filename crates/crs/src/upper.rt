@@ -11,7 +11,7 @@ pub fn first_of_upper(port: u8, id: CellId, slot: u8) -> u8
     ensures value { result ≡ upper_first port id slot }
     ensures bound { result < 6 }
 {
-    // The part of v before 3 (n_s mod 2).
+    // The constant term of v, to which 3 (n_s mod 2) is added.
     let shift = 3 * (u16::from(port) % 2);
     ((shift + 3 * (u16::from(slot) % 2) + id.value()) % 6) as u8
 }
