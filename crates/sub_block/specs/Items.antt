@@ -6,28 +6,29 @@ use Rattle.sub_block.specs.declared.Code.{Code}
 use Rattle.sub_block.specs.declared.Item.{Item}
 use Rattle.sub_block.specs.Matrix.{cell}
 
--- index p in stream t
+-- the item at index `p` in stream `t`
 abbrev pub item : ℕ → ℕ → Item
 item t p = record { stream = t; index = p }
 
--- the cells of stream t in a matrix with r rows, in the order in which they are read
+-- the cells of stream `t` in a matrix with `r` rows, in the order in which they are read
 abbrev pub cells_read : Code → ℕ → ℕ → List Item
 cells_read code r t = values_below (32 * r) (λ m. item t (cell code r m))
 
--- the bits in these cells, without the `skipped` NULL bits that precede each stream
+-- the bits in the matrix cells `cells`, without the `skipped` NULL bits that precede each stream
 unfoldable pub bits_in : ℕ → List Item → List Item
 bits_in skipped cells = map (λ c. item c.stream (c.index - skipped)) (filter (λ c. nat_le skipped c.index) cells)
 
--- whether an item is index p in stream t
+-- whether the item `here` is at index `p` in stream `t`
 abbrev pub is_at : ℕ → ℕ → Item → Bool
 is_at t p here = nat_eq here.stream t && nat_eq here.index p
 
--- the sum of the first m soft values that a bit order maps to index p in stream t
+-- the sum of those of the first `m` soft values that the bit order `reading` maps to index `p` in stream `t`
 unfoldable pub summed_at : (ℕ → Item) → List ℤ → ℕ → ℕ → ℕ → ℤ
 summed_at reading values m t p =
     sum_below m (λ i. cond (is_at t p (reading i)) (slice_index_or values i (pos 0)) (pos 0))
 
--- a bit order for three streams of n bits: its first 3n items are different, and each bit occurs among them
+-- `reading` is a bit order for three streams of `n` bits: its first 3n items are different, and each bit occurs among
+-- them
 pub record ReadsEachOnce (n : ℕ) (reading : ℕ → Item) : Type 0 where
   pub inside : (i : ℕ) → ((reading i).stream < 3) × ((reading i).index < n)
   pub once : (i j : ℕ) → i < 3 * n → j < 3 * n → reading i ≡ reading j → i ≡ j

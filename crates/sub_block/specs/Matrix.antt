@@ -15,14 +15,14 @@ unfoldable pub columns : Code → List ℕ
 columns Turbo = turbo_columns
 columns Convolutional = drop 16 turbo_columns ++ take 16 turbo_columns
 
--- the number of rows for n bits
+-- the number of matrix rows for a stream of n bits
 abbrev pub matrix_rows : ℕ → ℕ
 matrix_rows n = (n + 31) / 32
 
--- the number of NULL bits that precede n bits
+-- the number of NULL bits that precede a stream of n bits in its matrix
 abbrev pub nulls : ℕ → ℕ
 nulls n = 32 * matrix_rows n - n
 
--- the cell of r rows that is read after m others; cells are numbered row by row
+-- the cell, in a matrix of `r` rows, that is read after `m` others; cells are numbered row by row
 abbrev pub cell : Code → ℕ → ℕ → ℕ
 cell code r m = 32 * (m % r) + slice_index_or (columns code) (m / r) 0

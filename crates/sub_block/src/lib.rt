@@ -17,7 +17,7 @@ pub enum Code {
     Turbo,
 }
 
-/// A coded bit, or a cell in one of the three matrices.
+/// A coded bit, or a cell in one of the three interleaver matrices.
 #[derive(Clone, Copy, Drop)]
 pub struct Item {
     /// The stream, 0 to 2.
