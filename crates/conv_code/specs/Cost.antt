@@ -4,7 +4,8 @@ use Rattle.finite.specs.Sums.{total_below}
 use Rattle.cs_bits.specs.Signs.{disagreement}
 use Rattle.conv_code.specs.Code.{tapped_bit, taps_0, taps_1, taps_2}
 
--- the branch metric: how far three soft values contradict three coded bits
+-- the branch metric: the summed magnitudes of those of the three soft values `v` that contradict their coded bits b0,
+-- b1 and b2
 abbrev pub triple_cost : List ℤ → Bool → Bool → Bool → ℕ
 triple_cost v b0 b1 b2 =
     disagreement (slice_index_or v 0 (pos 0)) b0 + disagreement (slice_index_or v 1 (pos 0)) b1

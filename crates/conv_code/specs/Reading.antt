@@ -6,11 +6,11 @@ use Rattle.sub_block.specs.declared.Item.{Item}
 use Rattle.sub_block.specs.Matrix.{matrix_rows, nulls}
 use Rattle.sub_block.specs.Items.{item, cells_read, bits_in, summed_at}
 
--- the circular buffer, NULL bits included: three matrices with r rows, read one after the other
+-- the circular buffer, NULL bits included: three matrices with `r` rows, read one after the other
 abbrev pub matrices_read : ℕ → List Item
 matrices_read r = cells_read Convolutional r 0 ++ cells_read Convolutional r 1 ++ cells_read Convolutional r 2
 
--- one round of the circular buffer, for n bits per stream
+-- one round of the circular buffer without its NULL bits, for n bits per stream
 unfoldable pub reading : ℕ → List Item
 reading n = bits_in (nulls n) (matrices_read (matrix_rows n))
 
@@ -22,18 +22,18 @@ stream_order n = map (λ bit. bit.index) (bits_in (nulls n) (cells_read Convolut
 unfoldable pub item_of : ℕ → ℕ → Item
 item_of n i = slice_index_or (reading n) (i % (3 * n)) (item 0 0)
 
--- the value of this coded bit in a codeword
+-- the value of the coded bit `p` in the codeword `coded`
 abbrev pub bit_of_item : List (List Bool) → Item → Bool
 bit_of_item coded p = slice_index_or (slice_index_or coded p.index []) p.stream false
 
--- per coded bit, the sum over the soft values that a bit order maps to it
+-- per coded bit, the sum of the soft values that the bit order `reading` maps to the bit
 unfoldable pub summed_by : (ℕ → Item) → ℕ → List ℤ → List (List ℤ)
 summed_by reading n values = values_below n (λ p. values_below 3 (λ t. summed_at reading values (length values) t p))
 
--- per coded bit, the sum over soft values that start at rate-matched bit 0
+-- per coded bit, the sum of its soft values in `values`, which start at rate-matched bit 0
 abbrev pub summed : ℕ → List ℤ → List (List ℤ)
 summed n values = summed_by (item_of n) n values
 
--- per coded bit, the sum over soft values that start at rate-matched bit `first`
+-- per coded bit, the sum of its soft values in `values`, which start at rate-matched bit `first`
 abbrev pub summed_from : ℕ → ℕ → List ℤ → List (List ℤ)
 summed_from first n values = summed_by (λ i. item_of n (first + i)) n values

@@ -3,20 +3,23 @@ use Rattle.std.specs.Prelude.{◌≡◌, ℕ, ◌+◌, ◌*◌, ◌/◌, ◌%◌
 use Rattle.finite.specs.Sums.{sum_below}
 use Rattle.finite.specs.Tables.{sum_at}
 
--- the stream of rate-matched bit i, and its position in interleaved order
+-- the stream, 0 to 2, to which rate-matched bit `i` belongs
 abbrev pub stream_of : ℕ → ℕ → ℕ
 stream_of n i = i % (3 * n) / n
 
+-- the position of rate-matched bit `i` in its stream, in interleaved order
 abbrev pub place_of : ℕ → ℕ → ℕ
 place_of n i = i % (3 * n) % n
 
--- the sum of the first m soft values, from bit `first`, that belong to position p in stream t
+-- the sum of those of the first `m` soft values, from rate-matched bit `first`, that belong to position `p` in stream
+-- `t`
 unfoldable pub placed_sum : ℕ → ℕ → List ℤ → ℕ → ℕ → ℕ → ℤ
 placed_sum n first values m t p =
     sum_below m
     (λ i. cond (nat_eq (stream_of n (first + i)) t && nat_eq (place_of n (first + i)) p) (slice_index_or values i (pos 0)) (pos 0))
 
--- the table holds the sums of the first m values, with bounds
+-- the table `sums` holds, by stream and position in interleaved order, the sums of the first `m` soft values; the
+-- magnitude of each sum is at most m * 2^15
 pub record HasPlacedSums (n first : ℕ) (values : List ℤ) (m : ℕ) (sums : List (List ℤ)) : Type 0 where
   pub streams : length sums ≡ 3
   pub places : (t : ℕ) → t < 3 → length (slice_index_or sums t []) ≡ n

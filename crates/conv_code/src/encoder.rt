@@ -5,13 +5,14 @@ ghost use Rattle.conv_code.specs.Code.{bit_back, tapped_bit, coded_bits, coded_w
 
 use cs_bits::Bits;
 
+// The taps of the three streams; the generators are 133, 171 and 165 (octal).
 const TAPS_0: [usize; 5] = [0, 2, 3, 5, 6];
 
 const TAPS_1: [usize; 5] = [0, 1, 2, 3, 6];
 
 const TAPS_2: [usize; 5] = [0, 1, 2, 4, 6];
 
-/// Returns bit `k` - `t`, cyclically.
+/// Returns bit `k` - `t` of `word`, cyclically.
 fn bit_before(word: &[bool], k: usize, t: usize) -> bool
     requires inside { k < length word.now }
     requires near { t ≤ length word.now }
@@ -21,7 +22,7 @@ fn bit_before(word: &[bool], k: usize, t: usize) -> bool
     word[(k + word.len() - t) % word.len()]
 }
 
-/// Returns bit `k` of the stream with these taps.
+/// Returns bit `k` of the coded stream with the taps `taps`.
 fn coded_bit(word: &[bool], k: usize, taps: &[usize; 5]) -> bool
     requires inside { k < length word.now }
     requires short { length word.now ≤ 64 }
@@ -35,7 +36,7 @@ fn coded_bit(word: &[bool], k: usize, taps: &[usize; 5]) -> bool
     sum
 }
 
-/// Returns the three coded bits at index `k`.
+/// Returns the three coded bits at index `k`, one per stream.
 fn coded_at(word: &[bool], k: usize) -> [bool; 3]
     requires inside { k < length word.now }
     requires low { 6 ≤ length word.now }

@@ -31,7 +31,7 @@ pub fn stream_index(n: usize, p: usize) -> usize
     unreachable!()
 }
 
-/// Returns the coded bit that rate matching outputs as bit `i`, for three streams of `n` bits.
+/// Returns the coded bit that rate matching outputs as bit `i`, for three streams of `n` bits each.
 fn item_in(n: usize, i: usize) -> Item
     requires low { 6 ≤ n }
     requires high { n ≤ 64 }
@@ -56,8 +56,8 @@ pub fn match_out<const N: usize>(coded: &[[bool; 3]; N], i: usize) -> bool
     coded[at.index][at.stream]
 }
 
-/// Combines soft values that start at rate-matched bit `first`, and returns one sum per coded bit.
-/// There are at most 1,920 values, and `first` is below 2^32.
+/// Combines soft values that start at rate-matched bit `first`, below 2^32, and returns one sum per coded bit. There
+/// are at most 1,920 values.
 pub fn combine_from<const N: usize>(first: usize, values: &[i16]) -> [[i32; 3]; N]
     requires low { 6 ≤ N }
     requires high { N ≤ 64 }
@@ -102,7 +102,7 @@ fn stream_indices<const N: usize>() -> [usize; N]
     order
 }
 
-// Adds `value` to a sum.
+// Adds `value` to the sum at position `place` of `stream`, in interleaved order.
 fn add_at<const N: usize>(sums: &mut [[i32; N]; 3], stream: usize, place: usize, value: &i16)
     requires stream { stream < 3 }
     requires place { place < N }
@@ -113,7 +113,7 @@ fn add_at<const N: usize>(sums: &mut [[i32; N]; 3], stream: usize, place: usize,
     sums[stream][place] += *value as i32;
 }
 
-// Adds the values `at..end`, which are consecutive in one stream.
+// Adds the soft values `at..end`, whose bits are consecutive in one stream, to their sums.
 fn add_run<const N: usize>(
     sums: &mut [[i32; N]; 3],
     first: usize,
@@ -139,7 +139,7 @@ fn add_run<const N: usize>(
     }
 }
 
-// Combines soft values from bit `first`, and returns the sums by stream and position in interleaved order.
+// Combines soft values from rate-matched bit `first`, and returns the sums by stream and position in interleaved order.
 fn by_place<const N: usize>(first: usize, values: &[i16]) -> [[i32; N]; 3]
     requires low { 6 ≤ N }
     requires high { N ≤ 64 }
@@ -158,7 +158,7 @@ fn by_place<const N: usize>(first: usize, values: &[i16]) -> [[i32; N]; 3]
     sums
 }
 
-// Returns the three sums at a position.
+// Returns the sums of the three streams at position `p`.
 fn sums_at<const N: usize>(placed: &[[i32; N]; 3], p: usize) -> [i32; 3]
     requires p { p < N }
     requires room { (t : ℕ) → t < 3 → nat_abs (sum_at placed.now t p) ≤ 2 ^ 30 }
