@@ -5,8 +5,8 @@ use Rattle.grid_map.specs.declared.Place.{Place}
 use Rattle.grid_map.specs.Place.{place, places_of, index_in}
 use Rattle.lte_types.specs.Numerology.{subcarriers}
 
--- whether a resource element is reserved for reference signals: every third subcarrier in symbols 7 and 8, from the
--- identity modulo 3
+-- whether the resource element `p` is reserved for reference signals: every third subcarrier in symbols 7 and 8, from
+-- `shift`, the identity modulo 3
 abbrev pub is_reserved : ℕ → Place → Bool
 is_reserved shift p = nat_lt p.symbol 9 && nat_eq (p.k % 3) shift
 
@@ -22,15 +22,15 @@ pbch_places identity = free_places (identity % 3)
 unfoldable pub pbch_place : ℕ → ℕ → Place
 pbch_place identity i = slice_index_or (pbch_places identity) i (place 0 0)
 
--- whether a resource element is in symbols 7 to 10 and not reserved
+-- whether the resource element `p` is in symbols 7 to 10 and not reserved
 abbrev pub is_free : ℕ → Place → Bool
 is_free shift p =
     nat_le 7 p.symbol && nat_lt p.symbol 11 && nat_lt p.k subcarriers && not (is_reserved shift p)
 
--- whether a resource element belongs to the PBCH
+-- whether the resource element `p` belongs to the PBCH
 unfoldable pub is_pbch : ℕ → Place → Bool
 is_pbch identity p = is_free (identity % 3) p
 
--- a resource element's index in the PBCH; 240 if it does not belong to it
+-- the index of the resource element `p` among the PBCH's, or 240 if `p` does not belong to the PBCH
 unfoldable pub pbch_index : ℕ → Place → ℕ
 pbch_index identity p = index_in (pbch_places identity) p

@@ -13,15 +13,15 @@ use Rattle.grid_map.specs.declared.Place.{Place}
 use Rattle.grid_map.specs.Group.{group, is_group, same_group, symbol_groups, group_places}
 use Rattle.lte_types.specs.Numerology.{subcarriers}
 
--- whether a group is in the list
+-- whether the group `g` is in `groups`
 abbrev pub is_group_in : List Reg → Reg → Bool
 is_group_in groups g = list_any (same_group g) groups
 
--- the groups in a list that are not taken
+-- the groups in `groups` that are not in `taken`, in order
 abbrev pub without : List Reg → List Reg → List Reg
 without taken groups = filter (λ g. not (is_group_in taken g)) groups
 
--- PCFICH group i
+-- the PCFICH's group `i`, 0 to 3
 abbrev pub pcfich_group : ℕ → ℕ → Reg
 pcfich_group identity i = group 0 ((6 * (identity % 12) + 18 * i) % subcarriers)
 
@@ -37,11 +37,11 @@ pcfich_places identity = flat_map (group_places identity) (pcfich_groups identit
 unfoldable pub left_groups : ℕ → ℕ → List Reg
 left_groups identity symbol = without (pcfich_groups identity) (symbol_groups symbol)
 
--- how many groups in a symbol the PCFICH leaves unused
+-- the number of groups in a symbol that the PCFICH leaves unused
 abbrev pub left_count : ℕ → ℕ → ℕ
 left_count identity symbol = length (left_groups identity symbol)
 
--- the PHICH group count
+-- the number of PHICH groups
 abbrev pub phich_count : Resource → ℕ
 phich_count OneSixth = 1
 phich_count Half = 1
@@ -53,8 +53,8 @@ abbrev pub phich_symbol : Duration → ℕ → ℕ
 phich_symbol Normal i = 0
 phich_symbol Extended i = i
 
--- the index of the group for quadruplet i of PHICH group m, among the n groups in its symbol that the PCFICH leaves
--- unused; symbol 0 has n0 of them
+-- the index of the group for quadruplet `i` of PHICH group `m`, among the `n` groups in its symbol that the PCFICH
+-- leaves unused; symbol 0 has `n0` such groups
 abbrev pub phich_number : ℕ → ℕ → ℕ → ℕ → ℕ → ℕ
 phich_number identity n n0 m i = ((identity * n) / n0 + m + (i * n) / 3) % n
 
@@ -67,19 +67,20 @@ phich_group_in identity symbol m i =
 abbrev pub phich_group : ℕ → Duration → ℕ → ℕ → Reg
 phich_group identity duration m i = phich_group_in identity (phich_symbol duration i) m i
 
--- all PHICH groups
+-- the resource-element groups of all PHICH groups
 unfoldable pub phich_groups : ℕ → Duration → Resource → List Reg
 phich_groups identity duration resource =
     joined_below (phich_count resource) (λ m. values_below 3 (phich_group identity duration m))
 
--- the symbol and first subcarrier with number n: by first subcarrier, then symbol
+-- the group with number `n` in the order by first subcarrier, then symbol
 abbrev pub numbered : ℕ → Reg
 numbered n = group (n % 4) (n / 4)
 
+-- a group's number in the order by first subcarrier, then symbol
 abbrev pub group_number : Reg → ℕ
 group_number g = 4 * g.first + g.symbol
 
--- whether a group is in the control region, which has cfi + 1 symbols
+-- whether `g` is a valid group in the control region, which has cfi + 1 symbols
 abbrev pub is_in_region : ℕ → Reg → Bool
 is_in_region cfi g = is_group g && nat_le g.symbol cfi
 
@@ -87,26 +88,26 @@ is_in_region cfi g = is_group g && nat_le g.symbol cfi
 unfoldable pub region_groups : ℕ → List Reg
 region_groups cfi = filter (is_in_region cfi) (values_below 288 numbered)
 
--- the PDCCH groups: those that PCFICH and PHICH do not use, by first subcarrier, then symbol
+-- the PDCCH groups: the control region's groups that PCFICH and PHICH do not use, by first subcarrier, then symbol
 unfoldable pub pdcch_groups : ℕ → ℕ → Duration → Resource → List Reg
 pdcch_groups identity cfi duration resource =
     without (phich_groups identity duration resource) (without (pcfich_groups identity) (region_groups cfi))
 
--- how many quadruplets per PHICH group are in the control region. With the extended duration the last is in
--- symbol 2, which the region does not include if the indicator is 1.
+-- the number of quadruplets per PHICH group in the control region. With the extended duration the last quadruplet is in
+-- symbol 2, which the region does not include if `cfi` is 1.
 abbrev pub phich_inside : ℕ → Duration → ℕ
 phich_inside cfi Normal = 3
 phich_inside cfi Extended = if nat_eq cfi 1 then 2 else 3
 
--- the PDCCH group count; symbol 0 has twelve groups, each later symbol eighteen, and the PCFICH uses four
+-- the number of PDCCH groups; symbol 0 has twelve groups, each later symbol eighteen, and the PCFICH uses four
 abbrev pub group_count : ℕ → Duration → Resource → ℕ
 group_count cfi duration resource = 12 + 18 * cfi - 4 - phich_inside cfi duration * phich_count resource
 
--- the control channel element (CCE) count, with nine groups each (section 6.8.1)
+-- the number of control channel elements (CCEs); a CCE has nine groups (section 6.8.1)
 abbrev pub element_count : ℕ → Duration → Resource → ℕ
 element_count cfi duration resource = group_count cfi duration resource / 9
 
--- the quadruplet carried by group r of `count`: quadruplets are interleaved like the bits of a stream (TS 36.212
+-- the quadruplet carried by group `r` of `count`: quadruplets are interleaved like the bits of a stream (TS 36.212
 -- section 5.1.4.2.1), and cyclically shifted by the identity
 unfoldable pub quadruplet_at : ℕ → ℕ → ℕ → ℕ
 quadruplet_at identity count r = slice_index_or (stream_order count) ((r + identity) % count) 0

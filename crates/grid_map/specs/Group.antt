@@ -7,18 +7,20 @@ use Rattle.grid_map.specs.declared.Reg.{Reg}
 use Rattle.grid_map.specs.Place.{place}
 use Rattle.lte_types.specs.Numerology.{subcarriers}
 
+-- the group in `symbol` whose span begins at subcarrier `first`
 abbrev pub group : ℕ → ℕ → Reg
 group symbol first = record { symbol = symbol; first = first }
 
--- a group spans six subcarriers in symbol 0, of which two are reserved for reference signals, and four in symbols 1
--- to 3
+-- the number of subcarriers that a group spans: six in symbol 0, of which two are reserved for reference signals, and
+-- four in symbols 1 to 3
 abbrev pub span : ℕ → ℕ
 span symbol = if nat_eq symbol 0 then 6 else 4
 
--- whether a group is valid: it begins at a multiple of its span
+-- whether the group `g` is valid: it begins, inside the carrier, at a multiple of its span in symbols 0 to 3
 abbrev pub is_group : Reg → Bool
 is_group g = nat_lt g.symbol 4 && nat_lt g.first subcarriers && nat_eq (g.first % span g.symbol) 0
 
+-- whether the groups `g` and `h` are the same
 abbrev pub same_group : Reg → Reg → Bool
 same_group g h = nat_eq g.symbol h.symbol && nat_eq g.first h.first
 
@@ -26,8 +28,8 @@ same_group g h = nat_eq g.symbol h.symbol && nat_eq g.first h.first
 unfoldable pub symbol_groups : ℕ → List Reg
 symbol_groups symbol = values_below (subcarriers / span symbol) (λ n. group symbol (span symbol * n))
 
--- whether a resource element is reserved for reference signals: every third subcarrier in symbol 0, from the identity
--- modulo 3
+-- whether the resource element `p` is reserved for reference signals: every third subcarrier in symbol 0, from the
+-- identity modulo 3
 abbrev pub is_kept : ℕ → Place → Bool
 is_kept identity p = nat_eq p.symbol 0 && nat_eq (p.k % 3) (identity % 3)
 
@@ -39,7 +41,7 @@ spanned g = map (place g.symbol) (range_with_len g.first (span g.symbol))
 unfoldable pub group_places : ℕ → Reg → List Place
 group_places identity g = filter (λ p. not (is_kept identity p)) (spanned g)
 
--- whether a resource element is in a group's span and not reserved
+-- whether the resource element `p` is in the span of the group `g` and not reserved
 abbrev pub is_of_group : ℕ → Reg → Place → Bool
 is_of_group identity g p =
     nat_eq p.symbol g.symbol && nat_le g.first p.k && nat_lt p.k (g.first + span g.symbol) && not (is_kept identity p)

@@ -5,7 +5,7 @@ use Rattle.grid_map.specs.declared.Reg.{Reg}
 use Rattle.grid_map.specs.Place.{place, index_in}
 use Rattle.grid_map.specs.Group.{group, is_group}
 
--- the list has `count` different resource elements, and index and resource element determine each other
+-- `places` has `count` different resource elements, and index and resource element determine each other
 pub record IsIndexed (count : ℕ) (places : List Place) : Type 0 where
   pub size : length places ≡ count
   pub once : (i j : ℕ) → i < count → j < count →
@@ -13,7 +13,7 @@ pub record IsIndexed (count : ℕ) (places : List Place) : Type 0 where
   pub index : (i : ℕ) → i < count → index_in places (slice_index_or places i (place 0 0)) ≡ i
   pub found : (p : Place) → index_in places p < count → slice_index_or places (index_in places p) (place 0 0) ≡ p
 
--- groups that can carry the candidate: 36 to 66 different ones
+-- `groups` can carry the PDCCH candidate: they are 36 to 66 different valid groups
 pub record CarryCandidate (groups : List Reg) : Type 0 where
   pub enough : 36 ≤ length groups
   pub few : length groups ≤ 66

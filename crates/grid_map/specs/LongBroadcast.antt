@@ -4,8 +4,8 @@ use Rattle.std.specs.Prelude.{ℕ, ◌%◌, Bool, not, ◌&&◌, nat_eq, List, f
 use Rattle.grid_map.specs.declared.Place.{Place}
 use Rattle.grid_map.specs.Place.{places_of}
 
--- whether a resource element is reserved for reference signals: every third subcarrier in symbols 0, 1 and 3, from
--- the identity modulo 3
+-- whether the resource element `p` is reserved for reference signals: every third subcarrier in symbols 0, 1 and 3,
+-- from `shift`, the identity modulo 3
 abbrev pub is_kept : ℕ → Place → Bool
 is_kept shift p = not (nat_eq p.symbol 2) && nat_eq (p.k % 3) shift
 

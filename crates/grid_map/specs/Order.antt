@@ -2,8 +2,8 @@
 use Rattle.std.specs.Prelude.{◌≡◌, ◌↔◌, ℕ, ◌<◌, Bool, IsTrue, Some, List, length, slice_get}
 use Rattle.std.specs.List.{Contains}
 
--- a list in order: item i is `at i`, the items' numbers increase, so that each occurs once, and the members are those
--- that satisfy `is`
+-- `items` has `count` items in increasing order of `number`, so each item occurs once; item i is `at i`, and the
+-- members are exactly the values that satisfy `is`
 pub record AreInOrder {A : Type 0} (number : A → ℕ) (items : List A) (count : ℕ) (at : ℕ → A) (is : A → Bool) :
     Type 0 where
   pub size : length items ≡ count

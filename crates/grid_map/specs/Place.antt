@@ -4,6 +4,7 @@ use Rattle.std.specs.List.{range_with_len, flat_map, position_or_len}
 use Rattle.grid_map.specs.declared.Place.{Place}
 use Rattle.lte_types.specs.Numerology.{subcarriers}
 
+-- the resource element in `symbol` on subcarrier `k`
 abbrev pub place : ℕ → ℕ → Place
 place symbol k = record { symbol = symbol; k = k }
 
@@ -15,7 +16,7 @@ symbol_places symbol = map (place symbol) (range_with_len 0 subcarriers)
 unfoldable pub places_of : ℕ → ℕ → List Place
 places_of first count = flat_map symbol_places (range_with_len first count)
 
--- whether a resource element is in the subframe
+-- whether the resource element `p` is in the subframe
 abbrev pub is_in_grid : Place → Bool
 is_in_grid p = nat_lt p.symbol 14 && nat_lt p.k subcarriers
 
@@ -23,6 +24,7 @@ is_in_grid p = nat_lt p.symbol 14 && nat_lt p.k subcarriers
 abbrev pub place_number : Place → ℕ
 place_number p = subcarriers * p.symbol + p.k
 
+-- whether the resource elements `p` and `q` are the same
 abbrev pub same_place : Place → Place → Bool
 same_place p q = nat_eq p.symbol q.symbol && nat_eq p.k q.k
 
@@ -30,6 +32,6 @@ same_place p q = nat_eq p.symbol q.symbol && nat_eq p.k q.k
 abbrev pub index_in : List Place → Place → ℕ
 index_in places p = position_or_len (same_place p) places
 
--- the nth number other than the reserved one, counted from 0
+-- the `n`th natural number other than `reserved`, counted from 0
 abbrev pub skipping : ℕ → ℕ → ℕ
 skipping reserved n = if nat_lt n reserved then n else n + 1

@@ -11,7 +11,7 @@ ghost use Rattle.lte_types.specs.Numerology.{subcarriers};
 use crate::{Place, Reg, quadruplet, reg_places};
 use lte_types::CellId;
 
-// Returns the group, below `count`, that carries quadruplet `q`.
+// Returns the index, below `count`, of the group that carries quadruplet `q`.
 fn group_of(id: CellId, count: u8, q: u8) -> u8
     requires q { q < count }
     ensures value { result ≡ group_of_quadruplet id count q }
@@ -25,7 +25,7 @@ fn group_of(id: CellId, count: u8, q: u8) -> u8
     unreachable!()
 }
 
-// Returns the groups, below `count`, that carry quadruplets 0 to 35.
+// Returns the indices, below `count`, of the groups that carry quadruplets 0 to 35.
 fn groups_of(id: CellId, count: u8) -> [u8; 36]
     requires enough { 36 ≤ count }
     ensures values { result ≡ values_below 36 (group_of_quadruplet id count) }
@@ -38,7 +38,7 @@ fn groups_of(id: CellId, count: u8) -> [u8; 36]
     groups
 }
 
-// Returns resource element `j` of group `number`.
+// Returns resource element `j`, 0 to 3, of the group with index `number`.
 fn place_of(id: CellId, groups: &[Reg], number: u8, j: usize) -> Place
     requires inside { All (λ g. IsTrue (is_group g)) groups.now }
     requires number { number < length groups.now }
@@ -51,8 +51,8 @@ fn place_of(id: CellId, groups: &[Reg], number: u8, j: usize) -> Place
     reg_places(id, groups[number as usize])[j]
 }
 
-/// Returns the resource elements of control channel elements 0 to 3, given the 36 to 255 PDCCH groups: those
-/// of the groups that carry quadruplets 0 to 35, in quadruplet order (TS 36.211 section 6.8.5).
+/// Returns the resource elements of control channel elements 0 to 3: those of the groups that carry quadruplets 0 to
+/// 35, in quadruplet order (TS 36.211 section 6.8.5). `groups` are the PDCCH groups, 36 to 255.
 pub fn candidate_places(id: CellId, groups: &[Reg]) -> [Place; 144]
     requires few { length groups.now ≤ 255 }
     requires enough { 36 ≤ length groups.now }
@@ -68,7 +68,8 @@ pub fn candidate_places(id: CellId, groups: &[Reg]) -> [Place; 144]
     places
 }
 
-/// A law: each quadruplet is carried by a group that carries no other.
+/// A law: each quadruplet below the group count is carried by one of the groups, the one that `group_of_quadruplet`
+/// names.
 pub fn quadruplets_carried()
     ensures inside { (identity count q : ℕ) → q < count →
         group_of_quadruplet identity count q < count }

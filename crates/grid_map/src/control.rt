@@ -66,15 +66,15 @@ pub fn pcfich_places(id: CellId) -> [Place; 16]
     places
 }
 
-// Returns how many groups of a symbol the PCFICH leaves unused.
+// Returns the number of groups in `symbol` that the PCFICH leaves unused: 8 in symbol 0, otherwise 18.
 fn left_in(symbol: u8) -> usize
     ensures { result ≡ (if nat_eq symbol 0 then 8 else 18) }
 {
     if symbol == 0 { 8 } else { 18 }
 }
 
-// Returns the first subcarrier of group `number` among those in a symbol that the PCFICH leaves unused; in symbol 0,
-// these are two of every three.
+// Returns the first subcarrier of group `number` among the groups in `symbol` that the PCFICH leaves unused: two of
+// every three groups in symbol 0, all groups in later symbols.
 fn left_begins(id: CellId, symbol: u8, number: usize) -> usize
     requires { number < 18 }
     ensures value { result ≡ (if nat_eq symbol 0
@@ -88,7 +88,7 @@ fn left_begins(id: CellId, symbol: u8, number: usize) -> usize
     }
 }
 
-// Returns group `number` among those in a symbol that the PCFICH leaves unused.
+// Returns group `number` among the groups in `symbol` that the PCFICH leaves unused.
 fn left_group(id: CellId, symbol: u8, number: usize) -> Reg
     requires symbol { symbol < 3 }
     requires number { number < (if nat_eq symbol 0 then 8 else 18) }
@@ -100,7 +100,7 @@ fn left_group(id: CellId, symbol: u8, number: usize) -> Reg
     }
 }
 
-// Returns the group in a symbol that carries quadruplet `i` of PHICH group `m`.
+// Returns the group in `symbol` that carries quadruplet `i` of PHICH group `m`.
 fn phich_in(id: CellId, symbol: u8, m: usize, i: usize) -> Reg
     requires symbol { symbol < 3 }
     requires m { m < 2 }
@@ -112,7 +112,7 @@ fn phich_in(id: CellId, symbol: u8, m: usize, i: usize) -> Reg
     left_group(id, symbol, number)
 }
 
-// Returns the symbol that carries quadruplet `i` of a PHICH group.
+// Returns the symbol, 0 to 2, that carries quadruplet `i` of a PHICH group.
 fn symbol_of(duration: Duration, i: usize) -> u8
     requires { i < 3 }
     ensures value { result ≡ phich_symbol duration i }
@@ -124,7 +124,7 @@ fn symbol_of(duration: Duration, i: usize) -> u8
     }
 }
 
-// Returns the PHICH group count.
+// Returns the number of PHICH groups, 1 or 2.
 fn count_of(resource: Resource) -> usize
     ensures value { result ≡ phich_count resource }
     ensures bound { result ≤ 2 }
@@ -144,7 +144,7 @@ fn phich_of(id: CellId, duration: Duration, m: usize, i: usize) -> Reg
     phich_in(id, symbol_of(duration, i), m, i)
 }
 
-// Returns all PHICH groups (TS 36.211 section 6.9.3).
+// Returns the resource-element groups of all PHICH groups, three per PHICH group (TS 36.211 section 6.9.3).
 fn phich(id: CellId, duration: Duration, resource: Resource) -> ArrayVec<Reg, 6>
     ensures { result.items ≡ phich_groups id duration resource }
 {
@@ -157,7 +157,7 @@ fn phich(id: CellId, duration: Duration, resource: Resource) -> ArrayVec<Reg, 6>
     groups
 }
 
-// Returns whether a group belongs to the control region whose last symbol is `last`.
+// Returns whether `reg` is a valid group in the control region whose last symbol is `last`.
 fn is_inside(reg: Reg, last: u8) -> bool
     ensures { result ≡ is_in_region last reg }
 {
@@ -165,7 +165,7 @@ fn is_inside(reg: Reg, last: u8) -> bool
     reg.symbol < 4 && reg.first < 72 && reg.first % span == 0 && reg.symbol <= last
 }
 
-// Returns the symbol and first subcarrier with number `n`: by first subcarrier, then symbol.
+// Returns the group with number `n`, below 288, in the order by first subcarrier, then symbol.
 fn numbered_reg(n: u16) -> Reg
     requires { n < 288 }
     ensures { result ≡ numbered n }
@@ -176,15 +176,15 @@ fn numbered_reg(n: u16) -> Reg
     }
 }
 
-// Returns whether a group belongs to the control region and is used by neither PCFICH nor PHICH.
+// Returns whether `reg` is a valid group in the control region that neither PCFICH nor PHICH uses.
 fn is_left(reg: Reg, last: u8, pcfich: &[Reg], phich: &[Reg]) -> bool
     ensures { result ≡ (is_in_region last reg && not (is_group_in pcfich.now reg) && not (is_group_in phich.now reg)) }
 {
     is_inside(reg, last) && !pcfich.contains(&reg) && !phich.contains(&reg)
 }
 
-/// Returns the PDCCH groups: those in the `cfi` + 1 symbols of the control region that PCFICH and PHICH do not
-/// use, by first subcarrier, then symbol (TS 36.211 section 6.8.5).
+/// Returns the PDCCH groups: the groups in the control region's `cfi` + 1 symbols that PCFICH and PHICH do not use, by
+/// first subcarrier, then symbol (TS 36.211 section 6.8.5).
 pub fn pdcch(id: CellId, cfi: Cfi, mib: Mib) -> ArrayVec<Reg, 66>
     ensures groups { result.items ≡ pdcch_groups id cfi mib.duration mib.resource }
     ensures inside { All (λ g. IsTrue (is_in_region cfi g)) result.items }
@@ -203,8 +203,8 @@ pub fn pdcch(id: CellId, cfi: Cfi, mib: Mib) -> ArrayVec<Reg, 66>
     groups
 }
 
-/// A law: the PCFICH has four groups. The PDCCH has all others except the PHICH's, each once, in order: two control
-/// channel elements with indicator 1, at least four with 2 and 3.
+/// A law: the PCFICH has four groups. The PDCCH has all other groups in the control region except the PHICH's, each
+/// once, in order: two control channel elements with indicator 1, at least four with 2 and 3.
 pub fn control_groups()
     ensures pcfich_inside { (identity i : ℕ) → i < 4 → IsTrue (is_group (pcfich_group identity i)) }
     ensures pcfich_apart { (identity i j : ℕ) → i < 4 → j < 4 →

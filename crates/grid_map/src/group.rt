@@ -12,8 +12,8 @@ ghost use Rattle.lte_types.specs.Numerology.{subcarriers};
 use crate::{Place, Reg, skipping};
 use lte_types::CellId;
 
-/// Returns the four resource elements of a group, by subcarrier (TS 36.211 section 6.2.4). In symbol 0 they skip
-/// every third subcarrier, from the identity modulo 3, which is reserved for reference signals.
+/// Returns the four resource elements of a group, by subcarrier (TS 36.211 section 6.2.4). In symbol 0 every third
+/// subcarrier, from the identity modulo 3, is reserved for reference signals and left out.
 pub fn reg_places(id: CellId, reg: Reg) -> [Place; 4]
     requires { IsTrue (is_group reg) }
     ensures places { result ≡ group_places id reg }
@@ -27,7 +27,7 @@ pub fn reg_places(id: CellId, reg: Reg) -> [Place; 4]
     ]
 }
 
-// Returns resource element `i` of a group.
+// Returns resource element `i`, 0 to 3, of a group.
 fn place_in(id: CellId, reg: Reg, i: usize) -> Place
     requires group { IsTrue (is_group reg) }
     requires i { i < 4 }

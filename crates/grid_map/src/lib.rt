@@ -45,7 +45,7 @@ pub struct Reg {
     pub first: u8,
 }
 
-// Returns the `n`th number other than `reserved`, counted from 0.
+// Returns the `n`th natural number other than `reserved`, counted from 0.
 fn skipping(n: usize, reserved: usize) -> usize
     requires { n < 5 }
     ensures { result ≡ skipping reserved n }

@@ -21,7 +21,7 @@ pub fn long_places(id: CellId) -> [Place; 216]
     places
 }
 
-// Returns resource element `i`. Symbols 0, 1 and 3 have 48, symbol 2 has 72.
+// Returns PBCH resource element `i`. Symbols 0, 1 and 3 have 48 of them each, symbol 2 has 72.
 fn place_at(id: CellId, i: u8) -> Place
     requires { i < 216 }
     ensures place { result ≡ slice_index_or (places_of id) i (place 0 0) }
@@ -47,7 +47,7 @@ fn place_at(id: CellId, i: u8) -> Place
     }
 }
 
-// Returns number `n` of the subcarriers that are not reserved: two of each three.
+// Returns subcarrier `n` of the 48 that are not reserved in a symbol: two of each three.
 fn free_subcarrier(shift: u8, n: u8) -> u8
     requires shift { shift < 3 }
     requires n { n < 48 }

@@ -24,7 +24,7 @@ fn slot_symbols(carrier: Carrier) -> u8
     carrier.prefix().symbols() as u8
 }
 
-// Returns how many of a resource block's twelve subcarriers carry a reference signal in a symbol of a slot.
+// Returns the number of reference signals per resource block in `symbol` of a slot: 0, 2 or 4.
 fn pilots_of_block(carrier: Carrier, symbol: u8) -> u8
     ensures value { result ≡ pilots_of_block carrier symbol }
     ensures bound { result ≤ 4 }
@@ -38,7 +38,7 @@ fn pilots_of_block(carrier: Carrier, symbol: u8) -> u8
     }
 }
 
-// Returns the PDSCH resource elements per resource block in a symbol after the control region.
+// Returns the number of PDSCH resource elements per resource block in a symbol after the control region.
 fn block_room(carrier: Carrier, symbol: u8) -> usize
     ensures value { result ≡ block_room carrier symbol }
     ensures bound { result ≤ 12 }
@@ -69,8 +69,8 @@ fn offset_in(carrier: Carrier, id: CellId, symbol: u8, n: usize) -> usize
     }
 }
 
-/// Returns the PDSCH resource elements per resource block in subframe 5, for `cfi` 2 and 3: one antenna port 102 and
-/// 90, two 96 and 84, four 92 and 80, the extended prefix 78 and 68.
+/// Returns the PDSCH resource elements per resource block in subframe 5 for `cfi` 2 and 3: one port 102 and 90, two
+/// ports 96 and 84, four ports 92 and 80, extended prefix 78 and 68.
 pub fn block_places(carrier: Carrier, cfi: u8) -> usize
     ensures value { result ≡ block_places_of carrier cfi }
     ensures bound { result ≤ 102 }
@@ -83,8 +83,8 @@ pub fn block_places(carrier: Carrier, cfi: u8) -> usize
     places
 }
 
-/// A law: the values of `block_places`, with their minimum, 68, and their maximum, for one antenna port with the
-/// normal prefix.
+/// A law: the values of `block_places` for each transmission scheme. The minimum is 68; for each `cfi`, one antenna
+/// port with the normal prefix has the maximum.
 pub fn block_places_are()
     ensures one_port { (cfi : ℕ) → block_places_of OnePort cfi ≡ (if nat_eq cfi 2 then 102 else 90) }
     ensures two_ports { (cfi : ℕ) → block_places_of TwoPorts cfi ≡ (if nat_eq cfi 2 then 96 else 84) }
@@ -94,8 +94,8 @@ pub fn block_places_are()
     ensures most { (carrier : Carrier) (cfi : ℕ) → block_places_of carrier cfi ≤ block_places_of OnePort cfi }
 {}
 
-/// Returns the number of PDSCH resource elements in the allocation: `block_places` per resource block, an even
-/// number, at most 612 for six resource blocks, and 576 with several antenna ports.
+/// Returns the number of PDSCH resource elements in the allocation, an even number: at most 612, and at most 576 with
+/// several antenna ports.
 pub fn shared_count(carrier: Carrier, assignment: &Assignment) -> usize
     ensures value { result ≡ block_places_of carrier assignment.now.cfi * assignment.now.blocks }
     ensures whole { (identity : ℕ) →
@@ -154,8 +154,8 @@ pub fn pdsch(id: CellId, cfi: Cfi, start: u8, blocks: u8, i: usize) -> Place
     }
 }
 
-/// A law: the PDSCH occupies `block_places` resource elements per resource block, in increasing order: exactly those
-/// that its definition admits.
+/// A law: the PDSCH occupies `block_places` resource elements per allocated resource block, in increasing order, and
+/// they are exactly the ones that its definition admits.
 pub fn shared_order()
     ensures { (carrier : Carrier) (identity cfi start blocks : ℕ) → 2 ≤ cfi → cfi ≤ 3 → start + blocks ≤ block_count →
         AreInOrder place_number (shared_places_of carrier identity cfi start blocks)
