@@ -5,21 +5,22 @@ use Rattle.turbo_code.specs.declared.rows.Row.{Row}
 use Rattle.turbo_code.specs.Table.{IsAnyRow, IsAnySize, interleaver}
 use Rattle.turbo_code.specs.Reading.{item_of, reading}
 
--- f permutes the numbers below n
+-- `f` permutes the numbers below `n`
 pub record Permutes (n : ℕ) (f : ℕ → ℕ) : Type 0 where
   pub below : (i : ℕ) → i < n → f i < n
   pub one_to_one : (i j : ℕ) → i < n → j < n → f i ≡ f j → i ≡ j
   pub onto : (y : ℕ) → y < n → (i : ℕ) × (i < n) × (f i ≡ y)
 
--- in either table each row's interleaver is a permutation
+-- for each row in either table, the interleaver is a permutation
 abbrev pub RowsPermute : Type 0
 RowsPermute = (row : Row) → IsAnyRow row → Permutes row.k (interleaver row)
 
--- one round of the buffer has 3(K + 4) bits: each bit in three streams of K + 4 bits once
+-- one round of the circular buffer, for the block size `k`, has 3(k + 4) bits: each bit in three streams of k + 4 bits
+-- once
 pub record ReadsEachBitOnce (k rv : ℕ) : Type 0 where
   pub count : length (reading k rv) ≡ 3 * (k + 4)
   pub reads : ReadsEachOnce (k + 4) (item_of k rv)
 
--- for each K in either table and each redundancy version, one round of the buffer reads each bit once
+-- for each block size in either table and each redundancy version, one round of the circular buffer reads each bit once
 abbrev pub ReadingIsWhole : Type 0
 ReadingIsWhole = (k rv : ℕ) → IsAnySize k → rv < 4 → ReadsEachBitOnce k rv

@@ -6,46 +6,49 @@ use Rattle.sub_block.specs.declared.Item.{Item}
 use Rattle.sub_block.specs.Matrix.{matrix_rows, nulls, cell}
 use Rattle.sub_block.specs.Items.{item, cells_read, bits_in, summed_at}
 
--- the three streams as read from a matrix of r rows; the third starts one cell later
+-- stream 0 as read from a matrix of `r` rows
 abbrev pub v0 : ℕ → List Item
 v0 r = cells_read Turbo r 0
 
+-- stream 1 as read from a matrix of `r` rows
 abbrev pub v1 : ℕ → List Item
 v1 r = cells_read Turbo r 1
 
+-- stream 2 as read from a matrix of `r` rows; each cell is one later than in the other streams
 abbrev pub v2 : ℕ → List Item
 v2 r = values_below (32 * r) (λ m. item 2 ((cell Turbo r m + 1) % (32 * r)))
 
--- two lists interlaced, item by item
+-- two lists interlaced, item by item, with the rest of the longer one at the end
 abbrev pub in_turn : List Item → List Item → List Item
 in_turn [] ys = ys
 in_turn (x ∷ xs) [] = x ∷ xs
 in_turn (x ∷ xs) (y ∷ ys) = x ∷ y ∷ in_turn xs ys
 
--- the circular buffer, with its nulls
+-- the circular buffer, NULL bits included, for matrices of `r` rows
 unfoldable pub buffer : ℕ → List Item
 buffer r = v0 r ++ in_turn (v1 r) (v2 r)
 
--- the first cell that a redundancy version reads, for streams of K + 4 bits
+-- the index in the circular buffer of the first cell that redundancy version `rv` reads, for streams of k + 4 bits
 abbrev pub start : ℕ → ℕ → ℕ
 start k rv = matrix_rows (k + 4) * (24 * rv + 2)
 
--- a list rotated to start at index s
+-- the list `cells` rotated to start at index `s`
 abbrev pub turned : ℕ → List Item → List Item
 turned s cells = drop s cells ++ take s cells
 
--- one round of the buffer without its nulls: the coded bits in three streams of K + 4 bits
+-- one round of the circular buffer without its NULL bits, from the start of redundancy version `rv`: the coded bits in
+-- three streams of k + 4 bits
 unfoldable pub reading : ℕ → ℕ → List Item
 reading k rv = bits_in (nulls (k + 4)) (turned (start k rv) (buffer (matrix_rows (k + 4))))
 
--- the item for bit i in the reading, which repeats without end
+-- the item that rate matching outputs as bit `i`; the reading repeats without end
 unfoldable pub item_of : ℕ → ℕ → ℕ → Item
 item_of k rv i = slice_index_or (reading k rv) (i % length (reading k rv)) (item 0 0)
 
--- a codeword's bit at an item
+-- the bit of the codeword `d` at the item `p`
 abbrev pub bit_of : List (List Bool) → Item → Bool
 bit_of d p = slice_index_or (slice_index_or d p.stream []) p.index false
 
--- for each of 1,028 indices in each of three streams, the sum of the values that the reading maps there
+-- for each of 1,028 indices in each of three streams, the sum of the received values that the reading maps there
 unfoldable pub summed : ℕ → ℕ → List ℤ → List (List ℤ)
 summed k rv values = values_below 3 (λ t. values_below 1028 (summed_at (item_of k rv) values (length values) t))

@@ -3,10 +3,11 @@ use Rattle.std.specs.Prelude.{ℕ, ◌+◌, ◌*◌, ◌%◌, ◌≡◌, ◌⊎�
 use Rattle.std.specs.List.{Contains, position_or_len, range_with_len}
 use Rattle.turbo_code.specs.declared.rows.Row.{Row}
 
+-- the table row with block size `k` and interleaver coefficients `f1` and `f2`
 abbrev pub row : ℕ → ℕ → ℕ → Row
 row k f1 f2 = record { k = k; f1 = f1; f2 = f2 }
 
--- the rows in use: K, f1, f2
+-- the rows in use: block size K and interleaver coefficients f1 and f2
 unfoldable pub rows : List Row
 rows =
     row 56 19 42 ∷ row 80 11 20 ∷ row 96 11 24 ∷ row 112 41 84 ∷
@@ -18,29 +19,32 @@ rows =
     row 720 79 120 ∷ row 768 217 48 ∷ row 800 17 80 ∷ row 864 17 48 ∷
     row 928 15 58 ∷ row 992 65 124 ∷ row 1024 31 64 ∷ []
 
--- a row in the table
+-- `r` is a row in use
 abbrev pub IsRow : Row → Type 0
 IsRow r = Contains rows r
 
--- a K in the table
+-- `k` is the block size of a row in use
 abbrev pub IsSize : ℕ → Type 0
 IsSize k = (r : Row) × Contains rows r × (r.k ≡ k)
 
--- the further rows, for the sizes 40, 136, 280 and 336 of DCI format 1C (TS 36.213 table 7.1.7.2.3-1): K, f1, f2
+-- the further rows, for the transport block sizes 40, 136, 280 and 336 of DCI format 1C (TS 36.213 table 7.1.7.2.3-1):
+-- block size K and interleaver coefficients f1 and f2
 unfoldable pub further_rows : List Row
 further_rows = row 64 7 16 ∷ row 160 21 120 ∷ row 304 37 76 ∷ row 360 133 90 ∷ []
 
--- a further row, and its K
+-- `r` is a further row
 abbrev pub IsFurtherRow : Row → Type 0
 IsFurtherRow r = Contains further_rows r
 
+-- `k` is the block size of a further row
 abbrev pub IsFurtherSize : ℕ → Type 0
 IsFurtherSize k = (r : Row) × Contains further_rows r × (r.k ≡ k)
 
--- a row in either table, and its K
+-- `r` is a row in use or a further row
 abbrev pub IsAnyRow : Row → Type 0
 IsAnyRow r = IsRow r ⊎ IsFurtherRow r
 
+-- `k` is the block size of a row in use or of a further row
 abbrev pub IsAnySize : ℕ → Type 0
 IsAnySize k = IsSize k ⊎ IsFurtherSize k
 
@@ -48,6 +52,6 @@ IsAnySize k = IsSize k ⊎ IsFurtherSize k
 unfoldable pub interleaver : Row → ℕ → ℕ
 interleaver r i = (r.f1 * i + r.f2 * i * i) % r.k
 
--- the step at which the second encoder reads bit k: the inverse of the interleaver
+-- the step at which the second encoder reads information bit `k`: the inverse of the interleaver
 abbrev pub step_of : Row → ℕ → ℕ
 step_of r k = position_or_len (λ i. nat_eq (interleaver r i) k) (range_with_len 0 r.k)

@@ -7,7 +7,7 @@ ghost use Rattle.turbo_code.specs.Encoder.{coded, interleaved, parities, stream,
 
 use crate::Row;
 
-/// A codeword: K, and three streams of K bits and four tail bits each, padded with zeros.
+/// A codeword: the block size K in `k`, and in `d` three streams of K bits and four tail bits each, padded with zeros.
 #[derive(Clone, Copy, Drop)]
 pub struct Coded {
     pub k: u16,
@@ -22,7 +22,7 @@ struct Register {
     three: bool,
 }
 
-/// The bits x and z in an encoder's three tail steps.
+/// The systematic bits x and the parity bits z in an encoder's three tail steps.
 #[derive(Drop)]
 struct Tail {
     x: [bool; 3],
@@ -36,7 +36,7 @@ struct Constituent {
     tail: Tail,
 }
 
-/// Shifts `bit` into the register and returns its parity bit.
+/// Shifts the input `bit` into the register, and returns the step's parity bit.
 fn step(register: &mut Register, bit: bool) -> bool
     ensures last { register.new.one ≡ xor (xor bit register.old.two) register.old.three }
     ensures second { register.new.two ≡ register.old.one }
@@ -51,7 +51,7 @@ fn step(register: &mut Register, bit: bool) -> bool
     parity
 }
 
-/// Returns the tail bits: three steps that lead the register back to zero.
+/// Returns the bits of the three tail steps that lead the register back to zero.
 fn tail_of(register: &Register) -> Tail
     ensures x { result.x ≡ xor register.now.two register.now.three
         ∷ xor register.now.one register.now.two ∷ xor false register.now.one ∷ [] }
@@ -104,7 +104,7 @@ pub fn interleaver(row: &Row, i: usize) -> usize
     (f1 * i + f2 * i * i) % row.k as usize
 }
 
-/// Returns the word in the second encoder's order, padded with zeros.
+/// Returns `word` in the second encoder's order, padded with zeros.
 fn in_order(word: &[bool], row: &Row) -> [bool; 1024]
     requires row { IsAnyRow row.now }
     requires count { length word.now ≡ row.now.k }
@@ -126,7 +126,7 @@ fn write_at(stream: &mut [bool], index: usize, bits: &[bool])
     stream[index..index + bits.len()].copy_from_slice(bits);
 }
 
-/// Returns a stream: its bits, its four tail bits, and zeros.
+/// Returns a stream of the codeword: its bits, its four tail bits, and zeros up to the length 1,028.
 fn stream_of(bits: &[bool], tail: &[bool; 4]) -> [bool; 1028]
     requires { length bits.now ≤ 1024 }
     ensures { result ≡ stream bits.now tail.now }
@@ -137,8 +137,8 @@ fn stream_of(bits: &[bool], tail: &[bool; 4]) -> [bool; 1028]
     stream
 }
 
-/// Encodes K bits (TS 36.212 section 5.1.3.2): the word itself, the first encoder's parity bits, and those of the
-/// second, which reads the word interleaved. `row` is a row of either table; `bits` has K bits.
+/// Encodes K bits (TS 36.212 section 5.1.3.2) to the word itself, the first encoder's parity bits, and the second
+/// encoder's parity bits for the interleaved word. `row` is a row of either table; `bits` has K bits.
 pub fn encode(bits: &[bool], row: Row) -> Coded
     requires row { IsAnyRow row }
     requires count { length bits.now ≡ row.k }

@@ -5,21 +5,21 @@ ghost use Rattle.finite.specs.Bits.{odd};
 ghost use Rattle.turbo_code.specs.Machine.{bit_to, first_from, next, parity_bit, register, second_from};
 ghost use Rattle.turbo_code.specs.Machine.{tail_bit, tail_parity};
 
-/// Returns a state's bit a(k - 1).
+/// Returns the latest register bit, a(k - 1), of state `x`.
 fn latest(x: usize) -> bool
     ensures { result ≡ odd (x / 4) }
 {
     x / 4 % 2 == 1
 }
 
-/// Returns a state's bit a(k - 2).
+/// Returns the middle register bit, a(k - 2), of state `x`.
 fn middle(x: usize) -> bool
     ensures { result ≡ odd (x / 2) }
 {
     x / 2 % 2 == 1
 }
 
-/// Returns a state's bit a(k - 3).
+/// Returns the oldest register bit, a(k - 3), of state `x`.
 fn oldest(x: usize) -> bool
     ensures { result ≡ odd x }
 {
@@ -60,7 +60,7 @@ pub fn before(x: usize) -> (usize, usize)
     (first, first + 1)
 }
 
-/// Returns the input bit for the step from state `p` to state `x`, if there is one.
+/// Returns the input bit in the step from state `p` to state `x`. If there is no such step, the result has no meaning.
 pub fn bit_to(p: usize, x: usize) -> bool
     ensures { result ≡ bit_to p x }
 {

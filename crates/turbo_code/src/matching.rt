@@ -13,14 +13,14 @@ use crate::{Coded, Row};
 use std::marker::Model;
 use sub_block::{Code, Item, cell_at};
 
-/// The sums of received values, one for each index in each stream.
+/// The sums of received values for the block size K in `k`: one sum in `d` for each index in each stream.
 #[derive(Clone, Copy, Drop)]
 pub struct Combined {
     pub k: u16,
     pub d: [[i32; 1028]; 3],
 }
 
-/// Returns cell `j` of the circular buffer, for streams of `rows` rows.
+/// Returns cell `j` of the circular buffer, for matrices of `rows` rows.
 fn buffer_at(rows: usize, j: usize) -> Item
     requires rows { rows ≤ 33 }
     requires inside { j < 96 * rows }
@@ -50,7 +50,7 @@ fn buffer_at(rows: usize, j: usize) -> Item
 }
 
 /// A walk along three streams of K + 4 bits in the order in which they are sent: round and round the circular buffer,
-/// from a redundancy version's start. Contracts see the size, the version, and the round's next bit.
+/// from a redundancy version's start. In contracts the value is K, the version, and the index of the round's next bit.
 #[derive(Drop)]
 struct Walk {
     k: u16,
@@ -70,7 +70,7 @@ impl Model for Walk {
 }
 
 impl Walk {
-    /// Returns the walk before its first bit.
+    /// Returns the walk before its first bit, for the block size `k` and the redundancy version `rv`.
     fn new(k: u16, rv: u8) -> Walk
         requires size { IsAnySize k }
         requires version { rv < 4 }
@@ -84,7 +84,7 @@ impl Walk {
         }
     }
 
-    /// Returns the next bit's item, and steps past it.
+    /// Returns the item of the walk's next bit, and advances past it.
     fn step(&mut self) -> Item
         ensures item { result ≡ item_of self.old.k self.old.rv self.old.bit }
         ensures below_three { result.stream < 3 }
@@ -136,7 +136,8 @@ pub fn match_out(coded: &Coded, rv: u8, i: usize) -> bool
     bit_at(coded, &item_in(coded.k, rv, i))
 }
 
-/// Fills `bits`, at most 5,760, with a codeword's first bits after rate matching: bit `i` is that of `match_out`.
+/// Fills `bits`, at most 5,760, with a codeword's first bits after rate matching. Bit `i` is the result of `match_out`
+/// for `i`.
 pub fn match_all(coded: &Coded, rv: u8, bits: &mut [bool])
     requires size { IsAnySize coded.now.k }
     requires version { rv < 4 }
@@ -170,8 +171,8 @@ fn add_at(sums: &mut [[i32; 1028]; 3], at: &Item, value: &i16)
     sums[at.stream][at.index] += *value as i32;
 }
 
-/// Returns, for each coded bit, the sum of the values that redundancy version `rv`, 0 to 3, maps to it. `row` is a
-/// row of either table. At most 5,760 values, so each sum has at most 32 terms.
+/// Returns, for each coded bit, the sum of the values, at most 5,760, that redundancy version `rv`, 0 to 3, maps to it.
+/// `row` is a row of either table. Each sum has at most 32 terms.
 pub fn combine(values: &[i16], row: Row, rv: u8) -> Combined
     requires row { IsAnyRow row }
     requires version { rv < 4 }

@@ -5,7 +5,8 @@ ghost use Rattle.std.specs.List.{Contains};
 ghost use Rattle.turbo_code.specs.declared.rows.Row.{Row};
 ghost use Rattle.turbo_code.specs.Table.{IsFurtherRow, IsFurtherSize, IsRow, IsSize};
 
-/// A row in the table: the number K of information bits and the two interleaver coefficients.
+/// A row in a table: the block size K, which is the number of information bits, and the interleaver coefficients f1 and
+/// f2.
 #[derive(Clone, Copy, Debug, PartialEq, Eq, Drop)]
 pub struct Row {
     pub k: u16,
@@ -57,7 +58,7 @@ const ROWS: [Row; 31] = table![
 // K, f1 and f2 for the sizes that format 1C adds (TS 36.212 table 5.1.3-3).
 const FURTHER_ROWS: [Row; 4] = table![(64, 7, 16), (160, 21, 120), (304, 37, 76), (360, 133, 90)];
 
-// Returns the row for a block of `size` bits and its CRC-24, or `None` if `rows` has none.
+// Returns the row for a transport block of `size` bits and its CRC24A, or `None` if `rows` has none.
 fn row_in(rows: &[Row], size: u16) -> Option<Row>
     ensures { MatchOption result ((r : Row) × Contains rows.now r × (r.k ≡ size + 24) → ⊥)
         (λ row. Contains rows.now row × (row.k ≡ size + 24)) }
@@ -70,16 +71,16 @@ fn row_in(rows: &[Row], size: u16) -> Option<Row>
     None
 }
 
-/// Returns the row for a block of `size` bits and its CRC-24. `None` exactly if `size` plus 24 is not a K in the
-/// table.
+/// Returns the row in use for a transport block of `size` bits and its CRC24A, or `None` if no such row has K equal to
+/// `size` plus 24.
 pub fn row_of(size: u16) -> Option<Row>
     ensures { MatchOption result (IsSize (size + 24) → ⊥) (λ row. IsRow row × (row.k ≡ size + 24)) }
 {
     row_in(&ROWS, size)
 }
 
-/// Returns the further row for a block of `size` bits and its CRC-24: sizes 40, 136, 280 and 336 (TS 36.213 table
-/// 7.1.7.2.3-1). `None` exactly if `size` plus 24 is not a K in the further rows.
+/// Returns the further row for a transport block of `size` bits, 40, 136, 280 or 336, and its CRC24A (TS 36.213 table
+/// 7.1.7.2.3-1). For any other `size`, returns `None`.
 pub fn further_row_of(size: u16) -> Option<Row>
     ensures { MatchOption result (IsFurtherSize (size + 24) → ⊥) (λ row. IsFurtherRow row × (row.k ≡ size + 24)) }
 {
