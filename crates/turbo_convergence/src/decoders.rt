@@ -6,14 +6,14 @@
 
 ghost use Rattle.turbo_convergence.specs.Laws.{ExtrinsicsSpeak, ExtrinsicsConvey, IterationsConvey};
 
-/// A law: if each value and prior of a constituent decoder is 0 or has the sign of the sent bit (above 0 for 0, below 0
-/// for 1), so is each extrinsic value.
+/// A law: if each value and prior of a constituent decoder is 0 or has its bit's sign (above 0 for 0, below 0 for 1),
+/// the same holds for each extrinsic value.
 pub fn extrinsics_speak()
     ensures { ExtrinsicsSpeak }
 {}
 
-/// A law: an extrinsic value has the sign of its sent bit exactly if the other bits that were sent or are known
-/// determine this bit, and is 0 otherwise.
+/// A law: an extrinsic value has the sign of its bit if the other bits that were sent or are known determine this bit,
+/// and is 0 otherwise.
 pub fn extrinsics_convey()
     ensures { ExtrinsicsConvey }
 {}

@@ -6,8 +6,8 @@
 ghost use Rattle.turbo_convergence.specs.Laws.{PuncturedBlockIsDecoded, ReceivedSumsAllow, ReceivedSumsConvey};
 ghost use Rattle.turbo_convergence.specs.Laws.{SentBlockIsDecoded, WholeSumsSpeak};
 
-/// A law: if each received value is 0 or has the sign of its sent bit, so is each sum; if no value is 0, the sums that
-/// are not 0 belong to the sent coded bits.
+/// A law: if each received value is 0 or has the sign of its sent bit, the same holds for each sum. If no value is 0,
+/// exactly the sums of sent bits are not 0.
 pub fn received_sums_convey()
     ensures allow { ReceivedSumsAllow }
     ensures tell { ReceivedSumsConvey }
@@ -20,8 +20,8 @@ pub fn sent_block_is_decoded()
     ensures { SentBlockIsDecoded }
 {}
 
-/// A law: the decoder returns a block with its CRC24A from fewer values, each with the sign of its sent bit, if these
-/// bits resolve the block.
+/// A law: the decoder returns a block with its CRC24A from any number of values, each with the sign of its sent bit, if
+/// the sent bits resolve the block.
 pub fn punctured_block_is_decoded()
     ensures { PuncturedBlockIsDecoded }
 {}
