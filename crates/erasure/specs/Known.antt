@@ -13,40 +13,43 @@ use Rattle.turbo_code.specs.Reading.{item_of}
 
 -- ---- one decoder
 
--- an encoder's sent bits: the information bits, the parity bits, and the six tail bits x(K), z(K), x(K + 1), z(K +
--- 1), x(K + 2), z(K + 2)
+-- the marks of the bits that are sent from a constituent encoder: the information bits, the parity bits, and the six
+-- tail bits x(K), z(K), x(K + 1), z(K + 1), x(K + 2), z(K + 2)
 pub record Sent : Type 0 where
   pub information : ℕ → Bool
   pub parity : ℕ → Bool
   pub tail : ℕ → Bool
 
--- step j of a word shows a 1 that is sent or known: an information bit other than k, or the parity bit
+-- whether step `j` of `word` shows a 1 that is sent or known: an information bit other than `k` that is sent or known,
+-- or a parity bit that is sent
 abbrev pub step_shows : Sent → (ℕ → Bool) → ℕ → List Bool → ℕ → Bool
 step_shows sent known k word j =
     ((not (nat_eq j k) && bit_at word j) && (sent.information j || known j)) || (parity word j && sent.parity j)
 
--- tail step j shows a 1 that is sent
+-- whether tail step `j` of `word` shows a 1 that is sent
 abbrev pub tail_shows : Sent → List Bool → ℕ → Bool
 tail_shows sent word j = (tail_x word j && sent.tail (2 * j)) || (tail_z word j && sent.tail (2 * j + 1))
 
--- some step of a word with n bits, or of its tail, shows a 1 that is sent or known, other than bit k
+-- whether some step of `word`, which has `n` bits, or of its tail shows a 1 that is sent or known, other than bit `k`
 abbrev pub shows : ℕ → Sent → (ℕ → Bool) → ℕ → List Bool → Bool
 shows n sent known k word = any_below n (step_shows sent known k word) || any_below 3 (tail_shows sent word)
 
--- bit k is found: every word of n bits with a 1 there shows another 1, so the sent and known bits determine bit k
+-- whether bit `k` is found: every word of `n` bits with a 1 at `k` shows another 1 that is sent or known, so the sent
+-- and known bits determine bit `k`
 unfoldable pub found : ℕ → Sent → (ℕ → Bool) → ℕ → Bool
 found n sent known k = every_word n (λ word. not (bit_at word k) || shows n sent known k word)
 
 -- ---- the iterations; `sent t p` means that item p of stream t is sent
 
--- an encoder's six tail bits, at indices p and p + 1 in each stream
+-- the marks of a constituent encoder's six tail bits, at indices `p` and p + 1 in each stream
 abbrev pub tail_sent : (ℕ → ℕ → Bool) → ℕ → List Bool
 tail_sent sent p = sent 0 p ∷ sent 1 p ∷ sent 2 p ∷ sent 0 (p + 1) ∷ sent 1 (p + 1) ∷ sent 2 (p + 1) ∷ []
 
--- the sent bits of the first encoder, and of the second
+-- the marks of the bits that are sent from the first encoder
 abbrev pub first_sent : Row → (ℕ → ℕ → Bool) → Sent
 first_sent row sent = record { information = sent 0; parity = sent 1; tail = bit_at (tail_sent sent row.k) }
 
+-- the marks of the bits that are sent from the second encoder, in its own order
 abbrev pub second_sent : Row → (ℕ → ℕ → Bool) → Sent
 second_sent row sent = record {
   information = λ i. sent 0 (interleaver row i);
@@ -54,43 +57,44 @@ second_sent row sent = record {
   tail = bit_at (tail_sent sent (row.k + 2));
 }
 
--- the bits that the first decoder finds from the known bits
+-- whether the first decoder finds a bit, given the `known` bits
 abbrev pub first_found : Row → (ℕ → ℕ → Bool) → (ℕ → Bool) → ℕ → Bool
 first_found row sent known = found row.k (first_sent row sent) known
 
--- the bits that the second decoder, which works in its own order, finds from the known bits
+-- whether the second decoder, which works in its own order, finds bit `k`, given the `known` bits
 abbrev pub second_found : Row → (ℕ → ℕ → Bool) → (ℕ → Bool) → ℕ → Bool
 second_found row sent known k = found row.k (second_sent row sent) (λ i. known (interleaver row i)) (step_of row k)
 
--- the bits that the second decoder found in the last of n iterations; in each iteration it knows the bits that the
+-- whether the second decoder found bit `k` in the last of n iterations; in each iteration it knows the bits that the
 -- first decoder found
 unfoldable pub known_after : Row → (ℕ → ℕ → Bool) → ℕ → ℕ → Bool
 known_after row sent zero k = false
 known_after row sent (suc n) k = second_found row sent (first_found row sent (known_after row sent n)) k
 
--- iteration n + 1 settles bit k: the bit is sent, or one of the two decoders finds it
+-- whether iteration `n` + 1 settles bit `k`: the bit is sent, or one of the two decoders finds it
 abbrev pub settled : Row → (ℕ → ℕ → Bool) → ℕ → ℕ → Bool
 settled row sent n k = (sent 0 k || first_found row sent (known_after row sent n) k) || known_after row sent (suc n) k
 
--- iteration n + 1 settles every bit
+-- whether iteration `n` + 1 settles every bit
 abbrev pub settles_all : Row → (ℕ → ℕ → Bool) → ℕ → Bool
 settles_all row sent n = every_below row.k (settled row sent n)
 
--- the word after iteration n + 1: the sent word, with 0 at every bit that is not settled
+-- the decoded word after iteration `n` + 1: the sent `word`, with 0 at every bit that is not settled
 abbrev pub word_after : Row → (ℕ → ℕ → Bool) → List Bool → ℕ → List Bool
 word_after row sent word n = values_below row.k (λ k. bit_at word k && settled row sent n k)
 
--- iteration n + 1 is the first that settles every bit, and no earlier word passes the CRC
+-- whether iteration `n` + 1 is the first that settles every bit, and no earlier decoded word passes the CRC
 abbrev pub resolves : Row → (ℕ → ℕ → Bool) → List Bool → ℕ → Bool
 resolves row sent word n =
     settles_all row sent n
     && every_below n (λ m. not (settles_all row sent m) && not (has_check_24 (word_after row sent word m)))
 
--- a block can be resolved: one of eight iterations is the first that settles every bit, and no earlier word passes
--- the CRC
+-- whether a block can be resolved: one of eight iterations is the first that settles every bit, and no earlier decoded
+-- word passes the CRC
 unfoldable pub resolvable : Row → (ℕ → ℕ → Bool) → List Bool → Bool
 resolvable row sent word = any_below 8 (resolves row sent word)
 
--- item p of stream t is among the first m bits sent from a redundancy version, for streams of K bits and their tails
+-- whether the item at index `p` of stream `t` is among the first `m` bits sent from redundancy version `rv`, for
+-- streams of `k` bits and their tails
 unfoldable pub sent_of : ℕ → ℕ → ℕ → ℕ → ℕ → Bool
 sent_of k rv m t p = any_below m (λ i. is_at t p (item_of k rv i))

@@ -5,10 +5,11 @@ ghost use Rattle.erasure.specs.Sets.{HasSets, found_by};
 
 use crate::states::{States, any_led_through, earlier_set, later_set, start_set, tail_set};
 
-/// A mark for each bit of a word; later entries are not used.
+/// One mark per bit of a word of at most 1,024 bits; later entries are not used.
 pub(crate) type Marks = [bool; 1024];
 
-/// Writes, before the first step and after each, the set of states reached by steps without a known bit 1.
+/// Writes to `sets`, for the point before the first step and after each step, the set of states that steps without a
+/// known bit 1 reach.
 fn forward(own: &[bool], parity: &[bool], sets: &mut [States])
     requires short { length own.now ≤ 1024 }
     requires parities { length parity.now ≡ length own.now }
@@ -23,7 +24,7 @@ fn forward(own: &[bool], parity: &[bool], sets: &mut [States])
     }
 }
 
-/// Returns the bits that are found, given the sets of the forward pass.
+/// Returns the marks of the bits that are found, given the sets of the forward pass.
 fn backward(own: &[bool], parity: &[bool], tail: &[bool; 6], sets: &[States]) -> Marks
     requires short { length own.now ≤ 1024 }
     requires parities { length parity.now ≡ length own.now }
@@ -42,8 +43,8 @@ fn backward(own: &[bool], parity: &[bool], tail: &[bool; 6], sets: &[States]) ->
     found
 }
 
-/// Returns the bits that a decoder finds: those where each word with a 1 has another known 1, among its information
-/// bits, its parity bits or its tail bits.
+/// Returns the marks of the bits that a decoder finds: every word with a 1 there has another known 1, in its
+/// information bits, its parity bits or its tail bits.
 pub(crate) fn find(own: &[bool], parity: &[bool], tail: &[bool; 6]) -> Marks
     requires short { length own.now ≤ 1024 }
     requires parities { length parity.now ≡ length own.now }

@@ -11,10 +11,10 @@ use crate::finding::{Marks, find};
 use cs_bits::has_check_24;
 use turbo_code::{Row, combine, interleaver};
 
-/// The number of iterations that are tried.
+/// The maximum number of decoding iterations.
 const ITERATIONS: usize = 8;
 
-/// How often each index in the three streams is sent.
+/// The number of times that each index in the three streams is sent.
 type Counts = [[i32; 1028]; 3];
 
 /// Returns whether the coded bit at index `p` in stream `t` is sent.
@@ -55,7 +55,7 @@ fn stream_of(counts: &Counts, row: &Row, t: usize) -> Marks
     marks
 }
 
-/// Marks the bits of the word that are sent or known.
+/// Marks the information bits that are sent or known.
 fn own_of(counts: &Counts, row: &Row, known: &Marks) -> Marks
     requires row { IsAnyRow row.now }
     ensures marks { (k : ℕ) → k < row.now.k → slice_index_or result k false ≡
@@ -69,7 +69,7 @@ fn own_of(counts: &Counts, row: &Row, known: &Marks) -> Marks
     marks
 }
 
-/// Marks the bits of the word that are sent or known, in the second decoder's order.
+/// Marks the information bits that are sent or known, in the second decoder's order.
 fn own_in_order_of(counts: &Counts, row: &Row, known: &Marks) -> Marks
     requires row { IsAnyRow row.now }
     ensures marks { (i : ℕ) → i < row.now.k → slice_index_or result i false ≡
@@ -84,7 +84,7 @@ fn own_in_order_of(counts: &Counts, row: &Row, known: &Marks) -> Marks
     marks
 }
 
-/// Returns the marks for the word's K bits.
+/// Returns the marks for the K bits of a word, without the unused entries.
 fn front_of<'a>(marks: &'a Marks, row: &Row) -> &'a [bool]
     requires row { IsAnyRow row.now }
     ensures marks { result.now ≡ take row.now.k marks.now }
@@ -95,7 +95,7 @@ fn front_of<'a>(marks: &'a Marks, row: &Row) -> &'a [bool]
     &marks[..row.k as usize]
 }
 
-/// Returns the bits that the first decoder finds.
+/// Returns the marks of the bits that the first decoder finds.
 fn first_marks(counts: &Counts, row: &Row, known: &Marks) -> Marks
     requires row { IsAnyRow row.now }
     ensures found { (k : ℕ) → k < row.now.k → slice_index_or result k false ≡
@@ -109,7 +109,7 @@ fn first_marks(counts: &Counts, row: &Row, known: &Marks) -> Marks
     )
 }
 
-/// Returns the bits that the second decoder finds, in its own order.
+/// Returns the marks of the bits that the second decoder finds, in its own order.
 fn second_in_order_of(counts: &Counts, row: &Row, known: &Marks) -> Marks
     requires row { IsAnyRow row.now }
     ensures found { (k : ℕ) → k < row.now.k → slice_index_or result (step_of row.now k) false ≡
@@ -123,7 +123,7 @@ fn second_in_order_of(counts: &Counts, row: &Row, known: &Marks) -> Marks
     )
 }
 
-/// Returns the bits that the second decoder finds, in word order.
+/// Returns the marks of the bits that the second decoder finds, in the order of the word.
 fn second_marks(counts: &Counts, row: &Row, known: &Marks) -> Marks
     requires row { IsAnyRow row.now }
     ensures found { (k : ℕ) → k < row.now.k → slice_index_or result k false ≡
@@ -138,7 +138,7 @@ fn second_marks(counts: &Counts, row: &Row, known: &Marks) -> Marks
     marks
 }
 
-/// Returns the settled bits: sent, or found by either decoder.
+/// Returns the marks of the settled bits, which are sent or found by either decoder.
 fn settled_of(counts: &Counts, row: &Row, first: &Marks, second: &Marks) -> Marks
     requires row { IsAnyRow row.now }
     ensures marks { (k : ℕ) → k < row.now.k → slice_index_or result k false ≡
@@ -163,7 +163,7 @@ fn are_all(marks: &[bool]) -> bool
     all
 }
 
-/// Returns the word with 0 at every bit that is not settled.
+/// Returns the word `bits` with 0 at every bit that is not settled.
 fn word_of(bits: &[bool], settled: &Marks) -> Marks
     requires { length bits.now ≤ 1024 }
     ensures word { (k : ℕ) → k < length bits.now → slice_index_or result k false ≡
@@ -177,7 +177,7 @@ fn word_of(bits: &[bool], settled: &Marks) -> Marks
     word
 }
 
-/// Returns whether the block can be resolved from the coded bits that are sent.
+/// Returns whether the block `bits` can be resolved from the coded bits that `counts` shows as sent.
 fn resolves(bits: &[bool], row: &Row, counts: &Counts) -> bool
     requires row { IsAnyRow row.now }
     requires count { length bits.now ≡ row.now.k }
@@ -200,7 +200,7 @@ fn resolves(bits: &[bool], row: &Row, counts: &Counts) -> bool
     false
 }
 
-/// Returns how often each index occurs in the first `sent` bits from redundancy version `rv`.
+/// Returns the number of times that each index occurs in the first `sent` bits from redundancy version `rv`.
 fn counts_of(row: Row, rv: u8, sent: u16) -> Counts
     requires row { IsAnyRow row }
     requires version { rv < 4 }
@@ -211,9 +211,8 @@ fn counts_of(row: Row, rv: u8, sent: u16) -> Counts
     combine(&ones[..sent as usize], row, rv).d
 }
 
-/// Returns whether `sent` coded bits from each redundancy version resolve a block (TS 36.212 section 5.1.4.1) within
-/// eight iterations (own), without an earlier false pass of CRC24A. `bits` has K bits, CRC included; `row` is the row
-/// for K.
+/// Returns whether, for each redundancy version, the first `sent` coded bits resolve a block (TS 36.212 section
+/// 5.1.4.1) within eight iterations (own), without an earlier false pass of CRC24A. `bits` has K bits, CRC included.
 pub fn fills(bits: &[bool], row: Row, sent: u16) -> bool
     requires row { IsAnyRow row }
     requires count { length bits.now ≡ row.k }

@@ -9,10 +9,10 @@ use turbo_code::{before, bit_to, next, parity_bit, tail_bit, tail_parity};
 /// The number of encoder states.
 const STATES: usize = 8;
 
-/// A set of states.
+/// A set of encoder states: entry x states whether state x is a member.
 pub(crate) type States = [bool; STATES];
 
-/// Returns whether a step has no known bit 1.
+/// Returns whether a step from state `x` by bit `u` has no known bit 1.
 fn is_hidden(own: bool, parity: bool, x: usize, u: bool) -> bool
     requires { x < 8 }
     ensures { result ≡ hides own parity x u }
@@ -20,7 +20,7 @@ fn is_hidden(own: bool, parity: bool, x: usize, u: bool) -> bool
     !(u && own) && !(parity_bit(x, u) && parity)
 }
 
-/// Returns whether a step without a known bit 1 leads from the set to state `y`.
+/// Returns whether a step without a known bit 1 leads from a state in `set` to state `y`.
 fn is_led_to(own: bool, parity: bool, set: &States, y: usize) -> bool
     requires { y < 8 }
     ensures { result ≡ leads_to own parity set.now y }
@@ -31,7 +31,7 @@ fn is_led_to(own: bool, parity: bool, set: &States, y: usize) -> bool
     by_first || by_second
 }
 
-/// Returns whether a step without a known bit 1 leads from state `x` into the set.
+/// Returns whether a step without a known bit 1 leads from state `x` into `set`.
 fn is_led_from(own: bool, parity: bool, set: &States, x: usize) -> bool
     requires { x < 8 }
     ensures { result ≡ leads_from own parity set.now x }
@@ -41,7 +41,7 @@ fn is_led_from(own: bool, parity: bool, set: &States, x: usize) -> bool
     by_zero || by_one
 }
 
-/// Returns the set before the first step.
+/// Returns the set of states before the first step: state 0 alone.
 pub(crate) fn start_set() -> States
     ensures set { (x : ℕ) → x < 8 → slice_index_or result x false ≡ nat_eq x 0 }
     ensures size { length result ≡ 8 }
@@ -49,7 +49,7 @@ pub(crate) fn start_set() -> States
     [true, false, false, false, false, false, false, false]
 }
 
-/// Returns the set one step later.
+/// Returns the set of states that a step without a known bit 1 reaches from `set`.
 pub(crate) fn later_set(own: bool, parity: bool, set: &States) -> States
     ensures set { (x : ℕ) → x < 8 → slice_index_or result x false ≡ leads_to own parity set.now x }
     ensures size { length result ≡ 8 }
@@ -61,7 +61,7 @@ pub(crate) fn later_set(own: bool, parity: bool, set: &States) -> States
     later
 }
 
-/// Returns the set one step earlier.
+/// Returns the set of states from which a step without a known bit 1 leads into `set`.
 pub(crate) fn earlier_set(own: bool, parity: bool, set: &States) -> States
     ensures set { (x : ℕ) → x < 8 → slice_index_or result x false ≡ leads_from own parity set.now x }
     ensures size { length result ≡ 8 }
@@ -73,7 +73,8 @@ pub(crate) fn earlier_set(own: bool, parity: bool, set: &States) -> States
     earlier
 }
 
-/// Returns whether a step by an unknown bit 1 leads from state `x` in the first set into the second.
+/// Returns whether a step by an unknown bit 1, with a parity bit that is not a known 1, leads from state `x` in
+/// `before` into `after`.
 fn is_led_through(parity: bool, before: &States, after: &States, x: usize) -> bool
     requires { x < 8 }
     ensures { result ≡ leads_through parity before.now after.now x }
@@ -81,7 +82,8 @@ fn is_led_through(parity: bool, before: &States, after: &States, x: usize) -> bo
     before[x] && is_hidden(false, parity, x, true) && after[next(x, true)]
 }
 
-/// Returns whether a step by an unknown bit 1 leads from any state in the first set into the second.
+/// Returns whether a step by an unknown bit 1, with a parity bit that is not a known 1, leads from any state in
+/// `before` into `after`.
 pub(crate) fn any_led_through(parity: bool, before: &States, after: &States) -> bool
     ensures { result ≡ any_below 8 (leads_through parity before.now after.now) }
 {
