@@ -2,15 +2,15 @@
 use Rattle.std.specs.Prelude.{ℕ, Bool, false, List, slice_index_or}
 use Rattle.cs_bits.specs.Numbers.{field}
 
--- bit i
+-- bit `i` of the DCI `bits`
 abbrev pub bit : List Bool → ℕ → Bool
 bit bits i = slice_index_or bits i false
 
--- the flag that distinguishes format 1A from format 0
+-- whether the flag that distinguishes format 1A from format 0 is set
 abbrev pub is_1a : List Bool → Bool
 is_1a bits = bit bits 0
 
--- the resource blocks are distributed, not localised
+-- whether the resource blocks are distributed, not localised
 abbrev pub is_distributed : List Bool → Bool
 is_distributed bits = bit bits 1
 
@@ -18,7 +18,7 @@ is_distributed bits = bit bits 1
 abbrev pub assignment : List Bool → ℕ
 assignment bits = field bits 2 5
 
--- the modulation and coding scheme
+-- the modulation and coding scheme (MCS)
 abbrev pub mcs : List Bool → ℕ
 mcs bits = field bits 7 5
 
@@ -34,13 +34,15 @@ new_data bits = bit bits 15
 abbrev pub rv : List Bool → ℕ
 rv bits = field bits 16 2
 
--- the two bits of the transmit power control command, and the padding bit
+-- the high bit of the transmit power control command
 abbrev pub tpc_high : List Bool → Bool
 tpc_high bits = bit bits 18
 
+-- the low bit of the transmit power control command
 abbrev pub tpc_low : List Bool → Bool
 tpc_low bits = bit bits 19
 
+-- the padding bit
 abbrev pub padding : List Bool → Bool
 padding bits = bit bits 20
 

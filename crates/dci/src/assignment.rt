@@ -18,7 +18,7 @@ pub fn riv(start: u8, blocks: u8) -> u8
     }
 }
 
-// Returns the first resource block and the block count that `riv` stands for.
+// Returns the first resource block and the block count for the resource indication value `riv`, 0 to 20.
 pub(crate) fn blocks_of(riv: u8) -> (u8, u8)
     requires { riv ≤ 20 }
     ensures blocks { AreBlocks result.0 result.1 }
@@ -32,7 +32,8 @@ pub(crate) fn blocks_of(riv: u8) -> (u8, u8)
     }
 }
 
-/// A law: each value from 0 to 20 stands for exactly one assignment, and no assignment has a value above 20.
+/// A law: each resource indication value from 0 to 20 stands for exactly one assignment, and no assignment has a value
+/// above 20.
 pub fn assignments_used_once()
     ensures bound { (start blocks : ℕ) → AreBlocks start blocks → riv_of start blocks ≤ 20 }
     ensures used { (riv : ℕ) → riv ≤ 20 →

@@ -5,7 +5,7 @@ ghost use Rattle.lte_types.specs.declared.sib1_reason.Sib1Reason.{Sib1Reason};
 ghost use Rattle.dci.specs.declared.grant.Grant.{Grant};
 ghost use Rattle.dci.specs.Format1A.{Carries, IsSentFor, Says, IsGrant, sent_word};
 
-/// A downlink grant: where and how a transport block is sent.
+/// A downlink grant: the resource blocks and the format in which a transport block is sent.
 #[derive(Clone, Copy, Debug, PartialEq, Eq)]
 pub struct Grant {
     /// The first resource block, 0 to 5.
@@ -22,8 +22,8 @@ pub struct Grant {
     pub size: u16,
 }
 
-/// A law: bits carry exactly one grant or are refused for exactly one reason. A carried grant is valid, and a valid
-/// grant is sent as exactly one word of 21 bits.
+/// A law: the bits of a DCI carry exactly one grant or are refused for exactly one reason. A carried grant is valid,
+/// and a valid grant is sent as exactly one word of 21 bits.
 pub fn grants_and_bits()
     ensures one_answer { (bits : List Bool) (a b : Result Grant Sib1Reason) → Says bits a → Says bits b → a ≡ b }
     ensures some_answer { (bits : List Bool) → (answer : Result Grant Sib1Reason) × Says bits answer }

@@ -1,4 +1,4 @@
-//! DCI format 1A for SystemInformationBlockType1 in a cell with six resource blocks: grants are decoded and encoded
+//! DCI format 1A for SystemInformationBlockType1 in a cell with six resource blocks: decoding and encoding of grants
 //! (TS 36.212 section 5.3.3.1.3, TS 36.213 section 7.1).
 //! Tests: the crate `code_tests`.
 #![tactic(auto)]
@@ -15,6 +15,6 @@ pub use reading::read;
 pub use sizes::size;
 pub use writing::write;
 
-/// The SI-RNTI (TS 36.321 section 7.1). The CRC is masked with it when DCI grants system information, and it enters
-/// the scrambling of the granted PDSCH.
+/// The SI-RNTI (TS 36.321 section 7.1), which masks the CRC when DCI grants system information, and enters the
+/// scrambling of the granted PDSCH.
 pub const SI_RNTI: u16 = 0xffff;

@@ -22,7 +22,7 @@ const RV: usize = 16;
 const TPC_LOW: usize = 19;
 
 /// Decodes a grant, or returns the first reason to refuse it: a format other than 1A, distributed blocks, a resource
-/// indication value above 20, a scheme above 26, no transport block size. Other fields are ignored.
+/// indication value above 20, an MCS above 26, or no transport block size. Other fields are ignored.
 pub fn read(word: &Bits<21>) -> Result<Grant, Sib1Reason>
     ensures answer { Says word.now result }
     ensures grant { IfOk result IsGrant }
@@ -57,7 +57,7 @@ pub fn read(word: &Bits<21>) -> Result<Grant, Sib1Reason>
     })
 }
 
-// Returns the column that the power control command's low bit selects.
+// Returns the column, 2 or 3, of the table of transport block sizes that the power control command's low bit selects.
 fn column_by(low: bool) -> u8
     ensures { result ≡ column_of low }
 {

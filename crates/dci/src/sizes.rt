@@ -12,8 +12,8 @@ const COLUMN_3: [u16; 17] = [
     56, 88, 144, 176, 208, 224, 256, 328, 392, 456, 504, 584, 680, 744, 840, 904, 968,
 ];
 
-/// Returns the transport block size in bits for a scheme and a column, 2 or 3. `None` exactly if the table, which
-/// ends at 1,000 bits, has no entry.
+/// Returns the transport block size in bits for a modulation and coding scheme and a column, 2 or 3. Returns `None` if
+/// the table, which ends at 1,000 bits, has no entry.
 pub fn size(mcs: u8, column: u8) -> Option<u16>
     requires { (column ≡ 2) ⊎ (column ≡ 3) }
     ensures { result ≡ size_of mcs column }
@@ -25,7 +25,7 @@ pub fn size(mcs: u8, column: u8) -> Option<u16>
     }
 }
 
-// Returns the column's entry for `mcs`, if there is one.
+// Returns the entry of `column` for the modulation and coding scheme `mcs`, if there is one.
 fn entry(column: &[u16], mcs: u8) -> Option<u16>
     ensures { result ≡ slice_get column.now mcs }
 {

@@ -9,8 +9,8 @@ use cs_bits::Bits;
 // The bit that pads the length to 21.
 const PADDING: bool = false;
 
-/// Encodes a grant that `read` can return, so that `read` returns it again. HARQ process, new data indicator, the
-/// power control command's high bit and the padding are 0.
+/// Encodes a valid grant, which `read` returns again. HARQ process, new data indicator, the power control command's
+/// high bit and the padding are 0.
 pub fn write(grant: &Grant) -> Bits<21>
     requires { IsGrant grant.now }
     ensures word { result ≡ sent_word grant.now }
