@@ -2,12 +2,12 @@
 use Rattle.std.specs.Prelude.{ℕ, zero, suc, Bool, true, false, nat_eq, List, [], ◌∷◌, Option, Some, None}
 
 -- A grammar: either the encoding is complete and stands for a value, or a field follows, which is a number with a
--- width, a minimum and a maximum. The rest may depend on that number.
+-- width, a minimum and a maximum. The fields after that field may depend on its number.
 pub data Grammar (A : Type 0) : Type 0 where
   done : A → Grammar A
   field : (width least greatest : ℕ) → (ℕ → Grammar A) → Grammar A
 
--- one grammar followed by another, which may depend on the first value
+-- one grammar followed by another, which may depend on the value of the first grammar
 infixl 10 ◌>>=◌
 unfoldable pub ◌>>=◌ : {A B : Type 0} → Grammar A → (A → Grammar B) → Grammar B
 (done x) >>= f = f x
@@ -15,7 +15,7 @@ unfoldable pub ◌>>=◌ : {A B : Type 0} → Grammar A → (A → Grammar B) �
 
 -- ---- kinds of fields
 
--- a number with a width, a minimum and a maximum (a constrained whole number)
+-- a field of `width` bits with a number from `least` to `greatest` (a constrained whole number)
 abbrev pub from_to : ℕ → ℕ → ℕ → Grammar ℕ
 from_to width least greatest = field width least greatest done
 
@@ -32,7 +32,7 @@ if_present true what = do
   value ← what
   done (Some value)
 
--- a given number of items, one after the other (the items of a SEQUENCE OF)
+-- `n` items with the grammar `each`, one after the other (the items of a SEQUENCE OF)
 unfoldable pub times : {A : Type 0} → ℕ → Grammar A → Grammar (List A)
 times zero each = done []
 times (suc n) each = do

@@ -9,7 +9,7 @@ ghost use Rattle.uper.specs.Reading.{Reads};
 use cs_bits::number_of;
 use std::marker::Model;
 
-/// Reads bits from the first. Contracts see the bits and the reader's position.
+/// A reader of bits, from the first to the last. In contracts the value is the bits and the reader's position.
 #[derive(Drop)]
 pub struct Reader<'a> {
     bits: &'a [bool],
@@ -28,7 +28,7 @@ impl<'a> Model for Reader<'a> {
 }
 
 impl<'a> Reader<'a> {
-    /// Returns a reader at the first bit.
+    /// Creates a reader at the first of `bits`.
     pub fn new(bits: &'a [bool]) -> Reader<'a>
         ensures bits { result.bits ≡ bits.now }
         ensures place { result.place ≡ 0 }
@@ -36,8 +36,8 @@ impl<'a> Reader<'a> {
         Reader { bits, place: 0 }
     }
 
-    /// Takes the next `n` bits (at most 32) as a number, highest bit first. Returns `None`, and leaves the reader
-    /// unchanged, exactly if fewer bits are left.
+    /// Takes the next `n` bits, at most 32, as a number, highest bit first. Returns `None`, and leaves the reader
+    /// unchanged, if fewer bits are left.
     pub fn take(&mut self, n: u32) -> Option<u32>
         requires { n ≤ 32 }
         ensures left { IsNone result ↔ (length self.old.bits < self.old.place + n) }
@@ -57,7 +57,7 @@ impl<'a> Reader<'a> {
         Some(number_of(&self.bits[first..self.place]) as u32)
     }
 
-    /// Returns how many bits were taken.
+    /// Returns the reader's position: the number of bits that were taken.
     pub fn place(&self) -> usize
         ensures place { result ≡ self.now.place }
         ensures inside { result ≤ length self.now.bits }
@@ -65,8 +65,8 @@ impl<'a> Reader<'a> {
         self.place
     }
 
-    /// Reads a number of `width` bits (at most 32) from `least` to `greatest`. Otherwise returns the position of its
-    /// first bit and leaves the reader unchanged.
+    /// Reads a number of `width` bits, at most 32. If bits are missing or the number is not from `least` to `greatest`,
+    /// returns the position of its first bit and leaves the reader unchanged.
     pub fn number(&mut self, width: u32, least: u32, greatest: u32) -> Result<u32, usize>
         requires { width ≤ 32 }
         ensures reads { Reads (from_to width least greatest) self.old result self.new }
@@ -87,7 +87,7 @@ impl<'a> Reader<'a> {
         }
     }
 
-    /// Reads one bit, or returns the position at which it is missing. After that error the reader's position is
+    /// Reads one bit, or returns the position of the missing bit. After this error the reader's position is
     /// unspecified.
     pub fn flag(&mut self) -> Result<bool, usize>
         ensures { Reads flag self.old result self.new }

@@ -8,8 +8,8 @@ ghost use Rattle.uper.specs.Sheet.{append, Puts};
 use crate::Writer;
 use std::marker::Model;
 
-/// Collects encodings, up to 1,000 bits in all. After the first that does not fit nothing is kept, so that only
-/// `finish` has to report it. Contracts see an option with the bits.
+/// A collection of encodings, up to 1,000 bits in all. Once an encoding does not fit, nothing is kept, and only
+/// `finish` reports it. In contracts the value is the bits, or `None` if they did not all fit.
 #[derive(Drop)]
 pub struct Sheet {
     bits: Writer,
@@ -35,8 +35,8 @@ impl Sheet {
         }
     }
 
-    /// Appends the `width` bits (1 to 32) of `number`, which is below 2^width, highest first. They encode the number
-    /// for each range that contains it.
+    /// Appends the `width` bits, 1 to 32, of `number`, which is below 2^`width`, highest bit first. The bits encode
+    /// `number` for each range that contains `number`.
     pub fn put(&mut self, number: u32, width: u32)
         requires some { 1 ≤ width }
         requires few { width ≤ 32 }
@@ -51,14 +51,14 @@ impl Sheet {
         self.is_full = !self.bits.put(number, width);
     }
 
-    /// Appends one bit.
+    /// Appends the single bit `bit`, as `put` does with a width of 1.
     pub fn flag(&mut self, bit: bool)
         ensures { Puts flag bit self.old self.new }
     {
         self.put(bit as u32, 1);
     }
 
-    /// Returns the bits, or `None` exactly if they did not all fit.
+    /// Returns the collected bits, or `None` if they did not all fit.
     pub fn finish(self) -> Option<Writer>
         ensures { result ≡ self }
     {

@@ -10,7 +10,7 @@ use std::marker::Model;
 // The maximum number of bits.
 const ROOM: usize = 1000;
 
-/// At most 1,000 bits. Contracts see a list.
+/// A buffer of at most 1,000 bits. In contracts the value is the list of the bits.
 #[derive(Drop)]
 pub struct Writer {
     bits: ArrayVec<bool, ROOM>,
@@ -34,8 +34,8 @@ impl Writer {
         }
     }
 
-    /// Appends the `n` bits (at most 32) of `value`, which is below 2^n, highest first. Returns false, and leaves the
-    /// writer unchanged, exactly if there would be more than 1,000 bits.
+    /// Appends the `n` bits, at most 32, of `value`, which is below 2^`n`, highest bit first. Returns false, and leaves
+    /// the writer unchanged, if there would be more than 1,000 bits.
     pub fn put(&mut self, value: u32, n: u32) -> bool
         requires few { n ≤ 32 }
         requires fits { value < 2 ^ n }
