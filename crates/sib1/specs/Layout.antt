@@ -13,11 +13,11 @@ use Rattle.lte_types.specs.declared.cell_selection_info.CellSelectionInfo.{CellS
 
 -- ---- plmn-IdentityList
 
--- MCC-MNC-Digit
+-- MCC-MNC-Digit, a decimal digit
 abbrev pub digit : Grammar ℕ
 digit = from_to 4 0 9
 
--- two or three digits
+-- MNC: a bit that selects the length, and two or three digits
 unfoldable pub mnc : Grammar Mnc
 mnc = do
   is_long ← flag
@@ -27,8 +27,8 @@ mnc = do
       digits ← times 2 digit
       done (Two digits))
 
--- an entry: PLMN-Identity and cellReservedForOperatorUse, where 0 is `reserved`; the country code's presence bit is
--- at least `least`
+-- an entry: PLMN-Identity and cellReservedForOperatorUse, where 0 is `reserved`. If `least` is 1, the country code must
+-- be present.
 unfoldable pub plmn_identity_info : ℕ → Grammar Plmn
 plmn_identity_info least = do
   has_mcc ← from_to 1 least 1
@@ -37,7 +37,7 @@ plmn_identity_info least = do
   not_reserved ← flag
   done (record { mcc = mcc; mnc = mnc; reserved = not not_reserved })
 
--- 1 to 6 entries; the first has a country code
+-- plmn-IdentityList: 1 to 6 entries, the first with a country code
 unfoldable pub plmn_identity_list : Grammar (List Plmn)
 plmn_identity_list = do
   further ← from_to 3 0 5
@@ -47,6 +47,7 @@ plmn_identity_list = do
 
 -- ---- cellAccessRelatedInfo
 
+-- csg-Identity, 27 bits
 abbrev pub csg_identity : Grammar ℕ
 csg_identity = from_to 27 0 134217727
 
@@ -73,13 +74,13 @@ cell_access_related_info = do
 
 -- ---- cellSelectionInfo
 
--- q-RxLevMinOffset is 1 to 8
+-- q-RxLevMinOffset, 1 to 8, in units of 2 dB
 unfoldable pub q_rx_lev_min_offset : Grammar ℕ
 q_rx_lev_min_offset = do
   n ← from_to 3 0 7
   done (n + 1)
 
--- q-RxLevMin is -70 to -22
+-- cellSelectionInfo: q-RxLevMin, -70 to -22, in units of 2 dBm, and q-RxLevMinOffset
 unfoldable pub cell_selection_info : Grammar CellSelectionInfo
 cell_selection_info = do
   has_offset ← flag
@@ -87,7 +88,7 @@ cell_selection_info = do
   offset ← if_present has_offset q_rx_lev_min_offset
   done (record { q_rx = pos q_rx_lev_min -ℤ pos 70; q_offset = offset })
 
--- p-Max is -30 to 33
+-- p-Max, -30 to 33 dBm
 unfoldable pub p_max : Grammar ℤ
 p_max = do
   n ← from_to 6 0 63
@@ -104,11 +105,11 @@ sib_type = do
     n ← from_to 6 0 63
     done (n + 16)) else from_to 4 0 15
 
--- the code of si-Periodicity
+-- the si-Periodicity code, 0 to 6
 abbrev pub si_periodicity : Grammar ℕ
 si_periodicity = from_to 3 0 6
 
--- si-Periodicity and sib-MappingInfo
+-- SchedulingInfo: si-Periodicity, and 0 to 31 SIB types in sib-MappingInfo
 unfoldable pub scheduling_info : Grammar SiMessage
 scheduling_info = do
   period ← si_periodicity
@@ -116,7 +117,7 @@ scheduling_info = do
   sibs ← times count sib_type
   done (record { period = period; sibs = sibs })
 
--- 1 to 32 entries
+-- schedulingInfoList: 1 to 32 entries
 unfoldable pub scheduling_info_list : Grammar (List SiMessage)
 scheduling_info_list = do
   further ← from_to 5 0 31

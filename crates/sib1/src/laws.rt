@@ -9,8 +9,8 @@ ghost use Rattle.sib1.specs.Layout.{sib1};
 ghost use Rattle.sib1.specs.Message.{Says, Writes};
 ghost use Rattle.sib1.specs.Text.{text_of};
 
-/// A law: bits begin with the encoding of exactly one block or are refused for exactly one reason. Later bits are
-/// ignored, blocks are in range, `text_of` is a block's only encoding, and `read` inverts `write`.
+/// A law: bits begin with the encoding of exactly one SIB1 or are refused for exactly one reason. Later bits are
+/// ignored, fields are in range, `text_of` is a SIB1's only encoding, and `read` inverts `write`.
 pub fn texts_and_bits()
     ensures one_answer { (bits : List Bool) (a b : Result Fields Sib1Reason)
         → Says bits a → Says bits b → a ≡ b }

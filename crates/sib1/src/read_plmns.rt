@@ -55,7 +55,7 @@ fn read_mnc(reader: &mut Reader<'_>) -> Result<Mnc, usize>
     }
 }
 
-// Reads an entry; with `least` 1 it must have a country code.
+// Reads an entry of plmn-IdentityList. If `least` is 1, the entry must have a country code.
 fn read_plmn_identity_info(reader: &mut Reader<'_>, least: u32) -> Result<Plmn, usize>
     requires { least ≤ 1 }
     ensures { Reads (plmn_identity_info least) reader.old result reader.new }

@@ -151,9 +151,8 @@ fn is_sib1(bits: &[bool]) -> bool
     matches!(bits, [false, true, ..])
 }
 
-/// Decodes the fields at the front of `bits`, at most 1,000 (TS 36.331 section 6.2.2); later bits, extensions too,
-/// are ignored. `NotSib1` unless the first two bits are 0 and 1; otherwise `BadFields` with the first bad field's
-/// position.
+/// Decodes SIB1 at the front of `bits`, at most 1,000 (TS 36.331 section 6.2.2). Later bits are ignored. Returns
+/// `NotSib1` if the first two bits are not 0 and 1, otherwise `BadFields` with the first bad field's position.
 pub fn read(bits: &[bool]) -> Result<Sib1, Sib1Reason>
     requires { length bits.now ≤ 1000 }
     ensures answer { Says bits.now result }

@@ -43,7 +43,8 @@ fn put_mnc(sheet: &mut Sheet, code: &Mnc)
     }
 }
 
-// Appends an entry. With a country code it is also valid as the first entry, which must have one.
+// Appends an entry of plmn-IdentityList. With a country code, the entry is also valid as the list's first entry, which
+// must have one.
 fn put_plmn_identity_info(sheet: &mut Sheet, network: &Plmn)
     requires { IsValidPlmn network.now }
     ensures { (least : ℕ) → least ≤ (if is_some network.now.mcc then 1 else 0)

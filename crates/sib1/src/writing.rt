@@ -45,7 +45,7 @@ fn put_q_rx_lev_min_offset(sheet: &mut Sheet, value: Option<u8>)
     }
 }
 
-// Returns the encoded number for q-RxLevMin.
+// Returns the encoded number, 0 to 48, for q-RxLevMin in units of 2 dBm.
 fn number_of_q_rx_lev_min(level: i8) -> u32
     requires low { negsuc 69 ≤ℤ level }
     requires high { level ≤ℤ negsuc 21 }
@@ -55,7 +55,7 @@ fn number_of_q_rx_lev_min(level: i8) -> u32
     (level + 70) as u32
 }
 
-// Returns the encoded number for p-Max.
+// Returns the encoded number, 0 to 63, for p-Max in dBm.
 fn number_of_p_max(power: i8) -> u32
     requires low { negsuc 29 ≤ℤ power }
     requires high { power ≤ℤ pos 33 }
@@ -113,7 +113,7 @@ fn put_fields(sheet: &mut Sheet, fields: &Sib1)
 }
 
 /// Writes the encoding of `fields`, which are in range and have no extension, to `out`, which must be empty. Returns
-/// false, and leaves `out` empty, exactly if it has more than 1,000 bits.
+/// false, and leaves `out` empty, if the encoding has more than 1,000 bits.
 pub fn write(fields: &Sib1, out: &mut Writer) -> bool
     requires empty { out.old ≡ [] }
     requires valid { IsValid fields.now }
