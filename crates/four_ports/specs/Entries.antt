@@ -1,4 +1,4 @@
--- A recording's cell list for four antenna ports, by transmit diversity pairs, up to the MIB. (own)
+-- A recording's list of cells with four antenna ports, decoded by transmit diversity pairs up to the MIB. (own)
 use Rattle.std.specs.Prelude.{List, Some, Err}
 use Rattle.cs_num.specs.declared.Sample.{Sample}
 use Rattle.lte_types.specs.declared.carrier.Carrier.TheVariants.{FourPorts}
@@ -10,8 +10,8 @@ use Rattle.explain.specs.Entries.{IsListFor}
 use Rattle.explain.specs.declared.readings.Reading.{Reading}
 use Rattle.explain.specs.Readings.{IsReadingFor}
 
--- the receiver for four antenna ports: it reads pairs, accepts only MIBs with four antenna ports, whose CRC has the
--- mask 5555 (TS 36.212 section 5.3.1.1), and does not read subframe 5
+-- the receiver for four antenna ports: it decodes transmit diversity pairs, accepts only MIBs with four antenna ports,
+-- whose CRC has the mask 5555 (hexadecimal; TS 36.212 section 5.3.1.1), and does not read subframe 5
 abbrev pub four_ports_receiver : Receiver
 four_ports_receiver = record {
   carrier = FourPorts;
@@ -22,10 +22,10 @@ four_ports_receiver = record {
   subframe = Err (NotOnePort 4);
 }
 
--- the recording's list of cells with four antenna ports
+-- the list of cells with four antenna ports in a recording
 abbrev pub IsExplainedOfFour : List Sample → List Entry → Type 0
 IsExplainedOfFour = IsListFor four_ports_receiver
 
--- an entry's reading in this list
+-- the reading of an entry in the list of cells with four antenna ports
 abbrev pub IsReadingOfFour : List Sample → Entry → Reading → Type 0
 IsReadingOfFour = IsReadingFor four_ports_receiver

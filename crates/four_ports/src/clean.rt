@@ -1,7 +1,7 @@
 //! The list of cells with four antenna ports.
 //!
-//! Frames are read by transmit diversity pairs (TS 36.211 section 6.3.4.3), and only MIBs with four antenna ports are
-//! accepted. SIB1 is not read: each entry has the reason `NotOnePort(4)`.
+//! Frames are decoded by transmit diversity pairs (TS 36.211 section 6.3.4.3), and only MIBs with four antenna ports
+//! are accepted. SIB1 is not decoded: each entry has the reason `NotOnePort(4)`.
 
 ghost use Rattle.std.specs.Prelude.{◌≡◌, All, IfOk, Err};
 ghost use Rattle.std.specs.List.{AllZip};
@@ -20,7 +20,8 @@ impl CleanReader for FourPorts {
     fn holds_cells() {}
 }
 
-/// Lists the cells with four antenna ports by `clean_air::explain_clean_by`, each without SIB1. (own)
+/// Lists the cells with four antenna ports by `clean_air::explain_clean_by`, each without SIB1 for the reason
+/// `NotOnePort(4)`. (own)
 pub fn explain_clean(recording: &Recording, work: &mut Workspace4, list: &mut EntryList)
     ensures list { IsListBy four_ports_receiver recording.now list.new }
     ensures readings { AllZip (IsReadingOfFour recording.now) list.new work.new }

@@ -13,7 +13,7 @@ use soft_bits::{PortSlot, Ports};
 /// The receiver for four antenna ports. It accepts MIBs with exactly four antenna ports, and does not read SIB1. (own)
 pub struct FourPorts;
 
-/// A slot of a cell with four antenna ports.
+/// A received slot of a cell with four antenna ports, whose transmit diversity pairs are decoded.
 pub type FourSlot = PortSlot<FourPorts>;
 
 impl Ports for FourPorts {

@@ -1,9 +1,9 @@
 //! Laws on soft values with transmit diversity.
 //!
-//! Let P be the sum of all gains' squares, at least 1; each pair of ports has at least three eighths of P. All four
-//! ports' pilots and the pair's two resource elements are each received with an error of at most 900 / 64, about 14,
-//! amplitude units times the root of P. In a recording it is enough that each symbol's error energy is at most 7 P
-//! (`recording`).
+//! Let P be the sum of the squared magnitudes of all gains, at least 1. Each pair of ports has at least three eighths
+//! of P. The pilots of all four ports and the pair's two resource elements are received with an error of at most 900 /
+//! 64, about 14, amplitude units times the root of P. In a recording it is enough that each symbol's error energy is at
+//! most 7 P (`recording`).
 
 ghost use Rattle.clean_air.specs.HeardLaws.{FaithfulIsHeard};
 ghost use Rattle.four_ports.specs.Entries.{four_ports_receiver};
@@ -16,8 +16,8 @@ pub fn pair_values_speak_for_the_sent_bits()
     ensures recording { ReceivedPairSpeaks }
 {}
 
-/// A law: a cell with four antenna ports is heard, part by part, if the recording is faithful to it (`IsHeardBy`,
-/// `clean_air/specs/Heard.antt`).
+/// A law: a cell with four antenna ports is detected, signal by signal (`IsHeardBy`, `clean_air/specs/Heard.antt`), if
+/// the recording is faithful to the cell.
 pub fn faithful_cells_are_heard()
     ensures { FaithfulIsHeard four_ports_receiver }
 {}

@@ -1,5 +1,5 @@
 //! The receiver for cells with four antenna ports and transmit diversity (TS 36.211 section 6.3.4.3), up to the MIB.
-//! Its list misses no cell with clean reception, since a pair's soft values have the signs of the sent bits.
+//! Its list contains every cell with clean reception, since a pair's soft values have the signs of the sent bits.
 //!
 //! Tests: `list_tests/src/four_antenna_ports.rt`.
 #![tactic(auto)]
