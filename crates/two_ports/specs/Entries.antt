@@ -1,4 +1,4 @@
--- The list of cells with two antenna ports in a recording, by transmit diversity pairs. (own)
+-- The list of cells with two antenna ports in a recording, decoded by transmit diversity pairs. (own)
 use Rattle.std.specs.Prelude.{List, Some}
 use Rattle.cs_num.specs.declared.Sample.{Sample}
 use Rattle.lte_types.specs.declared.carrier.Carrier.TheVariants.{TwoPorts}
@@ -9,15 +9,15 @@ use Rattle.explain.specs.Entries.{IsListFor}
 use Rattle.explain.specs.declared.readings.Reading.{Reading}
 use Rattle.explain.specs.Readings.{IsReadingFor}
 
--- the receiver for two antenna ports: it reads pairs, and accepts only MIBs with two antenna ports, whose CRC has the
--- mask FFFF (TS 36.212 section 5.3.1.1)
+-- the receiver for two antenna ports: it decodes transmit diversity pairs, and accepts only MIBs with two antenna
+-- ports, whose CRC has the mask FFFF (hexadecimal; TS 36.212 section 5.3.1.1)
 abbrev pub two_ports_receiver : Receiver
 two_ports_receiver = by_slots TwoPorts (Some 2) (paired_by over_two)
 
--- the recording's list of cells with two antenna ports
+-- the list of cells with two antenna ports in a recording
 abbrev pub IsExplainedOfTwo : List Sample → List Entry → Type 0
 IsExplainedOfTwo = IsListFor two_ports_receiver
 
--- the reading of an entry in this list
+-- the reading of an entry in the list of cells with two antenna ports
 abbrev pub IsReadingOfTwo : List Sample → Entry → Reading → Type 0
 IsReadingOfTwo = IsReadingFor two_ports_receiver

@@ -1,4 +1,5 @@
--- Resource elements received from several antenna ports: a pair's soft values have the signs of the sent bits. (own)
+-- Resource elements received from several antenna ports: a transmit diversity pair's soft values have the signs of the
+-- sent bits. (own)
 use Rattle.std.specs.Prelude.{◌≡◌, ℕ, ◌%◌, ◌^◌, ◌<◌, ◌≤◌, Bool, nat_eq, if◌then◌else◌, List, [], slice_index_or, ℤ, pos}
 use Rattle.cs_num.specs.declared.Cpx.{Cpx}
 use Rattle.cs_num.specs.declared.Sample.{Sample}
@@ -18,46 +19,49 @@ use Rattle.lte_types.specs.Numerology.{subcarriers}
 
 -- ---- the elements that the ports send
 
--- one port sends z, and the others nothing
+-- the symbol that port `other` sends if `port` sends `z` and all other ports send nothing
 abbrev pub only : ℕ → Cpx → ℕ → Cpx
 only port z other = if nat_eq other port then z else nothing
 
--- two ports send a and b, and the others nothing
+-- the symbol that port `other` sends if the port `lower` sends `a`, the port `upper` sends `b`, and all other ports
+-- send nothing
 abbrev pub over : ℕ → ℕ → Cpx → Cpx → ℕ → Cpx
 over lower upper a b other = if nat_eq other lower then a else only upper b other
 
--- the elements that the ports send for pair i with symbols x and y: the lower port x and y, the upper port -conj(y) and
--- conj(x) (TS 36.211 section 6.3.4.3)
+-- the symbols that the ports send in the first resource element of pair `i` with symbols `x` and `y`: the lower port x,
+-- and the upper port -conj(y) (TS 36.211 section 6.3.4.3)
 abbrev pub first_sent : Pairing → ℕ → Cpx → Cpx → ℕ → Cpx
 first_sent pairing i x y = over (pairing.lower i) (pairing.upper i) x (negated (conjugate y))
 
+-- the symbols that the ports send in the second resource element of pair `i` with symbols `x` and `y`: the lower port
+-- y, and the upper port conj(x) (TS 36.211 section 6.3.4.3)
 abbrev pub second_sent : Pairing → ℕ → Cpx → Cpx → ℕ → Cpx
 second_sent pairing i x y = over (pairing.lower i) (pairing.upper i) y (conjugate x)
 
 -- ---- received resource elements
 
--- all ports' pilots are received in a slot, each port's with its gain, in units of 2^-14, and without other ports'
--- signals; the gains' total square is at least 1
+-- all ports' pilots are received in `slot`, each port's with its gain, in units of 2^-14, and without other ports'
+-- signals; the gains' total energy is at least 1
 pub record ArePortsSeen (carrier : Carrier) (most : ℕ) (gains : ℕ → Cpx) (slot : SeenSlot) : Type 0 where
   pub sounds : 2 ^ 28 ≤ energy_below (ports_of carrier) gains
   pub pilots : (port i : ℕ) → port < ports_of carrier → i ≤ (line_of carrier port slot).last →
       IsSeenBy (ports_of carrier) most gains (only port ((line_of carrier port slot).sent i))
       (line_seen (line_of carrier port slot) slot i)
 
--- pair i with symbols x and y is received in two resource elements
+-- pair `i` with symbols `x` and `y` is received in two resource elements, with the values `a` and `b`
 pub record IsPairSeen (pairing : Pairing) (most : ℕ) (gains : ℕ → Cpx) (i : ℕ) (x y a b : Cpx) : Type 0 where
   pub first : IsSeenBy (ports_of pairing.carrier) most gains (first_sent pairing i x y) a
   pub second : IsSeenBy (ports_of pairing.carrier) most gains (second_sent pairing i x y) b
 
--- four soft values have the signs of four bits
+-- the four soft values `values` have the signs of the bits `b`, `c`, `d` and `e` and a magnitude of at least `least`
 pub record SupportFour (least : ℕ) (b c d e : Bool) (values : List ℤ) : Type 0 where
   pub first : Supports least b (slice_index_or values 0 (pos 0))
   pub second : Supports least c (slice_index_or values 1 (pos 0))
   pub third : Supports least d (slice_index_or values 2 (pos 0))
   pub fourth : Supports least e (slice_index_or values 3 (pos 0))
 
--- a received pair's four soft values have the signs of its bits and a magnitude of at least `least`, for any
--- subcarrier's channel estimates
+-- a received pair's four soft values have the signs of its bits and a magnitude of at least `least`, with the channel
+-- estimates of any subcarrier `k`
 abbrev pub SpeakWith : (ℕ → Cpx) → Pairing → ℕ → ℕ → Type 0
 SpeakWith gains pairing most least =
     (slot : SeenSlot) (i k : ℕ) (b c d e : Bool) (at_first at_second : Cpx) →
@@ -67,8 +71,8 @@ SpeakWith gains pairing most least =
 
 -- ---- slots of a recording
 
--- the slot's seven symbols are received from all ports with these gains, and contain all ports' reference signals; no
--- port sends anything in another port's reference elements
+-- the seven symbols of `slot` are received from all ports with the gains `gains`, and contain all ports' reference
+-- signals; no port sends anything in another port's reference elements
 pub record IsSlotReceived (carrier : Carrier) (quota : ℕ) (gains : ℕ → Cpx) (recording : List Sample)
     (starts : ℕ → ℕ) (grids : ℕ → ℕ → ℕ → Cpx) (slot : SeenSlot) : Type 0 where
   pub seen : (l : ℕ) → l < 7 → slice_index_or slot.symbols l [] ≡ seen_symbol recording (starts l)
@@ -80,15 +84,15 @@ pub record IsSlotReceived (carrier : Carrier) (quota : ℕ) (gains : ℕ → Cpx
       grids other ((line_of carrier port slot).symbol i) (line_place (line_of carrier port slot) i)
       ≡ only port ((line_of carrier port slot).sent i) other
 
--- two resource elements carry pair i with symbols x and y
+-- the resource elements `p` and `q` carry pair `i` with symbols `x` and `y`
 pub record CarryPair (pairing : Pairing) (grids : ℕ → ℕ → ℕ → Cpx) (i : ℕ) (p q : Place) (x y : Cpx) : Type 0 where
   pub first : (port : ℕ) → port < ports_of pairing.carrier →
       grids port (p.symbol % 7) p.k ≡ first_sent pairing i x y port
   pub second : (port : ℕ) → port < ports_of pairing.carrier →
       grids port (q.symbol % 7) q.k ≡ second_sent pairing i x y port
 
--- in a slot that is received with these gains, two resource elements that carry a pair have four soft values with the
--- signs of its bits
+-- in a slot that is received with the gains `gains`, the four soft values of two resource elements that carry a pair
+-- have the signs of its bits and a magnitude of at least `least`
 abbrev pub SpeakReceivedWith : (ℕ → Cpx) → Pairing → ℕ → ℕ → Type 0
 SpeakReceivedWith gains pairing quota least =
     (recording : List Sample) (starts : ℕ → ℕ) (grids : ℕ → ℕ → ℕ → Cpx) (slot : SeenSlot) (i : ℕ) (p q : Place)
@@ -99,16 +103,22 @@ SpeakReceivedWith gains pairing quota least =
 
 -- ---- two ports
 
--- a law: a pair's soft values have the signs of its bits, for any gains, if each element is off by less than 23 units
+-- a law: for any gains, a pair's four soft values have the signs of its bits if each received element is off by less
+-- than 23 amplitude units times the root of the gains' total energy
 abbrev pub PairValuesSpeak : Type 0
 PairValuesSpeak = (gains : ℕ → Cpx) → SpeakWith gains over_two 1464 1
 
+-- a law: in a recording, a pair's four soft values have the signs of its bits if each symbol's error energy is at most
+-- 400 times the gains' total energy
 abbrev pub ReceivedPairSpeaks : Type 0
 ReceivedPairSpeaks = (gains : ℕ → Cpx) → SpeakReceivedWith gains over_two 400 1
 
--- a law: a pair's soft values have a magnitude of at least 16 if each element is off by at most 16 units
+-- a law: a pair's four soft values have the signs of its bits and magnitudes of at least 16 if each received element is
+-- off by at most 16 amplitude units times the root of the gains' total energy
 abbrev pub QuietPairValuesSpeak : Type 0
 QuietPairValuesSpeak = (gains : ℕ → Cpx) → SpeakWith gains over_two 1024 16
 
+-- a law: in a recording, a pair's four soft values have the signs of its bits and magnitudes of at least 16 if each
+-- symbol's error energy is at most 64 times the gains' total energy
 abbrev pub QuietReceivedPairSpeaks : Type 0
 QuietReceivedPairSpeaks = (gains : ℕ → Cpx) → SpeakReceivedWith gains over_two 64 16

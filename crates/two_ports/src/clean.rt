@@ -1,6 +1,6 @@
 //! The list of cells with two antenna ports.
 //!
-//! Frames are read by transmit diversity pairs (TS 36.211 section 6.3.4.3), and only MIBs with two antenna ports are
+//! Frames are decoded by transmit diversity pairs (TS 36.211 section 6.3.4.3), and only MIBs with two antenna ports are
 //! accepted.
 
 ghost use Rattle.std.specs.Prelude.{All, IfOk};
@@ -19,8 +19,8 @@ impl CleanReader for TwoPorts {
     fn holds_cells() {}
 }
 
-/// Lists the cells with two antenna ports by `clean_air::explain_clean_by`, each with its SIB1, or the reason why this
-/// was not read. (own)
+/// Lists the cells with two antenna ports by `clean_air::explain_clean_by`, each with SIB1 or the reason why it was not
+/// decoded. (own)
 pub fn explain_clean(recording: &Recording, work: &mut Workspace2, list: &mut EntryList)
     ensures list { IsListBy two_ports_receiver recording.now list.new }
     ensures readings { AllZip (IsReadingOfTwo recording.now) list.new work.new }

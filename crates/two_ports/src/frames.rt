@@ -13,7 +13,7 @@ use soft_bits::{PortSlot, Ports};
 /// The receiver for two antenna ports. It accepts MIBs with exactly two antenna ports. (own)
 pub struct TwoPorts;
 
-/// A slot of a cell with two antenna ports.
+/// A received slot of a cell with two antenna ports, whose transmit diversity pairs are decoded.
 pub type PairSlot = PortSlot<TwoPorts>;
 
 impl Ports for TwoPorts {

@@ -1,9 +1,10 @@
 //! Laws on the soft values of transmit diversity pairs.
 //!
-//! Let P be the sum of both gains' squares, at least 1; either port may be the stronger one. Both ports' pilots and the
-//! pair's two resource elements are each received with an error below 23 amplitude units times the root of P. In a
-//! recording it is enough that each symbol's error energy is at most 400 P (`recording`). With an error of at most 16
-//! such units, or an error energy of at most 64 P, each value's magnitude is at least 16 (`quiet`, `quiet_recording`).
+//! Let P be the sum of the squared magnitudes of both gains, at least 1; either port may be the stronger one. Both
+//! ports' pilots and the pair's two resource elements are received with an error below 23 amplitude units times the
+//! root of P. In a recording it is enough that each symbol's error energy is at most 400 P (`recording`). With an error
+//! of at most 16 amplitude units times the root of P (`quiet`), or an error energy of at most 64 P (`quiet_recording`),
+//! each soft value's magnitude is at least 16.
 
 ghost use Rattle.clean_air.specs.HeardLaws.{FaithfulIsHeard};
 ghost use Rattle.two_ports.specs.Entries.{two_ports_receiver};
@@ -19,8 +20,8 @@ pub fn pair_values_speak_for_the_sent_bits()
     ensures quiet_recording { QuietReceivedPairSpeaks }
 {}
 
-/// A law: a cell with two antenna ports is heard, part by part, if the recording is faithful to it (`IsHeardBy`,
-/// `clean_air/specs/Heard.antt`).
+/// A law: a cell with two antenna ports is detected, signal by signal (`IsHeardBy`, `clean_air/specs/Heard.antt`), if
+/// the recording is faithful to the cell.
 pub fn faithful_cells_are_heard()
     ensures { FaithfulIsHeard two_ports_receiver }
 {}

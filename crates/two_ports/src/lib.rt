@@ -1,5 +1,5 @@
-//! The receiver for cells with two antenna ports and transmit diversity (TS 36.211 section 6.3.4.3). Its list misses no
-//! cell with clean reception, since a pair's soft values have the signs of the sent bits.
+//! The receiver for cells with two antenna ports and transmit diversity (TS 36.211 section 6.3.4.3). Its list contains
+//! every cell with clean reception, since a pair's soft values have the signs of the sent bits.
 //!
 //! Tests: `list_tests/src/two_antenna_ports.rt`.
 #![tactic(auto)]
