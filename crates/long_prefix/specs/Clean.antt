@@ -1,4 +1,4 @@
--- A clean recording of a plan with the extended cyclic prefix: its list contains the cell. (own)
+-- Clean recordings of a plan with the extended cyclic prefix, whose cell list contains the plan's cell. (own)
 use Rattle.std.specs.Prelude.{ℕ, ◌≤◌, List, Err}
 use Rattle.cs_num.specs.declared.Cpx.{Cpx}
 use Rattle.cs_num.specs.declared.Sample.{Sample}
@@ -10,13 +10,14 @@ use Rattle.clean_air.specs.Clean.{HoldsOne, IsSentEntryBy}
 use Rattle.long_prefix.specs.declared.plan.LongPlan.{LongPlan}
 use Rattle.long_prefix.specs.Sent.{long_sent, IsKnownLong}
 
--- a clean recording of a plan's samples, from frame number `sfn`
+-- `recording` is a clean recording of the plan's samples, from `offset` samples into frame `sfn`, with the gain `gain`
+-- and error components of magnitude at most `eps`
 pub record IsCleanOfLong (recording : List Sample) (plan : LongPlan) (sfn offset : ℕ) (gain : Cpx) (eps : ℕ) :
     Type 0 where
   pub number : sfn ≤ 1023
   pub samples : IsCleanOf (long_sent plan sfn) recording offset gain eps
 
--- the list contains each plan for which the recording is clean, with one antenna port and without SIB1, for any
+-- `list` contains the cell of each plan for which `recording` is clean, with one antenna port and without SIB1, for any
 -- identity, MIB, first frame number, offset, gain and errors
 abbrev pub HoldsPlans : List Sample → List Entry → Type 0
 HoldsPlans recording list =

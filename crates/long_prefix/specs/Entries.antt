@@ -23,7 +23,7 @@ use Rattle.grid_map.specs.LongBroadcast.{long_places}
 
 -- ---- frames
 
--- slot 1 in frame j of a cell, which carries the broadcast channel: its six received symbols
+-- slot 1 in frame `j` of a cell, which carries the PBCH: its six received symbols
 unfoldable pub long_slot : List Sample → ℕ → ℕ → ℕ → SeenSlot
 long_slot recording identity start j =
     record {
@@ -32,28 +32,30 @@ long_slot recording identity start j =
       identity = identity;
     }
 
--- these are the slot's pilots with this prefix
+-- `pilots` are the pilots of `slot` with the extended cyclic prefix
 unfoldable pub ArePilots : SeenSlot → SeenLine → Type 0
 ArePilots slot pilots = pilots ≡ seen_line (line_of LongPrefix 0 slot) slot
 
--- a resource element's soft values in slot 1, by the reference signals of symbols 0 and 3
+-- the two soft values of the resource element `p` in slot 1, with the channel estimate from the reference signals of
+-- symbols 0 and 3
 unfoldable pub long_pair : SeenSlot → GridPlace → List ℤ
 long_pair slot p =
     soft_pair (times (seen_at slot p.symbol p.k) (conjugate (pattern_channel long_prefix slot p.k)))
     (pattern_energy long_prefix slot)
 
--- the broadcast channel's soft value i of 432, two per resource element, the real part first
+-- PBCH soft value `i` of 432 in slot 1; a resource element has two, the real part first
 abbrev pub long_value : SeenSlot → ℕ → ℤ
 long_value slot i =
     slice_index_or (long_pair slot (slice_index_or (long_places slot.identity) (i / 2) (place 0 0))) (i % 2) (pos 0)
 
+-- the 432 PBCH soft values of slot 1
 unfoldable pub long_values : SeenSlot → List ℤ
 long_values slot = values_below 432 (long_value slot)
 
 -- ---- the receiver
 
--- the receiver for the extended cyclic prefix: it has 432 soft values of the broadcast channel per frame, combines no
--- frames, accepts each MIB, whatever its antenna port count, and does not read subframe 5
+-- the receiver for the extended cyclic prefix: it has 432 PBCH soft values per frame, combines no frames, accepts MIBs
+-- with any antenna port count, and does not read subframe 5
 abbrev pub long_prefix_receiver : Receiver
 long_prefix_receiver = record {
   carrier = LongPrefix;
@@ -64,10 +66,10 @@ long_prefix_receiver = record {
   subframe = Err Extended;
 }
 
--- a recording's list of cells with the extended cyclic prefix
+-- the list of cells with the extended cyclic prefix in a recording
 abbrev pub IsExplainedOfLong : List Sample → List Entry → Type 0
 IsExplainedOfLong = IsListFor long_prefix_receiver
 
--- the reading of an entry in this list
+-- the reading of an entry in the list of cells with the extended cyclic prefix
 abbrev pub IsReadingOfLong : List Sample → Entry → Reading → Type 0
 IsReadingOfLong = IsReadingFor long_prefix_receiver

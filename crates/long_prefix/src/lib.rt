@@ -1,6 +1,6 @@
 //! Reception and transmission with the extended cyclic prefix, up to the MIB: a plan's samples, numbered synthetic
-//! recordings, and the cell list, which misses no cell with clean reception (TS 36.211 sections 6.6, 6.10.1, 6.11 and
-//! 6.12).
+//! recordings, and the cell list, which contains every cell with clean reception (TS 36.211 sections 6.6, 6.10.1, 6.11
+//! and 6.12).
 //!
 //! Tests: `list_tests/src/extended_prefix.rt`.
 #![tactic(auto)]

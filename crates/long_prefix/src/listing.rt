@@ -1,7 +1,7 @@
 //! The list of cells with the extended cyclic prefix.
 //!
-//! Each MIB is read from one frame (`single`), whatever its antenna port count. SIB1 is not read: each entry has the
-//! reason `LongPrefix`. For a `LongPlan`, `holds` states the same promise as `list`.
+//! Each MIB is decoded from one frame (`single`), whatever its antenna port count. SIB1 is not decoded: each entry has
+//! the reason `LongPrefix`. For a `LongPlan`, `holds` states the same promise as `list`.
 
 ghost use Rattle.std.specs.Prelude.{◌≡◌, All, IfOk, Err};
 ghost use Rattle.std.specs.List.{AllZip};
@@ -22,7 +22,8 @@ impl CleanReader for ExtendedPrefix {
     fn holds_cells() {}
 }
 
-/// Lists the cells with the extended cyclic prefix by `clean_air::explain_clean_by`, each without SIB1. (own)
+/// Lists the cells with the extended cyclic prefix by `clean_air::explain_clean_by`, each without SIB1 for the reason
+/// `LongPrefix`. (own)
 pub fn explain_clean(recording: &Recording, work: &mut Workspace3, list: &mut EntryList)
     ensures list { IsListBy long_prefix_receiver recording.now list.new }
     ensures readings { AllZip (IsReadingOfLong recording.now) list.new work.new }
@@ -34,8 +35,8 @@ pub fn explain_clean(recording: &Recording, work: &mut Workspace3, list: &mut En
     explain_clean_by(&ExtendedPrefix, recording, None, work, list);
 }
 
-/// A law: a cell with the extended cyclic prefix is heard, part by part, if the recording is faithful to it
-/// (`IsHeardBy`, `clean_air/specs/Heard.antt`).
+/// A law: a cell with the extended cyclic prefix is detected, signal by signal (`IsHeardBy`,
+/// `clean_air/specs/Heard.antt`), if the recording is faithful to the cell.
 pub fn faithful_cells_are_heard()
     ensures { FaithfulIsHeard long_prefix_receiver }
 {}

@@ -16,14 +16,14 @@ use lte_types::{Bandwidth, Carrier, CellId, Mib, Sfn};
 use sample_file::Recording;
 use std::alloc::{AllocError, Global};
 
-/// Recording `n` with the extended cyclic prefix, and the transmission that it contains.
+/// A numbered synthetic recording with the extended cyclic prefix, and the transmission that it contains.
 #[derive(Drop)]
 pub struct LongMade {
     /// The cell's plan.
     pub plan: LongPlan,
-    /// The first frame number.
+    /// The number of the frame in which the recording begins.
     pub sfn: Sfn,
-    /// The first sample sent within this frame, 0 to 19,199.
+    /// The sample within frame `sfn` at which the recording begins, 0 to 19,199.
     pub offset: u32,
     /// The gain, real part first.
     pub gain: (i16, i16),
@@ -52,14 +52,14 @@ fn plan_of(n: u32) -> LongPlan
     }
 }
 
-// Returns the gain of recording `n`.
+// Returns the gain of recording `n`, real part first.
 fn pair(n: u32) -> (i16, i16)
     ensures { gain_of result ≡ gain_of_number n }
 {
     pair_of(gain(n).value())
 }
 
-// Returns the recording with its transmission, from one that `make_by` made with the extended cyclic prefix.
+// Returns recording `n` with its transmission, from `made`, which `make_by` made with the extended cyclic prefix.
 fn of_long_prefix(n: u32, made: MadeBy) -> LongMade
     requires made { IsMadeBy LongPrefix n made }
     requires valid { IsRecording made.recording }

@@ -24,8 +24,8 @@ use sample_file::Recording;
 use sib1_reader::Decoders;
 use soft_bits::{Pilots, Seen, energy_of, pilots_of, soft_pair};
 
-/// The receiver for the extended cyclic prefix. It accepts every MIB, whatever its antenna port count, and does not
-/// read SIB1. (own)
+/// The receiver for the extended cyclic prefix. It accepts MIBs with any antenna port count, and does not read SIB1.
+/// (own)
 pub struct ExtendedPrefix;
 
 impl FrameReader for ExtendedPrefix {
@@ -56,7 +56,8 @@ impl FrameReader for ExtendedPrefix {
     }
 }
 
-// Returns the observed symbol `l` in slot 1 of a frame that begins at sample `frame`.
+// Returns the 72 demodulated subcarrier values of symbol `l`, 0 to 5, in slot 1 of a frame that begins at sample
+// `frame`.
 fn symbol_of(recording: &Recording, frame: usize, l: usize) -> [Cpx; SUBCARRIERS]
     requires within { frame + frame_length ≤ length recording.now }
     requires small { frame < 2 ^ 40 }
@@ -67,7 +68,7 @@ fn symbol_of(recording: &Recording, frame: usize, l: usize) -> [Cpx; SUBCARRIERS
     symbol(recording, Prefix::EXTENDED.useful_start(frame, 1, l))
 }
 
-// Returns the six symbols in a frame's slot 1.
+// Returns the demodulated subcarrier values of the six symbols in slot 1 of a frame that begins at sample `frame`.
 fn symbols_of(recording: &Recording, frame: usize) -> [[Cpx; SUBCARRIERS]; 6]
     requires within { frame + frame_length ≤ length recording.now }
     requires small { frame < 2 ^ 40 }
@@ -85,15 +86,15 @@ fn symbols_of(recording: &Recording, frame: usize) -> [[Cpx; SUBCARRIERS]; 6]
     ]
 }
 
-/// Measurements of a frame's slot 1 with the extended cyclic prefix, which carries the broadcast channel. (own)
+/// Measurements of a frame's slot 1 with the extended cyclic prefix, which carries the PBCH. (own)
 #[derive(Drop)]
 pub struct LongFrame {
-    /// The 24 pilots in subcarrier order: each received reference element of symbols 0 and 3, times the conjugate of
-    /// the sent one.
+    /// The 24 pilots in subcarrier order. A pilot is a received reference element of symbol 0 or 3, times the conjugate
+    /// of the sent value.
     pub pilots: Pilots,
     /// The sum of the received reference elements' squared magnitudes.
     pub energy: u64,
-    /// The 432 soft values of the broadcast channel in received order, two per resource element.
+    /// The 432 PBCH soft values in received order, two per resource element, the real part first.
     pub values: Received,
 }
 
@@ -127,7 +128,7 @@ pub fn long_frame(recording: &Recording, place: CellPlace, j: u8) -> LongFrame
     }
 }
 
-// Returns the slot's soft values, given its pilots and their energy.
+// Returns the slot's 432 PBCH soft values, given its pilots and their energy.
 fn values_of(seen: &Seen, pilots: &Pilots, energy: u64) -> [i16; 432]
     requires symbols { length seen.now.symbols.now ≡ 6 }
     requires pilots { ArePilots (slot_of seen.now) pilots.now }

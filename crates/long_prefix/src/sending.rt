@@ -1,4 +1,4 @@
-//! The samples of a plan.
+//! The samples of a plan with the extended cyclic prefix.
 
 ghost use Rattle.std.specs.Prelude.{◌≡◌, ◌*◌, ◌≤◌, None};
 ghost use Rattle.cs_num.specs.Complex.{square, sample_of};
@@ -13,7 +13,7 @@ use cell_tx::{Port, port_sample};
 use cs_num::Sample;
 use lte_types::{Carrier, Sfn};
 
-// Returns a cell plan with these fields; the others, which are not sent, are those of recording 0.
+// Returns a cell plan with the fields of `plan`; its other fields, which are not sent, are those of recording 0.
 fn cell_plan(plan: &LongPlan) -> CellPlan
     ensures plan { HasPlan result plan.now }
     ensures valid { IsValid result.sib1 }
@@ -27,7 +27,7 @@ fn cell_plan(plan: &LongPlan) -> CellPlan
     cell
 }
 
-// Returns a cell with these fields.
+// Returns a cell with the extended cyclic prefix and the fields of `plan`.
 fn cell_of(plan: &LongPlan) -> Cell
     ensures { HasPlan result plan.now }
 {
