@@ -17,24 +17,26 @@ use Rattle.clean_air.specs.Faithful.{IsFaithful}
 
 -- ---- the measurements
 
--- the MIB was read at cost 0 from the first whole frame alone, and the PSS explains at least 0.999 of the energy at its
--- detection
+-- the MIB was decoded at cost 0 from the first whole frame alone, and the PSS explains at least 0.999 of the energy at
+-- its detection
 pub record IsCertain (numbers : Evidence) : Type 0 where
   pub cost : numbers.cost ≡ 0
   pub frames : numbers.frames ≡ 1
   pub frame : numbers.frame ≡ 0
   pub peak : 999 ≤ numbers.peak
 
--- The noise is small compared with the gain, which is in units of 2^-14, and at most 3/8 of the power. The bound is 20
--- times the square of 4 * 128 * 2316, divided by 97200, rounded up: three pilots are off by less than 37 amplitude
--- units each, and the middle one counts twice.
+-- The noise estimate is at most 289,321,537 times the squared magnitude of `gain`, which is in units of 2^-14, and at
+-- most 3/8 of the pilots' energy. The factor is 20 times the square of 4 * 128 * 2316, divided by 97,200 and rounded
+-- up: 20 second differences add up three pilots each, which are off by less than 37 amplitude units, and the middle
+-- pilot counts twice.
 pub record IsSupported (gain : Cpx) (numbers : Evidence) : Type 0 where
   pub certain : IsCertain numbers
   pub noise : 2 ^ 28 * numbers.noise ≤ 289321537 * square gain
   pub quiet : 8 * numbers.noise ≤ 3 * numbers.power
 
--- The noise is smaller compared with an integer gain, and at most a quarter of the power: the pilots are off by at most
--- 30 units, so 1920 replaces 2316.
+-- The noise estimate is at most 198,841,079 times the squared magnitude of the integer gain `gain`, and at most a
+-- quarter of the pilots' energy. The factor is computed as in `IsSupported`: the pilots are off by at most 30 amplitude
+-- units, so 1920 replaces 2316.
 pub record IsClear (gain : Cpx) (numbers : Evidence) : Type 0 where
   pub certain : IsCertain numbers
   pub noise : numbers.noise ≤ 198841079 * square gain
@@ -42,8 +44,8 @@ pub record IsClear (gain : Cpx) (numbers : Evidence) : Type 0 where
 
 -- ---- laws
 
--- a law: each entry of a cell to which the recording is faithful is supported, for any plan, elements sent elsewhere,
--- frame number, offset, gain and errors
+-- a law: if a recording is faithful to a cell, the measurements of the cell's entry satisfy `IsSupported`, for any
+-- plan, elements sent elsewhere, frame number, offset, gain and errors
 abbrev pub FaithfulEntriesAreSupported : Type 0
 FaithfulEntriesAreSupported =
     (recording : List Sample) (entry : Entry) (numbers : Evidence) (plan : CellPlan) (grid : Elements) (sfn offset : ℕ)
@@ -53,8 +55,8 @@ FaithfulEntriesAreSupported =
     entry.id ≡ plan.identity → entry.start ≡ start_of offset → entry.sfn ≡ number_at_start sfn offset →
     IsSupported gain numbers
 
--- a law: each entry of a cell for which the recording is clean is clear, for any plan, elements sent elsewhere, frame
--- number, offset, gain and errors
+-- a law: if a recording is clean for a cell, the measurements of the cell's entry satisfy `IsClear`, for any plan,
+-- elements sent elsewhere, frame number, offset, gain and errors
 abbrev pub CleanEntriesAreClear : Type 0
 CleanEntriesAreClear =
     (recording : List Sample) (entry : Entry) (numbers : Evidence) (plan : CellPlan) (grid : Elements) (sfn offset : ℕ)

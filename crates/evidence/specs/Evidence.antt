@@ -29,7 +29,7 @@ use Rattle.evidence.specs.Receivers.{receiver_of}
 
 -- ---- the PSS detection
 
--- a PSS detection at sample t has the entry's identity and start, computed for this scheme
+-- a PSS detection at sample `t` has the entry's identity and start, as estimated for the transmission scheme `carrier`
 pub record IsDetectedBy (carrier : Carrier) (recording : List Sample) (entry : Entry) (t : ℕ) : Type 0 where
   pub hit : Hit
   pub listed : Contains (hits_by carrier recording) hit
@@ -37,63 +37,64 @@ pub record IsDetectedBy (carrier : Carrier) (recording : List Sample) (entry : E
   pub identity : (place_by carrier recording hit).id ≡ entry.id
   pub start : (place_by carrier recording hit).start ≡ entry.start
 
--- the earliest sample of a PSS detection with the entry's identity and start
+-- `t` is the earliest sample of a PSS detection with the entry's identity and start
 pub record IsFirstDetectedBy (carrier : Carrier) (recording : List Sample) (entry : Entry) (t : ℕ) : Type 0 where
   pub detected : IsDetectedBy carrier recording entry t
   pub least : (u : ℕ) → IsDetectedBy carrier recording entry u → t ≤ u
 
--- the energy fraction at sample t that the PSS with n2 explains, in thousandths, rounded down: 1000 C / (E P), with
--- correlation C, energy E and signal power P
+-- the fraction of the energy of the 128 samples from `t` that the PSS for `n2` explains, in thousandths, rounded down:
+-- 1000 C / (E P), with the squared correlation C, the energy E and the PSS's energy P
 abbrev pub thousandths : List Sample → ℕ → ℕ → ℕ
 thousandths recording n2 t = 1000 * peak recording n2 t / (energy recording t * wave_power n2)
 
 -- ---- the pilots in the slot with the broadcast channel
 
--- the received slot with the broadcast channel in frame j of a cell
+-- the received slot with the PBCH in frame `j` of a cell
 abbrev pub slot_by : Carrier → List Sample → Place → ℕ → SeenSlot
 slot_by carrier recording place j =
     if is_extended (prefix_of carrier) then long_slot recording place.id place.start j
     else broadcast_slot recording place.id place.start j
 
--- the second difference of pilots: a pilot's two neighbours in its symbol added up, minus twice the pilot. The next
--- pilot in the same symbol is `stride` pilots later, so a phase step between symbols adds nothing.
+-- the second difference of three pilots in one symbol: the sum of a pilot's two neighbours, minus twice the pilot. The
+-- next pilot in the same symbol is `stride` pilots later, so a phase step between symbols adds nothing.
 abbrev pub second_difference : ℕ → (ℕ → Cpx) → ℕ → Cpx
 second_difference stride pilots i =
     minus (plus (pilots i) (pilots (i + 2 * stride))) (multiple 2 (pilots (i + stride)))
 
--- a second difference's square
+-- the squared magnitude of the second difference that begins at pilot `i`
 abbrev pub difference_power : ℕ → (ℕ → Cpx) → ℕ → ℕ
 difference_power stride pilots i = square (second_difference stride pilots i)
 
--- the squared second differences of a port's `count` pilots, added up
+-- the sum of the squared second differences of an antenna port's `count` pilots
 unfoldable pub differences : ℕ → ℕ → (ℕ → Cpx) → ℕ
 differences count stride pilots = total_below (count - 2 * stride) (difference_power stride pilots)
 
--- the squared second differences of a port's pilots in a slot, added up; the next pilot in the same symbol is six
--- subcarriers away
+-- the sum of the squared second differences of an antenna port's pilots in a slot; the next pilot in the same symbol is
+-- six subcarriers away
 abbrev pub line_differences : Line → SeenSlot → ℕ
 line_differences line slot = differences (line.last + 1) (6 / line.step) (line_pilot line slot)
 
--- the squared second differences over all antenna ports, added up: 20, 40 or 60 of them
+-- the sum of the squared second differences over all antenna ports: 20, 40 or 60 of them
 abbrev pub differences_by : Carrier → SeenSlot → ℕ
 differences_by carrier slot = total_below (ports_of carrier) (λ port. line_differences (line_of carrier port slot) slot)
 
--- the noise: the squared second differences, added up and divided by six times a reference value's square, rounded
--- down. Independent errors with variance v in the received elements give a second difference with variance 6 v times
--- that square.
+-- the noise estimate: the sum `differences` of the squared second differences, divided by six times a reference value's
+-- squared magnitude and rounded down. Independent errors with variance v in the received elements give a second
+-- difference with variance 6 v times that squared magnitude.
 abbrev pub noise_of : ℕ → ℕ
 noise_of differences = differences / (6 * point_power)
 
 -- ---- a slot's measurements
 
 -- a slot's measurements: the pilots' energy and their squared second differences, over all antenna ports; each port's
--- pilots; and the broadcast channel's soft values in received order
+-- pilots; and the PBCH's soft values in received order
 pub record SlotShown : Type 0 where
   pub power : ℕ
   pub differences : ℕ
   pub channel : List SeenLine
   pub values : List ℤ
 
+-- the measurements of a slot whose PBCH soft values are `received`
 abbrev pub shown_by : Carrier → SeenSlot → List ℤ → SlotShown
 shown_by carrier slot received = record {
   power = ports_energy carrier slot;
@@ -102,14 +103,14 @@ shown_by carrier slot received = record {
   values = received;
 }
 
--- the measurements of the slot with the broadcast channel in frame j of a cell
+-- the measurements of the slot with the PBCH in frame `j` of a cell
 abbrev pub shown_in : Carrier → List Sample → Place → ℕ → SlotShown
 shown_in carrier recording place j =
     shown_by carrier (slot_by carrier recording place j) ((receiver_of carrier).broadcast recording place j)
 
 -- ---- an entry's measurements
 
--- an entry's measurements by this receiver
+-- `numbers` are the entry's measurements by `receiver`
 pub record IsEvidenceFor (receiver : Receiver) (recording : List Sample) (entry : Entry) (numbers : Evidence) :
     Type 0 where
   pub id : numbers.id ≡ entry.id
@@ -125,11 +126,11 @@ pub record IsEvidenceFor (receiver : Receiver) (recording : List Sample) (entry 
   pub power : numbers.power ≡ (shown_in receiver.carrier recording (place_of entry) entry.frame).power
   pub noise : numbers.noise ≡ noise_of (shown_in receiver.carrier recording (place_of entry) entry.frame).differences
 
--- an entry's measurements by the one-port receiver
+-- the measurements of an entry by the receiver for one antenna port
 abbrev pub IsEvidence : List Sample → Entry → Evidence → Type 0
 IsEvidence = IsEvidenceFor one_port_receiver
 
--- the ranges of an entry's measurements
+-- `numbers` are within the ranges of an entry's measurements
 pub record IsInRange (numbers : Evidence) : Type 0 where
   pub from_first : first_place ≤ numbers.t
   pub to_last : numbers.t ≤ last_place
@@ -140,19 +141,19 @@ pub record IsInRange (numbers : Evidence) : Type 0 where
 
 -- ---- the program's computation
 
--- the first PSS detection with the entry's identity and start, as it was measured
+-- `hit` is the first PSS detection with the entry's identity and start, with its measured correlation and energy
 pub record IsHitOfEntry (carrier : Carrier) (recording : List Sample) (entry : Entry) (hit : Hit) : Type 0 where
   pub is_hit : IsHitOf recording hit
   pub first : IsFirstDetectedBy carrier recording entry hit.t
   pub root : hit.n2 ≡ entry.id % 3
 
--- a PSS detection explains at most all the energy, which is not 0
+-- the PSS that `hit` detects explains at most all of the energy, which is not 0
 pub record HasFraction (hit : Hit) : Type 0 where
   pub root : hit.n2 ≤ 2
   pub sounds : 0 < hit.energy
   pub within : hit.peak ≤ hit.energy * wave_power hit.n2
 
--- a slot's measurements with one more port's pilots
+-- a slot's measurements with the pilots of one more antenna port
 abbrev pub with_port : SlotShown → SeenLine → SlotShown
 with_port shown port = record {
   power = shown.power;
@@ -161,7 +162,7 @@ with_port shown port = record {
   values = shown.values;
 }
 
--- an entry's measurements, given its reading and its slot's measurements
+-- the measurements of `entry`, given its reading and the measurements of its slot
 abbrev pub numbers_by : Entry → Reading → SlotShown → Evidence
 numbers_by entry reading shown = record {
   id = entry.id;

@@ -6,7 +6,7 @@ use Rattle.two_ports.specs.Entries.{two_ports_receiver}
 use Rattle.long_prefix.specs.Entries.{long_prefix_receiver}
 use Rattle.four_ports.specs.Entries.{four_ports_receiver}
 
--- the receiver for a scheme's cells
+-- the receiver for the cells of a transmission scheme
 abbrev pub receiver_of : Carrier → Receiver
 receiver_of OnePort = one_port_receiver
 receiver_of TwoPorts = two_ports_receiver

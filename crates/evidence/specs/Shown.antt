@@ -15,7 +15,7 @@ pub record Shown : Type 0 where
   pub master : List Bool
   pub block : List Bool
 
--- an entry's measurements and bits, as this receiver reads them
+-- `shown` holds the entry's measurements and bits, as `receiver` reads them
 pub record IsShownFor (receiver : Receiver) (recording : List Sample) (entry : Entry) (shown : Shown) : Type 0 where
   pub numbers : IsEvidenceFor receiver recording entry shown.numbers
   pub slot : shown.slot ≡ shown_in receiver.carrier recording (place_of entry) entry.frame

@@ -38,7 +38,7 @@ pub(crate) fn system_block(
     }
 }
 
-// Returns a block's bits, or no bits for `None`.
+// Returns a transport block's bits, or no bits for `None`.
 fn bits_of(alloc: Global, block: Option<Block>) -> Result<Vec<bool>, AllocError>
     ensures { IfOk result (λ list. list.items ≡ unwrap_or (option_map (λ block. block.items) block) []) }
 {
@@ -49,7 +49,7 @@ fn bits_of(alloc: Global, block: Option<Block>) -> Result<Vec<bool>, AllocError>
     Ok(list)
 }
 
-// Returns the block from the first tried frame that has one.
+// Returns the transport block from the first tried frame that has one, or `None` if no tried frame has one.
 pub(crate) fn first_block<S: ReadSlot>(
     recording: &Recording,
     place: CellPlace,
@@ -73,7 +73,7 @@ pub(crate) fn first_block<S: ReadSlot>(
     None
 }
 
-// Returns the block in subframe 5 of frame `j`, if it has one.
+// Returns the transport block that carries SIB1 in subframe 5 of frame `j`, or `None` if there is none.
 fn block_at<S: ReadSlot>(
     recording: &Recording,
     place: CellPlace,
@@ -90,7 +90,8 @@ fn block_at<S: ReadSlot>(
     block_in(&first, &second, mib, work)
 }
 
-// Returns the block of a subframe 5, if it has one. `first` and `second` are slots 10 and 11 of one cell.
+// Returns the transport block that carries SIB1 in a subframe 5, or `None` if there is none. `first` and `second` are
+// slots 10 and 11 of one cell.
 fn block_in<S: ReadSlot>(first: &S, second: &S, mib: Mib, work: &mut Decoders) -> Option<Block>
     requires first { (S.seen_as first.now).number ≡ 10 }
     requires second { (S.seen_as second.now).number ≡ 11 }
@@ -105,8 +106,8 @@ fn block_in<S: ReadSlot>(first: &S, second: &S, mib: Mib, work: &mut Decoders) -
     }
 }
 
-// Returns the block that is decoded from a grant's resource blocks, if its CRC passes. `first` and `second` are slots
-// 10 and 11 of one cell.
+// Returns the transport block that is decoded from a grant's resource blocks, or `None` if its CRC fails. `first` and
+// `second` are slots 10 and 11 of one cell.
 fn block_granted<S: ReadSlot>(
     first: &S,
     second: &S,

@@ -1,8 +1,8 @@
 //! The measurements of a cell list's entries.
 //!
-//! Each entry has: the earliest PSS detection with its identity and start, and the energy fraction that the PSS
+//! Each entry has the earliest PSS detection with its identity and start, and the fraction of the energy that the PSS
 //! explains there; the total magnitude of its MIB's soft values; and, over all antenna ports, the energy of its slot's
-//! pilots and the differences between pilots in one symbol.
+//! pilots and a noise estimate from the differences between pilots in one symbol.
 
 ghost use Rattle.std.specs.Prelude.{◌≡◌, ◌/◌, ◌*◌, ◌<◌, ◌≤◌, All, IfOk};
 ghost use Rattle.std.specs.List.{AllZip};
@@ -24,8 +24,8 @@ use pss_search::signal_power;
 use sample_file::Recording;
 use std::alloc::{AllocError, Global};
 
-/// Returns each entry's measurements, in order. `entries` is the list of `recording` by the receiver for `carrier`,
-/// read as `readings` describe. Fails only if an allocation fails. (own)
+/// Returns each entry's measurements, in order. `entries` is the cell list of `recording` by the receiver for
+/// `carrier`, and `readings` are the readings of its entries. Fails only if an allocation fails. (own)
 pub fn evidence_of_list(
     alloc: Global,
     recording: &Recording,
@@ -48,7 +48,7 @@ pub fn evidence_of_list(
     Ok(list)
 }
 
-// Returns an entry's measurements and those of its slot.
+// Returns an entry's measurements and the measurements of its slot.
 pub(crate) fn numbers_and_slot(
     recording: &Recording,
     carrier: Carrier,
@@ -69,7 +69,7 @@ pub(crate) fn numbers_and_slot(
     (numbers, slot)
 }
 
-// Returns an entry's measurements, given its reading and its slot's measurements.
+// Returns an entry's measurements, given its reading and the measurements of its slot.
 fn numbers_of(entry: &Entry, reading: &Reading, slot: &SlotShown) -> Evidence
     requires { HasFraction reading.now.hit }
     ensures { result ≡ numbers_by entry.now reading.now slot.now }
@@ -90,7 +90,7 @@ fn numbers_of(entry: &Entry, reading: &Reading, slot: &SlotShown) -> Evidence
     }
 }
 
-// Returns the energy fraction that the PSS explains, in thousandths, rounded down.
+// Returns the fraction of the energy that the PSS explains at a detection, in thousandths, rounded down.
 fn thousandths(hit: &Hit) -> u16
     requires { HasFraction hit.now }
     ensures value { result ≡ 1000 * hit.now.peak / (hit.now.energy * wave_power hit.now.n2) }

@@ -1,4 +1,4 @@
-//! Noise, estimated from differences between a slot's pilots.
+//! A noise estimate from the differences between a slot's pilots.
 
 ghost use Rattle.std.specs.Prelude.{◌≡◌, ◌+◌, ◌*◌, ◌^◌, ◌<◌, ◌≤◌, All, length};
 ghost use Rattle.cs_num.specs.Complex.{IsWithin, value_at};
@@ -7,8 +7,8 @@ ghost use Rattle.evidence.specs.Evidence.{difference_power as difference_power_o
 use crs::POINT_POWER;
 use cs_num::Cpx;
 
-// Returns the noise for `sum`, the squared second differences over at most four ports: `sum` divided by six times a
-// reference value's squared magnitude, rounded down.
+// Returns the noise estimate: `sum`, the sum of the squared second differences over at most four ports, divided by six
+// times a reference value's squared magnitude, and rounded down.
 pub(crate) fn noise_of(sum: u128) -> u64
     requires { sum ≤ 96 * 2 ^ 70 }
     ensures { result ≡ noise_by sum }
@@ -16,8 +16,8 @@ pub(crate) fn noise_of(sum: u128) -> u64
     (sum / (6 * POINT_POWER as u128)) as u64
 }
 
-// Returns the squared second differences of a port's pilots, added up. The next pilot in the same symbol is `stride`
-// pilots later.
+// Returns the sum of the squared second differences of an antenna port's pilots. The next pilot in the same symbol is
+// `stride` pilots later.
 pub(crate) fn differences_of(pilots: &[Cpx], stride: usize) -> u128
     requires some { 2 * stride ≤ length pilots.now }
     requires few { length pilots.now ≤ 24 }
@@ -32,7 +32,7 @@ pub(crate) fn differences_of(pilots: &[Cpx], stride: usize) -> u128
     sum
 }
 
-// Returns the square of the second difference that begins at pilot `i`.
+// Returns the squared magnitude of the second difference that begins at pilot `i`.
 fn difference_power(pilots: &[Cpx], stride: usize, i: usize) -> u128
     requires small { All (IsWithin (180 * 2 ^ 25)) pilots.now }
     requires i { i + 2 * stride < length pilots.now }

@@ -20,7 +20,7 @@ use soft_bits::{Single, Slot};
 use turbo_dec::Block;
 use two_ports::{PairSlot, TwoPorts};
 
-// Returns the measurements of the slot with the broadcast channel in frame `j`, which lies within the recording.
+// Returns the measurements of the slot with the PBCH in frame `j`, which lies within the recording.
 pub(crate) fn shown_in(
     recording: &Recording,
     carrier: Carrier,
@@ -38,8 +38,8 @@ pub(crate) fn shown_in(
     }
 }
 
-// Returns the transport block that carried SIB1, or `None` if no tried frame has one or the scheme's receiver does not
-// read SIB1.
+// Returns the transport block that carried SIB1, or `None` if no tried frame has one or the receiver for `carrier` does
+// not read SIB1.
 pub(crate) fn block_by(
     recording: &Recording,
     carrier: Carrier,

@@ -17,8 +17,8 @@ use sample_file::Recording;
 use soft_bits::{Pilots, PortSlot, Ports};
 use std::marker::Model;
 
-/// The measurements of a frame's slot with the broadcast channel: the pilots' energy and squared second differences,
-/// over all antenna ports; each port's pilots; and the channel's soft values. (own)
+/// The measurements of a frame's slot with the PBCH: the pilots' energy and squared second differences, over all
+/// antenna ports; each port's pilots; and the PBCH's soft values. (own)
 #[derive(Drop)]
 pub struct SlotShown {
     power: u64,
@@ -54,7 +54,7 @@ impl SlotShown {
         }
     }
 
-    // Adds a port's pilots.
+    // Adds an antenna port's pilots, and the squared second differences of these pilots.
     fn add(&mut self, pilots: &Pilots)
         requires room { length self.old.channel < 4 }
         requires step { 0 < pilots.now.step }
@@ -66,14 +66,14 @@ impl SlotShown {
         self.channel.push(pilots.copied());
     }
 
-    // Returns the pilots' energy over all antenna ports.
+    // Returns the energy of the pilots over all antenna ports.
     pub(crate) fn power(&self) -> u64
         ensures { result ≡ self.now.power }
     {
         self.power
     }
 
-    // Returns the pilots' squared second differences, added up.
+    // Returns the sum of the pilots' squared second differences over all antenna ports.
     pub(crate) fn differences(&self) -> u128
         ensures value { result ≡ self.now.differences }
         ensures small { result ≤ 96 * 2 ^ 70 }
@@ -81,15 +81,15 @@ impl SlotShown {
         self.differences
     }
 
-    /// Returns each antenna port's pilots.
+    /// Returns the pilots of each antenna port, in the order of the ports.
     pub fn channel(&self) -> &[Pilots]
         ensures { result.now ≡ self.now.channel }
     {
         &self.channel
     }
 
-    /// Returns the broadcast channel's soft values in received order: for each resource element the real part, then the
-    /// imaginary part.
+    /// Returns the PBCH's soft values in received order: for each resource element the real part, then the imaginary
+    /// part.
     pub fn values(&self) -> &[i16]
         ensures { result.now ≡ self.now.values }
     {
@@ -97,7 +97,7 @@ impl SlotShown {
     }
 }
 
-// Measures a cell's slot with the normal cyclic prefix.
+// Measures the slot with the PBCH in frame `j` of a cell with the normal cyclic prefix.
 pub(crate) fn shown_of<K: Ports>(recording: &Recording, place: CellPlace, j: u8) -> SlotShown
     requires { IsWhole recording.now place.start j }
     ensures { result ≡ shown_by K.pairing.carrier (broadcast_slot recording.now place.id place.start j)
@@ -111,7 +111,7 @@ pub(crate) fn shown_of<K: Ports>(recording: &Recording, place: CellPlace, j: u8)
     shown
 }
 
-// Measures a cell's slot with the extended cyclic prefix.
+// Measures the slot with the PBCH in frame `j` of a cell with the extended cyclic prefix.
 pub(crate) fn shown_of_long(recording: &Recording, place: CellPlace, j: u8) -> SlotShown
     requires { IsWhole recording.now place.start j }
     ensures { result ≡ shown_in_of Long recording.now place j }

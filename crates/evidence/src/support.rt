@@ -41,14 +41,14 @@ impl Model for Support {
 }
 
 impl Support {
-    /// Returns the entry's measurements.
+    /// Returns the measurements that support the entry.
     pub fn numbers(&self) -> &Evidence
         ensures { result.now ≡ self.now.numbers }
     {
         &self.numbers
     }
 
-    /// Returns the slot's measurements.
+    /// Returns the measurements of the entry's PBCH slot.
     pub fn slot(&self) -> &SlotShown
         ensures { result.now ≡ self.now.slot }
     {
@@ -71,7 +71,7 @@ impl Support {
     }
 }
 
-// Returns a MIB's bits.
+// Returns the 24 bits of a MIB.
 fn bits_of(mib: &Mib) -> Bits<24>
     ensures bits { result ≡ master_bits mib.now }
     ensures count { length result ≡ 24 }
@@ -79,7 +79,7 @@ fn bits_of(mib: &Mib) -> Bits<24>
     Bits::of_number(number_of(mib))
 }
 
-// Returns a MIB's bits as a number.
+// Returns the 24 bits of a MIB as a number.
 fn number_of(mib: &Mib) -> u64
     ensures { result ≡ master_number mib.now }
 {
@@ -87,8 +87,8 @@ fn number_of(mib: &Mib) -> u64
     ((head * 4 + mib.resource.code() as u64) * 256 + mib.upper as u64) * 1024 + mib.spare as u64
 }
 
-/// Returns each entry's measurements as `evidence_of_list` does, its slot's measurements, its MIB's bits, and those of
-/// its SIB1, whose transport block is read again. Fails only if an allocation fails. (own)
+/// Returns, for each entry, its measurements as in `evidence_of_list`, its slot's measurements, and the bits of its MIB
+/// and its SIB1, whose transport block is decoded again. Fails only if an allocation fails. (own)
 pub fn support_of_list(
     alloc: Global,
     recording: &Recording,
@@ -111,7 +111,7 @@ pub fn support_of_list(
     Ok(list)
 }
 
-// Returns an entry's measurements and bits. A private function with six parameters: the body of the loop over entries.
+// Returns an entry's measurements and bits. This is the body of the loop over entries, which needs all six parameters.
 fn support_of(
     alloc: Global,
     recording: &Recording,
