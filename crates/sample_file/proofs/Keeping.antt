@@ -9,7 +9,7 @@ use Rattle.sample_file.specs.declared.form.SampleForm.{SampleForm}
 use Rattle.sample_file.specs.declared.form.SampleForm.TheVariants.{Ci16, Cu8}
 use Rattle.sample_file.specs.Recording.{width, component_of, centred, samples_of, samples_of_8, samples_in, IsRecording}
 use Rattle.sample_file.specs.Steps.{AreKept, TakesFront}
-use Rattle.sample_file.specs.Reading.{least_bytes, most_bytes, HasReadRecording, HasReadFront}
+use Rattle.sample_file.specs.Reading.{least_bytes_at, most_bytes_at, HasReadRecordingAt, HasReadRecording, HasReadFront}
 use Rattle.sample_file.proofs.Samples.{length-of_whole, length-samples_in}
 use Rattle.sample_file.proofs.Progress.{end_taken}
 
@@ -105,24 +105,31 @@ front_taken_on form most e w whole buffer before kept after count inside parts c
 
 -- ---- a prefix of all samples
 
-few_samples : (form : SampleForm) (input : List ℕ) → length input ≤ most_bytes form → length (samples_in form input) ≤ most_samples
-few_samples Ci16 input within = let all = length-samples_in Ci16 input in omega (arith, within, all.0)
-few_samples Cu8 input within = let all = length-samples_in Cu8 input in omega (arith, within, all.0)
+few_samples : (factor : ℕ) (form : SampleForm) (input : List ℕ) → length input ≤ most_bytes_at factor form →
+    length (samples_in form input) ≤ factor * most_samples
+few_samples factor Ci16 input within = let all = length-samples_in Ci16 input in omega (arith, within, all.0)
+few_samples factor Cu8 input within = let all = length-samples_in Cu8 input in omega (arith, within, all.0)
 
 -- a prefix as long as a recording may be is the recording
 pub whole_front : (form : SampleForm) (front : List Sample) (before now : SourceState) → HasReadFront form most_samples front before now → HasReadRecording form front before now
 whole_front form front before now f =
-    let few = few_samples form f.read.input f.read.read.within in
+    let few = few_samples 1 form f.read.input f.read.read.within in
     let all : front ≡ f.recording = f.front_is ∙ take_all most_samples f.recording (subst (λ (l : List Sample). length l ≤ most_samples) (sym f.read.samples) few) in
     subst (λ (l : List Sample). HasReadRecording form l before now) (sym all) f.read
 
--- the samples that were read are a recording
-pub recording_is : (form : SampleForm) (recording : List Sample) (before now : SourceState) → HasReadRecording form recording before now → IsRecording recording
-recording_is form recording before now read = subst IsRecording (sym read.samples) (record {
-  least = enough_samples form read.input read.enough;
-  most = few_samples form read.input read.read.within;
-})
+-- the samples that were read are as many as a recording may have
+pub count_is : (factor : ℕ) (form : SampleForm) (recording : List Sample) (before now : SourceState) → HasReadRecordingAt factor form recording before now →
+    (factor * least_samples ≤ length recording) × (length recording ≤ factor * most_samples)
+count_is factor form recording before now read = (
+  subst (λ (l : List Sample). factor * least_samples ≤ length l) (sym read.samples) (enough_samples form read.input read.enough),
+  subst (λ (l : List Sample). length l ≤ factor * most_samples) (sym read.samples) (few_samples factor form read.input read.read.within),
+)
   where
-    enough_samples : (form : SampleForm) (input : List ℕ) → least_bytes form ≤ length input → least_samples ≤ length (samples_in form input)
+    enough_samples : (form : SampleForm) (input : List ℕ) → least_bytes_at factor form ≤ length input → factor * least_samples ≤ length (samples_in form input)
     enough_samples Ci16 input enough = let all = length-samples_in Ci16 input in omega (arith, enough, all.1)
     enough_samples Cu8 input enough = let all = length-samples_in Cu8 input in omega (arith, enough, all.1)
+
+-- the samples that were read are a recording
+pub recording_is : (form : SampleForm) (recording : List Sample) (before now : SourceState) → HasReadRecording form recording before now → IsRecording recording
+recording_is form recording before now read =
+    let (least, most) = count_is 1 form recording before now read in record { least = least; most = most }

@@ -12,7 +12,7 @@ use Rattle.cs_outside.proofs.Reading.{read_then}
 use Rattle.sample_file.specs.declared.form.SampleForm.{SampleForm}
 use Rattle.sample_file.specs.declared.form.SampleForm.TheVariants.{Ci16, Cu8}
 use Rattle.sample_file.specs.Recording.{width, samples_in}
-use Rattle.sample_file.specs.Reading.{least_bytes, most_bytes, HasReadRecording, HasReadRagged, HasReadTooShort}
+use Rattle.sample_file.specs.Reading.{least_bytes_at, most_bytes_at, HasReadRecordingAt, HasReadRaggedAt, HasReadTooShortAt}
 use Rattle.sample_file.specs.Steps.{TakesSamples, HasReadSamples}
 use Rattle.sample_file.proofs.Samples.{samples_joined, length-of_whole}
 
@@ -28,25 +28,25 @@ begun_is_ragged : (form : SampleForm) (m n : ℕ) → m % width form ≡ 0 → 0
 begun_is_ragged Ci16 m n a some few = λ e. omega (arith, a, some, few, e)
 begun_is_ragged Cu8 m n a some few = λ e. omega (arith, a, some, few, e)
 
-enough : (form : SampleForm) (n : ℕ) → least_samples ≤ n → least_bytes form ≤ width form * n
-enough Ci16 n h = omega (arith, h)
-enough Cu8 n h = omega (arith, h)
+enough : (factor : ℕ) (form : SampleForm) (n : ℕ) → factor * least_samples ≤ n → least_bytes_at factor form ≤ width form * n
+enough factor Ci16 n h = omega (arith, h)
+enough factor Cu8 n h = omega (arith, h)
 
-too_few : (form : SampleForm) (n : ℕ) → n < least_samples → width form * n < least_bytes form
-too_few Ci16 n h = omega (arith, h)
-too_few Cu8 n h = omega (arith, h)
+too_few : (factor : ℕ) (form : SampleForm) (n : ℕ) → n < factor * least_samples → width form * n < least_bytes_at factor form
+too_few factor Ci16 n h = omega (arith, h)
+too_few factor Cu8 n h = omega (arith, h)
 
-pub not_many : (form : SampleForm) (n begun : ℕ) → width form * n + begun ≤ width form * most_samples → n ≤ most_samples
-not_many Ci16 n begun h = omega (arith, h)
-not_many Cu8 n begun h = omega (arith, h)
+pub not_many : (factor : ℕ) (form : SampleForm) (n begun : ℕ) → width form * n + begun ≤ width form * (factor * most_samples) → n ≤ factor * most_samples
+not_many factor Ci16 n begun h = omega (arith, h)
+not_many factor Cu8 n begun h = omega (arith, h)
 
-pub within_limit : (form : SampleForm) (m : ℕ) → m ≤ width form * most_samples → m ≤ most_bytes form
-within_limit Ci16 m h = omega (arith, h)
-within_limit Cu8 m h = omega (arith, h)
+pub within_limit : (factor : ℕ) (form : SampleForm) (m : ℕ) → m ≤ width form * (factor * most_samples) → m ≤ most_bytes_at factor form
+within_limit factor Ci16 m h = omega (arith, h)
+within_limit factor Cu8 m h = omega (arith, h)
 
-one_past : (form : SampleForm) (m : ℕ) → m ≡ width form * most_samples + 1 → m ≡ most_bytes form + 1
-one_past Ci16 m h = omega (arith, h)
-one_past Cu8 m h = omega (arith, h)
+one_past : (factor : ℕ) (form : SampleForm) (m : ℕ) → m ≡ width form * (factor * most_samples) + 1 → m ≡ most_bytes_at factor form + 1
+one_past factor Ci16 m h = omega (arith, h)
+one_past factor Cu8 m h = omega (arith, h)
 
 -- the samples taken account for all bytes except the ones that are left
 pub taken_count : (form : SampleForm) (bytes : List ℕ) (before now : List Sample) (begun : List ℕ) → TakesSamples form bytes before now begun →
@@ -135,90 +135,90 @@ ended_on form n samples begun next before between now s h zero =
     subst (λ l. HasRead l before now) (ap (λ l. (s.whole ++ begun) ++ l) (no_piece n h.piece h.count zero) ∙ append-nil (s.whole ++ begun)) all
 
 -- the input ended after a complete sample
-whole_on : (form : SampleForm) (n : ℕ) (samples : List Sample) (begun next : List ℕ) (before between now : SourceState) (s : HasReadSamples form samples begun before between) →
-    HasReadOn n begun next between now → n ≡ 0 → begun ≡ [] → length samples ≤ most_samples → HasReadAll (most_bytes form) s.whole before now
-whole_on form n samples begun next before between now s h zero none few =
+whole_on : (factor : ℕ) (form : SampleForm) (n : ℕ) (samples : List Sample) (begun next : List ℕ) (before between now : SourceState) (s : HasReadSamples form samples begun before between) →
+    HasReadOn n begun next between now → n ≡ 0 → begun ≡ [] → length samples ≤ factor * most_samples → HasReadAll (most_bytes_at factor form) s.whole before now
+whole_on factor form n samples begun next before between now s h zero none few =
     let all = ended_on form n samples begun next before between now s h zero in
     record {
       read = subst (λ l. HasRead l before now) (ap (λ l. s.whole ++ l) none ∙ append-nil s.whole) all;
       ended = h.end zero;
-      within = within_limit form (length s.whole) (by_form form (length s.whole) (length samples) (bytes_count form samples begun before between s) few);
+      within = within_limit factor form (length s.whole) (by_form factor form (length s.whole) (length samples) (bytes_count form samples begun before between s) few);
     }
   where
-    by_form : (form : SampleForm) (m n : ℕ) → m ≡ width form * n → n ≤ most_samples → m ≤ width form * most_samples
-    by_form Ci16 m n e few = omega (arith, e, few)
-    by_form Cu8 m n e few = omega (arith, e, few)
+    by_form : (factor : ℕ) (form : SampleForm) (m n : ℕ) → m ≡ width form * n → n ≤ factor * most_samples → m ≤ width form * (factor * most_samples)
+    by_form factor Ci16 m n e few = omega (arith, e, few)
+    by_form factor Cu8 m n e few = omega (arith, e, few)
 
-pub recorded_on : (form : SampleForm) (n : ℕ) (samples : List Sample) (begun next : List ℕ) (before between now : SourceState) → HasReadSamples form samples begun before between →
-    HasReadOn n begun next between now → n ≡ 0 → begun ≡ [] → length samples ≤ most_samples → least_samples ≤ length samples → HasReadRecording form samples before now
-recorded_on form n samples begun next before between now s h zero none few many = record {
+pub recorded_on : (factor : ℕ) (form : SampleForm) (n : ℕ) (samples : List Sample) (begun next : List ℕ) (before between now : SourceState) → HasReadSamples form samples begun before between →
+    HasReadOn n begun next between now → n ≡ 0 → begun ≡ [] → length samples ≤ factor * most_samples → factor * least_samples ≤ length samples → HasReadRecordingAt factor form samples before now
+recorded_on factor form n samples begun next before between now s h zero none few many = record {
   input = s.whole;
-  read = whole_on form n samples begun next before between now s h zero none few;
+  read = whole_on factor form n samples begun next before between now s h zero none few;
   whole_samples = s.of_whole;
-  enough = subst (λ m. least_bytes form ≤ m) (sym (bytes_count form samples begun before between s)) (enough form (length samples) many);
+  enough = subst (λ m. least_bytes_at factor form ≤ m) (sym (bytes_count form samples begun before between s)) (enough factor form (length samples) many);
   samples = s.samples_are;
 }
 
-pub short_on : (form : SampleForm) (n : ℕ) (samples : List Sample) (begun next : List ℕ) (before between now : SourceState) → HasReadSamples form samples begun before between →
-    HasReadOn n begun next between now → n ≡ 0 → begun ≡ [] → length samples ≤ most_samples → length samples < least_samples → HasReadTooShort form before now
-short_on form n samples begun next before between now s h zero none few short = record {
+pub short_on : (factor : ℕ) (form : SampleForm) (n : ℕ) (samples : List Sample) (begun next : List ℕ) (before between now : SourceState) → HasReadSamples form samples begun before between →
+    HasReadOn n begun next between now → n ≡ 0 → begun ≡ [] → length samples ≤ factor * most_samples → length samples < factor * least_samples → HasReadTooShortAt factor form before now
+short_on factor form n samples begun next before between now s h zero none few short = record {
   input = s.whole;
-  read = whole_on form n samples begun next before between now s h zero none few;
+  read = whole_on factor form n samples begun next before between now s h zero none few;
   whole_samples = s.of_whole;
-  too_short = subst (λ m. m < least_bytes form) (sym (bytes_count form samples begun before between s)) (too_few form (length samples) short);
+  too_short = subst (λ m. m < least_bytes_at factor form) (sym (bytes_count form samples begun before between s)) (too_few factor form (length samples) short);
 }
 
 -- the input ended within a sample
-pub ragged_on : (form : SampleForm) (n : ℕ) (samples : List Sample) (begun next : List ℕ) (before between now : SourceState) → HasReadSamples form samples begun before between →
+pub ragged_on : (factor : ℕ) (form : SampleForm) (n : ℕ) (samples : List Sample) (begun next : List ℕ) (before between now : SourceState) → HasReadSamples form samples begun before between →
     HasReadOn n begun next between now → n ≡ 0 → 0 < length begun → length begun < width form →
-    width form * length samples + length begun ≤ width form * most_samples → HasReadRagged form before now
-ragged_on form n samples begun next before between now s h zero some few within =
+    width form * length samples + length begun ≤ width form * (factor * most_samples) → HasReadRaggedAt factor form before now
+ragged_on factor form n samples begun next before between now s h zero some few within =
     let size : length (s.whole ++ begun) ≡ length s.whole + length begun = length-append s.whole begun in
     record {
       input = s.whole ++ begun;
       read = record {
         read = ended_on form n samples begun next before between now s h zero;
         ended = h.end zero;
-        within = within_limit form (length (s.whole ++ begun)) (rw (size, bytes_count form samples begun before between s) within);
+        within = within_limit factor form (length (s.whole ++ begun)) (rw (size, bytes_count form samples begun before between s) within);
       };
       ragged = λ e. begun_is_ragged form (length s.whole) (length begun) s.of_whole some few (ap (λ m. m % width form) (sym size) ∙ e);
     }
 
 -- a call failed
-pub fault_on : (form : SampleForm) (samples : List Sample) (begun : List ℕ) (before between now : SourceState) → HasReadSamples form samples begun before between →
+pub fault_on : (factor : ℕ) (form : SampleForm) (samples : List Sample) (begun : List ℕ) (before between now : SourceState) → HasReadSamples form samples begun before between →
     now.left ≡ between.left → Rose before.faults now.faults →
-    width form * length samples + length begun ≤ width form * most_samples → HasReadFault (most_bytes form) before now
-fault_on form samples begun before between now s same rose within = record {
+    width form * length samples + length begun ≤ width form * (factor * most_samples) → HasReadFault (most_bytes_at factor form) before now
+fault_on factor form samples begun before between now s same rose within = record {
   front = s.whole ++ begun;
   failed = record {
     in_order = rw same s.read.in_order;
-    within = within_limit form (length (s.whole ++ begun)) (rw (length-append s.whole begun, bytes_count form samples begun before between s) within);
+    within = within_limit factor form (length (s.whole ++ begun)) (rw (length-append s.whole begun, bytes_count form samples begun before between s) within);
     failed = rose;
   };
 }
 
 -- more than the limit was read
-pub past_on : (form : SampleForm) (samples : List Sample) (begun : List ℕ) (before now : SourceState) → HasReadSamples form samples begun before now →
-    width form * length samples + length begun ≡ width form * most_samples + 1 → HasReadPast (most_bytes form) before now
-past_on form samples begun before now s past = record {
+pub past_on : (factor : ℕ) (form : SampleForm) (samples : List Sample) (begun : List ℕ) (before now : SourceState) → HasReadSamples form samples begun before now →
+    width form * length samples + length begun ≡ width form * (factor * most_samples) + 1 → HasReadPast (most_bytes_at factor form) before now
+past_on factor form samples begun before now s past = record {
   front = s.whole ++ begun;
   read = s.read;
-  past = one_past form (length (s.whole ++ begun)) (length-append s.whole begun ∙ ap (λ m. m + length begun) (bytes_count form samples begun before now s) ∙ past);
+  past = one_past factor form (length (s.whole ++ begun)) (length-append s.whole begun ∙ ap (λ m. m + length begun) (bytes_count form samples begun before now s) ∙ past);
 }
 
 -- one more piece was read, at most one byte past the limit
-pub part_on : (form : SampleForm) (n : ℕ) (samples : List Sample) (begun next : List ℕ) (before between now : SourceState) →
+pub part_on : (factor : ℕ) (form : SampleForm) (n : ℕ) (samples : List Sample) (begun next : List ℕ) (before between now : SourceState) →
     HasReadSamples form samples begun before between → HasReadOn n begun next between now →
-    width form * length samples + length begun + n ≤ width form * most_samples + 1 → HasReadPart (most_bytes form) before now
-part_on form n samples begun next before between now s h within = record {
+    width form * length samples + length begun + n ≤ width form * (factor * most_samples) + 1 → HasReadPart (most_bytes_at factor form) before now
+part_on factor form n samples begun next before between now s h within = record {
   front = (s.whole ++ begun) ++ h.piece;
   read = read_then _ _ before between now s.read h.read;
-  few = by_form form (length ((s.whole ++ begun) ++ h.piece)) (subst (λ m. m ≤ width form * most_samples + 1) size within);
+  few = by_form factor form (length ((s.whole ++ begun) ++ h.piece)) (subst (λ m. m ≤ width form * (factor * most_samples) + 1) size within);
 }
   where
     size : width form * length samples + length begun + n ≡ length ((s.whole ++ begun) ++ h.piece)
     size = omega (arith, length-append (s.whole ++ begun) h.piece, length-append s.whole begun, bytes_count form samples begun before between s, h.count)
 
-    by_form : (form : SampleForm) (m : ℕ) → m ≤ width form * most_samples + 1 → m ≤ most_bytes form + 1
-    by_form Ci16 m few = omega (arith, few)
-    by_form Cu8 m few = omega (arith, few)
+    by_form : (factor : ℕ) (form : SampleForm) (m : ℕ) → m ≤ width form * (factor * most_samples) + 1 → m ≤ most_bytes_at factor form + 1
+    by_form factor Ci16 m few = omega (arith, few)
+    by_form factor Cu8 m few = omega (arith, few)

@@ -10,6 +10,6 @@ mod writing;
 
 pub use form::SampleForm;
 pub use pieces::PieceWriter;
-pub use reading::{FileError, read_as, read_cu8, read_front, read_recording};
+pub use reading::{FileError, read_as, read_cu8, read_front, read_front_at, read_recording};
 pub use recording::Recording;
 pub use writing::{bytes_are_read_back, bytes_of, write_samples};

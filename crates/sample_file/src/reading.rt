@@ -1,13 +1,14 @@
 //! Reading a recording from a source of bytes, which may return them in pieces of any size. After an error the bytes
 //! read are lost.
 
-ghost use Rattle.std.specs.Prelude.{◌≡◌, ◌+◌, ◌*◌, ◌^◌, ◌<◌, ◌≤◌, length, take, List, IfOk, IsErr, IsErrOf};
+ghost use Rattle.std.specs.Prelude.{◌≡◌, ◌+◌, ◌*◌, ◌^◌, ◌<◌, ◌≤◌, length, take, List, IfOk, IsOk, IsErr, IsErrOf};
 ghost use Rattle.cs_num.specs.declared.Sample.{Sample as SampleValue};
 ghost use Rattle.lte_types.specs.Numerology.{least_samples, most_samples};
 ghost use Rattle.cs_outside.specs.Outside.{SourceState};
 ghost use Rattle.cs_outside.specs.Streams.{HasReadPart, HasReadPast, HasReadFault};
 ghost use Rattle.sample_file.specs.Reading.{HasReadRecording, HasReadFront, HasReadRagged, HasReadTooShort};
-ghost use Rattle.sample_file.specs.Reading.{most_bytes};
+ghost use Rattle.sample_file.specs.Reading.{HasReadFrontAt, HasReadRaggedAt, HasReadTooShortAt};
+ghost use Rattle.sample_file.specs.Reading.{most_bytes, most_bytes_at};
 ghost use Rattle.sample_file.specs.Recording.{IsRecording, width as width_of};
 ghost use Rattle.sample_file.specs.Steps.{AreKept, TakesFront};
 ghost use Rattle.sample_file.specs.declared.form.SampleForm.TheVariants.{Ci16, Cu8};
@@ -17,7 +18,7 @@ use crate::SampleForm;
 use crate::recording::Recording;
 use cs_num::Sample;
 use cs_outside::{Failed, Source, read_at};
-use lte_types::MOST_SAMPLES;
+use lte_types::{LEAST_SAMPLES, MOST_SAMPLES};
 use std::alloc::{AllocError, Global};
 use std::fmt;
 use thiserror::Error;
@@ -121,7 +122,40 @@ pub fn read_front<S: Source>(
         HasReadPart (most_bytes form) (S.state source.old) (S.state source.new) }
     ensures never_falls { (S.state source.old).faults ≤ (S.state source.new).faults }
 {
-    let limit = bytes_read(form, MOST_SAMPLES, 0);
+    let samples = read_front_at(alloc, source, form, 1, most)?;
+    recording_of(samples)
+}
+
+/// Reads a complete recording at `factor` times 1.92 million samples per second, 30 ms to one second long, and returns
+/// its first `most` samples. `factor` is 1 to 16. Errors are those of `read_as`, at `factor` times the length. (own)
+pub fn read_front_at<S: Source>(
+    alloc: Global,
+    source: &mut S,
+    form: SampleForm,
+    factor: usize,
+    most: usize,
+) -> Result<Vec<Sample>, FileError>
+    requires positive { 1 ≤ factor }
+    requires factor { factor ≤ 16 }
+    requires some { factor * least_samples ≤ most }
+    requires few { most ≤ factor * most_samples }
+    ensures ok { IfOk result (λ front.
+        HasReadFrontAt factor form most front.items (S.state source.old) (S.state source.new)) }
+    ensures least { IfOk result (λ front. factor * least_samples ≤ length front.items) }
+    ensures most { IfOk result (λ front. length front.items ≤ most) }
+    ensures ragged { IsErrOf result FileError.Ragged →
+        HasReadRaggedAt factor form (S.state source.old) (S.state source.new) }
+    ensures too_short { IsErrOf result FileError.TooShort →
+        HasReadTooShortAt factor form (S.state source.old) (S.state source.new) }
+    ensures too_long { IsErrOf result FileError.TooLong →
+        HasReadPast (most_bytes_at factor form) (S.state source.old) (S.state source.new) }
+    ensures fault { IsErrOf result FileError.ReadFault →
+        HasReadFault (most_bytes_at factor form) (S.state source.old) (S.state source.new) }
+    ensures memory { IsErrOf result FileError.OutOfMemory →
+        HasReadPart (most_bytes_at factor form) (S.state source.old) (S.state source.new) }
+    ensures never_falls { (S.state source.old).faults ≤ (S.state source.new).faults }
+{
+    let limit = bytes_read(form, factor * MOST_SAMPLES, 0);
     let mut front = Front {
         samples: Vec::new(alloc),
         count: 0,
@@ -133,7 +167,7 @@ pub fn read_front<S: Source>(
         let end = PIECE.min(begun + (limit + 1 - read));
         match read_at(source, &mut buffer, begun, end) {
             Err(Failed) => return Err(FileError::ReadFault),
-            Ok(0) if begun == 0 => return recording_of(front.samples),
+            Ok(0) if begun == 0 => return enough(factor, front),
             Ok(0) => return Err(FileError::Ragged),
             Ok(n) => begun = take_front(form, most, &mut buffer, begun + n, &mut front)?,
         }
@@ -197,17 +231,32 @@ fn bytes_read(form: SampleForm, samples: usize, begun: usize) -> usize
     }
 }
 
-// Returns the recording with these samples, or `TooShort` if they are too few.
+// Returns the recording with `samples`, which are enough for one.
 fn recording_of(samples: Vec<Sample>) -> Result<Recording, FileError>
-    requires { length samples.items ≤ most_samples }
-    ensures ok { IfOk result (λ recording. recording ≡ samples.items) }
+    requires least { least_samples ≤ length samples.items }
+    requires most { length samples.items ≤ most_samples }
+    ensures ok { IsOk result }
+    ensures value { IfOk result (λ recording. recording ≡ samples.items) }
     ensures valid { IfOk result IsRecording }
-    ensures error { IsErr result → IsErrOf result FileError.TooShort }
-    ensures few { IsErrOf result FileError.TooShort → length samples.items < least_samples }
 {
     match Recording::new(samples) {
         Some(recording) => Ok(recording),
         None => Err(FileError::TooShort),
+    }
+}
+
+// Returns the kept samples, or `TooShort` if all samples of the input are fewer than 30 ms.
+fn enough(factor: usize, front: Front) -> Result<Vec<Sample>, FileError>
+    requires factor { factor ≤ 16 }
+    ensures ok { IfOk result (λ samples. samples.items ≡ front.samples.items) }
+    ensures least { IfOk result (λ samples. factor * least_samples ≤ front.count) }
+    ensures error { IsErr result → IsErrOf result FileError.TooShort }
+    ensures few { IsErrOf result FileError.TooShort → front.count < factor * least_samples }
+{
+    if front.count < factor * LEAST_SAMPLES {
+        Err(FileError::TooShort)
+    } else {
+        Ok(front.samples)
     }
 }
 
@@ -221,8 +270,8 @@ fn take_front(
     front: &mut Front,
 ) -> Result<usize, AllocError>
     requires end { end ≤ length buffer.old }
-    requires most { most ≤ most_samples }
-    requires count { front.old.count ≤ most_samples }
+    requires most { most ≤ 16 * most_samples }
+    requires count { front.old.count ≤ 16 * most_samples }
     requires piece { end ≤ 16384 }
     requires kept { length front.old.samples.items ≤ most }
     ensures takes { IfOk result (λ begun. (before : List SampleValue) →

@@ -1,7 +1,7 @@
 use Rattle.std.proofs.Common.{◌≡◌, ◌<◌, ◌≤◌, ◌+◌, ◌-◌, ◌*◌, length, take}
 use Rattle.sample_file.specs.Recording.{width}
 use Rattle.sample_file.specs.Steps.{HasReadFrontOf}
-use Rattle.sample_file.proofs.reading.read_front.Given as goal
+use Rattle.sample_file.proofs.reading.read_front_at.Given as goal
 
 abbrev pub invariant-loop-front : goal.invariant-loop-front
 invariant-loop-front g l = record {
