@@ -33,7 +33,7 @@ pub signals_are_through : SignalsAreThrough
 signals_are_through prefix recording t n1 n2 half both = record {
   most = 2316;
   least = 1000;
-  size = square both.gain;
+  square = square both.gain;
   channel = λ k. both.gain;
   room = one_gain_leaves_terms_room;
   through = one_gain_is_seen_through both.gain n1 n2 half (seen recording t) (seen recording (t - symbol_step prefix)) (signals_are_seen prefix recording t n1 n2 half both);
@@ -47,7 +47,7 @@ signals_over_are_through magnitudes paths prefix recording t n1 n2 half faint bo
     record {
       most = 1880;
       least = 940;
-      size = square paths.first;
+      square = square paths.first;
       channel = channel_over paths;
       room = omega arith;
       through = record {

@@ -19,11 +19,11 @@ use Rattle.budget.specs.Paths.{Paths, AreFaint, IsReceivedOver}
 pub record AreSignalsThrough (prefix : Prefix) (recording : List Sample) (t n1 n2 : ℕ) (half : Half) : Type 0 where
   pub most : ℕ
   pub least : ℕ
-  pub size : ℕ
+  pub square : ℕ
   pub channel : ℕ → Cpx
   pub room : LeaveTermsRoom most least
   pub through :
-      AreSeenThrough most least size channel n1 n2 half (seen recording t) (seen recording (t - symbol_step prefix))
+      AreSeenThrough most least square channel n1 n2 half (seen recording t) (seen recording (t - symbol_step prefix))
 
 -- synchronisation signals received with one gain are demodulated through a channel whose bounds leave room
 abbrev pub SignalsAreThrough : Type 0

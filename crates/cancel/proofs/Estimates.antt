@@ -109,7 +109,7 @@ errors_small eps g p r seen =
 
 pub estimate_is_near : EstimateIsNear
 estimate_is_near eps gain samples signal seen =
-    near_quotient (energy_below 128 signal) (square gain) gain (correlation_below 128 (error gain signal samples) signal) (correlation_below 128 samples signal) seen.power seen.size.most
+    near_quotient (energy_below 128 signal) (square gain) gain (correlation_below 128 (error gain signal samples) signal) (correlation_below 128 samples signal) seen.power seen.range.most
     (product (square (correlation_below 128 (error gain signal samples) signal)) (energy_below 128 (error gain signal samples)) (cauchy 128 (error gain signal samples) signal) (errors_small eps gain signal samples seen))
     (correlation_is gain signal samples)
   where
@@ -119,7 +119,7 @@ estimate_is_near eps gain samples signal seen =
         omega (arith, h, m)
 
 pub gain_is_candidate : GainIsCandidate
-gain_is_candidate eps gain samples signal seen = record { range = seen.size; near = wider (square (minus gain (estimate samples signal))) (estimate_is_near eps gain samples signal seen) }
+gain_is_candidate eps gain samples signal seen = record { range = seen.range; near = wider (square (minus gain (estimate samples signal))) (estimate_is_near eps gain samples signal seen) }
   where
     wider : (s : ℕ) → s ≤ 1 → s ≤ 4
     wider s h = omega (arith, h)

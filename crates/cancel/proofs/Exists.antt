@@ -53,9 +53,9 @@ module _ (greatest : Cpx → ℕ) (middle : Cpx) where
 -- ---- the answer
 
 taken_with : List Sample → CellPlan → ℕ → ℕ → (gain : Cpx) → IsGain gain → Subtracted
-taken_with recording plan start number gain size = record {
+taken_with recording plan start number gain range = record {
   gain = (gain.re, gain.im);
-  gain_range = size;
+  gain_range = range;
   greatest = greatest_left recording plan start number gain;
   before = power_of recording;
   after = power_of (residue_of recording plan start number gain);

@@ -52,7 +52,7 @@ module _ (recording : List Sample) (plan : CellPlan) (grid : Elements) (sfn offs
   seen : IsGainSeen eps gain (samples_from recording (start_of offset + primary_start Zero)) (wave (plan.identity % 3))
   unfolding wave
   seen = record {
-    size = clean.gains_are;
+    range = clean.gains_are;
     quiet = clean.bound;
     power = (wave_is_sharp (plan.identity % 3) (omega arith)).power;
     near = primary_near;
@@ -133,7 +133,7 @@ left_by_gain recording plan sfn offset gain eps clean i l =
 
 pub takes_clean_off : (recording : List Sample) (plan : CellPlan) (start number : ℕ) (answer : Option Subtracted) → TakesLoadedOff recording plan start number answer → TakesCleanOff recording plan start number answer
 takes_clean_off recording plan first frame answer loaded sfn offset gain eps clean same_start same_sfn =
-    loaded (element plan) sfn offset gain eps eps (clean_is_loaded recording plan sfn offset gain eps clean) same_start same_sfn (small_eps eps (square gain) clean.samples.size.most clean.samples.bound)
+    loaded (element plan) sfn offset gain eps eps (clean_is_loaded recording plan sfn offset gain eps clean) same_start same_sfn (small_eps eps (square gain) clean.samples.range.most clean.samples.bound)
     (subst (λ s. (i : ℕ) → i < length recording → IsWithin eps (left_at recording plan s frame gain i)) (sym same_start)
     (subst (λ n. (i : ℕ) → i < length recording → IsWithin eps (left_at recording plan (start_of offset) n gain i)) (sym same_sfn) (left_by_gain recording plan sfn offset gain eps clean)))
 

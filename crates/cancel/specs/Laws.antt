@@ -15,7 +15,7 @@ use Rattle.lte_types.specs.Numerology.{useful_length}
 -- 128 samples are a signal times a gain of magnitude 1 to 28, plus errors. Each error component is at most `eps`, which
 -- is at most twice the gain's magnitude. `power`: the signal has an energy of at least 1,990,000, as the PSS has.
 pub record IsGainSeen (eps : ℕ) (gain : Cpx) (samples signal : ℕ → Cpx) : Type 0 where
-  pub size : IsGain gain
+  pub range : IsGain gain
   pub quiet : eps * eps ≤ 4 * square gain
   pub power : 1990000 ≤ energy_below useful_length signal
   pub near : (n : ℕ) → n < useful_length → IsWithin eps (minus (samples n) (times gain (signal n)))

@@ -233,7 +233,7 @@ fn sign_of(signals: &Signals, subframe: u8, n: usize) -> i8
     requires { n < 62 }
     ensures value { result ≡ sss_at (signals.now.cell.now.identity / 3)
         (signals.now.cell.now.identity % 3) (half_of subframe) n }
-    ensures size { nat_abs result ≡ 1 }
+    ensures magnitude { nat_abs result ≡ 1 }
 {
     if subframe == 0 {
         signals.layout.zero[n]

@@ -22,7 +22,7 @@ AreNear recording values eps = (i : ℕ) → i < length recording → IsWithin e
 -- `eps`, and `eps` is at most twice the gain's magnitude.
 pub record IsCleanOf (sequence : ℕ → Cpx) (recording : List Sample) (offset : ℕ) (gain : Cpx) (eps : ℕ) : Type 0 where
   pub within : IsOffset offset
-  pub size : IsGain gain
+  pub range : IsGain gain
   pub bound : eps * eps ≤ 4 * square gain
   pub near : AreNear recording (λ i. times gain (sequence (i + offset))) eps
 

@@ -246,7 +246,7 @@ pub(crate) fn put_all(mut emitter: Emitter, out: &mut [Sample])
 pub fn emit(emission: &Emission, out: &mut [Sample])
     requires { length out.old ≡ emission.now.samples }
     ensures samples { out.new ≡ emitted_samples emission.now }
-    ensures size { (i : ℕ) → IsWithin 32284 (emitted emission.now i) }
+    ensures magnitude { (i : ℕ) → IsWithin 32284 (emitted emission.now i) }
 {
     put_all(Emitter::new(emission), out);
 }

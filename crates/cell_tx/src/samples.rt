@@ -85,7 +85,7 @@ fn sample_of_frame(signals: &Signals, i: usize) -> Sample
 /// load (TS 36.211 section 6.12, in integers). Its magnitude is at most 1,153.
 pub fn port_sample(cell: &Cell, port: Port, sfn: Sfn, i: u64) -> Sample
     ensures value { result ≡ sample_of (sent_by None port cell.now sfn i) }
-    ensures size { square (sent_by None port cell.now sfn i) ≤ 1153 * 1153 }
+    ensures magnitude { square (sent_by None port cell.now sfn i) ≤ 1153 * 1153 }
 {
     let sfn = Timing { sfn, offset: 0 }.number_at(i);
     let layout = layout_of(cell, port);
@@ -98,7 +98,7 @@ pub fn port_sample(cell: &Cell, port: Port, sfn: Sfn, i: u64) -> Sample
 /// sends, starting with frame `sfn` (TS 36.211 section 6.12, in integers). Its magnitude is at most 1,153.
 pub fn sample(cell: &Cell, sfn: Sfn, i: u64) -> Sample
     ensures value { result ≡ sample_of (sent (element cell.now) sfn i) }
-    ensures size { square (sent (element cell.now) sfn i) ≤ 1153 * 1153 }
+    ensures magnitude { square (sent (element cell.now) sfn i) ≤ 1153 * 1153 }
 {
     port_sample(cell, ONLY, sfn, i)
 }
@@ -123,7 +123,7 @@ pub fn frame(cell: &Cell, sfn: Sfn, out: &mut [Sample])
 fn amplified(gain: Gain, clean: Sample) -> Sample
     requires { square (value_of clean) ≤ 1153 * 1153 }
     ensures value { result ≡ sample_of (times gain (value_of clean)) }
-    ensures size { IsWithin 32284 (times gain (value_of clean)) }
+    ensures magnitude { IsWithin 32284 (times gain (value_of clean)) }
 {
     gain.value().mul(Cpx::from(clean)).exact_sample()
 }
@@ -133,7 +133,7 @@ fn amplified(gain: Gain, clean: Sample) -> Sample
 pub fn send(t: &Transmission, i: u32) -> Sample
     requires { i < t.now.samples }
     ensures value { result ≡ sample_of (received t.now.cell t.now.sfn t.now.offset (gain_of t.now.gain) i) }
-    ensures size { IsWithin 32284 (received t.now.cell t.now.sfn t.now.offset (gain_of t.now.gain) i) }
+    ensures magnitude { IsWithin 32284 (received t.now.cell t.now.sfn t.now.offset (gain_of t.now.gain) i) }
 {
     amplified(t.gain(), sample(&t.cell, t.sfn, i as u64 + t.offset as u64))
 }

@@ -71,7 +71,7 @@ loaded_of recording plan grid sfn offset gain eps known carries samples = record
   number = known;
   within = samples.within;
   carries = of_only (λ port. CarriesPlan port plan grid) carries;
-  gains_are = samples.size;
+  gains_are = samples.range;
   bound = samples.bound;
   near = samples.near;
 }

@@ -120,7 +120,7 @@ module _ (magnitudes : ℕ → ℕ) (paths : Paths) (recording : List Sample) (p
   slot_through : (j slot : ℕ) → slot < 20 → IsRead sfn offset (first_frame_of offset + j) slot → IsFrameSlotThrough recording plan.identity grid sfn offset j slot
   slot_through j slot few read = record {
     bounds = path_bounds;
-    size = square paths.first;
+    square = square paths.first;
     channel = over paths;
     through = slot_over_is_through magnitudes paths recording (useful_start normal (frame_at (start_of offset) j) slot) (slot_grid grid ((number_at_start sfn offset + j) % 1024) slot)
         (seen_slot recording (frame_at (start_of offset) j) slot plan.identity) echoed.faint (slot_over j slot few read);

@@ -57,7 +57,7 @@ module _ (quota bend : ℕ) (recording : List Sample) (plan : CellPlan) (grids :
       (slot_grid (grids only_port) ((number_at_start sfn offset + j) % 1024) slot) (seen_slot recording (frame_at (start_of offset) j) slot plan.identity) (slot_fading j slot few read) in
       record {
         bounds = fading_bounds leave.most bend;
-        size = square (gains (first_frame_of offset + j) slot through.weakest);
+        square = square (gains (first_frame_of offset + j) slot through.weakest);
         channel = by_symbol (gains (first_frame_of offset + j) slot);
         through = through.through;
       }

@@ -47,7 +47,7 @@ module _ (recording : List Sample) (plan : CellPlan) (grids : Port → Elements)
       let received = each_slot_received recording plan grids sfn offset gains faithful j slot few (λ l inside. elim read [ inl master ↦ inl master | inr system ↦ inr (inl system) ]) in
       record {
         bounds = level_bounds;
-        size = square received.gain;
+        square = square received.gain;
         channel = level received.gain;
         through = received_slot_is_through recording (useful_start normal (frame_at (start_of offset) j) slot) (slot_grid (grids only_port) ((number_at_start sfn offset + j) % 1024) slot)
             (seen_slot recording (frame_at (start_of offset) j) slot plan.identity) received;

@@ -33,7 +33,7 @@ slot_through_is_heard bounds n channel grids slot is symbol k first second few i
     record { re = both.re; im = both.im }
 
 through_slot_heard : (grids : ℕ → ℕ → Cpx) (slot : SeenSlot) → IsThrough grids slot → IsSlotHeard grids slot
-through_slot_heard grids slot is = slot_through_is_heard is.bounds is.size is.channel grids slot is.through
+through_slot_heard grids slot is = slot_through_is_heard is.bounds is.square is.channel grids slot is.through
 
 pub through_is_heard : (recording : List Sample) (plan : CellPlan) (grid : Elements) (sfn offset : ℕ) → IsCellThrough recording plan grid sfn offset →
     IsCellHeard recording plan grid sfn offset

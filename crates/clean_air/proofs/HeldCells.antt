@@ -43,7 +43,7 @@ shown_identity_is_best carrier recording identity offset shown t half at middle 
     let both = shown.both t half at middle high in
     let hit : Hit = found recording t (identity % 3) in
     best_of_identified (prefix_of carrier) recording hit (identity / 3) half
-    (sent_pair_is_identified_through both.most both.least both.size both.channel (prefix_of carrier) recording hit (identity / 3) half both.room both.through)
+    (sent_pair_is_identified_through both.most both.least both.square both.channel (prefix_of carrier) recording hit (identity / 3) half both.room both.through)
 
 pub through_cell_is_heard : ThroughIsHeard one_port_receiver
 unfolding seen_slot

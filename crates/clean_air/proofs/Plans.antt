@@ -52,10 +52,10 @@ pub one_planned : (recording : List Sample) (entry : Entry) (a b : CellPlan) →
 one_planned recording entry a b p q =
     let decoded = same_decoded (a.cfi, p.grant) (b.cfi, q.grant) (one_grant_of one_port_receiver recording (place_of entry) entry.sfn entry.mib entry.sib1 (Some (a.cfi, p.grant)) (Some (b.cfi, q.grant)) p.granted q.granted) in
     let block = same_block a.sib1 b.sib1 entry.sib1 p.listed q.listed in
-    p.decoded
+    p.plan_is
     ∙ ap (λ (t : ℕ × Grant). plan_by entry t.0 t.1 a.sib1) decoded
     ∙ ap (λ (s : Sib1). plan_by entry b.cfi q.grant s) block
-    ∙ sym q.decoded
+    ∙ sym q.plan_is
 
 pub one_plan_of : IsOnePlan
 one_plan_of recording entry None None p q = refl
@@ -80,7 +80,7 @@ module _ (recording : List Sample) (entry : Entry) (indicator : ℕ) (grant : Gr
       let decoded = same_decoded (plan.cfi, p.grant) (indicator, grant) (one_grant_of one_port_receiver recording (place_of entry) entry.sfn entry.mib entry.sib1 (Some (plan.cfi, p.grant)) (Some (indicator, grant)) p.granted granted) in
       let block = same_block plan.sib1 fields entry.sib1 p.listed same in
       let made : plan ≡ plan_by entry indicator grant fields =
-      p.decoded ∙ ap (λ (t : ℕ × Grant). plan_by entry t.0 t.1 plan.sib1) decoded ∙ ap (λ (s : Sib1). plan_by entry indicator grant s) block in
+      p.plan_is ∙ ap (λ (t : ℕ × Grant). plan_by entry t.0 t.1 plan.sib1) decoded ∙ ap (λ (s : Sib1). plan_by entry indicator grant s) block in
       both (sym refused ∙ ap (λ (q : CellPlan). plan_refusal q) (sym made) ∙ p.accepted)
     where
       both : ◌≡◌ {A = Option CellError} (Some cause) None → ⊥
@@ -144,8 +144,8 @@ module _ (recording : List Sample) (entry : Entry) (plan : CellPlan) (grid : Ele
     answers = is_sent.sib1;
   }
 
-  decoded : plan ≡ plan_by entry plan.cfi granted plan.sib1
-  decoded = rw (id, is_sent.block.duration, is_sent.block.resource, is_sent.block.spare) refl
+  plan_is : plan ≡ plan_by entry plan.cfi granted plan.sib1
+  plan_is = rw (id, is_sent.block.duration, is_sent.block.resource, is_sent.block.spare) refl
 
   planned : IsPlanned recording entry plan
   planned = record {
@@ -154,7 +154,7 @@ module _ (recording : List Sample) (entry : Entry) (plan : CellPlan) (grid : Ele
     listed = is_sent.sib1;
     ports = is_sent.ports;
     bandwidth = is_sent.block.bandwidth;
-    decoded = decoded;
+    plan_is = plan_is;
     accepted = ((accepted_is_sendable plan).1 sendable).1;
   }
 

@@ -40,7 +40,7 @@ pub record IsPlanned (recording : List Sample) (entry : Entry) (plan : CellPlan)
   pub listed : entry.sib1 ≡ Ok plan.sib1
   pub ports : entry.ports ≡ 1
   pub bandwidth : entry.mib.bandwidth ≡ N6
-  pub decoded : plan ≡ plan_by entry plan.cfi grant plan.sib1
+  pub plan_is : plan ≡ plan_by entry plan.cfi grant plan.sib1
   pub accepted : plan_refusal plan ≡ None
 
 -- the entry's plan, or `None` if it has none

@@ -90,9 +90,9 @@ ReceivedSlotIsThrough =
 -- A slot is received through some channel, with some bounds relative to a magnitude whose square is `size`.
 pub record IsThrough (grids : ℕ → ℕ → Cpx) (slot : SeenSlot) : Type 0 where
   pub bounds : Bounds
-  pub size : ℕ
+  pub square : ℕ
   pub channel : Channel
-  pub through : IsSlotThrough bounds size channel grids slot
+  pub through : IsSlotThrough bounds square channel grids slot
 
 -- ---- cells
 

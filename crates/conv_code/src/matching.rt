@@ -108,7 +108,7 @@ fn add_at<const N: usize>(sums: &mut [[i32; N]; 3], stream: usize, place: usize,
     requires place { place < N }
     requires room { nat_abs (sum_at sums.old stream place) ≤ 2 ^ 30 }
     ensures sum { sums.new ≡ sums_with sums.old stream place value.now }
-    ensures size { nat_abs value.now ≤ 2 ^ 15 }
+    ensures magnitude { nat_abs value.now ≤ 2 ^ 15 }
 {
     sums[stream][place] += *value as i32;
 }

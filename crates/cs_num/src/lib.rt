@@ -156,7 +156,7 @@ impl Cpx {
     /// magnitude at most 2^62.
     pub fn round_shift(self, bits: u32) -> Cpx
         requires bits { (1 ≤ bits) × (bits ≤ 40) }
-        requires size { largest_part self ≤ 2 ^ 62 }
+        requires magnitude { largest_part self ≤ 2 ^ 62 }
         ensures { result ≡ rounded self bits }
     {
         Cpx {
@@ -170,7 +170,7 @@ impl Cpx {
     pub fn quotient(self, divisor: u64) -> Cpx
         requires some { 0 < divisor }
         requires few { divisor ≤ 2 ^ 61 }
-        requires size { IsWithin (2 ^ 61) self }
+        requires magnitude { IsWithin (2 ^ 61) self }
         ensures { result ≡ quotient_of self divisor }
     {
         Cpx {
@@ -204,7 +204,7 @@ impl Cpx {
 // Computes one component of `round_shift`.
 fn round_part(x: i64, bits: u32) -> i64
     requires bits { (1 ≤ bits) × (bits ≤ 40) }
-    requires size { nat_abs x ≤ 2 ^ 62 }
+    requires magnitude { nat_abs x ≤ 2 ^ 62 }
     ensures { result ≡ round_shifted x bits }
 {
     (x + (1i64 << (bits - 1))) >> bits
@@ -214,7 +214,7 @@ fn round_part(x: i64, bits: u32) -> i64
 fn rounded_quotient(x: i64, divisor: u64) -> i64
     requires some { 0 < divisor }
     requires few { divisor ≤ 2 ^ 61 }
-    requires size { nat_abs x ≤ 2 ^ 61 }
+    requires magnitude { nat_abs x ≤ 2 ^ 61 }
     ensures { result ≡ rounded_quotient_of x divisor }
 {
     (2 * x + divisor as i64).div_euclid(2 * divisor as i64)

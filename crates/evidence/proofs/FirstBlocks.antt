@@ -24,20 +24,20 @@ use Rattle.evidence.specs.Blocks.{HasNoBlock, IsBlockRead, IsBlockWith, IsBlockA
 -- ---- in a subframe
 
 abbrev read_attempt : ℕ × Grant → Sib1 → Attempt
-read_attempt detected fields = record { cfi = detected.0; grant = Some detected.1; answer = Ok fields }
+read_attempt granted fields = record { cfi = granted.0; grant = Some granted.1; answer = Ok fields }
 
 -- if fields were read, the grant's soft values decode to a block
-detected_at : (values : Subframe) (detected : ℕ × Grant) (fields : Sib1) → IsAttempt values (read_attempt detected fields) → (found : Option (List Bool)) →
-    IsBlock (values.shared detected.0 detected.1.start detected.1.blocks) detected.1 found → IsBlockAt values found
-detected_at values detected fields is (Some bits) b = record { cfi = detected.0; grant = detected.1; fields = fields; attempt = is; block = b }
-detected_at values detected fields is None b =
-    absurd (let e : ◌≡◌ {A = Result Sib1 Sib1Reason} (Err NotDecoded) (Ok fields) = one_text (values.shared detected.0 detected.1.start detected.1.blocks) detected.1 (Err NotDecoded) (Ok fields) b is.follows.decodes in cc)
+granted_at : (values : Subframe) (granted : ℕ × Grant) (fields : Sib1) → IsAttempt values (read_attempt granted fields) → (found : Option (List Bool)) →
+    IsBlock (values.shared granted.0 granted.1.start granted.1.blocks) granted.1 found → IsBlockAt values found
+granted_at values granted fields is (Some bits) b = record { cfi = granted.0; grant = granted.1; fields = fields; attempt = is; block = b }
+granted_at values granted fields is None b =
+    absurd (let e : ◌≡◌ {A = Result Sib1 Sib1Reason} (Err NotDecoded) (Ok fields) = one_text (values.shared granted.0 granted.1.start granted.1.blocks) granted.1 (Err NotDecoded) (Ok fields) b is.follows.decodes in cc)
 
 module _ (values : Subframe) (attempt : Attempt) (is : IsAttempt values attempt) where
-  pub block_at : (detected : ℕ × Grant) → granted_by attempt ≡ Some detected → (found : Option (List Bool)) → IsBlock (values.shared detected.0 detected.1.start detected.1.blocks) detected.1 found → IsBlockAt values found
-  block_at detected e found b =
-      let read = has_read attempt.cfi attempt.grant attempt.answer detected e in
-      detected_at values detected read.fields (subst (λ (a : Attempt). IsAttempt values a) read.is is) found b
+  pub block_at : (granted : ℕ × Grant) → granted_by attempt ≡ Some granted → (found : Option (List Bool)) → IsBlock (values.shared granted.0 granted.1.start granted.1.blocks) granted.1 found → IsBlockAt values found
+  block_at granted e found b =
+      let read = has_read attempt.cfi attempt.grant attempt.answer granted e in
+      granted_at values granted read.fields (subst (λ (a : Attempt). IsAttempt values a) read.is is) found b
 
   pub no_block_at : granted_by attempt ≡ None → HasNoBlock values
   no_block_at e fields reads =
@@ -45,9 +45,9 @@ module _ (values : Subframe) (attempt : Attempt) (is : IsAttempt values attempt)
       (ap (λ (a : Attempt). a.answer) (one_attempt values attempt reads.attempt is reads.is) ∙ reads.answers)
 
 -- the grant is a valid DCI grant
-pub grant_of_attempt : (attempt : Attempt) (detected : ℕ × Grant) → IfSome attempt.grant IsGrant → granted_by attempt ≡ Some detected → IsGrant detected.1
-grant_of_attempt attempt detected is e =
-    let read = has_read attempt.cfi attempt.grant attempt.answer detected e in subst (λ (a : Attempt). IfSome a.grant IsGrant) read.is is
+pub grant_of_attempt : (attempt : Attempt) (granted : ℕ × Grant) → IfSome attempt.grant IsGrant → granted_by attempt ≡ Some granted → IsGrant granted.1
+grant_of_attempt attempt granted is e =
+    let read = has_read attempt.cfi attempt.grant attempt.answer granted e in subst (λ (a : Attempt). IfSome a.grant IsGrant) read.is is
 
 -- ---- in a frame
 

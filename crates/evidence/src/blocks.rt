@@ -101,7 +101,7 @@ fn block_in<S: ReadSlot>(first: &S, second: &S, mib: Mib, work: &mut Decoders) -
 {
     let attempt = attempt_in(first, second, mib, work);
     match attempt.granted() {
-        Some(detected) => block_granted(first, second, detected, &mut work.turbo),
+        Some(granted) => block_granted(first, second, granted, &mut work.turbo),
         None => None,
     }
 }
@@ -111,18 +111,18 @@ fn block_in<S: ReadSlot>(first: &S, second: &S, mib: Mib, work: &mut Decoders) -
 fn block_granted<S: ReadSlot>(
     first: &S,
     second: &S,
-    detected: (Cfi, Grant),
+    granted: (Cfi, Grant),
     turbo: &mut Work,
 ) -> Option<Block>
     requires first { (S.seen_as first.now).number ≡ 10 }
     requires second { (S.seen_as second.now).number ≡ 11 }
     requires cell { (S.seen_as second.now).identity ≡ (S.seen_as first.now).identity }
-    requires cfi { 2 ≤ detected.0 }
-    requires grant { IsGrant detected.1 }
+    requires cfi { 2 ≤ granted.0 }
+    requires grant { IsGrant granted.1 }
     ensures { IsBlock (shared_values_by S.carrier S.values_by (S.seen_as first.now) (S.seen_as second.now)
-        detected.0 detected.1.start detected.1.blocks) detected.1 (option_map (λ block. block.items) result) }
+        granted.0 granted.1.start granted.1.blocks) granted.1 (option_map (λ block. block.items) result) }
 {
-    let (cfi, grant) = detected;
+    let (cfi, grant) = granted;
     let mut values = [0; MOST_VALUES];
     let count = pdsch::values(first, second, cfi, &grant, &mut values);
     block_of(&values[..count], &grant, turbo)

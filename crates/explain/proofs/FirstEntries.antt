@@ -214,7 +214,7 @@ module _ (receiver : Receiver) (recording : List Sample) (hit : Hit) (place : Pl
   adds_entries count frame masters old new first adds = record {
     entries = entries_of place count frame masters adds.systems (5 - count);
     are = subst (λ (p : Place). AreEntries (IsEntryAt decodes decoded recording p) (entries_of place count frame masters adds.systems (5 - count))) at
-        (entries_are decodes decoded (one_decoded_by receiver recording) (one_system receiver recording) recording place count frame masters first adds.systems adds.decoded);
+        (entries_are decodes decoded (one_decoded_by receiver recording) (one_system receiver recording) recording place count frame masters first adds.systems adds.are_systems);
     adds = adds.adds;
   }
 

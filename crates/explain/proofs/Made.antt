@@ -32,7 +32,7 @@ module _ (IsSystem : Informing) (place : Place) (count frame : ℕ) (masters : L
   pub no_phases : (list : List Entry) (systems : ℕ → Result Sib1 Sib1Reason) → AddsPhases IsSystem place count frame masters 0 list list
   no_phases list systems = record {
     systems = systems;
-    decoded = λ phase l. absurd (omega (arith, l));
+    are_systems = λ phase l. absurd (omega (arith, l));
     adds = subst (λ entries. Adds entries list list) (sym (joined_below_none (λ phase. entry_at place (frames_from count frame phase) (master_at masters phase) (systems phase)))) (adds_none list);
   }
 
@@ -40,7 +40,7 @@ module _ (IsSystem : Informing) (place : Place) (count frame : ℕ) (masters : L
       AddsPhase IsSystem place (frames_from count frame phases) (master_at masters phases) old new → AddsPhases IsSystem place count frame masters (phases + 1) first new
   one_more_phase phases first old new before one = record {
     systems = systems;
-    decoded = decoded;
+    are_systems = are_systems;
     adds = subst (λ entries. Adds entries first new) (sym whole)
         (adds_more (entries_of place count frame masters before.systems phases) (entry_at place (frames_from count frame phases) (master_at masters phases) one.sib1) first old new before.adds one.adds);
   }
@@ -48,12 +48,12 @@ module _ (IsSystem : Informing) (place : Place) (count frame : ℕ) (masters : L
       systems : ℕ → Result Sib1 Sib1Reason
       systems = with_system before.systems phases one.sib1
 
-      decoded : (phase : ℕ) → phase < phases + 1 → IsSystemAt IsSystem place (frames_from count frame phase) (master_at masters phase) (systems phase)
-      decoded phase l = elim (cases_lt phase phases) [
-        | inl less ↦ subst (IsSystemAt IsSystem place (frames_from count frame phase) (master_at masters phase)) (sym (at_before before.systems phases one.sib1 phase less)) (before.decoded phase less)
+      are_systems : (phase : ℕ) → phase < phases + 1 → IsSystemAt IsSystem place (frames_from count frame phase) (master_at masters phase) (systems phase)
+      are_systems phase l = elim (cases_lt phase phases) [
+        | inl less ↦ subst (IsSystemAt IsSystem place (frames_from count frame phase) (master_at masters phase)) (sym (at_before before.systems phases one.sib1 phase less)) (before.are_systems phase less)
         | inr not_less ↦ let same : phases ≡ phase = omega (arith, l, not_less) in
             subst (λ n. IsSystemAt IsSystem place (frames_from count frame n) (master_at masters n) (systems n)) same
-            (subst (IsSystemAt IsSystem place (frames_from count frame phases) (master_at masters phases)) (sym (at_last before.systems phases one.sib1)) one.decoded)
+            (subst (IsSystemAt IsSystem place (frames_from count frame phases) (master_at masters phases)) (sym (at_last before.systems phases one.sib1)) one.is_system)
       ]
 
       whole : entries_of place count frame masters systems (phases + 1)

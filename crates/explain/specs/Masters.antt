@@ -79,13 +79,13 @@ IsSystemAt IsSystem place frames o sib1 =
 pub record AddsPhase (IsSystem : Informing) (place : Place) (frames : Frames) (o : Option Master)
     (old new : List Entry) : Type 0 where
   pub sib1 : Result Sib1 Sib1Reason
-  pub decoded : IsSystemAt IsSystem place frames o sib1
+  pub is_system : IsSystemAt IsSystem place frames o sib1
   pub adds : Adds (entry_at place frames o sib1) old new
 
 -- the list gains the entries for the first `phases` phases
 pub record AddsPhases (IsSystem : Informing) (place : Place) (count j : ℕ) (masters : List (Option Master)) (phases : ℕ)
     (old new : List Entry) : Type 0 where
   pub systems : ℕ → Result Sib1 Sib1Reason
-  pub decoded : (phase : ℕ) → phase < phases →
+  pub are_systems : (phase : ℕ) → phase < phases →
       IsSystemAt IsSystem place (frames_from count j phase) (master_at masters phase) (systems phase)
   pub adds : Adds (entries_of place count j masters systems phases) old new

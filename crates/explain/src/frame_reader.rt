@@ -42,7 +42,7 @@ pub trait FrameReader {
 
     /// Returns the system information of `cell`, and how it was read.
     fn system_of(&self, recording: &Recording, cell: &NumberedCell, work: &mut Decoders) -> Informed
-        ensures decoded { IsSystemFor receiver recording.now cell.now.place cell.now.sfn cell.now.master.ports
+        ensures sib1 { IsSystemFor receiver recording.now cell.now.place cell.now.sfn cell.now.master.ports
             cell.now.master.mib result.sib1 }
         ensures granted { IsGrantFor receiver recording.now cell.now.place cell.now.sfn cell.now.master.mib
             result.sib1 result.granted };

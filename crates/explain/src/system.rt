@@ -36,7 +36,7 @@ pub fn system_in<S: ReadSlot>(
     master: Master,
     work: &mut Decoders,
 ) -> Informed
-    ensures decoded { IsSystemWith S.carrier (Ok (subframes_by S.carrier S.values_by)) recording.now place sfn
+    ensures sib1 { IsSystemWith S.carrier (Ok (subframes_by S.carrier S.values_by)) recording.now place sfn
         master.ports master.mib result.sib1 }
     ensures granted { IsGrantWith (Ok (subframes_by S.carrier S.values_by)) recording.now place sfn master.mib
         result.sib1 result.granted }

@@ -41,7 +41,7 @@ fn cell_of(plan: &LongPlan) -> Cell
 /// section 6.12, in integers). Its magnitude is at most 1,153.
 pub fn sample(plan: &LongPlan, sfn: Sfn, i: u64) -> Sample
     ensures value { result ≡ sample_of (long_sent plan.now sfn i) }
-    ensures size { square (long_sent plan.now sfn i) ≤ 1153 * 1153 }
+    ensures magnitude { square (long_sent plan.now sfn i) ≤ 1153 * 1153 }
 {
     let port = Port {
         carrier: Carrier::LongPrefix,

@@ -9,7 +9,7 @@ use Rattle.evidence.specs.Shown.{IsShownFor}
 use Rattle.evidence.proofs.Only.{one_for_each, one_shown_for_each}
 use Rattle.report_text.specs.Evidence.{evidence_text}
 use Rattle.report_json.specs.Evidence.{evidence_json}
-use Rattle.report_json.specs.Offset.{estimate_json, IsTellJson}
+use Rattle.report_json.specs.Offset.{estimation_json, IsTellJson}
 use Rattle.frequency_offset.specs.Candidates.{taken_of}
 use Rattle.report_text.specs.Offset.{offset_text}
 use Rattle.frequency_offset.proofs.OneEstimate.{has_one_estimate, is_one_applied}
@@ -52,7 +52,7 @@ one_evidence carrier Json samples first second a b = one_line (IsEvidenceJson ca
 
 one_tell_json : (samples : List Sample) (first second : List ℕ) → IsTellJson samples first → IsTellJson samples second → first ≡ second
 one_tell_json samples first second a b =
-    a.is_text ∙ ap (λ numbers. estimate_json numbers (taken_of samples)) (has_one_estimate samples a.estimate b.estimate a.is_estimated b.is_estimated) ∙ sym b.is_text
+    a.is_text ∙ ap (λ numbers. estimation_json numbers (taken_of samples)) (has_one_estimate samples a.estimate b.estimate a.is_estimated b.is_estimated) ∙ sym b.is_text
 
 one_decoding : (output : Output) (samples : List Sample) (first second : List ℕ) → IsTellReport output samples first → IsTellReport output samples second → first ≡ second
 one_decoding Text samples first second a b = a.is_text ∙ ap offset_text (has_one_estimate samples a.estimate b.estimate a.is_estimated b.is_estimated) ∙ sym b.is_text

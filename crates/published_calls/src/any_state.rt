@@ -34,7 +34,7 @@ fn square(a: Cpx) -> u128 {
 
 fn rounded(a: Cpx, bits: u32) -> Cpx
     requires bits { (1 ≤ bits) × (bits ≤ 40) }
-    requires size { largest_part a ≤ 2 ^ 62 }
+    requires magnitude { largest_part a ≤ 2 ^ 62 }
 {
     a.round_shift(bits)
 }

@@ -9,7 +9,7 @@ use Rattle.frequency_offset.specs.Candidates.{taken_of}
 use Rattle.frequency_offset.specs.Estimation.{IsEstimated}
 use Rattle.report_json.specs.Values.{natural, integer, or_null, list_of}
 
--- the estimate: the number of cells, the number of hits, and the offset as `turn`
+-- an estimate: the number of cells, the number of hits, and the offset as `turn`
 abbrev pub estimate_value : OffsetEstimate → Data
 estimate_value estimate = object (
     member (codes "cells") (natural estimate.cells) (
@@ -25,18 +25,18 @@ candidate_value candidate = object (
     member (codes "power") (natural candidate.fraction.power) (
     member (codes "turn") (integer candidate.turn) no_members)))))
 
--- the estimate, or null, with the selected candidates
-abbrev pub estimate_value_of : Option OffsetEstimate → List Candidate → Data
-estimate_value_of estimate taken = object (
+-- an estimation: the estimate, or null, and the selected candidates
+abbrev pub estimation_value : Option OffsetEstimate → List Candidate → Data
+estimation_value estimate taken = object (
     member (codes "candidates") (list_of candidate_value taken) (
     member (codes "told") (or_null estimate_value estimate) no_members))
 
--- the JSON of an estimate, without spaces
-unfoldable pub estimate_json : Option OffsetEstimate → List Candidate → List ℕ
-estimate_json estimate taken = compact_text (estimate_value_of estimate taken)
+-- the JSON of an estimation, without spaces
+unfoldable pub estimation_json : Option OffsetEstimate → List Candidate → List ℕ
+estimation_json estimate taken = compact_text (estimation_value estimate taken)
 
--- the JSON of a recording's estimate
+-- the JSON of a recording's estimation
 pub record IsTellJson (recording : List Sample) (text : List ℕ) : Type 0 where
   pub estimate : Option OffsetEstimate
   pub is_estimated : IsEstimated recording estimate
-  pub is_text : text ≡ estimate_json estimate (taken_of recording)
+  pub is_text : text ≡ estimation_json estimate (taken_of recording)

@@ -8,8 +8,8 @@
 ghost use Rattle.std.specs.Prelude.{◌≡◌, IfOk, string_bytes};
 ghost use Rattle.serde_json.specs.View.{view};
 ghost use Rattle.report_json.specs.Values.{or_null};
-ghost use Rattle.report_json.specs.Offset.{estimate_value as estimate_of, candidate_value, estimate_value_of as estimate_fields};
-ghost use Rattle.report_json.specs.Offset.{estimate_json, IsTellJson};
+ghost use Rattle.report_json.specs.Offset.{estimate_value, candidate_value, estimation_value as estimation_of};
+ghost use Rattle.report_json.specs.Offset.{estimation_json, IsTellJson};
 
 use crate::values::{ToJson, list_value};
 use frequency_offset::{Candidate, OffsetEstimate, tell_with_candidates};
@@ -26,46 +26,49 @@ pub fn tell_json(alloc: Global, recording: &Recording) -> Result<String, AllocEr
     json_of(alloc, &estimation.estimate, &estimation.candidates)
 }
 
-// Returns the JSON of an estimate and its candidates.
+// Returns the JSON of an estimation: an estimate and its candidates.
 fn json_of(
     alloc: Global,
     estimate: &Option<OffsetEstimate>,
     taken: &[Candidate],
 ) -> Result<String, AllocError>
-    ensures { IfOk result (λ text. string_bytes text ≡ estimate_json estimate.now taken.now) }
+    ensures { IfOk result (λ text. string_bytes text ≡ estimation_json estimate.now taken.now) }
 {
-    let estimation = estimate_value_of(alloc, estimate, taken)?;
+    let estimation = estimation_value(alloc, estimate, taken)?;
     estimation.to_string(alloc)
 }
 
-// Returns the value of an estimate and its candidates.
-fn estimate_value_of(
+// Returns the value of an estimation: an estimate and its candidates.
+fn estimation_value(
     alloc: Global,
     estimate: &Option<OffsetEstimate>,
     taken: &[Candidate],
 ) -> Result<Value, AllocError>
-    ensures { IfOk result (λ value. view value ≡ estimate_fields estimate.now taken.now) }
+    ensures { IfOk result (λ value. view value ≡ estimation_of estimate.now taken.now) }
 {
     let candidates = list_value(alloc, taken)?;
-    let estimate = estimate_value(alloc, estimate)?;
+    let estimate = estimate_or_null(alloc, estimate)?;
     json!(in alloc; {"candidates": candidates, "told": estimate})
 }
 
 // Returns the value of an estimate, or null.
-fn estimate_value(alloc: Global, estimate: &Option<OffsetEstimate>) -> Result<Value, AllocError>
-    ensures { IfOk result (λ value. view value ≡ or_null estimate_of estimate.now) }
+fn estimate_or_null(alloc: Global, estimate: &Option<OffsetEstimate>) -> Result<Value, AllocError>
+    ensures { IfOk result (λ value. view value ≡ or_null estimate_value estimate.now) }
 {
     match estimate {
-        Some(estimate) => value_of_estimate(alloc, estimate),
+        Some(estimate) => estimate.to_json(alloc),
         None => Ok(Value::Null),
     }
 }
 
-fn value_of_estimate(alloc: Global, estimate: &OffsetEstimate) -> Result<Value, AllocError>
-    ensures { IfOk result (λ value. view value ≡ estimate_of estimate.now) }
-{
-    let turn = Value::from(estimate.turn);
-    json!(in alloc; {"cells": estimate.cells, "hits": estimate.hits, "turn": turn})
+// The object for an estimate.
+impl ToJson for OffsetEstimate {
+    ghost json_of = { estimate_value };
+
+    fn to_json(&self, alloc: Global) -> Result<Value, AllocError> {
+        let turn = Value::from(self.turn);
+        json!(in alloc; {"cells": self.cells, "hits": self.hits, "turn": turn})
+    }
 }
 
 // The object for a candidate.

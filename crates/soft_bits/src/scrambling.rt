@@ -87,7 +87,7 @@ fn turn_by(bits: &[bool; 1920], first: usize, values: &mut [i16])
 fn turned(value: i16, scrambling: bool) -> i16
     requires { nat_abs value ≤ 127 }
     ensures value { result ≡ descrambled_value scrambling value }
-    ensures size { nat_abs result ≤ 127 }
+    ensures magnitude { nat_abs result ≤ 127 }
 {
     if scrambling { -value } else { value }
 }

@@ -166,7 +166,7 @@ fn add_at(sums: &mut [[i32; 1028]; 3], at: &Item, value: &i16)
     requires index { at.now.index < 1028 }
     requires room { nat_abs (sum_at sums.old at.now.stream at.now.index) ≤ 2 ^ 30 }
     ensures sum { sums.new ≡ sums_with sums.old at.now.stream at.now.index value.now }
-    ensures size { nat_abs value.now ≤ 2 ^ 15 }
+    ensures magnitude { nat_abs value.now ≤ 2 ^ 15 }
 {
     sums[at.stream][at.index] += *value as i32;
 }

@@ -14,7 +14,7 @@ use lte_types::{Carrier, Sfn};
 pub fn sample(cell: &Cell2, port: u8, sfn: Sfn, i: u64) -> Sample
     requires { port < 2 }
     ensures value { result ≡ sample_of (sent_at_port port cell.now sfn i) }
-    ensures size { square (sent_at_port port cell.now sfn i) ≤ 1153 * 1153 }
+    ensures magnitude { square (sent_at_port port cell.now sfn i) ≤ 1153 * 1153 }
 {
     let port = Port {
         carrier: Carrier::TwoPorts,

@@ -15,8 +15,8 @@ loop-k-init c = record {
   small = All-replicate (IsWithin 23726080) 72 nothing (record { re = omega arith; im = omega arith });
 }
 
-pub round_shift-requires-clause-size : goal.round_shift-requires-clause-size
-round_shift-requires-clause-size c =
+pub round_shift-requires-clause-magnitude : goal.round_shift-requires-clause-magnitude
+round_shift-requires-clause-magnitude c =
     let long : length c.args.sums.now ≡ 72 = search rules in
     let here : IsWithin 97182023680 (value_at c.args.sums.now c.loop-k.k) = All-get_or (IsWithin 97182023680) c.args.sums.now c.loop-k.k nothing (omega arith) c.requires in
     omega (arith, here.re, here.im)

@@ -26,8 +26,8 @@ returns-clause-value c =
     ∙ ap₂ (λ (first n2 : ℕ). correlation_below 128 (λ n. sample_at c.args.recording.now (first + n)) (wave n2)) place c.root_of-n2.ensures.value)
     (c.signal_power.ensures.value ∙ ap (λ (n2 : ℕ). energy_below 128 (wave n2)) c.root_of-n2.ensures.value)
 
-pub quotient-requires-clause-size : goal.quotient-requires-clause-size
-quotient-requires-clause-size c = within_more c.correlation.result _ _ c.correlation.ensures.small (omega arith)
+pub quotient-requires-clause-magnitude : goal.quotient-requires-clause-magnitude
+quotient-requires-clause-magnitude c = within_more c.correlation.result _ _ c.correlation.ensures.small (omega arith)
 
 pub returns-clause-small : goal.returns-clause-small
 returns-clause-small c =

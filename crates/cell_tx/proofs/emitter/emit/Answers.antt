@@ -10,7 +10,7 @@ put_all-requires-clause-room c =
     let e = c.args.emission.now in
     c.requires ∙ sym (values_below-length e.samples (λ i. sample_of (emitted e i))) ∙ ap length (sym c.new.ensures.samples)
 
-pub returns-clause-size : goal.returns-clause-size
-returns-clause-size c i =
+pub returns-clause-magnitude : goal.returns-clause-magnitude
+returns-clause-magnitude c i =
     let e = c.args.emission.now in
     received_by-small e.carrier e.load e.cell e.timing.sfn e.timing.offset e.gains i e.gains_are

@@ -13,9 +13,9 @@ nothing_left : (a : ℤ) → nat_abs (a -ℤ a) ≤ 0
 nothing_left a = let is : a -ℤ a ≡ pos 0 = omega (arith, ints) in subst (λ z. nat_abs z ≤ 0) (sym is) (omega arith)
 
 pub returns-clause-errors : goal.returns-clause-errors
-returns-clause-errors c sequence offset count gain eps errors within size bound small = record {
+returns-clause-errors c sequence offset count gain eps errors within range bound small = record {
   within = within;
-  size = size;
+  range = range;
   bound = bound;
   near = near_with (λ i. times gain (sequence (i + offset))) errors count eps small;
 }
@@ -28,7 +28,7 @@ returns-clause-exact c plan sfn offset count gain a b d = record {
   number = a;
   samples = record {
     within = b;
-    size = d;
+    range = d;
     bound = omega arith;
     near = λ i below.
         let f : ℕ → Sample = λ i. sample_of (received plan sfn offset gain i) in

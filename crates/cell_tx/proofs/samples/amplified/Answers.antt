@@ -18,5 +18,5 @@ returns c =
     let product = c.mul.ensures ∙ ap₂ times c.value.ensures.value c.from.ensures.0 in
     record {
       value = c.exact_sample.ensures ∙ ap sample_of product;
-      size = (amplified c.args.gain (value_of c.args.clean) c.value.ensures.valid.most c.requires).small;
+      magnitude = (amplified c.args.gain (value_of c.args.clean) c.value.ensures.valid.most c.requires).small;
     }

@@ -16,5 +16,5 @@ returns-clause-value c =
     ∙ rw (c.new-signals.ensures.cell, c.new-signals.ensures.port, c.new-signals.ensures.load, number)
     (ap sample_of (sym (prefix_sent_is (port_prefix c.args.port) (sent_element None c.args.port c.args.cell.now) c.args.sfn i)))
 
-pub returns-clause-size : goal.returns-clause-size
-returns-clause-size c = sent_by-square None c.args.port c.args.cell.now c.args.sfn c.args.i
+pub returns-clause-magnitude : goal.returns-clause-magnitude
+returns-clause-magnitude c = sent_by-square None c.args.port c.args.cell.now c.args.sfn c.args.i

@@ -21,7 +21,7 @@ loop-i-preserved g c =
     let first = c.args.first + c.args.at in
     let place : place_of n first + (c.loop-i.i - c.args.at) < n = omega (arith, c.requires.one, c.loop-i-test.true) in
     rw c.add_at.ensures.sum
-    (run_more n c.args.first c.args.values.now c.args.at c.loop-i.i c.loop-i.sums (omega arith) (omega arith) place c.add_at.ensures.size c.loop-i.invariant)
+    (run_more n c.args.first c.args.values.now c.args.at c.loop-i.i c.loop-i.sums (omega arith) (omega arith) place c.add_at.ensures.magnitude c.loop-i.invariant)
 
 pub returns : goal.returns
 returns g c =

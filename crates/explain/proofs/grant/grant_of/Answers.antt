@@ -8,7 +8,7 @@ place_in-place-requires c = starts_early c.args.recording.now c.args.entry.now c
 pub returns-clause-grant : goal.returns-clause-grant
 returns-clause-grant c =
     grant_decoded c.args.recording.now c.args.entry.now c.place_in-place.result c.master_in-master.result c.system_in.result.sib1 c.system_in.result.granted
-    c.requires c.place_in-place.ensures c.master_in-master.ensures c.system_in.ensures.decoded c.system_in.ensures.granted
+    c.requires c.place_in-place.ensures c.master_in-master.ensures c.system_in.ensures.sib1 c.system_in.ensures.granted
 
 pub returns-clause-none : goal.returns-clause-none
 returns-clause-none c = none_decoded c.args.recording.now c.args.entry.now c.system_in.result.granted (returns-clause-grant c)

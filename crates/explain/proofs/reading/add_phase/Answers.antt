@@ -24,7 +24,7 @@ returns-in-Some-clause-adds g c =
     subst (λ o. AddsPhase (IsSystemFor g.F.FrameReader.receiver c.args.recording.now) place (frames_from m.frames m.frame c.args.phase) o c.args.list.now c.add_entry.new.list) here
     (record {
       sib1 = entry.sib1;
-      decoded = subst (λ n. IsSystemFor g.F.FrameReader.receiver c.args.recording.now place n c.in-Some.master.ports c.in-Some.master.mib entry.sib1) (ap (λ (e : Entry). e.sfn) whole) c.entry_of-entry.ensures.system;
+      is_system = subst (λ n. IsSystemFor g.F.FrameReader.receiver c.args.recording.now place n c.in-Some.master.ports c.in-Some.master.mib entry.sib1) (ap (λ (e : Entry). e.sfn) whole) c.entry_of-entry.ensures.system;
       adds = subst (λ e. Adds (e ∷ []) c.args.list.now c.add_entry.new.list) whole c.add_entry.ensures.adds;
     })
 
@@ -47,4 +47,4 @@ returns-in-None-clause-adds g c =
     let m = c.args.found.now.masters in
     let here = sym c.in-None.is ∙ get_or_default m.at c.args.phase c.index-found-phase.result None (let count = c.requires.count in let frames = c.requires.frames in omega (arith, count, frames.period, frames.some)) in
     subst (λ o. AddsPhase (IsSystemFor g.F.FrameReader.receiver c.args.recording.now) c.args.found.now.place (frames_from m.frames m.frame c.args.phase) o c.args.list.now c.args.list.now) here
-    (record { sib1 = Err NotDecoded; decoded = tt; adds = adds_none c.args.list.now })
+    (record { sib1 = Err NotDecoded; is_system = tt; adds = adds_none c.args.list.now })

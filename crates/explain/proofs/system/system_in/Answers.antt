@@ -7,8 +7,8 @@ use Rattle.explain.specs.System.{FrameAnswers}
 use Rattle.explain.proofs.Information.{one_of_frame, searched}
 use Rattle.explain.proofs.system.system_in.Goals as goal
 
-pub returns-clause-decoded : goal.returns-clause-decoded
-returns-clause-decoded g c =
+pub returns-clause-sib1 : goal.returns-clause-sib1
+returns-clause-sib1 g c =
     let mib = c.args.master.mib in
     let r = c.args.recording.now in
     let values = subframes_by g.S.ReadSlot.carrier g.S.ReadSlot.values_by in

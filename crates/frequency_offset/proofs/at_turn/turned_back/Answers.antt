@@ -21,8 +21,8 @@ mul-requires c =
     let b = largest_part-le c.conj.result 16384 (turn_small c) in
     omega (arith, mul-le (largest_part c.sub-centred.result) (largest_part c.conj.result) 65536 16384 a b)
 
-pub round_shift-requires-clause-size : goal.round_shift-requires-clause-size
-round_shift-requires-clause-size c =
+pub round_shift-requires-clause-magnitude : goal.round_shift-requires-clause-magnitude
+round_shift-requires-clause-magnitude c =
     let t = times-within c.sub-centred.result c.conj.result 65536 16384 1073741824 (centred_small c.before) (turn_small c.before) (omega arith) in
     let e = c.mul.ensures in
     rw e (omega (arith, largest_part-le (times c.sub-centred.result c.conj.result) 2147483648 t))

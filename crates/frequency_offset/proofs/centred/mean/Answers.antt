@@ -6,8 +6,8 @@ use Rattle.cs_num.specs.Rounding.{quotient}
 use Rattle.frequency_offset.specs.Turned.{mean}
 use Rattle.frequency_offset.proofs.centred.mean.Goals as goal
 
-pub quotient-requires-clause-size : goal.quotient-requires-clause-size
-quotient-requires-clause-size c = within_more c.sum_of.result _ _ c.sum_of.ensures.small (omega arith)
+pub quotient-requires-clause-magnitude : goal.quotient-requires-clause-magnitude
+quotient-requires-clause-magnitude c = within_more c.sum_of.result _ _ c.sum_of.ensures.small (omega arith)
 
 pub returns-clause-value : goal.returns-clause-value
 unfolding mean

@@ -9,7 +9,7 @@ returns-clause-value c =
     let same = same_sent c.cell_of.result c.args.plan.now c.cell_of.ensures c.args.sfn in
     c.port_sample.ensures.value ∙ ap (λ (sequence : ℕ → Cpx). sample_of (sequence c.args.i)) same
 
-pub returns-clause-size : goal.returns-clause-size
-returns-clause-size c =
+pub returns-clause-magnitude : goal.returns-clause-magnitude
+returns-clause-magnitude c =
     let same = same_sent c.cell_of.result c.args.plan.now c.cell_of.ensures c.args.sfn in
-    subst (λ (sequence : ℕ → Cpx). square (sequence c.args.i) ≤ 1153 * 1153) same c.port_sample.ensures.size
+    subst (λ (sequence : ℕ → Cpx). square (sequence c.args.i) ≤ 1153 * 1153) same c.port_sample.ensures.magnitude

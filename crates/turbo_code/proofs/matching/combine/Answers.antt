@@ -47,7 +47,7 @@ loop-value-preserved c =
       sums =
           rw c.add_at.ensures.sum
           (sums_more 3 1028 (2 ^ 15) (λ i. (item_of c.args.row.k c.args.rv i).stream) (λ i. (item_of c.args.row.k c.args.rv i).index) c.args.values.now c.loop-value.value-index c.loop-value.d _ _ _
-          (ap (λ (p : Item). p.stream) item) (ap (λ (p : Item). p.index) item) c.step.ensures.below_three (omega (arith, high, inside, same)) refl c.add_at.ensures.size c.loop-value.invariant.sums);
+          (ap (λ (p : Item). p.stream) item) (ap (λ (p : Item). p.index) item) c.step.ensures.below_three (omega (arith, high, inside, same)) refl c.add_at.ensures.magnitude c.loop-value.invariant.sums);
       at = c.step.ensures.next ∙ one_more k c.args.rv c.loop-value.value-index c.loop-value.walk at;
     }
 
