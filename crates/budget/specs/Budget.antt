@@ -96,7 +96,8 @@ pub record HasFourCauses (gain other : Cpx) (grid second_grid samples : ℕ → 
       (with_gains gain other (rounding_sent grid k) (rounding_sent second_grid k))) (plus errors rounding)
   pub errors_small : square errors ≤
       2 ^ 41
-      * energy_below useful_length (off_by samples (λ n. with_gains gain other (useful_at grid n) (useful_at second_grid n)))
+      * energy_below useful_length
+          (off_by samples (λ n. with_gains gain other (useful_at grid n) (useful_at second_grid n)))
       * (16385 * 16385)
   pub rounding_small : square rounding ≤ 2 ^ 85
 

@@ -47,7 +47,8 @@ received_over paths part n =
 -- times the square of the first path's gain, which has a magnitude of at least 1.
 pub record IsReceivedOver (quota : ℕ) (paths : Paths) (grid samples : ℕ → Cpx) : Type 0 where
   pub sounds : 2 ^ 28 ≤ square paths.first
-  pub quiet : energy_below useful_length (off_by samples (received_over paths (useful_at grid))) ≤ quota * square paths.first
+  pub quiet : energy_below useful_length (off_by samples (received_over paths (useful_at grid))) ≤
+      quota * square paths.first
 
 -- ---- the cyclic prefix
 
@@ -75,7 +76,8 @@ ArrivingIsReceived =
     (quota : ℕ) (paths : Paths) (grid sent samples : ℕ → Cpx) (place : ℕ) →
     ((path : ℕ) → path < paths.later → paths.delay path ≤ 9) → HasPrefix (useful_at grid) place sent →
     2 ^ 28 ≤ square paths.first →
-    energy_below useful_length (off_by samples (λ n. arriving paths sent (place + 9 + n))) ≤ quota * square paths.first →
+    energy_below useful_length (off_by samples (λ n. arriving paths sent (place + 9 + n))) ≤
+    quota * square paths.first →
     IsReceivedOver quota paths grid samples
 
 -- ---- faint later paths
@@ -171,7 +173,8 @@ AmplitudeIsSeenOver =
 abbrev pub AmplitudeIsSeenOverInRecording : Type 0
 AmplitudeIsSeenOverInRecording =
     (magnitudes : ℕ → ℕ) (paths : Paths) (grid : ℕ → Cpx) (recording : List Sample) (start k : ℕ) →
-    AreAmplitudes grid → AreFaint magnitudes paths → IsReceivedOver 1024 paths grid (samples_from recording start) → k < subcarriers →
+    AreAmplitudes grid → AreFaint magnitudes paths → IsReceivedOver 1024 paths grid (samples_from recording start) →
+    k < subcarriers →
     IsSeenNear 1880 (square paths.first) (times (channel_over paths k) (grid k)) (seen recording start k)
 
 -- ---- a slot over faint paths

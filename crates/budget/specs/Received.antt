@@ -35,7 +35,8 @@ received_of ports gains sent = complex_sum_below ports (λ port. times (gains po
 -- `quota` times the sum of the gains' squares, which is at least that of one gain of magnitude 1.
 pub record IsReceivedBy (ports quota : ℕ) (gains : ℕ → Cpx) (grids : ℕ → ℕ → Cpx) (samples : ℕ → Cpx) : Type 0 where
   pub sounds : 2 ^ 28 ≤ energy_below ports gains
-  pub quiet : energy_below useful_length (off_by samples (λ n. received_of ports gains (λ port. useful_at (grids port) n))) ≤
+  pub quiet :
+      energy_below useful_length (off_by samples (λ n. received_of ports gains (λ port. useful_at (grids port) n))) ≤
       quota * energy_below ports gains
 
 -- sample `n` of a recording, counted from sample `start`

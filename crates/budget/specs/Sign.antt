@@ -20,7 +20,8 @@ LargeComponentSpeaks = (magnitude energy : ℕ) (bit : Bool) (c : ℤ) → 1 ≤
 -- energy is at most `most`. The values leave room: 540 times `main`, less six times `off`, is at least the magnitude
 -- times `most`.
 abbrev pub NearComponentSpeaks : Type 0
-NearComponentSpeaks = (magnitude main off most : ℕ) → 1 ≤ magnitude → magnitude ≤ 127 → magnitude * most + 6 * off ≤ 540 * main →
+NearComponentSpeaks =
+    (magnitude main off most : ℕ) → 1 ≤ magnitude → magnitude ≤ 127 → magnitude * most + 6 * off ≤ 540 * main →
     (scale unit energy : ℕ) (bit : Bool) (c : ℤ) → 1 ≤ scale → 1 ≤ energy → scale * energy ≤ most * unit →
     nat_abs (pos scale *ℤ c -ℤ pos (main * unit) *ℤ component bit) ≤ off * unit →
     Supports magnitude bit (soft_value c energy)

@@ -79,7 +79,8 @@ pub record LeaveRoom (magnitude : ℕ) (bounds : Bounds) : Type 0 where
   pub some : 1 ≤ magnitude
   pub high : magnitude ≤ 127
   pub reads : 1 ≤ bounds.least
-  pub room : magnitude * energy_most bounds + 6 * product_off bounds < 540 * (199065600000 * (bounds.least * bounds.least))
+  pub room :
+      magnitude * energy_most bounds + 6 * product_off bounds < 540 * (199065600000 * (bounds.least * bounds.least))
 
 -- given a demodulated value `seen` at subcarrier `k`, both soft values support the bits `first` and `second` with
 -- `magnitude`

@@ -63,7 +63,8 @@ load_c_init load port sfn subframe = (40960 * load + 10240 * port.number + 10 * 
 
 -- the load's QPSK symbol at a resource element (TS 36.211 sections 7.2 and 7.1.2)
 unfoldable pub load_point : ℕ → Port → ℕ → ℕ → ℕ → ℕ → Cpx
-load_point load port sfn subframe symbol k = point_of (gold_bit (load_c_init load port sfn subframe)) (subcarriers * symbol + k)
+load_point load port sfn subframe symbol k =
+    point_of (gold_bit (load_c_init load port sfn subframe)) (subcarriers * symbol + k)
 
 -- the values that a port transmits for a plan with load number `load`
 unfoldable pub loaded_element : ℕ → Port → CellPlan → Elements

@@ -73,7 +73,8 @@ pub(crate) struct PlaceTable {
 // Writes `number` for the resource element `here`, if the table has no index for this element yet. `none` marks
 // elements without an index.
 fn put_number(numbers: &mut [u16; PLACES], none: u16, here: Place, number: u16)
-    ensures here { (c : ℕ) → c < 1008 → place (c / subcarriers) (c % subcarriers) ≡ here → slice_index_or numbers.old c 0 ≡ none →
+    ensures here { (c : ℕ) → c < 1008 → place (c / subcarriers) (c % subcarriers) ≡ here →
+        slice_index_or numbers.old c 0 ≡ none →
         slice_index_or numbers.new c 0 ≡ number }
     ensures taken { (c : ℕ) → (slice_index_or numbers.old c 0 ≡ none → ⊥) →
         slice_index_or numbers.new c 0 ≡ slice_index_or numbers.old c 0 }

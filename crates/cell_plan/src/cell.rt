@@ -91,7 +91,8 @@ fn indicator_of(plan: &CellPlan) -> Option<Cfi>
 fn assignment_of(plan: &CellPlan, cfi: Cfi) -> Option<Assignment>
     requires indicator { cfi ≡ plan.now.cfi }
     requires wide { 2 ≤ plan.now.cfi }
-    ensures { MatchOption result ((nat_le 1 plan.now.blocks && nat_le (plan.now.start + plan.now.blocks) block_count) ≡ false)
+    ensures { MatchOption result
+        ((nat_le 1 plan.now.blocks && nat_le (plan.now.start + plan.now.blocks) block_count) ≡ false)
         (λ assignment. ((nat_le 1 plan.now.blocks && nat_le (plan.now.start + plan.now.blocks) block_count) ≡ true)
         × (assignment ≡ assignment_of plan.now)) }
 {

@@ -23,7 +23,8 @@ use Rattle.cell_tx.specs.Emission.{received_by, IsCleanBy}
 -- the useful part of symbol `l` in a slot begins at sample `useful_start` of the frame, with either cyclic prefix
 abbrev pub UsefulPartsStand : Type 0
 UsefulPartsStand =
-    (prefix : Prefix) (grid : Elements) (sfn slot l n : ℕ) → IsPrefix prefix → l < symbols_of_slot prefix → n < useful_length →
+    (prefix : Prefix) (grid : Elements) (sfn slot l n : ℕ) → IsPrefix prefix → l < symbols_of_slot prefix →
+    n < useful_length →
     prefix_frame_sample prefix grid sfn (useful_start prefix 0 slot l + n)
     ≡ useful_at (grid sfn (slot / 2) (symbols_of_slot prefix * (slot % 2) + l)) n
 

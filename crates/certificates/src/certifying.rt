@@ -61,7 +61,8 @@ pub fn certify<K: Sink>(
     requires small { HasSmallValues receiver }
     requires list { IsListFor receiver recording.now entries.now }
     requires readings { AllZip (IsReadingFor receiver recording.now) entries.now readings.now }
-    ensures ok { OnOk result (HasCertifiedAll receiver recording.now entries.now (K.state sink.old) (K.state sink.new)) }
+    ensures ok { OnOk result
+        (HasCertifiedAll receiver recording.now entries.now (K.state sink.old) (K.state sink.new)) }
     ensures err { OnErr result
         (HasCertifiedSome receiver recording.now entries.now (K.state sink.old) (K.state sink.new)) }
     ensures fault { OnErr result (Rose (K.state sink.old).faults (K.state sink.new).faults) }

@@ -63,7 +63,8 @@ pub record HoldsOne (list : List Entry) (identity first number : ℕ) (is_sent :
 -- the cell's MIB in the frame numbered `number`. The MIB holds the upper 8 bits of the frame number (TS 36.331 section
 -- 6.2.2), and `lasting`, `share` and `bits` are its PHICH duration, PHICH resource and spare bits. The entry was read
 -- from the cell's first whole frame alone, at cost 0.
-pub record IsSentEntryBy (count : ℕ) (lasting : Duration) (share : Resource) (bits : ℕ) (answer : Result Sib1 Sib1Reason)
+pub record IsSentEntryBy (count : ℕ) (lasting : Duration) (share : Resource) (bits : ℕ)
+    (answer : Result Sib1 Sib1Reason)
     (number : ℕ) (entry : Entry) : Type 0 where
   pub ports : entry.ports ≡ count
   pub block : HasFields entry.mib N6 lasting share (number / 4) bits

@@ -16,7 +16,8 @@ place_of n i = i % (3 * n) % n
 unfoldable pub placed_sum : ℕ → ℕ → List ℤ → ℕ → ℕ → ℕ → ℤ
 placed_sum n first values m t p =
     sum_below m
-    (λ i. cond (nat_eq (stream_of n (first + i)) t && nat_eq (place_of n (first + i)) p) (slice_index_or values i (pos 0)) (pos 0))
+    (λ i. cond (nat_eq (stream_of n (first + i)) t && nat_eq (place_of n (first + i)) p)
+    (slice_index_or values i (pos 0)) (pos 0))
 
 -- the table `sums` holds, by stream and position in interleaved order, the sums of the first `m` soft values; the
 -- magnitude of each sum is at most m * 2^15

@@ -1,5 +1,5 @@
--- The MIBs in frames, and the entries made from them. `Decodes` says which MIB frames carry, and `IsSystem` which system
--- information the cell has. (own)
+-- The MIBs in frames, and the entries made from them. `Decodes` says which MIB frames carry, and `IsSystem` which
+-- system information the cell has. (own)
 use Rattle.std.specs.Prelude.{◌≡◌, ℕ, ◌+◌, ◌<◌, ◌≤◌, List, [], ◌∷◌, Option, None, Some, MatchOption, IfSome, Result}
 use Rattle.finite.specs.Lists.{joined_below}
 use Rattle.cs_num.specs.declared.Sample.{Sample}
@@ -16,7 +16,8 @@ use Rattle.explain.specs.Entries.{Adds}
 
 -- frames carry this MIB at a phase, or none
 abbrev pub IsDecodedAt : Decoding → Place → Frames → Option Master → Type 0
-IsDecodedAt Decodes place frames o = MatchOption o ((master : Master) → Decodes place frames master → ⊥) (Decodes place frames)
+IsDecodedAt Decodes place frames o =
+    MatchOption o ((master : Master) → Decodes place frames master → ⊥) (Decodes place frames)
 
 -- the MIBs that frames carry, by phase
 abbrev pub AreDecoded : Decoding → Place → ℕ → ℕ → List (Option Master) → Type 0
@@ -31,7 +32,8 @@ pub record HasMaster (count : ℕ) (masters : List (Option Master)) : Type 0 whe
   pub is : master_at masters phase ≡ Some master
 
 -- `count` frames from frame j carry a MIB, and these are their MIBs
-pub record HaveMasters (Decodes : Decoding) (place : Place) (count j : ℕ) (masters : List (Option Master)) : Type 0 where
+pub record HaveMasters (Decodes : Decoding) (place : Place) (count j : ℕ) (masters : List (Option Master)) :
+    Type 0 where
   pub are : AreDecoded Decodes place count j masters
   pub some : HasMaster count masters
 

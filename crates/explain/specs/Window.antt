@@ -29,7 +29,8 @@ NoneIsDecoded Decodes place count j =
 -- no frames that are tried before these carry a MIB
 abbrev pub HasNoMasterBefore : Decoding → List Sample → Place → ℕ → ℕ → Type 0
 HasNoMasterBefore Decodes recording place count j =
-    (few i : ℕ) → IsInWindow recording place.start few i → ComeBefore (few, i) (count, j) → NoneIsDecoded Decodes place few i
+    (few i : ℕ) → IsInWindow recording place.start few i → ComeBefore (few, i) (count, j) →
+    NoneIsDecoded Decodes place few i
 
 -- no frames that are tried carry a MIB
 abbrev pub HasNoMasters : Decoding → List Sample → Place → Type 0

@@ -7,4 +7,5 @@ sum_at table row column = slice_index_or (slice_index_or table row []) column (p
 
 -- `table` with `v` added to the entry at `row` and `column`
 abbrev pub sums_with : List (List ℤ) → ℕ → ℕ → ℤ → List (List ℤ)
-sums_with table row column v = slice_set table row (slice_set (slice_index_or table row []) column (sum_at table row column +ℤ v))
+sums_with table row column v =
+    slice_set table row (slice_set (slice_index_or table row []) column (sum_at table row column +ℤ v))

@@ -45,7 +45,8 @@ empty_quartet = record { zero = nothing; one = nothing; two = nothing; three = n
 
 -- the contribution of the quartet at index `m` to the DFT at `frequency`
 abbrev pub folded_term : List Quartet → ℕ → ℕ → Cpx
-folded_term folded frequency m = times (taken (slice_index_or folded m empty_quartet) (frequency % 4)) (conjugate (w_at (frequency * m)))
+folded_term folded frequency m =
+    times (taken (slice_index_or folded m empty_quartet) (frequency % 4)) (conjugate (w_at (frequency * m)))
 
 -- every component in the quartet `q` has magnitude at most `bound`
 pub record AreWithin (bound : ℕ) (q : Quartet) : Type 0 where

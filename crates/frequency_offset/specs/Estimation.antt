@@ -16,7 +16,8 @@ pub record HasCells (recording : List Sample) (count : ℕ) : Type 0 where
   pub many : length list ≡ count
 
 -- the candidate's estimate: its offset, its hit count, and how many cells the corrected recording has
-pub record Estimates (recording : List Sample) (candidate : Candidate) (estimate : OffsetEstimate) : Type 0 where
+pub record Estimates (recording : List Sample) (candidate : Candidate) (estimate : OffsetEstimate) :
+    Type 0 where
   pub turn : estimate.turn ≡ candidate.turn
   pub hits : estimate.hits ≡ candidate.hits
   pub cells : HasCells (turned recording candidate.turn) estimate.cells
@@ -26,7 +27,8 @@ abbrev pub IsSilent : List Sample → Candidate → Type 0
 IsSilent recording candidate = HasCells (turned recording candidate.turn) 0
 
 -- the estimate from the first candidate in a list that gives a cell
-pub record IsFirstWithCells (recording : List Sample) (taken : List Candidate) (estimate : OffsetEstimate) : Type 0 where
+pub record IsFirstWithCells (recording : List Sample) (taken : List Candidate) (estimate : OffsetEstimate) :
+    Type 0 where
   pub place : ℕ
   pub inside : place < length taken
   pub silent : AllWithin (IsSilent recording) taken 0 place
@@ -34,7 +36,8 @@ pub record IsFirstWithCells (recording : List Sample) (taken : List Candidate) (
   pub some : 0 < estimate.cells
 
 -- the estimate from the first candidate, if none in the list gives a cell
-pub record IsFirstWithoutCells (recording : List Sample) (taken : List Candidate) (estimate : OffsetEstimate) : Type 0 where
+pub record IsFirstWithoutCells (recording : List Sample) (taken : List Candidate) (estimate : OffsetEstimate) :
+    Type 0 where
   pub inside : 0 < length taken
   pub silent : All (IsSilent recording) taken
   pub estimates : HoldsAt (λ candidate. Estimates recording candidate estimate) taken 0
@@ -42,7 +45,8 @@ pub record IsFirstWithoutCells (recording : List Sample) (taken : List Candidate
 -- the estimate from a list of candidates; none if the list is empty
 abbrev pub IsEstimatedBy : List Sample → List Candidate → Option OffsetEstimate → Type 0
 IsEstimatedBy recording taken None = taken ≡ []
-IsEstimatedBy recording taken (Some estimate) = IsFirstWithCells recording taken estimate ⊎ IsFirstWithoutCells recording taken estimate
+IsEstimatedBy recording taken (Some estimate) =
+    IsFirstWithCells recording taken estimate ⊎ IsFirstWithoutCells recording taken estimate
 
 -- the recording's estimate
 abbrev pub IsEstimated : List Sample → Option OffsetEstimate → Type 0

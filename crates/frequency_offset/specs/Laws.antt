@@ -22,7 +22,8 @@ StaysAtZero =
 -- a recording has only one estimate
 abbrev pub HasOneEstimate : Type 0
 HasOneEstimate =
-    (recording : List Sample) (first second : Option OffsetEstimate) → IsEstimated recording first → IsEstimated recording second →
+    (recording : List Sample) (first second : Option OffsetEstimate) → IsEstimated recording first →
+    IsEstimated recording second →
     first ≡ second
 
 -- a recording is corrected by its estimate in only one way
@@ -33,7 +34,8 @@ IsOneApplied =
 -- if there is an estimate, the corrected recording has as many cells as it states
 abbrev pub ReportedCellsAreListed : Type 0
 ReportedCellsAreListed =
-    (recording applied : List Sample) (estimate : OffsetEstimate) → IsEstimated recording (Some estimate) → IsApplied recording applied →
+    (recording applied : List Sample) (estimate : OffsetEstimate) → IsEstimated recording (Some estimate) →
+    IsApplied recording applied →
     HasCells applied estimate.cells
 
 -- the estimate lies within 67.5 kHz
@@ -42,7 +44,8 @@ pub record IsTurnInRange (estimate : OffsetEstimate) : Type 0 where
   pub most : estimate.turn ≤ℤ pos 575
 
 abbrev pub TurnIsInRange : Type 0
-TurnIsInRange = (recording : List Sample) (estimate : OffsetEstimate) → IsEstimated recording (Some estimate) → IsTurnInRange estimate
+TurnIsInRange = (recording : List Sample) (estimate : OffsetEstimate) → IsEstimated recording (Some estimate) →
+    IsTurnInRange estimate
 
 -- a corrected recording is a recording
 abbrev pub TurnedIsRecording : Type 0

@@ -61,7 +61,8 @@ phich_number identity n n0 m i = ((identity * n) / n0 + m + (i * n) / 3) % n
 -- the resource-element group in a symbol for quadruplet i of PHICH group m
 unfoldable pub phich_group_in : ℕ → ℕ → ℕ → ℕ → Reg
 phich_group_in identity symbol m i =
-    slice_index_or (left_groups identity symbol) (phich_number identity (left_count identity symbol) (left_count identity 0) m i) (group 0 0)
+    slice_index_or (left_groups identity symbol)
+    (phich_number identity (left_count identity symbol) (left_count identity 0) m i) (group 0 0)
 
 -- the resource-element group for quadruplet i of PHICH group m
 abbrev pub phich_group : ℕ → Duration → ℕ → ℕ → Reg

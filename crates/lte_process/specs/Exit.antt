@@ -28,7 +28,8 @@ at_start = (record { left = None; faults = 0 }, record { taken = None; room = No
 -- the answer to arguments, the first of which is the program's name: the program ran with the others, or their
 -- allocation failed
 abbrev pub IsRun : Program → List (List ℕ) → Status → Type 0
-IsRun program arguments status = ((now : Outside) × Runs program (drop 1 arguments) at_start now status) ⊎ (status ≡ OutOfMemory)
+IsRun program arguments status =
+    ((now : Outside) × Runs program (drop 1 arguments) at_start now status) ⊎ (status ≡ OutOfMemory)
 
 -- the answer to the result of reading the process's arguments
 abbrev pub IsAnswerTo : Program → Result (List (List ℕ)) ErrorKind → Status → Type 0

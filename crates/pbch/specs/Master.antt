@@ -29,7 +29,8 @@ pub record PassesWith (ports : ℕ) (word : List Bool) : Type 0 where
 -- the word carries these fields
 abbrev pub Carries : List Bool → Mib → Type 0
 Carries word mib =
-    HasFields mib (bandwidth (field word 0 3)) (duration (field word 3 1)) (resource (field word 4 2)) (field word 6 8) (field word 14 10)
+    HasFields mib (bandwidth (field word 0 3)) (duration (field word 3 1)) (resource (field word 4 2))
+    (field word 6 8) (field word 14 10)
 
 -- the values decode to this word, in a cell with this number of antenna ports
 pub record Decodes (values : List (List ℤ)) (word : List Bool) (ports : ℕ) : Type 0 where
@@ -70,7 +71,8 @@ sums_at sums phase = slice_index_or sums phase []
 
 -- the MIB listed for a phase is decoded from a cell's received frames, `count` of them with `size` bits each in the
 -- period, if the first has that phase; None if they do not fit in one period of four
-pub record IsDecoded (identity size count : ℕ) (received : List ℤ) (masters : List (Option Master)) (phase : ℕ) : Type 0 where
+pub record IsDecoded (identity size count : ℕ) (received : List ℤ) (masters : List (Option Master)) (phase : ℕ) :
+    Type 0 where
   pub decoded : phase + count ≤ 4 →
       let values = summed_values identity (size * phase) received in
       MatchOption (master_at masters phase) (DecodesNothing values) (DecodesMaster values)

@@ -14,7 +14,8 @@ use Rattle.reason_report.specs.Words.{no_hit_word, unread_word}
 
 abbrev pub listed_line : ℕ → ℕ → ℕ → List ℕ
 listed_line start sfn ports =
-    codes "listed at " ++ decimal start ++ codes " sfn " ++ decimal sfn ++ codes " ports " ++ decimal ports ++ codes "\n"
+    codes "listed at " ++ decimal start ++ codes " sfn " ++ decimal sfn
+    ++ codes " ports " ++ decimal ports ++ codes "\n"
 
 abbrev pub strongest_line : List ℕ → ℕ → ℕ → List ℕ
 strongest_line word t ratio =
@@ -38,7 +39,8 @@ attempt_part start phase cost total ports =
     ++ codes " total " ++ decimal total ++ codes " ports " ++ decimal ports ++ codes "\n"
 
 abbrev pub other_line : OtherCell → List ℕ
-other_line cell = hit_part (codes "other-identity") cell.t cell.ratio ++ scores_part cell.id cell.best.score cell.own.score
+other_line cell =
+    hit_part (codes "other-identity") cell.t cell.ratio ++ scores_part cell.id cell.best.score cell.own.score
 
 abbrev pub unread_line : UnreadCell → List ℕ
 unread_line cell =

@@ -43,7 +43,8 @@ bytes_of samples = flat_map sample_bytes samples
 
 -- a law: the bytes of samples are read back as the same samples
 abbrev pub AreReadBack : Type 0
-AreReadBack = (samples : List Sample) → All (λ s. IsWithin 32767 (value_of s)) samples → samples_of (bytes_of samples) ≡ samples
+AreReadBack =
+    (samples : List Sample) → All (λ s. IsWithin 32767 (value_of s)) samples → samples_of (bytes_of samples) ≡ samples
 
 -- ---- sample formats
 

@@ -15,7 +15,8 @@ pub record TakesSamples (form : SampleForm) (bytes : List ℕ) (before now : Lis
   pub few : length begun < width form
 
 -- the bytes read so far are these samples, followed by an incomplete one
-pub record HasReadSamples (form : SampleForm) (samples : List Sample) (begun : List ℕ) (before now : SourceState) : Type 0 where
+pub record HasReadSamples (form : SampleForm) (samples : List Sample) (begun : List ℕ) (before now : SourceState) :
+    Type 0 where
   pub whole : List ℕ
   pub of_whole : length whole % width form ≡ 0
   pub samples_are : samples ≡ samples_in form whole
@@ -37,7 +38,8 @@ pub record TakesFront (form : SampleForm) (most : ℕ) (bytes : List ℕ) (befor
 
 -- the bytes read so far are samples, of which the first are kept, followed by an incomplete one
 pub record HasReadFrontOf (form : SampleForm) (most : ℕ) (kept : List Sample) (count : ℕ) (begun : List ℕ)
-    (before now : SourceState) : Type 0 where
+    (before now : SourceState) :
+    Type 0 where
   pub samples : List Sample
   pub read : HasReadSamples form samples begun before now
   pub are_kept : AreKept most samples kept count

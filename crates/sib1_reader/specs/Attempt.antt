@@ -10,14 +10,16 @@ use Rattle.sib1_reader.specs.Control.{Grants}
 use Rattle.sib1_reader.specs.Block.{Decodes}
 
 -- the grant was decoded, and the resource blocks that it assigns give the answer
-pub record IsGranted (values : Subframe) (indicator : ℕ) (grant : Grant) (answer : Result Sib1 Sib1Reason) : Type 0 where
+pub record IsGranted (values : Subframe) (indicator : ℕ) (grant : Grant) (answer : Result Sib1 Sib1Reason) :
+    Type 0 where
   pub grants : Grants (values.elements indicator) (values.candidate indicator) (Ok grant)
   pub decodes : Decodes (values.shared indicator grant.start grant.blocks) grant answer
 
 -- the answer that follows from the grant; without a grant, the reason for its absence
 abbrev pub Follows : Subframe → ℕ → Option Grant → Result Sib1 Sib1Reason → Type 0
 Follows values indicator (Some grant) answer = IsGranted values indicator grant answer
-Follows values indicator None (Err reason) = Grants (values.elements indicator) (values.candidate indicator) (Err reason)
+Follows values indicator None (Err reason) =
+    Grants (values.elements indicator) (values.candidate indicator) (Err reason)
 Follows values indicator None (Ok fields) = ⊥
 
 -- the attempt on a subframe with these soft values

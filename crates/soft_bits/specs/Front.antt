@@ -19,4 +19,5 @@ AreInFront places = (i : ℕ) → (slice_index_or places i (place 0 0)).symbol %
 -- soft values depend only on a slot's front if all resource elements are in its first four symbols
 abbrev pub LooksAtFront : Valuing → Type 0
 LooksAtFront values =
-    (a b : SeenSlot) (places : List Place) → HaveOneFront a b → AreInFront places → values (λ p. a) places ≡ values (λ p. b) places
+    (a b : SeenSlot) (places : List Place) → HaveOneFront a b → AreInFront places →
+    values (λ p. a) places ≡ values (λ p. b) places

@@ -33,7 +33,8 @@ impl Model for Pilots {
     ghost view = { λ s. record { step = s.step; first = s.first; pilots = take (subcarriers / s.step) s.values } };
 
     ghost invariant = { λ s.
-        (3 ≤ s.step) × IsFilled (record { step = s.step; first = s.first; pilots = take (subcarriers / s.step) s.values }) };
+        (3 ≤ s.step) ×
+        IsFilled (record { step = s.step; first = s.first; pilots = take (subcarriers / s.step) s.values }) };
 }
 
 // Empty pilots, for entries that are not used.

@@ -72,7 +72,8 @@ odd_value s c z n2 even odd n = sign_at s (n + odd) *ℤ sign_at c (n + n2 + 3) 
 
 -- SSS value `k` with the cyclic shifts `even` and `odd`
 unfoldable pub shifted_value : List Bool → List Bool → List Bool → ℕ → ℕ → ℕ → ℕ → ℤ
-shifted_value s c z n2 even odd k = if k % 2 == 0 then even_value s c n2 even (k / 2) else odd_value s c z n2 even odd (k / 2)
+shifted_value s c z n2 even odd k =
+    if k % 2 == 0 then even_value s c n2 even (k / 2) else odd_value s c z n2 even odd (k / 2)
 
 -- SSS value `k` for the group `n1`, the identity `n2` within the group, and a half frame
 unfoldable pub sss_at : ℕ → ℕ → Half → ℕ → ℤ

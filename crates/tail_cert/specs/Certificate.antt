@@ -35,13 +35,15 @@ bound first table (suc i) x = slice_index (slice_index_or table i []) x
 -- along each branch, a bound rises by at most the branch's cost, unless it bounds nothing
 abbrev pub StepsHold : List (List ℤ) → (ℕ → ℕ) → List (List ℕ) → Type 0
 StepsHold values first table = (i x : ℕ) (b : Bool) → i < 40 → x < 64 →
-    bound first table i x ≢ unbounded → bound first table (suc i) (shift x b) ≤ bound first table i x + step_cost values i x b
+    bound first table i x ≢ unbounded →
+    bound first table (suc i) (shift x b) ≤ bound first table i x + step_cost values i x b
 
 -- the cost is a lower bound for every 40-step path from state s back to s: by the state's own table if it has one,
 -- otherwise by the general table
 abbrev pub StartHolds : List (List ℤ) → ℕ → List (List ℕ) → ℕ → Option (List (List ℕ)) → Type 0
 StartHolds values cost general s None = cost ≤ bound from_any general 40 s
-StartHolds values cost general s (Some table) = StepsHold values (from_state s) table × (cost ≤ bound (from_state s) table 40 s)
+StartHolds values cost general s (Some table) =
+    StepsHold values (from_state s) table × (cost ≤ bound (from_state s) table 40 s)
 
 -- the certificate is accepted: the stated cost is the word's, and the general table and every start state hold
 pub record IsAccepted (c : Held) : Type 0 where

@@ -53,7 +53,8 @@ maybe_bytes (Some table) = table_bytes table
 -- set of start states, and their tables; a table has its bounds by step and state
 unfoldable pub bytes_of : Held → List ℕ
 bytes_of c =
-    mark ++ flat_map place_bytes c.values ++ word_bytes c.word ++ entry_bytes c.cost ++ table_bytes c.general ++ set_bytes c.tables
+    mark ++ flat_map place_bytes c.values ++ word_bytes c.word ++ entry_bytes c.cost
+    ++ table_bytes c.general ++ set_bytes c.tables
     ++ flat_map maybe_bytes c.tables
 
 -- the bytes with a piece replaced from offset `at` on

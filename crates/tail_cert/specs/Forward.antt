@@ -34,6 +34,7 @@ pub record IsTableFrom (values : List (List ℤ)) (s : ℕ) (table : List (List 
 -- each bound in the general table is the minimum cost after its step from any state; a start state has a table exactly
 -- if its bound in the general table is below the cost, and that table holds the minimum costs from the state
 pub record IsFilled (c : Held) : Type 0 where
-  pub least : (i x : ℕ) → i < 40 → x < 64 → IsLeastTo shift (step_cost c.values) from_any 64 (suc i) x (bound from_any c.general (suc i) x)
+  pub least : (i x : ℕ) → i < 40 → x < 64 →
+      IsLeastTo shift (step_cost c.values) from_any 64 (suc i) x (bound from_any c.general (suc i) x)
   pub needed : (s : ℕ) → s < 64 → IsSome (slice_index_or c.tables s None) ↔ (bound from_any c.general 40 s < c.cost)
   pub own : (s : ℕ) → s < 64 → IfSome (slice_index_or c.tables s None) (HasLeastFrom c.values s)

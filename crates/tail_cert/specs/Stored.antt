@@ -27,7 +27,8 @@ pub record AreStored (set : List Bool) (tables : List (List (List ℕ))) : Type 
   pub room : HaveTables set tables
 
 -- the invariant of a certificate in memory
-pub record IsStored (values : List (List ℤ)) (word : List Bool) (cost : ℕ) (general : List (List ℕ)) (set : List Bool) (tables : List (List (List ℕ))) : Type 0 where
+pub record IsStored (values : List (List ℤ)) (word : List Bool) (cost : ℕ) (general : List (List ℕ))
+    (set : List Bool) (tables : List (List (List ℕ))) : Type 0 where
   pub places : Counted 40 IsTriple values
   pub bits : length word ≡ 40
   pub fits : cost < 2 ^ 32

@@ -16,7 +16,8 @@ even_codes =
 -- opposite bits
 unfoldable pub spread_costs : List ℕ → List ℕ
 spread_costs by_code =
-    map (λ code. slice_index_or by_code code 0) even_codes ++ map (λ code. slice_index_or by_code (7 - code) 0) even_codes
+    map (λ code. slice_index_or by_code code 0) even_codes
+    ++ map (λ code. slice_index_or by_code (7 - code) 0) even_codes
 
 -- the cost of the coded bits with this number against one position's values
 abbrev pub code_cost : List ℤ → ℕ → ℕ

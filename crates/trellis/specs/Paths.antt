@@ -15,7 +15,8 @@ path_cost next c k x (b ∷ bs) = c k x b + path_cost next c (suc k) (next x b) 
 abbrev pub best : (ℕ → Bool → ℕ) → (ℕ → ℕ → Bool → ℕ) → (ℕ → ℕ) → ℕ → ℕ → ℕ → ℕ
 best next c ends k zero x = ends x
 best next c ends k (suc n) x =
-    min (c k x false + best next c ends (suc k) n (next x false)) (c k x true + best next c ends (suc k) n (next x true))
+    min (c k x false + best next c ends (suc k) n (next x false))
+    (c k x true + best next c ends (suc k) n (next x true))
 
 -- the first bit on a cheapest path of n + 1 steps from step k and state x. A tie gives 0, which makes the word
 -- lexicographically first.

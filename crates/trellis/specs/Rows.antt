@@ -9,7 +9,8 @@ least_in edge row p b q d = min (slice_index row p + edge p b) (slice_index row 
 
 -- the minimum cost from state `x`; `row` holds the minimum cost from each state one step later
 abbrev pub least_out : (ℕ → Bool → ℕ) → (ℕ → Bool → ℕ) → List ℕ → ℕ → ℕ
-least_out next edge row x = min (edge x false + slice_index row (next x false)) (edge x true + slice_index row (next x true))
+least_out next edge row x =
+    min (edge x false + slice_index row (next x false)) (edge x true + slice_index row (next x true))
 
 -- the first bit on a cheapest path from state `x`; a tie gives 0
 abbrev pub bit_out : (ℕ → Bool → ℕ) → (ℕ → Bool → ℕ) → List ℕ → ℕ → Bool
@@ -18,6 +19,7 @@ bit_out next edge row x =
 
 -- `row` holds the minimum cost of `k` steps to each state below `limit`, start costs included, and each of these costs
 -- is at most `first` plus `most` per step
-pub record IsLeastRow (next : ℕ → Bool → ℕ) (c : ℕ → ℕ → Bool → ℕ) (starts : ℕ → ℕ) (limit first most k : ℕ) (row : List ℕ) : Type 0 where
+pub record IsLeastRow (next : ℕ → Bool → ℕ) (c : ℕ → ℕ → Bool → ℕ) (starts : ℕ → ℕ)
+    (limit first most k : ℕ) (row : List ℕ) : Type 0 where
   pub least : (x : ℕ) → x < limit → IsLeastTo next c starts limit k x (slice_index row x)
   pub room : (x : ℕ) → x < limit → slice_index row x ≤ first + k * most

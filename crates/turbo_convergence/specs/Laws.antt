@@ -86,7 +86,8 @@ ReceivedSumsConvey =
 -- sum has the sign of its coded bit and is not 0
 abbrev pub WholeSumsSpeak : Type 0
 WholeSumsSpeak =
-    (row : Row) (word : List Bool) (rv : ℕ) (values : List ℤ) → IsAnyRow row → rv < 4 → ValuesSupport 1 row word rv values →
+    (row : Row) (word : List Bool) (rv : ℕ) (values : List ℤ) → IsAnyRow row → rv < 4 →
+    ValuesSupport 1 row word rv values →
     3 * (row.k + 4) ≤ length values → SumsSupport 1 row word (summed row.k rv values)
 
 -- ---- decoding received values

@@ -16,13 +16,15 @@ handed_on e = e -ℤ int_div e (pos 4)
 -- the first decoder's extrinsic values, from the combined soft values and its prior
 unfoldable pub first_extrinsics : Row → List (List ℤ) → List ℤ → List ℤ
 first_extrinsics row sums prior =
-    extrinsics (values_of (bits_of_stream (pos 0) row sums 0) (bits_of_stream (pos 0) row sums 1) (tail_items (pos 0) sums row.k) prior)
+    extrinsics (values_of (bits_of_stream (pos 0) row sums 0) (bits_of_stream (pos 0) row sums 1)
+    (tail_items (pos 0) sums row.k) prior)
 
 -- the second decoder's extrinsic values, deinterleaved, from the combined soft values and its prior
 unfoldable pub second_extrinsics : Row → List (List ℤ) → List ℤ → List ℤ
 second_extrinsics row sums handed =
     in_word_order (pos 0) row (extrinsics (values_of
-    (in_order (pos 0) row (bits_of_stream (pos 0) row sums 0)) (bits_of_stream (pos 0) row sums 2) (tail_items (pos 0) sums (row.k + 2))
+    (in_order (pos 0) row (bits_of_stream (pos 0) row sums 0)) (bits_of_stream (pos 0) row sums 2)
+    (tail_items (pos 0) sums (row.k + 2))
     (in_order (pos 0) row handed)))
 
 -- the second decoder's extrinsic values in an iteration, from the first decoder's prior

@@ -15,7 +15,8 @@ step_cost v k x u = edge_cost (at v.systematic k +ℤ at v.prior k) (at v.parity
 
 -- the cost of tail step j from state x
 abbrev pub tail_step_cost : List ℤ → ℕ → ℕ → ℕ
-tail_step_cost tail j x = disagreement (at tail (2 * j)) (tail_bit x) + disagreement (at tail (2 * j + 1)) (tail_parity x)
+tail_step_cost tail j x =
+    disagreement (at tail (2 * j)) (tail_bit x) + disagreement (at tail (2 * j + 1)) (tail_parity x)
 
 -- the cost of the three tail steps from state x
 abbrev pub tail_cost : List ℤ → ℕ → ℕ
@@ -24,7 +25,8 @@ tail_cost tail x = tail_step_cost tail 0 x + tail_step_cost tail 1 (x / 2) + tai
 -- the minimum cost to state x, given the row of minimum costs one step before
 abbrev pub forward_least : ℤ → ℤ → List ℕ → ℕ → ℕ
 forward_least sum parity row x =
-    least_in (edge_cost sum parity) row (first_from x) (bit_to (first_from x) x) (second_from x) (bit_to (second_from x) x)
+    least_in (edge_cost sum parity) row (first_from x) (bit_to (first_from x) x)
+    (second_from x) (bit_to (second_from x) x)
 
 -- the minimum cost from state x, given the row of minimum costs one step later
 abbrev pub backward_least : ℤ → ℤ → List ℕ → ℕ → ℕ

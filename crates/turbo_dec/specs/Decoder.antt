@@ -45,7 +45,8 @@ score v word = sum_below (length v.systematic) (score_at v word) +ℤ sum_below 
 
 -- the maximum score among words whose bit k is b
 unfoldable pub greatest_score : Values → ℕ → Bool → ℤ
-greatest_score v k b = greatest k (λ before. greatest (length v.systematic - k - 1) (λ after. score v (before ++ b ∷ after)))
+greatest_score v k b =
+    greatest k (λ before. greatest (length v.systematic - k - 1) (λ after. score v (before ++ b ∷ after)))
 
 -- the number clamped to -2047 to 2047
 abbrev pub within_2047 : ℤ → ℤ

@@ -13,9 +13,11 @@ pub record IsGreatest (v : Values) (k : ℕ) (b : Bool) (m : ℤ) : Type 0 where
 
 -- `greatest_score` is the maximum score of a word with the given bit, for all values
 abbrev pub GreatestScoresAreGreatest : Type 0
-GreatestScoresAreGreatest = (v : Values) (k : ℕ) (b : Bool) → k < length v.systematic → IsGreatest v k b (greatest_score v k b)
+GreatestScoresAreGreatest =
+    (v : Values) (k : ℕ) (b : Bool) → k < length v.systematic → IsGreatest v k b (greatest_score v k b)
 
 -- deinterleaving undoes interleaving
 abbrev pub OrdersUndoEachOther : Type 0
 OrdersUndoEachOther =
-    (row : Row) (values : List ℤ) → IsAnyRow row → length values ≡ row.k → in_word_order (pos 0) row (in_order (pos 0) row values) ≡ values
+    (row : Row) (values : List ℤ) → IsAnyRow row → length values ≡ row.k →
+    in_word_order (pos 0) row (in_order (pos 0) row values) ≡ values
