@@ -9,23 +9,26 @@ use Rattle.dci.specs.declared.grant.Grant.{Grant}
 use Rattle.pbch.specs.declared.master.Master.{Master}
 use Rattle.sib1_reader.specs.declared.reading.Attempt.{Attempt}
 
--- the MIB that frames of the cell at a place carry
+-- a relation between a cell's place, some of its frames, and a MIB that the frames carry
 abbrev pub Decoding : Type 1
 Decoding = Place → Frames → Master → Type 0
 
--- the system information for the cell at a place, by the number of its first frame, its antenna port count and its MIB
+-- a relation between a cell's place, its first system frame number, its antenna port count, its MIB, and its system
+-- information or the reason for its absence
 abbrev pub Informing : Type 1
 Informing = Place → ℕ → ℕ → Mib → Result Sib1 Sib1Reason → Type 0
 
--- the answer of one frame of a cell, by its number, counted from the first frame
+-- a relation between a frame, by its index from the cell's first frame, and the system information that the frame
+-- carries, or the reason for its absence
 abbrev pub Answering : Type 1
 Answering = ℕ → Result Sib1 Sib1Reason → Type 0
 
--- the attempt to read system information in one frame of a cell, by its number, counted from the first frame
+-- a relation between a frame, by its index from the cell's first frame, and the attempt to read system information in
+-- the frame
 abbrev pub Attempting : Type 1
 Attempting = ℕ → Attempt → Type 0
 
--- the indicator and the grant with which an answer was read for the cell at a place, or none, by the number of its
--- first frame and its MIB
+-- a relation between a cell's place, its first system frame number, its MIB, its system information, and the control
+-- format indicator and grant with which the system information was read, or none
 abbrev pub Granting : Type 1
 Granting = Place → ℕ → Mib → Result Sib1 Sib1Reason → Option (ℕ × Grant) → Type 0

@@ -7,15 +7,16 @@ use Rattle.lte_types.specs.Numerology.{frame_length, normal, useful_start}
 use Rattle.observe.specs.Seen.{seen_symbol}
 use Rattle.soft_bits.specs.Soft.{SeenSlot}
 
--- the first sample of frame j, from a start (TS 36.211 section 4.1)
+-- the first sample of frame j of a cell whose frame 0 begins at sample `start` (TS 36.211 section 4.1)
 abbrev pub frame_at : ℕ → ℕ → ℕ
 frame_at start j = start + frame_length * j
 
--- the frame lies within the recording
+-- frame j of a cell whose frame 0 begins at sample `start` lies within the recording
 abbrev pub IsWhole : List Sample → ℕ → ℕ → Type 0
 IsWhole recording start j = start + frame_length * (j + 1) ≤ length recording
 
--- the demodulated slot in a frame that begins at sample f: its seven symbols, with the normal cyclic prefix
+-- the demodulated slot `number`, 0 to 19, in a frame that begins at sample f: its seven symbols, with the normal cyclic
+-- prefix
 unfoldable pub seen_slot : List Sample → ℕ → ℕ → ℕ → SeenSlot
 seen_slot recording f number identity =
     record {
@@ -24,10 +25,11 @@ seen_slot recording f number identity =
       identity = identity;
     }
 
--- the slot in frame j that carries the PBCH, for a cell with this start (TS 36.211 section 6.6.4)
+-- the demodulated slot that carries the PBCH, slot 1, in frame j of a cell whose frame 0 begins at sample `start` (TS
+-- 36.211 section 6.6.4)
 abbrev pub broadcast_slot : List Sample → ℕ → ℕ → ℕ → SeenSlot
 broadcast_slot recording identity start j = seen_slot recording (frame_at start j) 1 identity
 
--- the soft values of `count` frames from frame j, frame after frame
+-- the soft values of `count` consecutive frames from frame j, in frame order, where `values` gives those of one frame
 abbrev pub values_in : (ℕ → List ℤ) → ℕ → ℕ → List ℤ
 values_in values count j = flat_map (λ frame. frame) (values_below count (λ m. values (j + m)))

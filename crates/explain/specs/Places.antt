@@ -3,10 +3,10 @@ use Rattle.std.specs.Prelude.{◌&&◌, Bool, nat_eq, List}
 use Rattle.std.specs.List.{list_any}
 use Rattle.lte_types.specs.CellPlace.{Place}
 
--- two places have equal identities and starts
+-- whether two places have equal identities and starts
 abbrev pub is_same_place : Place → Place → Bool
 is_same_place a b = nat_eq a.id b.id && nat_eq a.start b.start
 
--- a place is among the places found so far
+-- whether `place` is among the places found so far
 abbrev pub is_met : List Place → Place → Bool
 is_met places place = list_any (λ met. is_same_place met place) places

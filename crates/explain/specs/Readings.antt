@@ -13,33 +13,33 @@ use Rattle.explain.specs.Receiver.{Receiver, one_port_receiver, hits_by, place_b
 use Rattle.explain.specs.Entries.{place_of, frames_of}
 use Rattle.explain.specs.Grant.{IsGrantFor}
 
--- a hit is the first in a list of hits that gives a place, where `place` says which place a hit gives
+-- `hit` is the first in `hits` whose place is `wanted`, where `place` gives a hit's place
 pub record IsFirstAt (place : Hit → Place) (hits : List Hit) (wanted : Place) (hit : Hit) : Type 0 where
   pub at : ℕ
   pub is : slice_get hits at ≡ Some hit
   pub decodes : place hit ≡ wanted
   pub first : (h : ℕ) (other : Hit) → h < at → slice_get hits h ≡ Some other → place other ≢ wanted
 
--- the reading of an entry of these hits, where `summed` gives the combined soft values for frames, and `IsGrant` the
--- indicator and the grant for system information
+-- `reading` is how `entry` was read from `hits`. `summed` gives the combined soft values for frames, and `IsGrant` the
+-- control format indicator and the grant for system information.
 pub record IsReadingBy (summed : Place → Frames → List (List ℤ)) (IsGrant : Granting) (place : Hit → Place)
     (hits : List Hit) (entry : Entry) (reading : Reading) : Type 0 where
   pub hit : IsFirstAt place hits (place_of entry) reading.hit
   pub sums : reading.sums ≡ summed (place_of entry) (frames_of entry)
   pub granted : IsGrant (place_of entry) entry.sfn entry.mib entry.sib1 reading.granted
 
--- the combined soft values for `count` of a cell's frames from frame j, at each phase of the first
+-- `all` gives the combined soft values of `count` frames from frame j, for each phase of the first frame
 abbrev pub AreSums : (Frames → List (List ℤ)) → ℕ → ℕ → List (List (List ℤ)) → Type 0
 AreSums sums count j all = (phase : ℕ) → phase + count ≤ 4 → sums_at all phase ≡ sums (frames_from count j phase)
 
 -- ---- how a receiver reads
 
--- the reading of an entry of these hits, for a receiver
+-- how a receiver read an entry from a list of hits
 abbrev pub IsReadingOf : Receiver → List Sample → List Hit → Entry → Reading → Type 0
 IsReadingOf receiver recording =
     IsReadingBy (sums_by receiver recording) (IsGrantFor receiver recording) (place_by receiver.carrier recording)
 
--- the reading of an entry in a recording, from the hits that the receiver uses
+-- how a receiver read an entry from the recording's hits
 abbrev pub IsReadingFor : Receiver → List Sample → Entry → Reading → Type 0
 IsReadingFor receiver recording = IsReadingOf receiver recording (hits_by receiver.carrier recording)
 
@@ -48,13 +48,13 @@ abbrev pub IsOneReading : Type 0
 IsOneReading = (receiver : Receiver) (recording : List Sample) (entry : Entry) (a b : Reading) →
     IsReadingFor receiver recording entry a → IsReadingFor receiver recording entry b → a ≡ b
 
--- the reading of an entry in a recording, for one antenna port
+-- how an entry was read from the recording's hits, with one antenna port
 abbrev pub IsReading : List Sample → Entry → Reading → Type 0
 IsReading = IsReadingFor one_port_receiver
 
 -- ---- as in the code
 
--- when the list gains an entry, a parallel list gains its reading at the same index
+-- `entry` is inserted into the list `old`, and `reading` at the same index into the parallel list `before`
 pub record AreInserted (entry : Entry) (reading : Reading) (old new : List Entry) (before after : List Reading) :
     Type 0 where
   pub at : ℕ
@@ -67,11 +67,12 @@ pub record AreKept (old new : List Entry) (before after : List Reading) : Type 0
   pub entries : new ≡ old
   pub readings : after ≡ before
 
--- both lists do not change, or each gains one item at the same index
+-- the list and the parallel list of readings do not change, or each gains one item at the same index
 abbrev pub AddsBeside : Entry → Reading → List Entry → List Entry → List Reading → List Reading → Type 0
 AddsBeside entry reading old new before after =
     AreKept old new before after ⊎ AreInserted entry reading old new before after
 
--- the parallel list keeps the readings for all entries in the list
+-- the parallel list still has the reading of each entry at the entry's index, where `Is` says which reading an entry
+-- has
 abbrev pub KeepsReadings : (Entry → Reading → Type 0) → List Entry → List Entry → List Reading → List Reading → Type 0
 KeepsReadings Is old new before after = AllZip Is old before → AllZip Is new after

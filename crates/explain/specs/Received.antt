@@ -7,21 +7,21 @@ use Rattle.explain.specs.Decoded.{Decoding}
 use Rattle.explain.specs.Window.{NoneIsDecoded}
 use Rattle.explain.specs.Masters.{HaveMasters}
 
--- the MIB that is accepted, if there is one
+-- the decoded MIB, if there is one and its antenna port count is accepted, where `takes` says which counts are
 abbrev pub taken_of : (ℕ → Bool) → Option Master → Option Master
 taken_of takes None = None
 taken_of takes (Some master) = if takes master.ports then Some master else None
 
--- a list of frames holds the soft values received in consecutive frames from frame j
+-- `frames` holds the soft values received in consecutive frames, from frame j on
 abbrev pub AreReceived : (ℕ → List ℤ) → ℕ → List (List ℤ) → Type 0
 AreReceived values j frames = frames ≡ values_below (length frames) (λ m. values (j + m))
 
--- no `count` consecutive frames among the first `whole` ones carry a MIB
+-- no `count` consecutive frames among the first `whole` frames carry a MIB
 abbrev pub NoneDecodes : Decoding → Place → ℕ → ℕ → Type 0
 NoneDecodes Decodes place whole count = (j : ℕ) → j + count ≤ whole → NoneIsDecoded Decodes place count j
 
--- the frames from frame j are the first `count` consecutive ones among the first `whole` that carry a MIB, and these
--- are their MIBs
+-- the frames from frame j are the first `count` consecutive frames among the first `whole` that carry a MIB, and
+-- `masters` gives their MIBs by phase
 pub record AreFirstOf (Decodes : Decoding) (place : Place) (whole count j : ℕ)
     (masters : List (Option Master)) : Type 0 where
   pub within : j + count ≤ whole

@@ -19,14 +19,15 @@ use Rattle.sib1_reader.specs.Subframe.{Subframe, subframe_by}
 use Rattle.explain.specs.declared.scheme.Scheme.{Scheme}
 use Rattle.explain.specs.Frame.{seen_slot, frame_at, broadcast_slot, values_in}
 
--- the soft values of subframe 5 of frame j of the cell at a place, with this PHICH duration and resource
+-- the soft values of subframe 5, by recording, the cell's place, frame index, PHICH duration and PHICH resource
 abbrev pub Subframes : Type 0
 Subframes = List Sample → Place → ℕ → Duration → Resource → Subframe
 
+-- a receiver of one transmission scheme: its constants, and the soft values of a cell's PBCH and subframe 5
 pub record Receiver : Type 0 where
   -- the transmission scheme
   pub carrier : Carrier
-  -- the number of PBCH soft values in a frame
+  -- the number of PBCH soft values in one frame
   pub count : ℕ
   -- the PBCH soft values in frame j of the cell at a place
   pub broadcast : List Sample → Place → ℕ → List ℤ
@@ -34,7 +35,8 @@ pub record Receiver : Type 0 where
   pub most_frames : ℕ
   -- the antenna port count that a MIB must carry; if there is none, every count is accepted
   pub ports : Option ℕ
-  -- the soft values in subframe 5, from which system information is read, or the reason why it is not read
+  -- the soft values of subframe 5, from which system information is read, or the reason why system information is not
+  -- read
   pub subframe : Result Subframes Sib1Reason
 
 -- the constants of a receiver
@@ -45,21 +47,25 @@ scheme_of receiver = record {
   ports = receiver.ports;
 }
 
--- whether a MIB with this antenna port count is accepted
+-- whether a MIB with the antenna port count `count` is accepted
 abbrev pub is_wanted : Option ℕ → ℕ → Bool
 is_wanted None count = true
 is_wanted (Some wanted) count = nat_eq count wanted
 
 -- ---- receivers that read slots with the normal cyclic prefix, for any `Valuing`
 
+-- the PBCH soft values in frame j of the cell at `place`, from slot 1 of the frame
 abbrev pub broadcast_by : Valuing → List Sample → Place → ℕ → List ℤ
 broadcast_by values recording place j = received_values_by values (broadcast_slot recording place.id place.start j)
 
+-- the soft values of subframe 5 of frame j of the cell at `place`, from slots 10 and 11 of the frame
 abbrev pub subframes_by : Carrier → Valuing → Subframes
 subframes_by carrier values recording place j =
     subframe_by carrier values (seen_slot recording (frame_at place.start j) 10 place.id)
     (seen_slot recording (frame_at place.start j) 11 place.id)
 
+-- the receiver for a transmission scheme with the normal cyclic prefix: a frame has 480 PBCH soft values, and up to
+-- four frames are combined
 abbrev pub by_slots : Carrier → Option ℕ → Valuing → Receiver
 by_slots kind wanted values = record {
   carrier = kind;
@@ -76,26 +82,28 @@ one_port_receiver = by_slots OnePort None placed_values
 
 -- ---- hits, places and sums for a receiver
 
--- there is room before a hit for the secondary signal, one symbol earlier
+-- whether the recording contains the useful part of the symbol before the hit's, which carries the secondary signal
 abbrev pub has_step_before : Carrier → Hit → Bool
 has_step_before carrier hit = nat_le (symbol_step (prefix_of carrier)) hit.t
 
--- the hits that a receiver uses: those with room before them for the secondary signal, which with the normal prefix are
--- all hits
+-- the hits that a receiver uses: those for which the recording contains the useful part of the preceding symbol, which
+-- carries the secondary signal. With the normal cyclic prefix these are all hits.
 abbrev pub hits_by : Carrier → List Sample → List Hit
 hits_by carrier recording =
     if is_extended (prefix_of carrier) then filter (has_step_before carrier) (hits_of recording) else hits_of recording
 
--- a hit lies in the span of one frame, with room before it for the secondary signal
+-- the hit lies in the span of one frame, and the recording contains the useful part of the preceding symbol, which
+-- carries the secondary signal
 pub record HasRoom (carrier : Carrier) (hit : Hit) : Type 0 where
   pub span : IsInSpan hit
   pub before : symbol_step (prefix_of carrier) ≤ hit.t
 
--- the place of a hit's cell
+-- the place of a hit's cell, for a transmission scheme
 abbrev pub place_by : Carrier → List Sample → Hit → Place
 place_by carrier recording hit = prefix_place (prefix_of carrier) recording hit
 
--- the combined soft values for a MIB in a cell's frames, frame after frame, the first of them at its phase
+-- the combined PBCH soft values of a cell's frames, by index and stream of the codeword. The first frame is at its
+-- phase in the period of four.
 abbrev pub sums_by : Receiver → List Sample → Place → Frames → List (List ℤ)
 sums_by receiver recording place frames =
     summed_values place.id (receiver.count * frames.phase)

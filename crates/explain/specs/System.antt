@@ -18,7 +18,7 @@ use Rattle.explain.specs.Decoded.{Answering, Informing}
 
 -- ---- the frames that are tried; `Answers` gives each answer, by its frame counted from the first
 
--- even-numbered frame i, counted from the first frame, whose number is sfn
+-- the index of a cell's even-numbered frame i, counted from its first frame, which has the system frame number sfn
 abbrev pub even_frame : ℕ → ℕ → ℕ
 even_frame sfn i = sfn % 2 + 2 * i
 
@@ -27,45 +27,47 @@ pub record IsTried (recording : List Sample) (start sfn i : ℕ) : Type 0 where
   pub among : i < 8
   pub whole : IsWhole recording start (even_frame sfn i)
 
--- these are the fields of the first tried frame that answers with any
+-- `fields` are the SIB1 fields of the first tried frame that carries any
 pub record IsFirstRead (Answers : Answering) (recording : List Sample) (start sfn : ℕ) (fields : Sib1) : Type 0 where
   pub i : ℕ
   pub tried : IsTried recording start sfn i
   pub answers : Answers (even_frame sfn i) (Ok fields)
   pub first : (h : ℕ) (other : Sib1) → h < i → Answers (even_frame sfn h) (Ok other) → ⊥
 
--- no tried frame answers with fields, and the first frame has this reason
+-- no tried frame carries SIB1 fields, and `reason` is that of the first even-numbered frame
 pub record IsNoneRead (Answers : Answering) (recording : List Sample) (start sfn : ℕ) (reason : Sib1Reason) :
     Type 0 where
   pub none : (i : ℕ) (fields : Sib1) → IsTried recording start sfn i → Answers (even_frame sfn i) (Ok fields) → ⊥
   pub refused : Answers (even_frame sfn 0) (Err reason)
 
--- the first fields that are read, or else the reason of the first frame
+-- the SIB1 fields of the first tried frame that carries any; if none does, the reason of the first even-numbered frame
 abbrev pub IsReadFrom : Answering → List Sample → ℕ → ℕ → Result Sib1 Sib1Reason → Type 0
 IsReadFrom Answers recording start sfn (Ok fields) = IsFirstRead Answers recording start sfn fields
 IsReadFrom Answers recording start sfn (Err reason) = IsNoneRead Answers recording start sfn reason
 
 -- ---- the first rule that applies
 
--- a cell's antenna port count is not the transmission scheme's
+-- the reported reason applies: the cell's antenna port count `ports` is not the transmission scheme's, `wanted`
 pub record HasOtherPorts (wanted ports reported : ℕ) : Type 0 where
   pub reported_is : reported ≡ ports
   pub other : ports ≢ wanted
 
--- a cell has the right antenna port count, but is not 6 resource blocks wide
+-- the reported reason applies: the cell has the transmission scheme's antenna port count, but is not 6 resource blocks
+-- wide
 pub record HasOtherWidth (wanted ports : ℕ) (width reported : Bandwidth) : Type 0 where
   pub as_wanted : ports ≡ wanted
   pub reported_is : reported ≡ width
   pub other : width ≢ N6
 
--- a cell has the right antenna port count and 6 resource blocks, and its frames give this answer
+-- the cell has the transmission scheme's antenna port count and 6 resource blocks, and `sib1` is read from its frames
 pub record IsSearched (Answers : Answering) (recording : List Sample) (start sfn : ℕ) (carrier : Carrier) (ports : ℕ)
     (width : Bandwidth) (sib1 : Result Sib1 Sib1Reason) : Type 0 where
   pub as_wanted : ports ≡ ports_of carrier
   pub six_blocks : width ≡ N6
   pub read : IsReadFrom Answers recording start sfn sib1
 
--- the system information for a transmission scheme
+-- a cell's system information for a transmission scheme, or the first reason that applies: the antenna port count, the
+-- width, then the frames
 abbrev pub IsSystemBy : Carrier → Answering → List Sample → ℕ → ℕ → ℕ → Mib → Result Sib1 Sib1Reason → Type 0
 IsSystemBy carrier Answers recording start sfn ports mib (Err (NotOnePort reported)) =
     HasOtherPorts (ports_of carrier) ports reported
@@ -76,17 +78,18 @@ IsSystemBy carrier Answers recording start sfn ports mib sib1 =
 
 -- ---- the system information for a receiver
 
--- the answer of frame j of the cell at a place, from the soft values of its subframe 5
+-- the system information in frame j of the cell at `place`, or the reason for its absence, from the soft values of
+-- subframe 5
 abbrev pub FrameAnswers : Subframes → List Sample → Place → Mib → Answering
 FrameAnswers values recording place mib j answer = Reads (values recording place j mib.duration mib.resource) answer
 
--- the system information from the soft values of subframe 5, or the reason why there are none
+-- a cell's system information, read from the soft values of subframe 5, or the reason why the receiver does not read it
 abbrev pub IsSystemWith : Carrier → Result Subframes Sib1Reason → List Sample → Informing
 IsSystemWith carrier (Ok values) recording place sfn ports mib sib1 =
     IsSystemBy carrier (FrameAnswers values recording place mib) recording place.start sfn ports mib sib1
 IsSystemWith carrier (Err reason) recording place sfn ports mib sib1 = sib1 ≡ Err reason
 
--- the system information that a receiver reads for the cell at a place, by the number of its first frame, its antenna
--- port count and its MIB
+-- the system information that a receiver reads for the cell at a place, given its first system frame number, its
+-- antenna port count and its MIB
 abbrev pub IsSystemFor : Receiver → List Sample → Informing
 IsSystemFor receiver = IsSystemWith receiver.carrier receiver.subframe

@@ -1,6 +1,6 @@
--- The frames in which a cell's MIBs are searched: those of its frames 0 to 7 that lie within the recording, one alone
--- or two to four consecutive ones in one period of four. `Decodes` says which MIB frames carry; for a receiver that
--- combines fewer frames, more of them carry none. (own)
+-- The frames in which a cell's MIBs are searched: those of its frames 0 to 7 that lie within the recording, first
+-- single frames, then two to four consecutive ones in one period of four. `Decodes` says which MIB frames carry; for a
+-- receiver that combines fewer frames, it says that larger groups carry none. (own)
 use Rattle.std.specs.Prelude.{◌≡◌, ◌⊎◌, ℕ, ◌+◌, ◌<◌, ◌≤◌, List}
 use Rattle.cs_num.specs.declared.Sample.{Sample}
 use Rattle.lte_types.specs.CellPlace.{Place}
@@ -9,15 +9,15 @@ use Rattle.pbch.specs.declared.master.Master.{Master}
 use Rattle.explain.specs.Frame.{IsWhole}
 use Rattle.explain.specs.Decoded.{Decoding}
 
--- `count` frames from frame j are tried together
+-- `count` consecutive frames from frame j, 1 to 4 of frames 0 to 7, are tried together; they lie within the recording
 pub record IsInWindow (recording : List Sample) (start count j : ℕ) : Type 0 where
   pub some : 1 ≤ count
   pub few : count ≤ 4
   pub known : j + count ≤ 8
   pub whole : (m : ℕ) → m < count → IsWhole recording start (j + m)
 
--- consecutive frames, given by their count and their first frame, are tried before others: they are fewer, or as many
--- and begin earlier
+-- `few` frames from frame i are tried before `count` frames from frame j: they are fewer, or equally many and begin
+-- earlier
 abbrev pub ComeBefore : ℕ × ℕ → ℕ × ℕ → Type 0
 ComeBefore (few, i) (count, j) = (few < count) ⊎ ((few ≡ count) × (i < j))
 
@@ -26,7 +26,7 @@ abbrev pub NoneIsDecoded : Decoding → Place → ℕ → ℕ → Type 0
 NoneIsDecoded Decodes place count j =
     (phase : ℕ) (master : Master) → phase + count ≤ 4 → Decodes place (frames_from count j phase) master → ⊥
 
--- no frames that are tried before these carry a MIB
+-- no frames that are tried before the `count` frames from frame j carry a MIB
 abbrev pub HasNoMasterBefore : Decoding → List Sample → Place → ℕ → ℕ → Type 0
 HasNoMasterBefore Decodes recording place count j =
     (few i : ℕ) → IsInWindow recording place.start few i → ComeBefore (few, i) (count, j) →
@@ -37,7 +37,7 @@ abbrev pub HasNoMasters : Decoding → List Sample → Place → Type 0
 HasNoMasters Decodes recording place =
     (count j : ℕ) → IsInWindow recording place.start count j → NoneIsDecoded Decodes place count j
 
--- `count` frames from frame j are tried, and none before them carry a MIB
+-- `count` frames from frame j are tried, and no frames tried earlier carry a MIB
 pub record AreFirstFrames (Decodes : Decoding) (recording : List Sample) (place : Place) (count j : ℕ) : Type 0 where
   pub inside : IsInWindow recording place.start count j
   pub first : HasNoMasterBefore Decodes recording place count j

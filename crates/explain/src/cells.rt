@@ -18,7 +18,7 @@ use pbch::{Received, received, sums_of};
 use sample_file::Recording;
 
 /// Replaces `list` with a recording's cell list for one antenna port, by the rules of `explain_by`, and the content of
-/// `work` with how each entry was read. Does not allocate. (own)
+/// `work` with the reading of each entry. Does not allocate. (own)
 pub fn explain(recording: &Recording, work: &mut Workspace, list: &mut EntryList)
     ensures list { IsExplained recording.now list.new }
     ensures readings { AllZip (IsReading recording.now) list.new work.new }
@@ -27,8 +27,8 @@ pub fn explain(recording: &Recording, work: &mut Workspace, list: &mut EntryList
     explain_by(&OnePort, recording, work, list);
 }
 
-/// Returns the combined soft values, at most 2,032 in magnitude, by position and stream of the codeword. Their
-/// minimum-cost word gives the MIB, ports and cost of `entry`, which is in the recording's list.
+/// Returns the combined PBCH soft values for the listed `entry`, by index and stream of the codeword. Their magnitude
+/// is at most 2,032, and their minimum-cost codeword gives the entry's MIB, ports and cost.
 pub fn values_of(recording: &Recording, entry: &Entry) -> [[i32; 3]; 40]
     requires { IsInList recording.now entry.now }
     ensures values { result ≡ values_of_entry recording.now entry.now }
@@ -43,7 +43,7 @@ pub fn values_of(recording: &Recording, entry: &Entry) -> [[i32; 3]; 40]
     sums_of(entry.id, 480 * entry.phase as usize, frames.as_slice())
 }
 
-/// Returns the place of an entry's cell. The entry's start lies within the samples of one frame.
+/// Returns the place of the cell of `entry`, whose start is below 19,200 samples.
 pub fn place_in(entry: &Entry) -> CellPlace
     requires { entry.now.start < 19200 }
     ensures { result ≡ place_of_entry entry.now }

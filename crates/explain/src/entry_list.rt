@@ -34,21 +34,21 @@ impl EntryList {
         })
     }
 
-    /// Returns the items in order.
+    /// Returns the entries in order.
     pub fn slice(&self) -> &[Entry]
         ensures { result.now ≡ self.now }
     {
         &self.entries
     }
 
-    /// Removes all items.
+    /// Removes all entries.
     pub fn clear(&mut self)
         ensures { self.new ≡ [] }
     {
         self.entries.clear();
     }
 
-    /// Inserts `item` at index `at`; later items, and the one there, move up by one. Does not allocate.
+    /// Inserts `item` at index `at`; the entries from `at` on move up by one. Does not allocate.
     pub fn insert(&mut self, at: usize, item: Entry)
         requires at { at ≤ length self.old }
         requires room { length self.old < 23040 }

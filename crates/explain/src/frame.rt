@@ -14,7 +14,7 @@ use observe::symbol;
 use sample_file::Recording;
 use soft_bits::Slot;
 
-/// Returns whether frame `j` of a cell lies within the recording.
+/// Returns whether frame `j` of the cell at `place` lies within the recording.
 pub fn is_whole(recording: &Recording, place: CellPlace, j: u8) -> bool
     ensures { IsTrue result ↔ IsWhole recording.now place.start j }
 {
@@ -31,7 +31,7 @@ pub(crate) fn whole_frames(recording: &Recording, place: CellPlace) -> u8
     (length / FRAME_LENGTH).min(8) as u8
 }
 
-// Returns demodulated symbol `l` of a slot, in a frame that begins at sample `frame`.
+// Returns demodulated symbol `l`, 0 to 6, of slot `number` in a frame that begins at sample `frame`.
 fn symbol_of(recording: &Recording, frame: usize, number: u8, l: usize) -> [Cpx; SUBCARRIERS]
     requires within { frame + frame_length ≤ length recording.now }
     requires small { frame < 2 ^ 40 }
@@ -46,7 +46,7 @@ fn symbol_of(recording: &Recording, frame: usize, number: u8, l: usize) -> [Cpx;
     )
 }
 
-// Returns the seven demodulated symbols of a slot, in a frame that begins at sample `frame`.
+// Returns the seven demodulated symbols of slot `number` in a frame that begins at sample `frame`.
 fn symbols_in(recording: &Recording, frame: usize, number: u8) -> [[Cpx; SUBCARRIERS]; 7]
     requires within { frame + frame_length ≤ length recording.now }
     requires small { frame < 2 ^ 40 }
@@ -82,15 +82,15 @@ pub(crate) fn symbols_of(
     symbols_in(recording, frame, number)
 }
 
-// Returns the values for a symbol that is not read.
+// Returns a symbol of zeros, for symbols that no receiver reads.
 fn zeros() -> [Cpx; SUBCARRIERS]
     ensures { All (IsWithin (2 ^ 25)) result }
 {
     [Cpx::ZERO; SUBCARRIERS]
 }
 
-// Returns the first five demodulated symbols of slot 1, in a frame that begins at sample `frame`, and two zero symbols
-// that are not read.
+// Returns the first five demodulated symbols of slot 1 in a frame that begins at sample `frame`, followed by two zero
+// symbols, which are not read.
 fn front_in(recording: &Recording, frame: usize) -> [[Cpx; SUBCARRIERS]; 7]
     requires within { frame + frame_length ≤ length recording.now }
     requires small { frame < 2 ^ 40 }
@@ -109,8 +109,8 @@ fn front_in(recording: &Recording, frame: usize) -> [[Cpx; SUBCARRIERS]; 7]
     ]
 }
 
-/// Returns the first five demodulated symbols of frame `j`'s PBCH slot, and two zero symbols, where neither the PBCH
-/// nor its reference signals are. The frame lies within the recording; components have magnitude at most 2^25.
+/// Returns the first five demodulated symbols of the PBCH slot in frame `j`, then two zero symbols, which carry neither
+/// PBCH nor reference signals. The frame lies within the recording; components have magnitude at most 2^25.
 pub(crate) fn broadcast_front(
     recording: &Recording,
     place: CellPlace,

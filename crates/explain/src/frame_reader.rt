@@ -12,10 +12,10 @@ use pbch::{Master, Received};
 use sample_file::Recording;
 use sib1_reader::Decoders;
 
-/// A cell whose MIB was read: where its first frame begins, that frame's number, and the MIB.
+/// A cell whose MIB was read, with the system frame number of its first frame.
 #[derive(Clone, Copy)]
 pub struct NumberedCell {
-    /// The cell's identity, and the sample at which its first frame begins.
+    /// The cell identity, and the sample at which the cell's first frame begins.
     pub place: CellPlace,
     /// The system frame number of the first frame.
     pub sfn: Sfn,
@@ -23,8 +23,8 @@ pub struct NumberedCell {
     pub master: Master,
 }
 
-/// A receiver of one transmission scheme: its constants, the soft values of the broadcast channel in each frame, and
-/// the system information of a cell. (own)
+/// A receiver of one transmission scheme: its constants, the PBCH soft values of each frame, and the system information
+/// of a cell. (own)
 pub trait FrameReader {
     ghost receiver: { Receiver };
 
@@ -34,13 +34,13 @@ pub trait FrameReader {
         ensures some { 1 ≤ result.most_frames }
         ensures few { result.most_frames ≤ 4 };
 
-    /// Returns the soft values of the broadcast channel in frame `j` of a cell. The frame lies within `recording`.
+    /// Returns the PBCH soft values of frame `j` of a cell. The frame lies within `recording`.
     fn received(&self, recording: &Recording, place: CellPlace, j: u8) -> Received
         requires { IsWhole recording.now place.start j }
         ensures values { result ≡ receiver.broadcast recording.now place j }
         ensures length { length result ≡ receiver.count };
 
-    /// Returns the system information of `cell`, and how it was read.
+    /// Returns the system information of `cell`, and the control format indicator and grant with which it was read.
     fn system_of(&self, recording: &Recording, cell: &NumberedCell, work: &mut Decoders) -> Informed
         ensures sib1 { IsSystemFor receiver recording.now cell.now.place cell.now.sfn cell.now.master.ports
             cell.now.master.mib result.sib1 }

@@ -13,8 +13,8 @@ use pbch::Master;
 use sample_file::Recording;
 use soft_bits::Slot;
 
-/// Returns the control format indicator and the grant with which a listed entry's SystemInformationBlockType1 was
-/// read; `None` if the entry has none. Reads the frames again, unlike `Workspace::readings`.
+/// Returns the control format indicator and the grant with which a listed entry's SystemInformationBlockType1 was read,
+/// or `None` if it was not read. Reads the frames again, unlike `Workspace::readings`.
 pub fn grant_of(recording: &Recording, entry: &Entry, work: &mut Workspace) -> Option<(Cfi, Grant)>
     requires { IsInList recording.now entry.now }
     ensures grant { IsGrantOf recording.now entry.now result }
@@ -44,7 +44,8 @@ fn master_in(entry: &Entry) -> Master
     }
 }
 
-/// A law: for any receiver, the indicator and the grant with which a cell's system information was read are unique.
+/// A law: for any receiver, there is only one control format indicator and grant with which a cell's system information
+/// was read.
 pub fn one_grant()
     ensures { IsOneGrant }
 {}

@@ -10,7 +10,8 @@ use lte_types::{Carrier, CellPlace, Hit, USEFUL_LENGTH};
 use sample_file::Recording;
 use sss_detect::place_with;
 
-// Returns the number of leading hits without room before them for the secondary signal.
+// Returns the number of leading hits that are too early: the useful part of the preceding symbol, which carries the
+// secondary signal, begins before the recording.
 pub(crate) fn early_hits(hits: &[Hit], carrier: Carrier) -> usize
     requires span { All IsInSpan hits.now }
     requires order { AllPairs IsEarlier hits.now }
@@ -26,7 +27,7 @@ pub(crate) fn early_hits(hits: &[Hit], carrier: Carrier) -> usize
     hits.len()
 }
 
-// Returns the place of a hit's cell.
+// Returns the place of the hit's cell: the cell identity and the sample at which its first frame starts.
 pub(crate) fn detected_place(recording: &Recording, hit: &Hit, carrier: Carrier) -> CellPlace
     requires { HasRoom carrier hit.now }
     ensures { result ≡ place_by carrier recording.now hit.now }

@@ -1,5 +1,5 @@
-//! From PSS detections (hits) to the cell list: the MIBs that a recording's hits give, each cell once, with its system
-//! information or why there is none. The rules of the list are at the head of `reading.rt`.
+//! From PSS detections (hits) to the cell list: one entry for each cell whose MIB was decoded, with its system
+//! information or the reason for its absence. The rules of the list are at the head of `reading.rt`.
 //! Tests: the crate `list_tests`.
 #![tactic(auto)]
 

@@ -8,12 +8,12 @@ ghost use Rattle.explain.specs.Entries.{IsBefore, IsPut, Adds, epoch as epoch_of
 use crate::EntryList;
 use lte_types::{CYCLE_LENGTH, Entry, FRAME_LENGTH};
 
-// The samples of 1,024 frames.
+// The number of samples in 1,024 frames, after which system frame numbers repeat.
 const CYCLE: u32 = CYCLE_LENGTH as u32;
 
 impl EntryList {
-    /// Inserts an entry after the leading ones that come before it by start, identity and frame number, and returns its
-    /// index; `None`, without a change, if its cell is in the list. Does not allocate.
+    /// Inserts an entry after the leading entries that come before it by start, identity and frame number, and returns
+    /// its index. Returns `None`, without a change, if its cell has an entry in the list. Does not allocate.
     pub fn add(&mut self, entry: Entry) -> Option<usize>
         requires room { length self.old < 23040 }
         ensures adds { Adds (entry ∷ []) self.old self.new }
@@ -31,7 +31,7 @@ impl EntryList {
     }
 }
 
-// Returns the sample at which frame 0 of an entry's numbering began, modulo the samples of 1,024 frames.
+// Returns an entry's epoch: the sample at which system frame 0 begins, modulo the samples of 1,024 frames.
 fn epoch(entry: &Entry) -> u32
     ensures value { result ≡ epoch_of entry.now }
     ensures small { result < cycle_length }
@@ -40,7 +40,7 @@ fn epoch(entry: &Entry) -> u32
     (entry.start % CYCLE + (CYCLE - before)) % CYCLE
 }
 
-// Returns whether two entries belong to one cell.
+// Returns whether two entries belong to one cell: equal identities, and epochs at most 9 samples apart.
 fn is_same_cell(a: &Entry, b: &Entry) -> bool
     ensures { result ≡ same_cell a.now b.now }
 {
@@ -48,7 +48,7 @@ fn is_same_cell(a: &Entry, b: &Entry) -> bool
     a.id == b.id && gap.min(CYCLE - gap) <= 9
 }
 
-// Returns whether `a` comes before `b`.
+// Returns whether `a` is listed before `b`: by start, then by identity, then by frame number.
 fn is_before(a: &Entry, b: &Entry) -> bool
     ensures { IsTrue result ↔ IsBefore a.now b.now }
 {
@@ -62,7 +62,7 @@ fn has_cell(list: &[Entry], entry: &Entry) -> bool
     list.iter().any(|other| is_same_cell(other, entry))
 }
 
-// Returns the number of leading entries that come before `entry`.
+// Returns the number of leading entries in `list` that come before `entry`.
 fn index_of(list: &[Entry], entry: &Entry) -> usize
     ensures within { result ≤ length list.now }
     ensures before { AllWithin (λ other. IsBefore other entry.now) list.now 0 result }

@@ -22,8 +22,8 @@ use pbch::{Master, Received, WordSums, masters};
 use sample_file::Recording;
 use tailbite::Trellis;
 
-/// Consecutive frames of a cell, by their count and their first frame, with the MIB at each phase of the first and the
-/// combined soft values for it.
+/// `frames` consecutive frames of a cell from frame `frame` on. By phase of the first frame, `at` has the MIB that they
+/// carry, and `sums` the combined soft values from which it was decoded.
 #[derive(Clone, Copy)]
 pub struct Masters {
     pub frames: u8,
@@ -35,8 +35,8 @@ pub struct Masters {
 // The soft values of the frames read so far, from a cell's frame 0.
 type ReceivedFrames = ArrayVec<Received, 8>;
 
-/// Returns the first frames that carry a MIB, with all their MIBs, among a cell's frames 0 to 7, or `None`: a single
-/// frame, or else two to four consecutive ones, at most as many as the reader combines.
+/// Returns the first of a cell's frames 0 to 7 that carry a MIB, with their MIBs by phase: a single frame, or else two
+/// to four consecutive ones, if `reader` combines that many. Returns `None` if none do.
 pub(crate) fn first_masters<F: FrameReader>(
     reader: &F,
     recording: &Recording,
@@ -66,8 +66,8 @@ pub(crate) fn first_masters<F: FrameReader>(
     None
 }
 
-// Returns the first frame that carries a MIB by itself, among the first `whole` frames. If there is none, all were
-// received.
+// Returns the first of a cell's first `whole` frames that carries a MIB by itself. If there is none, `frames` then
+// holds the soft values of all of them.
 fn first_alone<F: FrameReader>(
     reader: &F,
     recording: &Recording,
@@ -107,7 +107,8 @@ fn first_alone<F: FrameReader>(
     None
 }
 
-// Returns the first `count` consecutive frames that carry a MIB together, from the soft values of all frames received.
+// Returns the first `count` consecutive frames that together carry a MIB, or `None`. `frames` holds the soft values of
+// all frames received.
 fn first_together<F: FrameReader>(
     reader: &F,
     cell: &ScrambledCell,
@@ -148,7 +149,7 @@ fn first_together<F: FrameReader>(
     None
 }
 
-// Returns the MIBs in frames that start with frame `frame`, if they carry any.
+// Returns the MIBs that consecutive frames from frame `frame` carry, by phase, or `None` if they carry no MIB.
 fn masters_of<F: FrameReader>(
     reader: &F,
     cell: &ScrambledCell,
@@ -184,7 +185,7 @@ fn masters_of<F: FrameReader>(
     })
 }
 
-// Returns the MIBs that are accepted.
+// Returns the MIBs whose antenna port counts `reader` accepts, by phase.
 fn taken<F: FrameReader>(reader: &F, all: &[Option<Master>; 4]) -> [Option<Master>; 4]
     ensures length { length result ≡ 4 }
     ensures each { (phase : ℕ) → phase < 4 →
@@ -198,7 +199,7 @@ fn taken<F: FrameReader>(reader: &F, all: &[Option<Master>; 4]) -> [Option<Maste
     ]
 }
 
-// Returns a MIB if it is accepted.
+// Returns the MIB in `found` if `reader` accepts its antenna port count.
 fn taken_one<F: FrameReader>(reader: &F, found: Option<Master>) -> Option<Master>
     ensures { result ≡ taken_of (is_wanted F.receiver.ports) found }
 {
@@ -214,7 +215,7 @@ fn taken_one<F: FrameReader>(reader: &F, found: Option<Master>) -> Option<Master
     }
 }
 
-// Returns whether any phase has a MIB.
+// Returns whether there is a MIB at any phase.
 #[tactic(auto, unfolding(finite::specs::Tests::any_below))]
 fn has_master(at: &[Option<Master>; 4]) -> bool
     ensures { result ≡ any_below 4 (λ phase. is_some (master_at at.now phase)) }

@@ -7,7 +7,7 @@ use crate::reading_list::Readings;
 use sib1_reader::Decoders;
 use std::alloc::{AllocError, Global};
 
-/// The state of a search apart from its list: the places found so far, how each entry was read, and the decoders.
+/// The state of a search apart from its list: the places found so far, the reading of each entry, and the decoders.
 #[derive(Drop)]
 pub struct Notes {
     pub places: Places,

@@ -9,7 +9,8 @@ use lte_types::CellPlace;
 use std::alloc::{AllocError, Global};
 use std::marker::Model;
 
-/// The places of hits, with capacity for 5,760, which no recording exceeds. Contracts see it as the list of its items.
+/// A list of the places of hits, with capacity for 5,760, which no recording exceeds. Contracts see it as the list of
+/// its items.
 #[derive(Drop)]
 pub struct Places {
     met: Vec<CellPlace>,
@@ -40,14 +41,14 @@ impl Places {
         self.met.clear();
     }
 
-    /// Returns whether the place is in the list.
+    /// Returns whether `place` was found before.
     pub fn has(&self, place: &CellPlace) -> bool
         ensures { result ≡ is_met self.now place.now }
     {
         self.met.iter().any(|met| met == place)
     }
 
-    /// Appends the place. Does not allocate.
+    /// Appends `place`. Does not allocate.
     pub fn add(&mut self, place: &CellPlace)
         requires { length self.old < 5760 }
         ensures { self.new ≡ self.old ++ place.now ∷ [] }

@@ -1,14 +1,15 @@
 //! The cell list of a recording, for any receiver. (own)
 //!
-//! Each PSS detection (hit) with room before it for the secondary signal gives a place: an identity and a start of
-//! frames. The first of the frames 0 to 7 from there that carries a MIB at any phase gives an entry for each of its
-//! MIBs, by phase. If no frame does, the first two, three or four consecutive frames in one period do that carry a MIB
-//! by the sums of their soft values, at most as many as the receiver combines. Only frames within the recording count.
+//! A PSS detection (hit) gives a place, a cell identity and a frame start, if the recording contains the useful part of
+//! the preceding symbol, which carries the secondary signal. The cell's frames 0 to 7 are searched, as far as they lie
+//! within the recording. The first frame that carries a MIB at any phase gives an entry for each of its MIBs, by phase.
+//! If no single frame does, groups of two, then three, then four consecutive frames in one period are searched by the
+//! sums of their soft values, at most as many frames as the receiver combines.
 //!
 //! An entry has the cell's system information, or a `Sib1Reason` (`system_in`). The fields, which are in their ranges,
-//! are those of the first frame that has any among the cell's first eight even-numbered frames. It is dropped if a kept
-//! one before it has the same identity and an epoch at most 9 samples away, modulo 1,024 frames. The list is in order
-//! of start, identity and frame number.
+//! are those of the first frame that has any among the cell's first eight even-numbered frames. An entry is dropped if
+//! an earlier kept entry has the same identity and an epoch at most 9 samples away, modulo 1,024 frames. The list is in
+//! order of start, identity and frame number.
 
 ghost use Rattle.std.specs.Prelude.{◌≡◌, ◌+◌, ◌-◌, ◌<◌, ◌≤◌, true, false, List, [], ◌∷◌, ◌++◌, All, IfOk, length};
 ghost use Rattle.std.specs.List.{AllZip};
@@ -37,7 +38,7 @@ use pss_search::{hits, hits_are_right};
 use sample_file::Recording;
 use sib1_reader::Decoders;
 
-// A hit, the place of its cell, and the MIBs in the first of its frames that carry any.
+// A hit, the place of its cell, and the MIBs in the first of the cell's frames that carry any.
 #[derive(Drop)]
 struct Found {
     hit: Hit,
@@ -46,7 +47,7 @@ struct Found {
 }
 
 /// Replaces `list` with a recording's cell list for a receiver, by the rules at the head of this file, and the content
-/// of `work` with how each entry was read. Does not allocate. (own)
+/// of `work` with the reading of each entry. Does not allocate. (own)
 pub fn explain_by<F: FrameReader>(
     reader: &F,
     recording: &Recording,
@@ -61,8 +62,8 @@ pub fn explain_by<F: FrameReader>(
     read_hits(reader, recording, work.hits.slice(), &mut work.notes, list);
 }
 
-/// Replaces `list` like `explain_by`, from the given hits of the recording, which several receivers can share. Does not
-/// allocate. (own)
+/// Replaces `list` and the content of `work` as `explain_by` does, given all hits of the recording, so that several
+/// receivers can share them. Does not allocate. (own)
 pub fn explain_hits<F: FrameReader>(
     reader: &F,
     recording: &Recording,
@@ -78,7 +79,7 @@ pub fn explain_hits<F: FrameReader>(
     read_hits(reader, recording, hits, &mut work.notes, list);
 }
 
-// Makes the list from the hits of a recording.
+// Replaces `list` with the cell list for a receiver, from all hits of the recording.
 fn read_hits<F: FrameReader>(
     reader: &F,
     recording: &Recording,
@@ -99,7 +100,7 @@ fn read_hits<F: FrameReader>(
     add_hits(reader, recording, &hits[first..], notes, list);
 }
 
-// Adds the entries of the hits that the receiver uses to the empty list.
+// Fills the empty list with the entries of `hits`, which are the hits that the receiver uses.
 fn add_hits<F: FrameReader>(
     reader: &F,
     recording: &Recording,
@@ -120,8 +121,8 @@ fn add_hits<F: FrameReader>(
     }
 }
 
-// Adds the entries of a hit, unless its place was found before: then each of them belongs to a cell that is already in
-// the list.
+// Adds the entries of a hit. If its place was found before, nothing is added: each of its entries belongs to a cell
+// that is already in the list.
 fn add_hit<F: FrameReader>(
     reader: &F,
     recording: &Recording,
@@ -168,7 +169,7 @@ fn add_hit<F: FrameReader>(
     }
 }
 
-// Adds the entries for the MIBs of a hit.
+// Adds an entry and its reading for each MIB of a hit, except entries whose cell is already in the list.
 fn add_masters<F: FrameReader>(
     reader: &F,
     recording: &Recording,
@@ -199,8 +200,8 @@ fn add_masters<F: FrameReader>(
     }
 }
 
-// Adds the entry for the MIB at a phase, if there is one, and its reading. It has six parameters because it adds to
-// both lists.
+// Adds the entry for the MIB at `phase`, if there is one, and its reading, unless its cell is already in the list. The
+// function has six parameters because it adds to two lists.
 fn add_phase<F: FrameReader>(
     reader: &F,
     recording: &Recording,
@@ -249,7 +250,7 @@ fn add_phase<F: FrameReader>(
     }
 }
 
-// Returns the frames of these MIBs, with this phase of the first.
+// Returns the frames that carry `masters`, with the first frame at `phase`.
 fn frames_at(masters: &Masters, phase: u8) -> Frames
     requires { AreFrames (frames_from masters.now.frames masters.now.frame phase) }
     ensures { result ≡ frames_from masters.now.frames masters.now.frame phase }
@@ -260,7 +261,7 @@ fn frames_at(masters: &Masters, phase: u8) -> Frames
     }
 }
 
-// Returns the entry for a MIB, and the grant with which its system information was read.
+// Returns the entry for a MIB, and the control format indicator and grant with which its system information was read.
 fn entry_of<F: FrameReader>(
     reader: &F,
     recording: &Recording,
@@ -291,7 +292,8 @@ fn entry_of<F: FrameReader>(
     (entry, informed.granted)
 }
 
-// Adds an entry to the list, unless its cell has one there, and its reading at the same index of the parallel list.
+// Adds an entry to the list, and its reading at the same index of the parallel list. Adds nothing if the entry's cell
+// is already in the list.
 fn add_entry(entry: Entry, reading: Reading, readings: &mut Readings, list: &mut EntryList)
     requires beside { length readings.old ≡ length list.old }
     requires room { length list.old < 23040 }

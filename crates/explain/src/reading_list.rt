@@ -12,8 +12,8 @@ use pbch::WordSums;
 use std::alloc::{AllocError, Global};
 use std::marker::Model;
 
-/// How the entries of a list were read, in the order of the list, with capacity for 23,040. Contracts see it as the
-/// list of its items.
+/// The readings of a list's entries, in the order of the list, with capacity for 23,040. Contracts see it as the list
+/// of its items.
 #[derive(Drop)]
 pub struct Readings {
     readings: Vec<Reading>,
@@ -37,21 +37,21 @@ impl Readings {
         })
     }
 
-    /// Returns the items in order.
+    /// Returns the readings in order.
     pub fn slice(&self) -> &[Reading]
         ensures { result.now ≡ self.now }
     {
         &self.readings
     }
 
-    /// Removes all items.
+    /// Removes all readings.
     pub fn clear(&mut self)
         ensures { self.new ≡ [] }
     {
         self.readings.clear();
     }
 
-    /// Inserts how an entry was read at index `at`; later items, and the one there, move up by one. Does not allocate.
+    /// Inserts an entry's reading at index `at`; the readings from `at` on move up by one. Does not allocate.
     pub fn insert(&mut self, at: usize, hit: Hit, sums: WordSums, granted: Option<(Cfi, Grant)>)
         requires at { at ≤ length self.old }
         requires room { length self.old < 23040 }

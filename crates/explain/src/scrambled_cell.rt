@@ -7,7 +7,7 @@ use lte_types::CellPlace;
 use pbch::CellScrambling;
 use std::marker::Model;
 
-// The place of a cell, with the scrambling sequence of its PBCH, computed once. Contracts see it as the place.
+// The place of a cell, with the scrambling sequence of its PBCH, which is computed once. Contracts see it as the place.
 #[derive(Drop)]
 pub(crate) struct ScrambledCell {
     place: CellPlace,

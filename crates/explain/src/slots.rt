@@ -13,7 +13,8 @@ use sample_file::Recording;
 use sib1_reader::{Attempt, Decoders, attempt_in};
 use soft_bits::ReadSlot;
 
-/// Returns demodulated slot `number`, 0 to 19, in frame `j` of a cell. The frame lies within the recording.
+/// Returns demodulated slot `number`, 0 to 19, in frame `j` of the cell at `place`. The frame lies within the
+/// recording.
 pub fn slot_of<S: ReadSlot>(recording: &Recording, place: CellPlace, j: u8, number: u8) -> S
     requires whole { IsWhole recording.now place.start j }
     requires number { number < 20 }
@@ -22,7 +23,8 @@ pub fn slot_of<S: ReadSlot>(recording: &Recording, place: CellPlace, j: u8, numb
     S::of(symbols_of(recording, place, j, number), number, place.id())
 }
 
-// Returns the PBCH slot in frame `j` of a cell, with only those symbols that the PBCH soft values depend on.
+// Returns the PBCH slot in frame `j` of a cell, demodulated only in the symbols on which the PBCH soft values depend.
+// The others are zero.
 fn front_of<S: ReadSlot>(recording: &Recording, place: CellPlace, j: u8) -> S
     requires { IsWhole recording.now place.start j }
     ensures { HaveOneFront (S.seen_as result) (broadcast_slot_of recording.now place.id place.start j) }

@@ -1,6 +1,6 @@
 //! The system information of a cell.
 //!
-//! `NotOnePort` is returned if the MIB's antenna port count is not the transmission scheme's, and `Bandwidth` if the
+//! The reason is `NotOnePort` if the MIB's antenna port count is not the transmission scheme's, and `Bandwidth` if the
 //! cell is not 6 resource blocks wide.
 
 ghost use Rattle.std.specs.Prelude.{◌≡◌, ◌<◌, ◌+◌, ◌*◌, ◌%◌, None, Ok, Err};
@@ -18,17 +18,17 @@ use sample_file::Recording;
 use sib1_reader::{Attempt, Decoders};
 use soft_bits::ReadSlot;
 
-/// The system information of a cell, and the indicator and the grant with which it was read.
+/// The system information of a cell, and the control format indicator and grant with which it was read.
 #[derive(Drop)]
 pub struct Informed {
-    /// The fields of SystemInformationBlockType1, or why there are none.
+    /// The fields of SystemInformationBlockType1, or the reason why they were not read.
     pub sib1: Result<Sib1, Sib1Reason>,
-    /// The control format indicator and the grant with which the fields were read; `None` if there are none.
+    /// The control format indicator and the grant with which the fields were read; `None` if they were not read.
     pub granted: Option<(Cfi, Grant)>,
 }
 
-/// Reads the system information of a cell whose first frame has the number `sfn`: the first fields in its first eight
-/// even-numbered frames, or the first frame's reason. `NotOnePort` and `Bandwidth` take precedence.
+/// Reads a cell's system information: the first fields in its first eight even-numbered frames, or else the reason of
+/// the first such frame. `sfn` is the number of the cell's first frame. `NotOnePort` and `Bandwidth` take precedence.
 pub fn system_in<S: ReadSlot>(
     recording: &Recording,
     place: CellPlace,
@@ -50,7 +50,7 @@ pub fn system_in<S: ReadSlot>(
     read_frames::<S>(recording, place, sfn, master.mib, work)
 }
 
-// Returns a reason, without fields.
+// Returns `reason` as the result, with neither fields nor a grant.
 fn not_read(reason: Sib1Reason) -> Informed
     ensures reason { result.sib1 ≡ Err reason }
     ensures none { result.granted ≡ None }
@@ -61,7 +61,8 @@ fn not_read(reason: Sib1Reason) -> Informed
     }
 }
 
-// Returns the first fields that a tried frame gives, or else the reason of the first.
+// Returns the SIB1 fields of the first even-numbered frame that carries any, or else the reason of the first such
+// frame.
 fn read_frames<S: ReadSlot>(
     recording: &Recording,
     place: CellPlace,
@@ -96,7 +97,7 @@ fn read_frames<S: ReadSlot>(
     decoded
 }
 
-// Returns the answer and the grant of an attempt.
+// Returns an attempt's result, and its control format indicator and grant if it read fields.
 fn informed_by(attempt: Attempt) -> Informed
     ensures sib1 { result.sib1 ≡ attempt.answer }
     ensures granted { result.granted ≡ granted_by attempt }
@@ -108,7 +109,8 @@ fn informed_by(attempt: Attempt) -> Informed
     }
 }
 
-/// Returns the index, from a cell's first frame with number `sfn`, of its even-numbered frame `i`, 0 to 7.
+/// Returns the index of a cell's even-numbered frame `i`, 0 to 7, counted from its first frame, which has the system
+/// frame number `sfn`.
 pub fn even_frame(sfn: Sfn, i: u8) -> u8
     requires { i < 8 }
     ensures value { result ≡ even_frame_of sfn i }

@@ -9,8 +9,8 @@ use pss_search::HitList;
 use std::alloc::{AllocError, Global};
 use std::marker::Model;
 
-/// The working memory of a search for cells, for any receiver. Contracts see it as how the entries of the last list
-/// were read, in the order of the list. Its other contents between two searches have no meaning.
+/// The working memory of a search for cells, for any receiver. Contracts see it as the readings of the last list's
+/// entries, in the order of the list. Its other contents have no meaning between two searches.
 #[derive(Drop)]
 pub struct Workspace {
     pub(crate) hits: HitList,
@@ -33,7 +33,7 @@ impl Workspace {
         Ok(Workspace { hits, notes })
     }
 
-    /// Returns how the entries of the last list were read, in its order.
+    /// Returns the readings of the last list's entries, in the order of the list.
     pub fn readings(&self) -> &[Reading]
         ensures { result.now ≡ self.now }
     {
