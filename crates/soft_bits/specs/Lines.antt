@@ -1,5 +1,5 @@
--- An antenna port's pilots in a slot as a line of data, and the channel along it, by carrier and port number (TS
--- 36.211 section 6.10.1.2). (own)
+-- An antenna port's pilots in a slot, by subcarrier (a line), and the channel that they give, for each transmission
+-- scheme and port (TS 36.211 section 6.10.1.2). (own)
 use Rattle.std.specs.Prelude.{ℕ, zero, suc, ◌+◌, ◌*◌, ◌/◌, ◌%◌, List}
 use Rattle.finite.specs.Sums.{total_below}
 use Rattle.finite.specs.Lists.{values_below}
@@ -12,8 +12,8 @@ use Rattle.crs.specs.Reference.{pattern_of, upper_first, reference}
 use Rattle.soft_bits.specs.Estimate.{place_by, line_by}
 use Rattle.soft_bits.specs.Soft.{SeenSlot, seen_at, pattern_symbol, pattern_sent}
 
--- a line of pilots: their distance in subcarriers, the number of the last, the first subcarrier, and for pilot i its
--- symbol in the slot and the value sent
+-- an antenna port's pilots in a slot: their distance in subcarriers, the number of the last pilot, the subcarrier of
+-- pilot 0, and for each pilot its symbol in the slot and the value sent
 pub record Line : Type 0 where
   pub step : ℕ
   pub last : ℕ
@@ -41,7 +41,7 @@ upper_line port slot = record {
   sent = reference slot.identity slot.number 1;
 }
 
--- the line for a carrier's port number
+-- the pilots of a port, by transmission scheme and port number
 abbrev pub line_of : Carrier → ℕ → SeenSlot → Line
 line_of carrier zero = lower_line (pattern_of carrier 0)
 line_of carrier (suc zero) = lower_line (pattern_of carrier 1)
@@ -49,41 +49,42 @@ line_of carrier (suc (suc n)) = upper_line (suc (suc n))
 
 -- ---- any line
 
--- the subcarrier of pilot i, the value received there, and the channel there, times the squared magnitude of a
--- reference
+-- the subcarrier of pilot i
 abbrev pub line_place : Line → ℕ → ℕ
 line_place line i = place_by line.step line.first i
 
+-- the value received at pilot i
 abbrev pub line_seen : Line → SeenSlot → ℕ → Cpx
 line_seen line slot i = seen_at slot (line.symbol i) (line_place line i)
 
+-- pilot i: the channel at its resource element, times the squared magnitude of the value sent
 abbrev pub line_pilot : Line → SeenSlot → ℕ → Cpx
 line_pilot line slot i = times (line_seen line slot i) (conjugate (line.sent i))
 
--- all pilots, by subcarrier
+-- all pilots of a line, by subcarrier
 abbrev pub line_pilots : Line → SeenSlot → List Cpx
 line_pilots line slot = values_below (line.last + 1) (line_pilot line slot)
 
--- the channel at a subcarrier, times the pilots' distance in subcarriers
+-- the channel at subcarrier k, interpolated between pilots and multiplied by their distance in subcarriers
 unfoldable pub line_channel : Line → SeenSlot → ℕ → Cpx
 line_channel line slot k = line_by line.step line.last (line_pilot line slot) line.first k
 
--- the pilot energy
+-- the energy of a line's pilots: the sum of squared magnitudes of the values received
 unfoldable pub line_energy : Line → SeenSlot → ℕ
 line_energy line slot = total_below (line.last + 1) (λ i. square (line_seen line slot i))
 
 -- ---- the ports of a carrier
 
--- a port's channel at a subcarrier, times `scale`
+-- a port's channel at subcarrier k, interpolated between pilots and multiplied by `scale`, a multiple of their distance
 abbrev pub port_channel : ℕ → Carrier → ℕ → SeenSlot → ℕ → Cpx
 port_channel scale carrier port slot k =
     multiple (scale / (line_of carrier port slot).step) (line_channel (line_of carrier port slot) slot k)
 
--- a port's pilot energy, scaled to 24 pilots: ports 2 and 3, which have 12, count twice
+-- the energy of a port's pilots, scaled to 24 pilots: that of ports 2 and 3, which have 12 pilots, is doubled
 abbrev pub port_energy : Carrier → SeenSlot → ℕ → ℕ
 port_energy carrier slot port =
     (line_of carrier port slot).step / 3 * line_energy (line_of carrier port slot) slot
 
--- the pilot energy over all ports
+-- the sum of the pilot energies of all ports
 unfoldable pub ports_energy : Carrier → SeenSlot → ℕ
 ports_energy carrier slot = total_below (ports_of carrier) (port_energy carrier slot)

@@ -8,7 +8,7 @@ use Rattle.grid_map.specs.declared.Place.{Place}
 use Rattle.grid_map.specs.Place.{place}
 use Rattle.soft_bits.specs.Soft.{SeenSlot, soft_values}
 
--- the slot in a subframe that contains a symbol: symbols 7 to 13 belong to the second
+-- the slot of a subframe that contains `symbol`: the first for symbols 0 to 6, the second for 7 to 13
 abbrev pub slot_with : {Slot : Type 0} → Slot → Slot → ℕ → Slot
 slot_with first second symbol = if nat_lt symbol 7 then first else second
 
@@ -22,7 +22,8 @@ Valuing = (Place → SeenSlot) → List Place → List ℤ
 
 -- ---- one antenna port
 
--- both soft values of a resource element in a subframe, where symbols 7 to 13 belong to the second slot
+-- the two soft values of resource element p. Its symbol is numbered 0 to 13 in the subframe; modulo 7, this is the
+-- number in the slot.
 abbrev pub values_at : SeenSlot → Place → List ℤ
 values_at slot p = soft_values slot (p.symbol % 7) p.k
 
@@ -30,7 +31,7 @@ values_at slot p = soft_values slot (p.symbol % 7) p.k
 unfoldable pub placed_values : Valuing
 placed_values slot places = flat_map (λ p. values_at (slot p) p) places
 
--- soft value i for a list of resource elements
+-- soft value i of a list of resource elements, which has two for each element
 abbrev pub placed_value : (Place → SeenSlot) → List Place → ℕ → ℤ
 placed_value slot places i =
     let p : Place = slice_index_or places (i / 2) (place 0 0) in slice_index_or (values_at (slot p) p) (i % 2) (pos 0)
@@ -41,16 +42,16 @@ soft_values_of slot places = placed_values (λ p. slot) places
 
 -- ---- scrambling
 
--- a descrambled value: negated if the scrambling bit is 1
+-- a soft value descrambled with one bit: negated if the bit is 1
 abbrev pub descrambled_value : Bool → ℤ → ℤ
 descrambled_value bit value = if bit then neg_ℤ value else value
 
--- descrambled values; bit `first` of the sequence scrambles the first
+-- soft values descrambled with the sequence `bit`, whose bit `first` belongs to the first value
 abbrev pub turned_by : (ℕ → Bool) → ℕ → List ℤ → List ℤ
 turned_by bit first values =
     values_below (length values) (λ i. descrambled_value (bit (first + i)) (slice_index_or values i (pos 0)))
 
--- values descrambled with the sequence for c_init; bit `first` scrambles the first value (TS 36.211 sections 7.2,
--- 6.3.1, 6.6.1, 6.7.1 and 6.8.2)
+-- soft values descrambled with the scrambling sequence for c_init, whose bit `first` belongs to the first value (TS
+-- 36.211 sections 7.2, 6.3.1, 6.6.1, 6.7.1 and 6.8.2)
 unfoldable pub descrambled : ℕ → ℕ → List ℤ → List ℤ
 descrambled c_init first values = turned_by (gold_bit c_init) first values

@@ -12,7 +12,7 @@ use crate::layout::{Layout, layout_of};
 use crate::pilots::seen_of;
 
 /// Returns a slot's pilot energy over all antenna ports: the sum of squared magnitudes at their reference elements,
-/// with ports 2 and 3 counted twice. At most 24 * 2^51 per port.
+/// with ports 2 and 3 counted twice. The energy is at most 24 * 2^51 per port.
 pub fn energy_of(seen: &Seen) -> u64
     ensures value { result ≡ ports_energy seen.now.carrier (slot_of seen.now) }
     ensures few { result ≤ ports_of seen.now.carrier * (24 * 2 ^ 51) }
@@ -24,7 +24,7 @@ pub fn energy_of(seen: &Seen) -> u64
     sum
 }
 
-// Returns one port's pilot energy, scaled to 24 pilots.
+// Returns the pilot energy of `port`, scaled to 24 pilots: doubled if the port has 12.
 fn energy_of_port(seen: &Seen, port: u8) -> u64
     requires { port < ports_of seen.now.carrier }
     ensures value { result ≡ port_energy seen.now.carrier (slot_of seen.now) port }
@@ -34,7 +34,7 @@ fn energy_of_port(seen: &Seen, port: u8) -> u64
     u64::from(layout.step / 3) * energy_along(seen, &layout)
 }
 
-// Returns the pilot energy for a layout.
+// Returns the sum of squared magnitudes of the values received at a layout's pilots.
 fn energy_along(seen: &Seen, layout: &Layout) -> u64
     requires { IsLayout layout.now }
     ensures value { result ≡ line_energy (laid_out layout.now (slot_of seen.now)) (slot_of seen.now) }
@@ -47,7 +47,7 @@ fn energy_along(seen: &Seen, layout: &Layout) -> u64
     sum
 }
 
-// Returns pilot `i`'s contribution to the energy.
+// Returns the squared magnitude of the value received at pilot `i`.
 fn energy_part(seen: &Seen, layout: &Layout, i: u8) -> u64
     requires valid { IsLayout layout.now }
     requires i { i ≤ layout.now.last }

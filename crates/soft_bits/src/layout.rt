@@ -1,4 +1,4 @@
-//! The layout of an antenna port's pilots in a slot: one form for all ports.
+//! The layout of an antenna port's pilots in a slot, in one form for all ports.
 
 ghost use Rattle.std.specs.Prelude.{◌≡◌, ◌<◌, ◌≤◌};
 ghost use Rattle.crs.specs.Reference.{IsPattern};
@@ -12,9 +12,9 @@ ghost use Rattle.lte_types.specs.Numerology.{subcarriers};
 use crate::Seen;
 use crs::{Pattern, first_of_pattern, first_of_upper};
 
-/// The layout of an antenna port's pilots in a slot, and the pattern of their values. Pilots are `step` subcarriers
-/// apart from `first`, and the last has the number `last`. A pilot at subcarrier k is in the symbol `early` if k
-/// modulo 6 is `residue`, otherwise in `late`; it is value k / 6 of its symbol.
+/// The layout of an antenna port's pilots in a slot, and the pattern of their values. Pilot `i`, 0 to `last`, is at
+/// subcarrier `first + step * i`. A pilot at subcarrier k is in the symbol `early` if k modulo 6 is `residue`,
+/// otherwise in `late`; its value is number k / 6 in that symbol's reference sequence.
 #[derive(Clone, Copy)]
 pub(crate) struct Layout {
     pub pattern: Pattern,
@@ -41,7 +41,7 @@ impl Layout {
         self.first + self.step * i
     }
 
-    /// Returns the symbol with the pilot at subcarrier `k`.
+    /// Returns the number in the slot of the symbol that carries the pilot at subcarrier `k`.
     pub(crate) fn symbol_at(&self, k: u8) -> u8
         requires { IsLayout self.now }
         ensures value { result ≡ symbol_with self.now k }
@@ -68,7 +68,8 @@ pub(crate) fn layout_of(seen: &Seen, port: u8) -> Layout
     }
 }
 
-// Returns the layout of port 0 or 1 for its pattern: every third subcarrier, in two symbols together.
+// Returns the layout of port 0 or 1, whose reference signals have `pattern`: pilots at every third subcarrier, in two
+// symbols together.
 fn lower_layout(seen: &Seen, pattern: Pattern) -> Layout
     requires pattern { IsPattern pattern }
     requires later { pattern.later < 5 }
@@ -86,7 +87,8 @@ fn lower_layout(seen: &Seen, pattern: Pattern) -> Layout
     }
 }
 
-// Returns the layout of port 2 or 3: every sixth subcarrier in the slot's second symbol, with the values of port 0.
+// Returns the layout of port 2 or 3: pilots at every sixth subcarrier of the slot's second symbol, with the values of
+// port 0.
 fn upper_layout(seen: &Seen, port: u8) -> Layout
     ensures line { laid_out result (slot_of seen.now) ≡ upper_line port (slot_of seen.now) }
     ensures valid { IsLayout result }

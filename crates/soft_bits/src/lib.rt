@@ -1,5 +1,5 @@
-//! Channel estimation and demapping: a slot's channel from its reference signals, and the soft values of its resource
-//! elements.
+//! Channel estimation and demapping: the channel in a slot, estimated from its reference signals, and the soft values
+//! of its resource elements.
 //! Tests: the crates `code_tests` and `slot_tests`.
 #![tactic(auto)]
 

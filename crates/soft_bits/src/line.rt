@@ -7,8 +7,8 @@ ghost use Rattle.lte_types.specs.Numerology.{subcarriers};
 
 use cs_num::Cpx;
 
-/// Returns the line through the pilots at subcarrier `k`, times `step`. The pilots are `step` subcarriers apart and
-/// fill all 72.
+/// Returns the channel at subcarrier `k`, interpolated between pilots and multiplied by `step`. The pilots are `step`
+/// subcarriers apart from `first`, and cover all 72.
 pub(crate) fn line(pilots: &[Cpx], step: u8, first: u8, k: u8) -> Cpx
     requires pilots { All (IsWithin (180 * 2 ^ 25)) pilots.now }
     requires whole { step * length pilots.now ≡ subcarriers }
@@ -33,7 +33,7 @@ pub(crate) fn line(pilots: &[Cpx], step: u8, first: u8, k: u8) -> Cpx
     }
 }
 
-// Returns the line at `r` subcarriers after pilot `i`, times `step`.
+// Returns the channel `r` subcarriers after pilot `i`, interpolated to the next pilot and multiplied by `step`.
 fn between(pilots: &[Cpx], step: u8, i: usize, r: u8) -> Cpx
     requires pilots { All (IsWithin (180 * 2 ^ 25)) pilots.now }
     requires few { step ≤ 6 }

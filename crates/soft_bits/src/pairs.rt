@@ -9,8 +9,8 @@ ghost use Rattle.lte_types.specs.Numerology.{subcarriers};
 use crate::{PortSlot, Ports, point_values, slot_of};
 use grid_map::Place;
 
-/// Fills `values` with the soft values for pairs of resource elements, two per element, in order. Symbols 7 to 13
-/// belong to the second slot; both elements in a pair are in one slot. The count is even.
+/// Fills `values` with the soft values of resource elements sent in pairs, two values per element, in order. Symbols 7
+/// to 13 belong to `second`. A pair's elements are in one slot, and their count is even.
 pub(crate) fn fill_pairs<K: Ports>(
     first: &PortSlot<K>,
     second: &PortSlot<K>,
@@ -30,7 +30,7 @@ pub(crate) fn fill_pairs<K: Ports>(
     }
 }
 
-// Returns the four soft values of pair `i`.
+// Returns the four soft values of pair `i`, which is sent at elements `p` and `q`.
 fn pair_at<K: Ports>(
     i: usize,
     first: &PortSlot<K>,

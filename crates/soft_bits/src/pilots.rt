@@ -1,4 +1,5 @@
-//! An antenna port's pilots in a slot: the received values at its reference elements against the values sent.
+//! An antenna port's pilots in a slot: the values received at its reference elements, times the conjugates of the
+//! values sent.
 
 ghost use Rattle.std.specs.Prelude.{◌≡◌, ℕ, ◌+◌, ◌/◌, ◌*◌, ◌^◌, ◌<◌, ◌≤◌, All, IsTrue, length, replicate, take};
 ghost use Rattle.cs_num.specs.Complex.{IsWithin, nothing};
@@ -17,9 +18,9 @@ use crs::pattern_pilots;
 use cs_num::Cpx;
 use std::marker::Model;
 
-/// An antenna port's 24 or 12 pilots in a slot, by subcarrier: the value received at each reference element times the
-/// conjugate of the value sent (TS 36.211 section 6.10.1.2). Contracts see a line: the distance in subcarriers, the
-/// first subcarrier, and the pilots.
+/// An antenna port's 24 or 12 pilots in a slot, by subcarrier: the value received at each reference element, times the
+/// conjugate of the value sent (TS 36.211 section 6.10.1.2). Contracts see the pilots with their distance and the first
+/// subcarrier.
 #[derive(Drop)]
 pub struct Pilots {
     step: u8,
@@ -37,7 +38,7 @@ impl Model for Pilots {
         IsFilled (record { step = s.step; first = s.first; pilots = take (subcarriers / s.step) s.values }) };
 }
 
-// Empty pilots, for entries that are not used.
+// Pilots of value zero, for array entries that are not used.
 impl Default for Pilots {
     ghost is_default = { λ s. s ≡ record { step = 3; first = 0; pilots = replicate 24 nothing } };
 
@@ -51,7 +52,7 @@ impl Default for Pilots {
 }
 
 impl Pilots {
-    /// Returns the pilots, 24 or 12. Components are within 180 * 2^25.
+    /// Returns the 24 or 12 pilots, by subcarrier. Components have magnitude at most 180 * 2^25.
     pub fn values(&self) -> &[Cpx]
         ensures value { result.now ≡ self.now.pilots }
         ensures small { All (IsWithin (180 * 2 ^ 25)) result.now }
@@ -60,7 +61,7 @@ impl Pilots {
         &self.values[..72 / self.step as usize]
     }
 
-    /// Returns the distance between pilots in subcarriers: 3 or 6.
+    /// Returns the distance between neighbouring pilots in subcarriers: 3 or 6.
     pub fn step(&self) -> u8
         ensures value { result ≡ self.now.step }
         ensures few { result ≤ 6 }
@@ -79,8 +80,9 @@ impl Pilots {
         }
     }
 
-    /// Returns the channel at subcarrier `k`, 0 to 71, times the squared magnitude of a reference and the pilots'
-    /// distance in subcarriers: linear between pilots, level outside them. Components are within 1080 * 2^25. (own)
+    /// Returns the channel at subcarrier `k`, 0 to 71, times the squared magnitude of a reference signal and the
+    /// pilots' distance in subcarriers: linear between pilots, constant outside. Components have magnitude at most 1080
+    /// * 2^25. (own)
     pub fn channel(&self, k: u8) -> Cpx
         requires { k < subcarriers }
         ensures value { result ≡ along self.now k }
@@ -100,7 +102,7 @@ pub fn pilots_are_the_reference_places()
         (k / 3 < 24) × (k ≡ pilot_subcarrier identity (k / 3)) × (symbol ≡ pilot_symbol identity (k / 3)) }
 {}
 
-/// Returns an antenna port's pilots in a slot. `port` is below the carrier's port count.
+/// Returns the pilots of antenna port `port` in a slot. `port` is below the transmission scheme's port count.
 pub fn pilots_of(seen: &Seen, port: u8) -> Pilots
     requires { port < ports_of seen.now.carrier }
     ensures { result ≡ seen_line (line_of seen.now.carrier port (slot_of seen.now)) (slot_of seen.now) }
@@ -113,7 +115,7 @@ pub fn pilots_of(seen: &Seen, port: u8) -> Pilots
     }
 }
 
-// Returns all pilots of a layout, followed by zeros.
+// Returns the pilots of a layout by subcarrier, followed by zeros up to 24.
 fn values_of(seen: &Seen, layout: &Layout) -> [Cpx; 24]
     requires { IsLayout layout.now }
     ensures value { take (layout.now.last + 1) result
@@ -129,7 +131,8 @@ fn values_of(seen: &Seen, layout: &Layout) -> [Cpx; 24]
     values
 }
 
-// Returns the values sent in the later symbol of a layout. Ports 2 and 3 have only one symbol, which is both.
+// Returns the reference signals sent in the symbol `late` of a layout, by subcarrier. For ports 2 and 3, whose pilots
+// are all in one symbol, returns `early`.
 fn late_of(seen: &Seen, layout: &Layout, early: &[(u8, Cpx); 12]) -> [(u8, Cpx); 12]
     requires valid { IsLayout layout.now }
     requires early { early.now ≡ pattern_list layout.now.pattern seen.now.id seen.now.number layout.now.early }
@@ -142,7 +145,7 @@ fn late_of(seen: &Seen, layout: &Layout, early: &[(u8, Cpx); 12]) -> [(u8, Cpx);
     }
 }
 
-// Returns pilot `i`, given the values sent in both symbols.
+// Returns pilot `i`, given the reference signals sent in a layout's symbols `early` and `late`.
 fn pilot_of(
     seen: &Seen,
     layout: &Layout,
@@ -172,7 +175,8 @@ pub(crate) fn seen_of(seen: &Seen, layout: &Layout, i: u8) -> Cpx
     seen.symbols[layout.symbol_at(k) as usize][k as usize]
 }
 
-// Returns the value sent at a subcarrier with a pilot, given the values sent in both symbols.
+// Returns the reference signal sent at the pilot at subcarrier `k`, given those sent in a layout's symbols `early` and
+// `late`.
 fn sent_at(
     seen: &Seen,
     layout: &Layout,

@@ -10,8 +10,8 @@ use crate::value::soft_of;
 use crate::{PortSlot, Ports};
 use grid_map::Place;
 
-/// Fills `values` with the soft values of resource elements, two each, in order, for a cell with one antenna port.
-/// Symbols 7 to 13 belong to the subframe's second slot.
+/// Fills `values` with the soft values of resource elements in a subframe, two per element, in order, for a cell with
+/// one antenna port. Symbols 7 to 13 belong to `second`.
 pub(crate) fn fill_soft<K: Ports>(
     first: &PortSlot<K>,
     second: &PortSlot<K>,
@@ -32,14 +32,15 @@ pub(crate) fn fill_soft<K: Ports>(
     }
 }
 
-/// Returns the slot in a subframe that contains `symbol`: symbols 7 to 13 belong to the second.
+/// Returns the slot of a subframe that contains `symbol`: `first` for symbols 0 to 6, `second` for 7 to 13.
 pub fn slot_of<'a, S>(first: &'a S, second: &'a S, symbol: u8) -> &'a S
     ensures { result.now ≡ slot_with first.now second.now symbol }
 {
     if symbol < 7 { first } else { second }
 }
 
-// Returns the soft values of one resource element.
+// Returns the two soft values of a resource element in its slot. The element's symbol is numbered 0 to 13 in the
+// subframe.
 fn soft_at<K: Ports>(slot: &PortSlot<K>, place: &Place) -> [i16; 2]
     requires one { ports_of K.pairing.carrier ≡ 1 }
     requires normal { prefix_of K.pairing.carrier ≡ normal }

@@ -8,8 +8,8 @@ ghost use Rattle.soft_bits.specs.Pairs.{first_point, second_point, point_values 
 use crate::soft_pairs;
 use cs_num::Cpx;
 
-/// Returns the soft values of two QPSK symbols in transmit diversity (TS 36.211 section 6.3.4.3), real part first: -127
-/// to 127, positive for bit 0. `a` and `b` came over channels `h` and `g`; `energy` is the pilots'.
+/// Returns the soft values of two QPSK symbols under transmit diversity (TS 36.211 section 6.3.4.3), real part first:
+/// -127 to 127, positive for bit 0. `a` and `b` are received over channels `h` and `g`; `energy` is the pilots'.
 pub fn point_values(h: Cpx, g: Cpx, energy: u64, a: Cpx, b: Cpx) -> [i16; 4]
     requires h { IsWithin (1080 * 2 ^ 25) h }
     requires g { IsWithin (1080 * 2 ^ 25) g }
@@ -22,7 +22,8 @@ pub fn point_values(h: Cpx, g: Cpx, energy: u64, a: Cpx, b: Cpx) -> [i16; 4]
     soft_pairs(first_point(h, g, a, b), second_point(h, g, a, b), energy)
 }
 
-// Returns the combined amplitude for the first symbol of a pair.
+// Returns the combined amplitude for the first QPSK symbol of a pair, received as `a` and `b` over the channels `h` and
+// `g`.
 fn first_point(h: Cpx, g: Cpx, a: Cpx, b: Cpx) -> Cpx
     requires h { IsWithin (1080 * 2 ^ 25) h }
     requires g { IsWithin (1080 * 2 ^ 25) g }
@@ -34,7 +35,8 @@ fn first_point(h: Cpx, g: Cpx, a: Cpx, b: Cpx) -> Cpx
     h.conj().mul(a) + g.mul(b.conj())
 }
 
-// Returns the combined amplitude for the second symbol of a pair.
+// Returns the combined amplitude for the second QPSK symbol of a pair, received as `a` and `b` over the channels `h`
+// and `g`.
 fn second_point(h: Cpx, g: Cpx, a: Cpx, b: Cpx) -> Cpx
     requires h { IsWithin (1080 * 2 ^ 25) h }
     requires g { IsWithin (1080 * 2 ^ 25) g }

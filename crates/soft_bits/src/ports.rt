@@ -1,4 +1,4 @@
-//! The number of antenna ports, and the ports that send each pair.
+//! Transmission schemes with the normal prefix: the antenna ports that send each pair of QPSK symbols.
 
 ghost use Rattle.std.specs.Prelude.{◌≡◌, ◌<◌, ◌≤◌};
 ghost use Rattle.lte_types.specs.Carrier.{prefix_of, ports_of};
@@ -17,7 +17,7 @@ pub trait Ports {
         ensures value { result ≡ pairing.carrier }
         ensures normal { prefix_of pairing.carrier ≡ normal };
 
-    /// Returns the factor on each port's channel: 3, or 6 if some port has 12 pilots.
+    /// Returns the factor by which each port's channel is multiplied: 3, or 6 if some port has 12 pilots.
     fn scale() -> u8
         ensures value { result ≡ pairing.scale }
         ensures few { result ≤ 6 };
@@ -30,7 +30,7 @@ pub trait Ports {
         ensures upper_inside { result.1 < ports_of pairing.carrier };
 }
 
-/// One antenna port.
+/// The transmission scheme with one antenna port.
 pub struct Single;
 
 impl Ports for Single {

@@ -1,4 +1,4 @@
-//! Reading a slot: its soft values, whatever antenna ports send it.
+//! Reading a slot: the soft values of its resource elements, for any number of antenna ports.
 
 ghost use Rattle.std.specs.Prelude.{◌≡◌, ◌*◌, ◌%◌, ◌<◌, All, length};
 ghost use Rattle.finite.specs.Sizes.{AllWithin};
@@ -24,17 +24,18 @@ pub trait ReadSlot: Drop {
 
     ghost values_by: { Valuing };
 
-    /// Returns the slot with these symbols. `number` is 0 to 19, and components are within 2^25.
+    /// Returns the slot whose symbols are `seen`, by subcarrier. `number` is 0 to 19, and components have magnitude at
+    /// most 2^25.
     fn of(seen: [[Cpx; SUBCARRIERS]; 7], number: u8, id: CellId) -> Self
         requires number { number < 20 }
         requires small { AreSmall seen }
         ensures { seen_as result ≡ record { symbols = seen; number = number; identity = id } };
 
-    /// Returns the cyclic prefix and port count for which slots are read in this way.
+    /// Returns the transmission scheme, cyclic prefix and port count, of the slots that the type reads.
     fn carrier() -> Carrier
         ensures { result ≡ carrier };
 
-    /// Returns the cell identity.
+    /// Returns the cell identity, 0 to 503.
     fn cell(&self) -> CellId
         ensures { result ≡ (seen_as self.now).identity };
 
@@ -43,8 +44,8 @@ pub trait ReadSlot: Drop {
         ensures value { result ≡ (seen_as self.now).number }
         ensures valid { result < 20 };
 
-    /// Fills `values` with the soft values of resource elements, two each, in the subframe of this slot and `second`.
-    /// Symbols 7 to 13 belong to `second`. The count of elements is even.
+    /// Fills `values` with the soft values of an even number of resource elements, two per element, in the subframe
+    /// that consists of this slot and `second`. Symbols 7 to 13 belong to `second`.
     fn fill(&self, second: &Self, places: &[Place], values: &mut [i16])
         requires inside { All (λ p. (p.symbol < 14) × (p.k < subcarriers)) places.now }
         requires even { length places.now % 2 ≡ 0 }
@@ -52,7 +53,7 @@ pub trait ReadSlot: Drop {
         ensures values { values.new ≡ values_by (in_subframe (seen_as self.now) (seen_as second.now)) places.now }
         ensures magnitudes { AllWithin 127 values.new };
 
-    /// A law: soft values in a slot's first four symbols depend only on its first five symbols.
+    /// A law: for resource elements in a slot's first four symbols, soft values depend only on the slot's first five.
     fn looks_at_front()
         ensures { LooksAtFront values_by };
 }
@@ -91,7 +92,7 @@ impl<K: Ports> ReadSlot for PortSlot<K> {
     fn looks_at_front() {}
 }
 
-/// Fills `values` with the soft values of resource elements in one slot, two each. The count of elements is even.
+/// Fills `values` with the soft values of an even number of resource elements in one slot, two per element.
 pub fn fill_slot<S: ReadSlot>(slot: &S, places: &[Place], values: &mut [i16])
     requires inside { All (λ p. (p.symbol < 14) × (p.k < subcarriers)) places.now }
     requires even { length places.now % 2 ≡ 0 }

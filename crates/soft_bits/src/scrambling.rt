@@ -7,7 +7,7 @@ ghost use Rattle.soft_bits.specs.Places.{descrambled_value, descrambled, turned_
 
 use std::marker::Model;
 
-// The maximum number of bits that a channel takes from a sequence: the PBCH in four frames.
+// The maximum number of scrambling bits that a channel needs: those of the PBCH in four frames.
 const MOST: usize = 1920;
 
 /// The first 1,920 bits of a scrambling sequence, computed once (TS 36.211 section 7.2). Contracts see the sequence's
@@ -27,7 +27,7 @@ impl Model for Scrambling {
 }
 
 impl Scrambling {
-    /// Returns the bits of the sequence with `c_init`, which is below 2^31.
+    /// Returns the scrambling sequence for `c_init`, which is below 2^31.
     pub fn new(c_init: u32) -> Scrambling
         requires { c_init < 2 ^ 31 }
         ensures { result ≡ c_init }
@@ -37,7 +37,7 @@ impl Scrambling {
         Scrambling { c_init, bits }
     }
 
-    /// Descrambles values like the free function `descramble`.
+    /// Descrambles `values` in place, as the free function `descramble` does. `first` plus the count is at most 1,920.
     pub fn descramble(&self, first: usize, values: &mut [i16])
         requires few { first + length values.old ≤ 1920 }
         requires magnitudes { AllWithin 127 values.old }
@@ -48,8 +48,8 @@ impl Scrambling {
     }
 }
 
-/// Descrambles values: their sign changes where the scrambling bit is 1 (TS 36.211 section 7.2). Bit `first` of the
-/// sequence with `c_init`, below 2^31, scrambles the first value. `first` plus the count is at most 1,920.
+/// Descrambles `values`: negates those whose scrambling bit is 1 (TS 36.211 section 7.2). Bit `first` of the sequence
+/// for `c_init`, below 2^31, belongs to the first value. `first` plus the count is at most 1,920.
 pub fn descramble(c_init: u32, first: usize, values: &mut [i16])
     requires c_init { c_init < 2 ^ 31 }
     requires few { first + length values.old ≤ 1920 }
@@ -62,7 +62,7 @@ pub fn descramble(c_init: u32, first: usize, values: &mut [i16])
     turn_by(&bits, first, values);
 }
 
-// Writes the first `count` bits of the sequence with `c_init`, and leaves later entries unchanged.
+// Writes the first `count` bits of the scrambling sequence for `c_init` to `bits`, and leaves later entries unchanged.
 fn write_first_bits(c_init: u32, count: usize, bits: &mut [bool])
     requires c_init { c_init < 2 ^ 31 }
     requires room { count ≤ length bits.old }
@@ -71,7 +71,7 @@ fn write_first_bits(c_init: u32, count: usize, bits: &mut [bool])
     gold::fill(c_init, &mut bits[..count]);
 }
 
-// Negates each value whose bit is 1; bit `first` belongs to the first value.
+// Negates each value whose bit is 1, where bit `first` of `bits` belongs to the first value.
 fn turn_by(bits: &[bool; 1920], first: usize, values: &mut [i16])
     requires few { first + length values.old ≤ 1920 }
     requires magnitudes { AllWithin 127 values.old }

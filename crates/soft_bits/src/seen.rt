@@ -6,8 +6,8 @@ ghost use Rattle.soft_bits.specs.Soft.{AreSmall};
 use cs_num::Cpx;
 use lte_types::{Carrier, CellId, SUBCARRIERS};
 
-/// A slot's received symbols from its first, the slot number, 0 to 19, the cell identity, and the cyclic prefix and
-/// port count. At least five symbols, so that all with reference signals are included; components are within 2^25.
+/// A received slot: at least its first five symbols, which include all reference signals, each by subcarrier; the slot
+/// number, 0 to 19; the cell identity; and the transmission scheme. Components have magnitude at most 2^25.
 #[derive(Clone, Copy)]
 pub struct Seen<'a> {
     pub symbols: &'a [[Cpx; SUBCARRIERS]],

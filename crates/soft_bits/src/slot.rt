@@ -15,7 +15,7 @@ use cs_num::Cpx;
 use lte_types::{CellId, SUBCARRIERS};
 use std::marker::{Model, PhantomData};
 
-// The values at a symbol's subcarriers. Contracts see a list.
+// One symbol's received values by subcarrier. Contracts see them as a list.
 #[derive(Drop)]
 struct Symbol {
     values: [Cpx; SUBCARRIERS],
@@ -42,7 +42,7 @@ impl Symbol {
     }
 }
 
-// Returns a slot's symbols.
+// Returns the seven symbols of a slot as `Symbol` values.
 fn symbols_of(seen: [[Cpx; SUBCARRIERS]; 7]) -> [Symbol; 7]
     ensures { result ≡ seen }
 {
@@ -57,7 +57,7 @@ fn symbols_of(seen: [[Cpx; SUBCARRIERS]; 7]) -> [Symbol; 7]
     ]
 }
 
-// Returns each antenna port's pilots in a slot.
+// Returns the pilots of each antenna port in a slot, by port number.
 fn lines_of(seen: &Seen) -> ArrayVec<Pilots, 4>
     ensures { result.items ≡ pilots_of_ports seen.now.carrier (slot_of seen.now) }
 {
@@ -68,8 +68,8 @@ fn lines_of(seen: &Seen) -> ArrayVec<Pilots, 4>
     lines
 }
 
-/// Seven received symbols with 72 subcarriers each, the slot number, 0 to 19, the cell identity, and the antenna
-/// ports that send. Contracts see the first three. Each port's pilots are computed once.
+/// A received slot: seven symbols with 72 subcarriers each, the slot number, 0 to 19, and the cell identity. Pilots of
+/// each antenna port and the pilot energy are computed once; contracts do not see them.
 #[derive(Drop)]
 pub struct PortSlot<K: Ports> {
     symbols: [Symbol; 7],
@@ -94,7 +94,8 @@ impl<K: Ports> Model for PortSlot<K> {
 }
 
 impl<K: Ports> PortSlot<K> {
-    /// Returns the slot with these symbols. `number` is 0 to 19, and components are within 2^25.
+    /// Returns the slot whose symbols are `seen`, by subcarrier. `number` is 0 to 19, and components have magnitude at
+    /// most 2^25.
     pub fn new(seen: [[Cpx; SUBCARRIERS]; 7], number: u8, id: CellId) -> PortSlot<K>
         requires number { number < 20 }
         requires small { AreSmall seen }
@@ -118,7 +119,7 @@ impl<K: Ports> PortSlot<K> {
         }
     }
 
-    /// Returns the cell identity.
+    /// Returns the cell identity, 0 to 503.
     pub fn id(&self) -> CellId
         ensures { result ≡ self.now.identity }
     {
@@ -133,7 +134,7 @@ impl<K: Ports> PortSlot<K> {
         self.number
     }
 
-    /// Returns the value received at a resource element. `symbol` is 0 to 6 and `k` 0 to 71; components are within
+    /// Returns the value received at subcarrier `k`, 0 to 71, of `symbol`, 0 to 6. Components have magnitude at most
     /// 2^25.
     pub fn seen(&self, symbol: u8, k: u8) -> Cpx
         requires symbol { symbol < 7 }
@@ -144,7 +145,7 @@ impl<K: Ports> PortSlot<K> {
         self.symbols[symbol as usize].at(k)
     }
 
-    /// Returns an antenna port's pilots.
+    /// Returns the pilots of antenna port `port`, which is below the transmission scheme's port count.
     pub fn pilots(&self, port: u8) -> &Pilots
         requires { port < ports_of K.pairing.carrier }
         ensures { result.now ≡ seen_line (line_of K.pairing.carrier port self.now) self.now }
@@ -152,8 +153,8 @@ impl<K: Ports> PortSlot<K> {
         &self.lines[port as usize]
     }
 
-    /// Returns an antenna port's channel at subcarrier `k`, 0 to 71, times the squared magnitude of a reference and
-    /// `Ports::scale`. Components are within 180 * 2^25 times the scale: 540 * 2^25 for one or two ports.
+    /// Returns an antenna port's channel at subcarrier `k`, 0 to 71, times the squared magnitude of a reference signal
+    /// and `Ports::scale`. Components have magnitude at most 180 * 2^25 times the scale.
     pub fn channel(&self, port: u8, k: u8) -> Cpx
         requires port { port < ports_of K.pairing.carrier }
         requires k { k < subcarriers }
@@ -165,8 +166,8 @@ impl<K: Ports> PortSlot<K> {
         pilots.channel(k).scaled(K::scale() / pilots.step())
     }
 
-    /// Returns the pilot energy over all ports: the sum of squared magnitudes at their reference elements, with ports
-    /// 2 and 3 counted twice. At most 24 * 2^51 per port.
+    /// Returns the pilot energy over all ports: the sum of squared magnitudes at their reference elements, with ports 2
+    /// and 3 counted twice. The energy is at most 24 * 2^51 per port.
     pub fn energy(&self) -> u64
         ensures value { result ≡ ports_energy K.pairing.carrier self.now }
         ensures few { result ≤ ports_of K.pairing.carrier * (24 * 2 ^ 51) }

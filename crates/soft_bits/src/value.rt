@@ -1,4 +1,4 @@
-//! Soft values of a resource element.
+//! Soft values of a resource element, with one antenna port.
 
 ghost use Rattle.std.specs.Prelude.{◌≡◌, ℕ, ◌*◌, ◌^◌, ◌<◌, ◌≤◌, nat_abs};
 ghost use Rattle.finite.specs.Sizes.{AllWithin};
@@ -10,8 +10,8 @@ ghost use Rattle.soft_bits.specs.Soft.{soft_pair, soft_value, soft_values};
 use crate::{PortSlot, Ports, Slot};
 use cs_num::{Cpx, clamp_div};
 
-/// Returns a resource element's soft values, real part first: -127 to 127, positive for bit 0. `symbol` is 0 to 6,
-/// `k` 0 to 71. The channel is estimated (own) from antenna port 0 (TS 36.211 section 6.10.1).
+/// Returns the soft values at subcarrier `k`, 0 to 71, of `symbol`, 0 to 6: real part first, -127 to 127, positive for
+/// bit 0. The channel is estimated (own) from antenna port 0 (TS 36.211 section 6.10.1).
 pub fn soft(slot: &Slot, symbol: u8, k: u8) -> [i16; 2]
     requires symbol { symbol < 7 }
     requires k { k < subcarriers }
@@ -21,7 +21,7 @@ pub fn soft(slot: &Slot, symbol: u8, k: u8) -> [i16; 2]
     soft_of(slot, symbol, k)
 }
 
-// Returns a resource element's soft values in a cell with one antenna port.
+// Returns the two soft values of a resource element in a cell with one antenna port.
 pub(crate) fn soft_of<K: Ports>(slot: &PortSlot<K>, symbol: u8, k: u8) -> [i16; 2]
     requires one { ports_of K.pairing.carrier ≡ 1 }
     requires normal { prefix_of K.pairing.carrier ≡ normal }
@@ -37,8 +37,8 @@ pub(crate) fn soft_of<K: Ports>(slot: &PortSlot<K>, symbol: u8, k: u8) -> [i16; 
     )
 }
 
-/// Returns the soft values of a received value, given three times the channel there and the pilot energy. Components
-/// are within 2^25 and 540 * 2^25, and the energy is at most 24 * 2^51.
+/// Returns the soft values of the received value `seen`, given three times its channel and the pilot energy. Components
+/// have magnitude at most 2^25 and 540 * 2^25, and the energy is at most 24 * 2^51.
 pub fn soft_pair(seen: Cpx, channel: Cpx, energy: u64) -> [i16; 2]
     requires seen { IsWithin (2 ^ 25) seen }
     requires channel { IsWithin (540 * 2 ^ 25) channel }
@@ -50,7 +50,7 @@ pub fn soft_pair(seen: Cpx, channel: Cpx, energy: u64) -> [i16; 2]
     [value_of(value.re, energy), value_of(value.im, energy)]
 }
 
-// Returns the soft value of a component.
+// Returns the soft value of an equalised value's real or imaginary part.
 #[tactic(auto, using(std::proofs::lemmas::Bool::Decides::nat_tests))]
 fn value_of(component: i64, energy: u64) -> i16
     requires component { nat_abs component ≤ 1080 * 2 ^ 50 }

@@ -1,4 +1,4 @@
-//! Soft values of two QPSK symbols, each combined from two resource elements.
+//! Soft values of two QPSK symbols under transmit diversity, each combined from two resource elements.
 
 ghost use Rattle.std.specs.Prelude.{◌≡◌, ◌*◌, ◌^◌, ◌≤◌, ◌<ℤ◌, ◌++◌, int_div, nat_abs, pos};
 ghost use Rattle.finite.specs.Sizes.{AllWithin};
@@ -8,8 +8,8 @@ ghost use Rattle.soft_bits.specs.Soft.{soft_pair, soft_value};
 
 use cs_num::Cpx;
 
-/// Returns the soft values of two amplitudes for a pilot energy, real part first. Components of the amplitudes are
-/// within 4320 * 2^50, and the energy is at most 96 * 2^51.
+/// Returns the soft values of two combined amplitudes, real part first, given the pilot energy. Components of the
+/// amplitudes have magnitude at most 4320 * 2^50, and the energy is at most 96 * 2^51.
 pub fn soft_pairs(first: Cpx, second: Cpx, energy: u64) -> [i16; 4]
     requires first { IsWithin (4320 * 2 ^ 50) first }
     requires second { IsWithin (4320 * 2 ^ 50) second }
@@ -25,7 +25,8 @@ pub fn soft_pairs(first: Cpx, second: Cpx, energy: u64) -> [i16; 4]
     ]
 }
 
-// Returns the soft value of a component. Six times the component may need more than 64 bits.
+// Returns the soft value of an amplitude's real or imaginary part. Uses 128-bit integers, because six times the part
+// may need more than 64 bits.
 #[tactic(auto, using(std::proofs::lemmas::Bool::Decides::nat_tests))]
 fn wide_value_of(component: i64, energy: u64) -> i16
     requires component { nat_abs component ≤ 4320 * 2 ^ 50 }
@@ -40,7 +41,7 @@ fn wide_value_of(component: i64, energy: u64) -> i16
     }
 }
 
-// Returns the quotient, rounded toward zero and clamped to -127 to 127.
+// Returns the quotient `top / bottom`, rounded toward zero and clamped to -127 to 127.
 fn clamped_quotient(top: i128, bottom: i128) -> i16
     requires { pos 0 <ℤ bottom }
     ensures { result ≡ clamped (int_div top bottom) 127 }
