@@ -10,31 +10,32 @@ use Rattle.pss_search.specs.Tests.{is_hit}
 
 -- ---- the span
 
--- the positions of one frame; the useful part of the preceding symbol, which carries the secondary signal, just fits
--- before the first
+-- the first position at which hits are searched: the useful part of the preceding symbol, which carries the secondary
+-- signal, just fits before it. The positions searched span one frame.
 abbrev pub first_place : ℕ
 first_place = 137
 
+-- the last position at which hits are searched, 19,199 after the first
 abbrev pub last_place : ℕ
 last_place = 19336
 
 -- ---- a hit
 
--- the first position has a greater metric than the second
+-- the position `first` has a greater metric for n2 than the position `second`
 pub record IsAbove (recording : List Sample) (n2 first second : ℕ) : Type 0 where
   pub first_sounds : 0 < energy recording first
   pub second_sounds : 0 < energy recording second
   pub greater : peak recording n2 second * energy recording first < peak recording n2 first * energy recording second
 
--- two positions have equal metrics
+-- the positions `first` and `second` have equal metrics for n2
 pub record IsLevel (recording : List Sample) (n2 first second : ℕ) : Type 0 where
   pub first_sounds : 0 < energy recording first
   pub second_sounds : 0 < energy recording second
   pub equal : peak recording n2 second * energy recording first ≡ peak recording n2 first * energy recording second
 
--- position t is a hit of n2: it lies in the span of one frame and has energy, four times its peak is at least its
--- energy times the signal's power, no position at distance 1 to 9 is above it, and none of the earlier ones is level
--- with it
+-- position t is a hit of n2. It lies in the span of one frame and has energy. Four times its peak is at least its
+-- energy times the signal's power. No position at most 9 away has a greater metric, and none of them that is earlier
+-- has an equal metric.
 pub record IsHit (recording : List Sample) (t n2 : ℕ) : Type 0 where
   pub from_first : first_place ≤ t
   pub to_last : t ≤ last_place
@@ -45,19 +46,19 @@ pub record IsHit (recording : List Sample) (t n2 : ℕ) : Type 0 where
 
 -- ---- the list of hits
 
--- the hit of n2 at t as it is listed
+-- the list's item for a hit of n2 at position t, with its peak and energy
 abbrev pub found : List Sample → ℕ → ℕ → Hit
 found recording t n2 = record { t = t; n2 = n2; peak = peak recording n2 t; energy = energy recording t }
 
--- the hit of n2 at t, if there is one
+-- the hit of n2 at position t as a list, empty if there is none
 unfoldable pub hit_at : List Sample → ℕ → ℕ → List Hit
 hit_at recording t n2 = if is_hit recording t n2 then found recording t n2 ∷ [] else []
 
--- the hits at a position, by n2
+-- the hits at position t, in order of n2
 unfoldable pub hits_at : List Sample → ℕ → List Hit
 hits_at recording t = joined_below 3 (hit_at recording t)
 
--- the hits at the span's first positions, in order
+-- the hits at the first `count` positions of the span, in order
 unfoldable pub hits_before : List Sample → ℕ → List Hit
 hits_before recording count = joined_below count (λ i. hits_at recording (first_place + i))
 
@@ -65,13 +66,13 @@ hits_before recording count = joined_below count (λ i. hits_at recording (first
 abbrev pub hits_of : List Sample → List Hit
 hits_of recording = hits_before recording frame_length
 
--- a hit lies in the span of one frame and has one of the three roots
+-- the hit lies in the span of one frame and belongs to one of the three primary signals
 pub record IsInSpan (hit : Hit) : Type 0 where
   pub from_first : first_place ≤ hit.t
   pub to_last : hit.t ≤ last_place
   pub root : hit.n2 ≤ 2
 
--- a hit's numbers are bounded, since the parts of a sample have 16 bits
+-- a hit's peak and energy are bounded, since the real and imaginary parts of a sample have 16 bits
 pub record IsSmallHit (hit : Hit) : Type 0 where
   pub peak : hit.peak ≤ 2 ^ 59
   pub energy : hit.energy ≤ 2 ^ 38

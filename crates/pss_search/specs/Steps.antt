@@ -1,4 +1,4 @@
--- The steps of the code: the list while it grows, and bounds on its numbers.
+-- The state of the code between steps: the list while it grows, and bounds on peaks, energies and dot products.
 use Rattle.std.specs.Prelude.{◌≡◌, ℕ, ◌+◌, ◌%◌, ◌^◌, ◌<◌, ◌≤◌, List, ◌++◌, All, length, slice_index_or, nat_abs, []}
 use Rattle.cs_num.specs.declared.Sample.{Sample}
 use Rattle.cs_num.specs.Complex.{square, sample_at}
@@ -14,19 +14,20 @@ use Rattle.lte_types.specs.Numerology.{useful_length}
 
 -- ---- bounds
 
--- bounds on a metric's two numbers
+-- a metric's peak is below 2^70, and its energy at most 2^38
 pub record IsSmallMetric (metric : Metric) : Type 0 where
   pub peak : metric.peak < 2 ^ 70
   pub energy : metric.energy ≤ 2 ^ 38
 
--- a metric belongs to position t and n2, and its two numbers are bounded
+-- `metric` has the peak and the energy at position t for n2, both bounded
 pub record IsMetricOf (recording : List Sample) (n2 t : ℕ) (metric : Metric) : Type 0 where
   pub peak : metric.peak ≡ peak recording n2 t
   pub energy : metric.energy ≡ energy recording t
   pub small_peak : metric.peak < 2 ^ 70
   pub small_energy : metric.energy ≤ 2 ^ 38
 
--- dot products of 128 sample parts with signal parts, which have magnitude at most 255
+-- bounds on the dot products of 128 samples' real or imaginary parts with those of a signal, which have magnitude at
+-- most 255
 pub record AreSmallProducts (p : ProductSums) : Type 0 where
   pub re_re : nat_abs p.re_re ≤ 1069547520
   pub im_im : nat_abs p.im_im ≤ 1069547520
@@ -35,8 +36,8 @@ pub record AreSmallProducts (p : ProductSums) : Type 0 where
 
 -- ---- a sweep
 
--- the sweep is at a position to be measured or at the end, the energy there is known, and each sample already seen
--- has a squared magnitude of at most 2^31
+-- a sweep is ready at `place`, a position to be measured or the end: `total` is the energy there, and each sample
+-- already read has a squared magnitude of at most 2^31
 pub record IsReady (recording : List Sample) (place total : ℕ) : Type 0 where
   pub long : 57600 ≤ length recording
   pub first : useful_length ≤ place
@@ -46,23 +47,24 @@ pub record IsReady (recording : List Sample) (place total : ℕ) : Type 0 where
 
 -- ---- the last 19 positions
 
--- a row holds the peaks and the energy at position u
+-- `row` holds the three peaks and the energy at position u
 pub record IsRowOf (recording : List Sample) (u : ℕ) (row : PlaceSums) : Type 0 where
   pub peaks : row.peaks ≡ values_below 3 (λ n2. peak recording n2 u)
   pub energy : row.energy ≡ energy recording u
   pub small_peaks : All (λ p. p ≤ 2 ^ 63) row.peaks
   pub small_energy : row.energy ≤ 2 ^ 38
 
+-- the row of a position that was not measured
 abbrev pub empty_row : PlaceSums
 empty_row = record { peaks = []; energy = 0 }
 
--- the rows hold the last 19 positions, position u at u modulo 32
+-- `rows` holds the rows of the last 19 positions before `place`; the row of position u is at index u modulo 32
 pub record HoldsLast (recording : List Sample) (place : ℕ) (rows : List PlaceSums) : Type 0 where
   pub whole : length rows ≡ 32
   pub each : (u : ℕ) → useful_length ≤ u → u < place → place ≤ u + 19 →
       IsRowOf recording u (slice_index_or rows (u % 32) empty_row)
 
--- the sweep is ten positions past t, so that it has all metrics that decide whether t is a hit
+-- the sweep's next position is t + 10, so all metrics that decide whether t is a hit were measured; t is in the span
 pub record DecidesOn (recent : Standing) (t : ℕ) : Type 0 where
   pub first : first_place ≤ t
   pub last : t ≤ last_place
@@ -70,6 +72,6 @@ pub record DecidesOn (recent : Standing) (t : ℕ) : Type 0 where
 
 -- ---- the list
 
--- the hits at the first positions, and those of the lower roots at the next position
+-- the hits at the first i positions of the span, then those at the next position for primary signals below n2
 abbrev pub so_far : List Sample → ℕ → ℕ → List Hit
 so_far recording i n2 = hits_before recording i ++ joined_below n2 (hit_at recording (first_place + i))

@@ -12,14 +12,14 @@ use crate::recent::Recent;
 use crate::signals::Root;
 use lte_types::Hit;
 
-// The first position of the span: the useful part of the preceding symbol just fits before it.
+// The first position at which hits are searched: the useful part of the preceding symbol just fits before it.
 pub(crate) const FIRST_PLACE: usize = 137;
 
-// A quarter of 1,990,000, the lower bound on the signals' powers.
+// A quarter of 1,990,000, which is a lower bound on the power of each primary signal.
 const QUARTER_OF_LEAST: u64 = 497_500;
 
-// Returns whether some peak at position `t` is large enough for a signal with the minimum power. Most positions fail,
-// and need no other test.
+// Returns whether some peak at position `t` is large enough for a hit of a signal with the minimum power. At most
+// positions none is, and no other test is needed.
 #[inline(always)]
 pub(crate) fn may_be_hit(recent: &Recent, t: usize) -> bool
     requires decides { DecidesOn recent.now t }
@@ -37,7 +37,7 @@ pub(crate) fn may_be_hit(recent: &Recent, t: usize) -> bool
     least <= third
 }
 
-// Returns the hit for a root at position `t`, if there is one.
+// Returns the hit of the primary signal `root` at position `t`, if there is one.
 #[tactic(auto, unfolding(crate::specs::Hits::hit_at))]
 pub(crate) fn hit_of(recent: &Recent, root: &Root, t: usize) -> Option<Hit>
     requires decides { DecidesOn recent.now t }
@@ -57,7 +57,7 @@ pub(crate) fn hit_of(recent: &Recent, root: &Root, t: usize) -> Option<Hit>
     }
 }
 
-// Returns whether position `t` is a hit, given its own metric.
+// Returns whether position `t` is a hit of the primary signal `root`, given its metric `own`.
 #[tactic(auto, using(std::proofs::lemmas::Bool::Decides::nat_tests), unfolding(crate::specs::Tests::is_hit))]
 fn stands_out(recent: &Recent, root: &Root, t: usize, own: Metric) -> bool
     requires decides { DecidesOn recent.now t }
@@ -69,7 +69,7 @@ fn stands_out(recent: &Recent, root: &Root, t: usize, own: Metric) -> bool
         && !is_ruled_out_at(recent, root, t, own)
 }
 
-// Returns whether a position within 9 of `t` rules `t` out.
+// Returns whether some position at most 9 from `t`, whose metric is `own`, rules out that `t` is a hit.
 fn is_ruled_out_at(recent: &Recent, root: &Root, t: usize, own: Metric) -> bool
     requires decides { DecidesOn recent.now t }
     requires metric { IsMetricOf recent.now.recording root.now.n2 t own }
@@ -83,7 +83,8 @@ fn is_ruled_out_at(recent: &Recent, root: &Root, t: usize, own: Metric) -> bool
     false
 }
 
-// Returns whether position `u` rules out `t`: its metric is higher, or equal at an earlier position.
+// Returns whether position `u` rules out that `t`, whose metric is `own`, is a hit: its metric is greater, or equal and
+// `u` is earlier.
 #[tactic(auto, using(std::proofs::lemmas::Bool::Decides::nat_tests), unfolding(crate::specs::Tests::rules_out))]
 fn rules_out_at(recent: &Recent, root: &Root, t: usize, own: Metric, u: usize) -> bool
     requires first { useful_length ≤ u }

@@ -15,8 +15,8 @@ pub use list::{HitList, hits};
 pub use measure::{Metric, Sweep};
 pub use signals::signal_power;
 
-/// A law: the test of a position agrees with the definition of a hit; the list has exactly the hits, in order, each
-/// once, and at most 5,760.
+/// A law: the test for a hit agrees with its definition, and the list has exactly the hits, in order, each once, and at
+/// most 5,760.
 pub fn hits_are_right()
     ensures test { TestIsRight }
     ensures list { ListIsRight }

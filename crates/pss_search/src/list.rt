@@ -16,7 +16,7 @@ use sample_file::Recording;
 use std::alloc::{AllocError, Global};
 use std::marker::Model;
 
-/// A list with room for 5,760 hits, which no recording exceeds. Contracts see a list of hits.
+/// A list of hits with capacity for 5,760, which no recording exceeds. Contracts see it as the list of its items.
 #[derive(Drop)]
 pub struct HitList {
     hits: Vec<Hit>,
@@ -31,7 +31,7 @@ impl Model for HitList {
 }
 
 impl HitList {
-    /// Returns the empty list with all its memory allocated. Fails only if the allocation fails.
+    /// Returns an empty list. Fails only if its allocation fails.
     pub fn new(alloc: Global) -> Result<Self, AllocError>
         ensures { IfOk result (λ l. l ≡ []) }
     {
@@ -64,8 +64,8 @@ impl HitList {
     }
 }
 
-/// Replaces the list by the recording's hits at positions 137 to 19,336 (one frame), ordered by position and then by
-/// identity within the group. Peaks are at most 2^59, energies at most 2^38. Allocates nothing. (own)
+/// Replaces the list with the recording's hits at positions 137 to 19,336 (one frame), ordered by position, then by
+/// identity within the group. Peaks are at most 2^59, energies at most 2^38. Does not allocate. (own)
 pub fn hits(recording: &Recording, list: &mut HitList)
     ensures list { list.new ≡ hits_of recording.now }
     ensures span { All IsInSpan list.new }
@@ -86,7 +86,7 @@ pub fn hits(recording: &Recording, list: &mut HitList)
     }
 }
 
-// Appends the hit for a root at position `i` in the span, if there is one.
+// Appends the hit of the primary signal `root` at position `i` of the span, if there is one.
 fn add_of(recent: &Recent, root: &Root, i: usize, list: &mut HitList)
     requires i { i < frame_length }
     requires middle { recent.now.place ≡ i + 147 }

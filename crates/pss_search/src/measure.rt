@@ -1,4 +1,4 @@
-//! Metrics, position by position.
+//! The metrics of PSS detection, measured position by position.
 
 ghost use Rattle.std.specs.Prelude.{◌≡◌, ℕ, ◌+◌, ◌*◌, ◌^◌, ◌<◌, ◌≤◌, ◌↔◌, List, All, length, IsNone, IfNone, IfSome};
 ghost use Rattle.cs_num.specs.declared.Sample.{Sample as SampleValue};
@@ -18,7 +18,7 @@ use std::marker::Model;
 // The first position that is measured, nine before the span in which hits are searched.
 const START: usize = 128;
 
-// One past the last position that is measured, which is nine after the span.
+// One past the last position that is measured; the last is nine after the span.
 const END: usize = 19_346;
 
 /// The measurement at one position against one of the three primary signals. (own)
@@ -30,8 +30,7 @@ pub struct Metric {
     pub energy: u64,
 }
 
-// A row of the sweep, measured at one position: a peak for each of the three primary signals, at most 2^63, and the
-// energy.
+// The measurement at one position against all three primary signals: a peak for each, at most 2^63, and the energy.
 #[derive(Clone, Copy)]
 pub(crate) struct PlaceSums {
     pub peaks: [u64; 3],
@@ -44,7 +43,7 @@ impl PlaceSums {
         energy: 0,
     };
 
-    // Returns the metric for one identity within the group.
+    // Returns the metric for the primary signal `n2`, 0 to 2.
     pub(crate) fn metric(&self, n2: u8) -> Metric
         requires { n2 ≤ 2 }
         ensures { (recording : List SampleValue) → (t : ℕ) → IsRowOf recording t self.now →
@@ -56,7 +55,7 @@ impl PlaceSums {
         }
     }
 
-    // Returns all three metrics.
+    // Returns the metrics for the three primary signals.
     fn metrics(&self) -> [Metric; 3]
         ensures value { (recording : List SampleValue) → (t : ℕ) → IsRowOf recording t self.now →
             result ≡ metrics_at recording t }
@@ -67,8 +66,8 @@ impl PlaceSums {
     }
 }
 
-/// A sweep that measures the positions 128 to 19,345 in a recording one after the other: one frame, and nine
-/// positions on each side. Contracts see the recording's samples and the next position. Allocates nothing. (own)
+/// A sweep that measures positions 128 to 19,345 of a recording in turn: one frame, and nine positions on each side.
+/// Contracts see the recording's samples and the next position. Does not allocate. (own)
 #[derive(Drop)]
 pub struct Sweep<'a> {
     samples: &'a [Sample],
@@ -93,7 +92,7 @@ impl<'a> Model for Sweep<'a> {
 }
 
 impl<'a> Sweep<'a> {
-    /// Returns the sweep at position 128.
+    /// Returns a sweep of `recording` whose next position is 128.
     pub fn new(recording: &'a Recording) -> Sweep<'a>
         ensures recording { result.recording ≡ recording.now }
         ensures place { result.place ≡ useful_length }
@@ -107,7 +106,7 @@ impl<'a> Sweep<'a> {
         }
     }
 
-    /// Returns the next position, 128 to 19,346, which is the end.
+    /// Returns the next position to measure, 128 to 19,346; at 19,346 the sweep has ended.
     pub fn place(&self) -> usize
         ensures place { result ≡ self.now.place }
         ensures first { useful_length ≤ result }
@@ -116,8 +115,8 @@ impl<'a> Sweep<'a> {
         self.place
     }
 
-    /// Returns the next position's metrics for the identities 0, 1 and 2 within the group, and advances. Returns
-    /// `None`, and stays, exactly if the position is 19,346.
+    /// Returns the next position's metrics for the three primary signals, and advances by one. Returns `None`, without
+    /// advancing, if the next position is 19,346, the end.
     pub fn step(&mut self) -> Option<[Metric; 3]>
         ensures end { IsNone result ↔ (self.old.place ≡ end_place) }
         ensures stays { IfNone result (self.new ≡ self.old) }
@@ -132,7 +131,7 @@ impl<'a> Sweep<'a> {
         }
     }
 
-    // Returns the next position's metrics as a row, and advances.
+    // Returns the next position's peaks and energy, and advances by one; at the end, returns `None`.
     #[inline(always)]
     pub(crate) fn measure(&mut self) -> Option<PlaceSums>
         ensures end { IsNone result ↔ (self.old.place ≡ end_place) }
@@ -153,7 +152,7 @@ impl<'a> Sweep<'a> {
     }
 }
 
-// Returns the row for three correlations and an energy.
+// Returns the row for a position's correlations with the three primary signals and its energy.
 fn row_of(sums: &[Cpx; 3], total: u64) -> PlaceSums
     requires small { All (IsWithin (2 ^ 31)) sums.now }
     requires few { total ≤ 2 ^ 38 }
@@ -167,7 +166,7 @@ fn row_of(sums: &[Cpx; 3], total: u64) -> PlaceSums
     }
 }
 
-// Returns the squared magnitude of a number so small that 64 bits hold it.
+// Returns the squared magnitude of `number`, whose components are small enough that the result fits 64 bits.
 fn square_of(number: Cpx) -> u64
     requires { IsWithin (2 ^ 31) number }
     ensures value { result ≡ square number }
@@ -178,7 +177,8 @@ fn square_of(number: Cpx) -> u64
     re * re + im * im
 }
 
-// Returns the next position's energy: without the first sample at this one, and with the sample after its last.
+// Returns the energy at position `t + 1`, given the energy `total` at `t`: subtracts sample `t`'s contribution and adds
+// that of sample `t + 128`.
 fn next_energy(samples: &[Sample], t: usize, total: u64) -> u64
     requires room { t + 129 ≤ length samples.now }
     requires energy { total ≡ energy samples.now t }
@@ -189,7 +189,7 @@ fn next_energy(samples: &[Sample], t: usize, total: u64) -> u64
     total - energy_part(samples[t]) + energy_part(samples[t + USEFUL_LENGTH])
 }
 
-// Returns the energy of the 128 samples from `t`.
+// Returns the energy at position `t`: the sum of squared magnitudes of the 128 samples from `t`.
 fn energy_sum(samples: &[Sample], t: usize) -> u64
     requires { t + useful_length ≤ length samples.now }
     ensures value { result ≡ energy samples.now t }
@@ -202,7 +202,7 @@ fn energy_sum(samples: &[Sample], t: usize) -> u64
     sum
 }
 
-// Returns a sample's contribution to the energy.
+// Returns a sample's squared magnitude, at most 2^31.
 fn energy_part(sample: Sample) -> u64
     ensures value { result ≡ square (value_of sample) }
     ensures small { result ≤ 2 ^ 31 }

@@ -1,5 +1,5 @@
-//! Correlations with the three signals. The signals with roots 29 and 34 are conjugates except at two samples, so
-//! they share their products.
+//! Correlations with the three primary signals. The signals with roots 29 and 34 are conjugates of each other except at
+//! two samples, so they share their products.
 
 ghost use Rattle.std.specs.Prelude.{◌≡◌, ℕ, ◌+◌, ◌*◌, ◌^◌, ◌<◌, ◌≤◌, All, length, nat_abs};
 ghost use Rattle.finite.specs.Sizes.{AllWithin};
@@ -14,8 +14,8 @@ use crate::signals::part_of;
 use cs_num::{Cpx, Sample};
 use lte_types::USEFUL_LENGTH;
 
-// 256 samples of a recording from sample `from`, with real and imaginary parts apart, so that the processor takes
-// eight at once.
+// 256 samples of a recording from sample `from`, with real and imaginary parts in separate arrays, so that the
+// processor can load eight at once.
 #[derive(Clone, Copy)]
 pub(crate) struct Stretch {
     pub from: usize,
@@ -24,7 +24,7 @@ pub(crate) struct Stretch {
 }
 
 impl Stretch {
-    // Returns the stretch of 256 samples from `t`.
+    // Returns the stretch of 256 samples from sample `t`.
     pub(crate) fn new(samples: &[Sample], t: usize) -> Self
         requires { t + 256 ≤ length samples.now }
         ensures held { IsStretchOf samples.now result }
@@ -39,7 +39,7 @@ impl Stretch {
         Stretch { from: t, re, im }
     }
 
-    // Advances the stretch if it does not hold the 128 samples from `t`.
+    // Moves the stretch to sample `t` unless it holds all 128 samples from `t`.
     pub(crate) fn reach(&mut self, samples: &[Sample], t: usize)
         requires room { t + 256 ≤ length samples.now }
         requires held { IsStretchOf samples.now self.old }
@@ -54,10 +54,10 @@ impl Stretch {
     }
 }
 
-// Returns the dot product of 128 values from `o` with list `part` of the signals' samples. It fits 32 bits, in any
-// order of adding: 128 times 32,768 times 255 is below 2^31. Not inlined, and its list is known only at run time: so
-// the compiler adds the 16-bit products in pairs. With a constant list, products with 0, 1 and powers of two become
-// other instructions and break up the lanes.
+// Returns the dot product of 128 values from `o` with list `part` of the signals' samples. The sum fits 32 bits in any
+// order of addition, since 128 * 32,768 * 255 is below 2^31. Not inlined, and the list is known only at run time, so
+// the compiler adds the 16-bit products in pairs. With a constant list, products with 0, 1 and powers of two would
+// become other instructions that cannot share a vector.
 #[inline(never)]
 fn dot(values: &[i16; 256], o: usize, part: usize) -> i32
     requires o { o ≤ useful_length }
@@ -72,7 +72,7 @@ fn dot(values: &[i16; 256], o: usize, part: usize) -> i32
         + row_sum(values, o, signal, 3)
 }
 
-// Returns the sum of row `k`: 32 of these products.
+// Returns the sum of products `32 * k` to `32 * k + 31` of a dot product from `o`.
 #[inline(always)]
 fn row_sum(values: &[i16; 256], o: usize, signal: &[i16; USEFUL_LENGTH], k: usize) -> i32
     requires o { o ≤ useful_length }
@@ -88,7 +88,7 @@ fn row_sum(values: &[i16; 256], o: usize, signal: &[i16; USEFUL_LENGTH], k: usiz
     sum
 }
 
-// Returns product `n`.
+// Returns product `n` of a dot product: `values[o + n]` times `signal[n]`.
 #[inline(always)]
 fn product(values: &[i16; 256], o: usize, signal: &[i16; USEFUL_LENGTH], n: usize) -> i32
     requires o { o ≤ useful_length }
@@ -100,7 +100,8 @@ fn product(values: &[i16; 256], o: usize, signal: &[i16; USEFUL_LENGTH], n: usiz
     values[o + n] as i32 * signal[n] as i32
 }
 
-// The four dot products of 128 samples' parts with a signal's parts.
+// The four dot products of 128 samples' real and imaginary parts with those of a signal. In each name, the samples'
+// part comes first.
 #[derive(Clone, Copy)]
 struct ProductSums {
     re_re: i32,
@@ -109,7 +110,7 @@ struct ProductSums {
     re_im: i32,
 }
 
-// Returns the dot products for a stretch's samples from `o` and the signal whose real parts are list `part`, and
+// Returns the dot products of a stretch's 128 samples from `o` with the signal whose real parts are list `part` and
 // whose imaginary parts are the next list.
 #[inline(always)]
 fn product_sums(stretch: &Stretch, o: usize, part: usize) -> ProductSums
@@ -127,7 +128,7 @@ fn product_sums(stretch: &Stretch, o: usize, part: usize) -> ProductSums
 }
 
 impl ProductSums {
-    // Returns the sum of products with the signal's conjugate.
+    // Returns the correlation with the signal: the sum of samples times the signal's conjugate.
     fn with_conjugate(&self) -> Cpx
         requires { AreSmallProducts self.now }
         ensures value { result ≡ with_conjugate_of self.now }
@@ -139,7 +140,7 @@ impl ProductSums {
         }
     }
 
-    // Returns the sum of products with the signal itself.
+    // Returns the sum of samples times the signal itself: the correlation with its conjugate.
     fn with_signal(&self) -> Cpx
         requires { AreSmallProducts self.now }
         ensures value { result ≡ with_signal_of self.now }
@@ -152,8 +153,8 @@ impl ProductSums {
     }
 }
 
-// Returns a position's correlations with the three signals. The signal with root 34 is the conjugate of the one with
-// root 29, plus j at samples 0 and 64.
+// Returns the correlations at position `t` with the three primary signals. The signal with root 34 is the conjugate of
+// that with root 29, plus j at samples 0 and 64.
 #[inline(always)]
 pub(crate) fn correlations(samples: &[Sample], t: usize, stretch: &Stretch) -> [Cpx; 3]
     requires room { t + useful_length ≤ length samples.now }

@@ -9,13 +9,13 @@ use crate::measure::{Metric, PlaceSums, Sweep};
 use sample_file::Recording;
 use std::marker::Model;
 
-// The number of positions that decide on a hit: its own, and nine on each side.
+// The number of positions whose metrics decide whether a position is a hit: the position itself, and nine on each side.
 const PLACES: usize = 19;
 
-// The number of rows that are kept: a power of two, so that a position's row is found quickly.
+// The number of rows that are kept. A power of two makes u modulo 32 cheap to compute.
 const ROWS: usize = 32;
 
-// The sweep, and the rows of at least the last 19 positions, position u at u modulo 32.
+// A sweep, and the rows of at least its last 19 positions; the row of position u is at index u modulo 32.
 #[derive(Drop)]
 pub(crate) struct Recent<'a> {
     sweep: Sweep<'a>,
@@ -34,7 +34,7 @@ impl<'a> Model for Recent<'a> {
 }
 
 impl<'a> Recent<'a> {
-    // Returns the sweep at position 128, without rows.
+    // Returns a sweep whose next position is 128, without measured rows.
     fn empty(recording: &'a Recording) -> Recent<'a>
         ensures recording { result.recording ≡ recording.now }
         ensures place { result.place ≡ useful_length }
@@ -45,7 +45,7 @@ impl<'a> Recent<'a> {
         }
     }
 
-    // Returns the sweep at position 146, the last that decides on the span's first position.
+    // Returns a sweep whose next position is 146, the last that is needed to decide on the first position of the span.
     pub(crate) fn new(recording: &'a Recording) -> Recent<'a>
         ensures recording { result.recording ≡ recording.now }
         ensures place { result.place ≡ 146 }
@@ -57,7 +57,7 @@ impl<'a> Recent<'a> {
         recent
     }
 
-    // Measures the next position.
+    // Measures the next position, and keeps its row.
     #[inline(always)]
     pub(crate) fn advance(&mut self)
         requires { self.old.place < end_place }
@@ -70,7 +70,7 @@ impl<'a> Recent<'a> {
         }
     }
 
-    // Returns the row of one of the last 19 positions.
+    // Returns the row of position `u`, one of the last 19 measured.
     pub(crate) fn row(&self, u: usize) -> PlaceSums
         requires first { useful_length ≤ u }
         requires measured { u < self.now.place }
@@ -80,7 +80,7 @@ impl<'a> Recent<'a> {
         self.rows[u % ROWS]
     }
 
-    // Returns the metric at one of the last 19 positions.
+    // Returns the metric for the primary signal `n2` at position `u`, one of the last 19 measured.
     pub(crate) fn metric(&self, n2: u8, u: usize) -> Metric
         requires root { n2 ≤ 2 }
         requires first { useful_length ≤ u }

@@ -1,13 +1,13 @@
-//! The samples of the three primary signals, and their powers.
+//! The samples and powers of the primary synchronisation signals.
 
 ghost use Rattle.std.specs.Prelude.{◌≡◌, ◌<◌, ◌≤◌};
 ghost use Rattle.finite.specs.Sizes.{AllWithin};
 ghost use Rattle.pss_search.specs.Correlation.{wave_power};
 ghost use Rattle.pss_search.specs.Products.{wave_part};
 
-// The powers of the signals with roots 25, 29 and 34 over all 128 samples, and the samples of the first two in parts:
-// root 25 real and imaginary, then root 29. The powers have 128 bits so that the samples begin at a multiple of 16
-// bytes, where the processor loads eight at once.
+// The powers of the signals with roots 25, 29 and 34, each over 128 samples, and the samples of the first two: root
+// 25's real and imaginary parts, then root 29's. The powers have 128 bits so that the samples begin at a multiple of 16
+// bytes, where the processor can load eight at once.
 struct Tables {
     powers: [u128; 3],
     parts: [[i16; 128]; 4],
@@ -58,7 +58,8 @@ static TABLES: Tables = Tables {
     ],
 };
 
-// Returns list `part` of the samples. A caller passes all four values, so that none is known at compile time.
+// Returns list `part` of the samples: root 25's real and imaginary parts, then root 29's. Callers pass all four values,
+// so none is known at compile time.
 pub(crate) fn part_of(part: usize) -> &'static [i16; 128]
     requires { part < 4 }
     ensures value { result.now ≡ wave_part part }
@@ -67,7 +68,7 @@ pub(crate) fn part_of(part: usize) -> &'static [i16; 128]
     &TABLES.parts[part]
 }
 
-// A signal's identity within the group, and its power.
+// A primary signal: its identity within the group, 0 to 2, and its power.
 #[derive(Clone, Copy)]
 pub(crate) struct Root {
     pub n2: u8,
@@ -86,8 +87,8 @@ impl Root {
     }
 }
 
-/// Returns the power of a primary signal, the sum over its 128 samples' squared magnitudes, by its identity within
-/// the group, 0 to 2. It is 1,990,000 to 2,001,665. (own)
+/// Returns the power of the primary signal for the identity `n2` within the group, 0 to 2: the sum of squared
+/// magnitudes of its 128 samples, 1,990,000 to 2,001,665. (own)
 pub fn signal_power(n2: u8) -> u64
     requires { n2 ≤ 2 }
     ensures value { result ≡ wave_power n2 }
