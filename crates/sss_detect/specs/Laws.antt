@@ -1,25 +1,25 @@
--- Laws of the best pair and the second. (own)
+-- Laws of the best and second-best pairs of an identity group and a half-frame. (own)
 use Rattle.std.specs.Prelude.{◌≡◌, ℕ, ℤ}
 use Rattle.lte_types.specs.declared.frame.Half.{Half}
 use Rattle.sss_detect.specs.Identity.{IsBest, best_pair}
 use Rattle.sss_detect.specs.Second.{IsSecond, second_pair}
 
--- the best pair is the first maximum among all 336
+-- the best pair is the first with the maximum score among all 336
 abbrev pub BestPairIsBest : Type 0
 BestPairIsBest = (scores : ℕ → Half → ℤ) → IsBest scores (best_pair scores).0 (best_pair scores).1
 
--- no pair other than the best is the first maximum among all 336
+-- no pair other than the best is the first with the maximum score among all 336
 abbrev pub OnlyOneIsBest : Type 0
 OnlyOneIsBest =
     (scores : ℕ → Half → ℤ) (n1 : ℕ) (half : Half) → IsBest scores n1 half →
     (n1 ≡ (best_pair scores).0) × (half ≡ (best_pair scores).1)
 
--- the second pair is the first maximum among the 335 others
+-- the second-best pair is the first with the maximum score among the other 335
 abbrev pub SecondPairIsSecond : Type 0
 SecondPairIsSecond =
     (scores : ℕ → Half → ℤ) → IsSecond scores (best_pair scores) (second_pair scores).0 (second_pair scores).1
 
--- no pair other than the second is the first maximum among the 335 others
+-- no pair other than the second-best is the first with the maximum score among the 335 pairs that are not the best
 abbrev pub OnlyOneIsSecond : Type 0
 OnlyOneIsSecond =
     (scores : ℕ → Half → ℤ) (n1 : ℕ) (half : Half) → IsSecond scores (best_pair scores) n1 half →

@@ -1,4 +1,4 @@
--- The frame start for a hit, and the cell that sends it.
+-- The frame start for a hit, and the place of its cell.
 use Rattle.std.specs.Prelude.{ℕ, ◌+◌, ◌-◌, ◌%◌, List}
 use Rattle.cs_num.specs.declared.Sample.{Sample}
 use Rattle.lte_types.specs.CellPlace.{Place}
@@ -9,12 +9,12 @@ use Rattle.lte_types.specs.declared.numerology.Prefix.{Prefix}
 use Rattle.lte_types.specs.Numerology.{frame_length, primary_start}
 use Rattle.sss_detect.specs.Identity.{prefix_identity}
 
--- the frame start, modulo a frame, if the primary signal of this half-frame is at t (TS 36.211 sections 4.1, 6.11 and
--- 6.12)
+-- the frame start in samples, modulo a frame, if the useful part of this half-frame's primary signal begins at sample t
+-- (TS 36.211 sections 4.1, 6.11 and 6.12)
 abbrev pub start_by_hit : ℕ → Half → ℕ
 start_by_hit t half = (t + (frame_length - primary_start half)) % frame_length
 
--- the cell for a hit and a cyclic prefix: its identity and its frame start
+-- the place of a hit's cell for a cyclic prefix: the cell identity, and the sample at which its first frame starts
 abbrev pub prefix_place : Prefix → List Sample → Hit → Place
 prefix_place prefix recording hit = record {
   id = cell_of (prefix_identity prefix recording hit).0 hit.n2;

@@ -1,4 +1,4 @@
--- The second pair, and the two best pairs with their scores. (own)
+-- The second-best pair of an identity group and a half-frame, and the two best pairs with their scores. (own)
 use Rattle.std.specs.Prelude.{◌≢◌, ℕ, ◌+◌, ◌-◌, ◌≤◌, List, ℤ, ◌<ℤ◌, ◌≤ℤ◌, nat_lt, if◌then◌else◌}
 use Rattle.cs_num.specs.declared.Sample.{Sample}
 use Rattle.lte_types.specs.declared.frame.Half.{Half}
@@ -9,7 +9,8 @@ use Rattle.sss_detect.specs.declared.rank.Choice.{Choice}
 use Rattle.sss_detect.specs.declared.rank.Ranking.{Ranking}
 use Rattle.sss_detect.specs.Identity.{IsBefore, first_greatest, best_pair, prefix_scores}
 
--- among the 335 pairs other than the best this one has the maximum score, and each earlier one a smaller score
+-- among the 335 pairs other than `best`, the pair of `n1` and `half` has the maximum score, and each earlier pair a
+-- smaller score
 pub record IsSecond (scores : ℕ → Half → ℤ) (best : ℕ × Half) (n1 : ℕ) (half : Half) : Type 0 where
   pub known : n1 ≤ 167
   pub another : (n1, half) ≢ best
@@ -17,10 +18,11 @@ pub record IsSecond (scores : ℕ → Half → ℤ) (best : ℕ × Half) (n1 : �
   pub first : (m : ℕ) (other : Half) → m ≤ 167 → (m, other) ≢ best → IsBefore m other n1 half →
       scores m other <ℤ scores n1 half
 
--- the pairs in order, and the number of each
+-- pair number `place`, 0 to 335: the pairs of subframe 0 by group, then those of subframe 5
 abbrev pub pair_at : ℕ → ℕ × Half
 pair_at place = if nat_lt place 168 then (place, Zero) else (place - 168, Five)
 
+-- a pair's number, 0 to 335: the pairs of subframe 0 by group, then those of subframe 5
 abbrev pub place_of : ℕ × Half → ℕ
 place_of (n1, Zero) = n1
 place_of (n1, Five) = 168 + n1
@@ -29,23 +31,25 @@ place_of (n1, Five) = 168 + n1
 abbrev pub score_at : (ℕ → Half → ℤ) → ℕ → ℤ
 score_at scores place = scores (pair_at place).0 (pair_at place).1
 
--- index i among those that remain when one is removed
+-- the index at position i if index `taken` is removed from 0, 1, 2 and so on
 abbrev pub left_without : ℕ → ℕ → ℕ
 left_without taken i = if nat_lt i taken then i else i + 1
 
--- the first maximum in f 0 to f (n + 1) when one index is removed
+-- the index of the first maximum among f 0 to f (n + 1) without index `taken`
 abbrev pub next_greatest : (ℕ → ℤ) → ℕ → ℕ → ℕ
 next_greatest f taken n = left_without taken (first_greatest (λ i. f (left_without taken i)) n)
 
--- the second pair: the best that remains when the best pair is removed
+-- the second-best pair: the first with the maximum score among the pairs other than the best
 unfoldable pub second_pair : (ℕ → Half → ℤ) → ℕ × Half
 second_pair scores = pair_at (next_greatest (score_at scores) (place_of (best_pair scores)) 334)
 
 -- ---- the two best pairs with their scores
 
+-- a pair of an identity group and a half-frame, with its score
 abbrev pub choice_of : (ℕ → Half → ℤ) → ℕ × Half → Choice
 choice_of scores pair = record { n1 = pair.0; half = pair.1; score = scores pair.0 pair.1 }
 
+-- the best and second-best pairs, with their scores
 unfoldable pub ranking_of : (ℕ → Half → ℤ) → Ranking
 ranking_of scores = record {
   best = choice_of scores (best_pair scores);

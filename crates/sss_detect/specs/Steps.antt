@@ -1,4 +1,4 @@
--- The steps of the code to the scores, by lists.
+-- The scores in the form that the code computes: sums over lists of agreements.
 use Rattle.std.specs.Prelude.{ℕ, ◌+◌, ◌*◌, ◌/◌, ◌%◌, List, ℤ, pos, ◌*ℤ◌, slice_index_or}
 use Rattle.finite.specs.Sums.{sum_below}
 use Rattle.finite.specs.Lists.{values_below}
@@ -7,24 +7,27 @@ use Rattle.lte_types.specs.declared.frame.Half.{Half}
 use Rattle.sync_seq.specs.Secondary.{S, C, Z, period_bits, shifted_value, sss_at}
 use Rattle.sss_detect.specs.Scores.{agreement}
 
--- the agreements at all 62 values
+-- the agreements at all 62 values of the secondary sequence
 unfoldable pub agreements_of : (ℕ → Cpx) → (ℕ → Cpx) → ℕ → List ℤ
 agreements_of primary secondary n2 = values_below 62 (agreement primary secondary n2)
 
--- the sum of n agreements at every other index from `first`, with the signs of the sequence with these shifts
+-- the sum of n agreements at every other index from `first`, multiplied by the signs of the secondary sequence with
+-- shifts `even` and `odd`
 unfoldable pub places_sum : List ℤ → ℕ → ℕ → ℕ → ℕ → ℕ → ℤ
 places_sum agreements n2 even odd first n =
     sum_below n (λ i. shifted_value (period_bits S) (period_bits C) (period_bits Z) n2 even odd (2 * i + first)
     *ℤ slice_index_or agreements (2 * i + first) (pos 0))
 
--- the sum over even indices for an even shift; the odd shift does not matter
+-- the sum of the agreements at even indices, with the signs for an even shift; the odd shift does not affect these
+-- signs
 abbrev pub even_sum : List ℤ → ℕ → ℕ → ℤ
 even_sum agreements n2 shift = places_sum agreements n2 shift 0 0 31
 
--- the sum over odd indices for combination i of an odd shift and an even shift modulo 8
+-- the sum of the agreements at odd indices, with the signs for the odd shift i / 8 and each even shift that equals i
+-- modulo 8
 abbrev pub odd_sum : List ℤ → ℕ → ℕ → ℤ
 odd_sum agreements n2 i = places_sum agreements n2 (i % 8) (i / 8) 1 31
 
--- the score for a group in a half-frame, from a list of agreements
+-- the score of group n1 in a half-frame, from a list of 62 agreements
 unfoldable pub score_by : List ℤ → ℕ → ℕ → Half → ℤ
 score_by agreements n2 n1 half = sum_below 62 (λ n. sss_at n1 n2 half n *ℤ slice_index_or agreements n (pos 0))

@@ -1,7 +1,8 @@
-//! Choosing an identity group and a half-frame.
+//! The choice of an identity group and a half-frame.
 //!
-//! The score of a pair is the sum over the 62 values of its secondary sequence, each times the real part of the SSS
-//! value demodulated at its subcarrier times the conjugate of the channel that the PSS value there gives (`agreement`).
+//! The score of a pair is a sum over 62 subcarriers. Each term is the secondary sequence's value there, 1 or -1, times
+//! the real part of the demodulated SSS value times the conjugate of the channel, which the PSS value gives
+//! (`agreement`).
 
 ghost use Rattle.std.specs.Prelude.{◌≡◌, ◌^◌, ◌≤◌, All, int_lt, if◌then◌else◌};
 ghost use Rattle.finite.specs.Sizes.{AllWithin};
@@ -14,15 +15,15 @@ use crate::score::{ShiftSums, agreements};
 use cs_num::Cpx;
 use lte_types::{Half, SUBCARRIERS};
 
-// An identity group with its score.
+// An identity group, 0 to 167, with its score in one half-frame.
 #[derive(Clone, Copy)]
 struct GroupScore {
     n1: u16,
     score: i128,
 }
 
-/// Returns the identity group, 0 to 167, and the half-frame whose secondary sequence scores highest against the
-/// demodulated symbols. Ties go to subframe 0, then the lower group. `n2` is 0 to 2, components within 2^25. (own)
+/// Returns the identity group, 0 to 167, and the half-frame with the maximum score for the demodulated symbols. Ties go
+/// to subframe 0, then to the lower group. `n2` is 0 to 2, components at most 2^25. (own)
 pub fn best(pss_seen: &[Cpx; SUBCARRIERS], sss_seen: &[Cpx; SUBCARRIERS], n2: u8) -> (u16, Half)
     requires member { n2 ≤ 2 }
     requires primary { All (IsWithin (2 ^ 25)) pss_seen.now }
@@ -33,7 +34,7 @@ pub fn best(pss_seen: &[Cpx; SUBCARRIERS], sss_seen: &[Cpx; SUBCARRIERS], n2: u8
     best_by(&agreements(pss_seen, sss_seen, n2), n2)
 }
 
-// Returns the best pair for a list of agreements.
+// Returns the pair with the maximum score for a list of agreements.
 fn best_by(agreements: &[i64; 62], n2: u8) -> (u16, Half)
     requires small { AllWithin (2 ^ 59) agreements.now }
     requires member { n2 ≤ 2 }
@@ -49,7 +50,7 @@ fn best_by(agreements: &[i64; 62], n2: u8) -> (u16, Half)
     }
 }
 
-// Returns the best group for a half-frame.
+// Returns the group with the maximum score in `half`, the lowest of several.
 fn best_of_half(sums: &ShiftSums, half: Half) -> GroupScore
     requires { AllWithin (2 ^ 59) sums.now.agreements.now }
     ensures group { result.n1 ≡ best_group (score_by sums.now.agreements.now sums.now.n2) half }
@@ -62,7 +63,7 @@ fn best_of_half(sums: &ShiftSums, half: Half) -> GroupScore
     best
 }
 
-// Returns a group with its score.
+// Returns the group `n1` with its score in `half`.
 fn scored(sums: &ShiftSums, n1: u16, half: Half) -> GroupScore
     requires small { AllWithin (2 ^ 59) sums.now.agreements.now }
     requires group { n1 ≤ 167 }
@@ -75,7 +76,7 @@ fn scored(sums: &ShiftSums, n1: u16, half: Half) -> GroupScore
     }
 }
 
-// Returns the group with the greater score, the first if they are equal.
+// Returns the group with the greater score, or `first` if the scores are equal.
 fn better_group(first: GroupScore, second: GroupScore) -> GroupScore
     ensures { result ≡ (if int_lt first.score second.score then second else first) }
 {

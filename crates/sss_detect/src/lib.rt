@@ -23,8 +23,8 @@ use rank::best_two;
 pub use rank::{Choice, Ranking};
 use sample_file::Recording;
 
-/// Returns a hit's identity group and half-frame for a cyclic prefix (TS 36.211 section 6.11), by `best`. Both symbols,
-/// the secondary one immediately before the primary, lie within the recording. `n2` is 0 to 2.
+/// Returns a hit's identity group and half-frame for a cyclic prefix (TS 36.211 section 6.11), as `best` does. The
+/// recording contains the useful parts of the primary symbol and the secondary one before it; `n2` is 0 to 2.
 pub fn identity_with(recording: &Recording, hit: &Hit, prefix: Prefix) -> (u16, Half)
     requires after { symbol_step prefix ≤ hit.now.t }
     requires within { hit.now.t + useful_length ≤ length recording.now }
@@ -41,7 +41,7 @@ pub fn identity_with(recording: &Recording, hit: &Hit, prefix: Prefix) -> (u16, 
 }
 
 /// Returns a hit's identity group and half-frame for the normal cyclic prefix: the secondary symbol is 137 samples
-/// before the primary one. The conditions are those for `identity_with`.
+/// before the primary one. The conditions are those of `identity_with`.
 pub fn identity(recording: &Recording, hit: &Hit) -> (u16, Half)
     requires after { symbol_step normal ≤ hit.now.t }
     requires within { hit.now.t + useful_length ≤ length recording.now }
@@ -52,8 +52,8 @@ pub fn identity(recording: &Recording, hit: &Hit) -> (u16, Half)
     identity_with(recording, hit, Prefix::NORMAL)
 }
 
-/// Returns the cell identity and the sample at which its first frame starts, for a hit and a cyclic prefix. The
-/// conditions are those for `identity_with`.
+/// Returns a hit's cell identity, and the sample at which the cell's first frame starts, for a cyclic prefix. The
+/// conditions are those of `identity_with`.
 pub fn place_with(recording: &Recording, hit: &Hit, prefix: Prefix) -> CellPlace
     requires after { symbol_step prefix ≤ hit.now.t }
     requires within { hit.now.t + useful_length ≤ length recording.now }
@@ -67,8 +67,8 @@ pub fn place_with(recording: &Recording, hit: &Hit, prefix: Prefix) -> CellPlace
     }
 }
 
-/// Returns the pair that `identity_with` chooses, and the second, each with its complete score, which fits 64 bits.
-/// The conditions are those for `identity_with`. (own)
+/// Returns the pair that `identity_with` chooses and the second-best pair, each with its score, which fits 64 bits. The
+/// conditions are those of `identity_with`. (own)
 pub fn ranking_with(recording: &Recording, hit: &Hit, prefix: Prefix) -> Ranking
     requires after { symbol_step prefix ≤ hit.now.t }
     requires within { hit.now.t + useful_length ≤ length recording.now }
@@ -87,13 +87,13 @@ pub fn ranking_with(recording: &Recording, hit: &Hit, prefix: Prefix) -> Ranking
     )
 }
 
-/// A law: the best pair is the first with the maximum score, and no other pair is.
+/// A law: the best pair is the first with the maximum score, and the only one.
 pub fn best_pair_is_first_of_greatest()
     ensures best { BestPairIsBest }
     ensures only { OnlyOneIsBest }
 {}
 
-/// A law: the second pair is the first with the maximum score among the others, and no other pair is.
+/// A law: the second-best pair is the first with the maximum score among the other 335, and the only one.
 pub fn second_pair_is_first_of_the_others()
     ensures second { SecondPairIsSecond }
     ensures only { OnlyOneIsSecond }

@@ -7,7 +7,8 @@ ghost use Rattle.sss_detect.specs.Place.{start_by_hit};
 
 use lte_types::{CellId, FRAME_LENGTH, Half, Hit};
 
-/// Returns the sample, modulo the 19,200 in a frame, at which frames begin if a hit's primary signal is in `half`.
+/// Returns the sample at which a frame begins, modulo the 19,200 samples of a frame, if a hit's primary signal is in
+/// `half`.
 pub fn frame_start(hit: &Hit, half: Half) -> u32
     ensures value { result ≡ start_by_hit hit.now.t half }
     ensures small { result < frame_length }
@@ -16,7 +17,7 @@ pub fn frame_start(hit: &Hit, half: Half) -> u32
     (hit.t % frame + (frame - half.primary_start())) % frame
 }
 
-/// Returns the cell identity for a group and an identity within it. `n1` is 0 to 167 and `n2` is 0 to 2.
+/// Returns the cell identity for the group `n1`, 0 to 167, and the identity `n2` within it, 0 to 2.
 pub fn cell_id(n1: u16, n2: u8) -> CellId
     requires group { n1 ≤ 167 }
     requires member { n2 ≤ 2 }

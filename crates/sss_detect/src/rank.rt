@@ -1,4 +1,4 @@
-//! The two best pairs, each an identity group and a half-frame, with their scores.
+//! The two best pairs of an identity group and a half-frame, with their scores.
 
 ghost use Rattle.std.specs.Prelude.{◌≡◌, ◌<◌, ◌≤◌, All, int_lt, if◌then◌else◌};
 ghost use Rattle.finite.specs.Sizes.{AllWithin};
@@ -19,14 +19,14 @@ pub struct Choice {
     pub score: i64,
 }
 
-/// The best pair, and the second: the best of the 335 others. (own)
+/// The best pair of an identity group and a half-frame, and the second-best: the best of the 335 others. (own)
 #[derive(Clone, Copy, Debug, PartialEq, Eq)]
 pub struct Ranking {
     pub best: Choice,
     pub second: Choice,
 }
 
-// Returns the two best pairs for demodulated primary and secondary symbols.
+// Returns the best and second-best pairs for a demodulated primary symbol and secondary symbol.
 pub(crate) fn best_two(
     pss_seen: &[Cpx; SUBCARRIERS],
     sss_seen: &[Cpx; SUBCARRIERS],
@@ -40,7 +40,7 @@ pub(crate) fn best_two(
     best_two_by(&agreements(pss_seen, sss_seen, n2), n2)
 }
 
-// Returns the two best pairs for agreements within 254 times the square of 23,726,080.
+// Returns the best and second-best pairs for agreements of magnitude at most 254 times the square of 23,726,080.
 fn best_two_by(agreements: &[i64; 62], n2: u8) -> Ranking
     requires small { AllWithin 142983425530265600 agreements.now }
     requires member { n2 ≤ 2 }
@@ -54,7 +54,7 @@ fn best_two_by(agreements: &[i64; 62], n2: u8) -> Ranking
     ranking
 }
 
-// Returns pair number `place`, with its score.
+// Returns pair number `place`, 0 to 335, with its score.
 fn scored_pair(sums: &ShiftSums, place: u16) -> Choice
     requires small { AllWithin 142983425530265600 sums.now.agreements.now }
     requires place { place < 336 }
@@ -68,7 +68,7 @@ fn scored_pair(sums: &ShiftSums, place: u16) -> Choice
     }
 }
 
-// Returns pair number `place`: first the pairs of subframe 0, then those of subframe 5.
+// Returns pair number `place`, 0 to 335: the pairs of subframe 0 by group, then those of subframe 5.
 fn pair_at(place: u16) -> (u16, Half)
     requires { place < 336 }
     ensures pair { result ≡ pair_of place }
@@ -81,7 +81,7 @@ fn pair_at(place: u16) -> (u16, Half)
     }
 }
 
-// Ranks two pairs by score, `first` in front if they are equal.
+// Ranks two pairs by score; `first` is the best if the scores are equal.
 fn in_order(first: Choice, other: Choice) -> Ranking
     ensures { result ≡ (if int_lt first.score other.score
         then record { best = other; second = first } else record { best = first; second = other }) }
@@ -99,7 +99,7 @@ fn in_order(first: Choice, other: Choice) -> Ranking
     }
 }
 
-// Returns the two best pairs when `next` follows those already ranked.
+// Returns the two best of the ranked pairs and `next`, which is later than both.
 fn with_next(before: Ranking, next: Choice) -> Ranking
     ensures { result ≡ (if int_lt before.best.score next.score
         then record { best = next; second = before.best }
@@ -121,7 +121,7 @@ fn with_next(before: Ranking, next: Choice) -> Ranking
     }
 }
 
-// Returns the pair with the greater score, the first if they are equal.
+// Returns the pair with the greater score, or `first` if the scores are equal.
 fn better_pair(first: Choice, later: Choice) -> Choice
     ensures { result ≡ (if int_lt first.score later.score then later else first) }
 {

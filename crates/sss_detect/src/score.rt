@@ -1,4 +1,4 @@
-//! Scores of secondary sequences.
+//! The scores of secondary sequences, from sums that several sequences share.
 
 ghost use Rattle.std.specs.Prelude.{◌≡◌, ◌+◌, ◌^◌, ◌<◌, ◌≤◌, All, length, pos, ◌*ℤ◌, nat_abs, slice_index_or};
 ghost use Rattle.finite.specs.Sizes.{AllWithin};
@@ -11,7 +11,8 @@ use cs_num::Cpx;
 use lte_types::{Half, SUBCARRIERS};
 use sync_seq::{MIDDLE, pss, sss_shifts, sss_sign};
 
-// Returns the agreements at all values of the secondary sequence.
+// Returns the agreements at the 62 values of the secondary sequence, for demodulated symbols with components of
+// magnitude at most 2^25.
 pub(crate) fn agreements(
     primary: &[Cpx; SUBCARRIERS],
     secondary: &[Cpx; SUBCARRIERS],
@@ -31,7 +32,7 @@ pub(crate) fn agreements(
     out
 }
 
-// Returns the agreement at one subcarrier, given the primary sequence's value there.
+// Returns the agreement at one subcarrier, where `value` is the primary sequence's value.
 fn agree(primary: Cpx, secondary: Cpx, value: Cpx) -> i64
     requires primary { IsWithin (2 ^ 25) primary }
     requires secondary { IsWithin (2 ^ 25) secondary }
@@ -43,8 +44,8 @@ fn agree(primary: Cpx, secondary: Cpx, value: Cpx) -> i64
     secondary.mul(channel.conj()).re
 }
 
-/// Sums of agreements with the signs of secondary sequences: over even indices for each even shift, and over odd
-/// indices for each odd shift with each even shift modulo 8.
+/// Sums of agreements with the signs of the secondary sequences: over even indices for each even shift, and over odd
+/// indices for each odd shift and each remainder of an even shift modulo 8.
 #[derive(Drop)]
 pub(crate) struct ShiftSums<'a> {
     pub agreements: &'a [i64; 62],
@@ -57,7 +58,7 @@ pub(crate) struct ShiftSums<'a> {
 }
 
 impl<'a> ShiftSums<'a> {
-    /// Returns the sums for an identity within the group.
+    /// Returns the sums for the identity `n2` within the group, 0 to 2.
     pub(crate) fn new(agreements: &'a [i64; 62], n2: u8) -> ShiftSums<'a>
         requires small { AllWithin (2 ^ 59) agreements.now }
         requires member { n2 ≤ 2 }
@@ -74,7 +75,7 @@ impl<'a> ShiftSums<'a> {
         }
     }
 
-    /// Returns the score for a group in a half-frame.
+    /// Returns the score of group `n1`, 0 to 167, in `half`.
     pub(crate) fn score_of(&self, n1: u16, half: Half) -> i128
         requires small { AllWithin (2 ^ 59) self.now.agreements.now }
         requires group { n1 ≤ 167 }
@@ -85,7 +86,7 @@ impl<'a> ShiftSums<'a> {
     }
 }
 
-// Returns the sums over even indices.
+// Returns the sums over even indices, by even shift.
 fn even_sums(agreements: &[i64; 62], n2: u8) -> [i128; 31]
     requires small { AllWithin (2 ^ 59) agreements.now }
     requires member { n2 ≤ 2 }
@@ -98,7 +99,7 @@ fn even_sums(agreements: &[i64; 62], n2: u8) -> [i128; 31]
     sums
 }
 
-// Returns the sums over odd indices.
+// Returns the sums over odd indices: at index `8 * odd + remainder`, that for an odd shift and an even shift modulo 8.
 fn odd_sums(agreements: &[i64; 62], n2: u8) -> [i128; 248]
     requires small { AllWithin (2 ^ 59) agreements.now }
     requires member { n2 ≤ 2 }
@@ -111,7 +112,8 @@ fn odd_sums(agreements: &[i64; 62], n2: u8) -> [i128; 248]
     sums
 }
 
-// Returns the sum over every other index from `first`, with the signs of the sequence with shifts `even` and `odd`.
+// Returns the sum over every other index from `first`, with the signs of the secondary sequence with shifts `even` and
+// `odd`.
 fn places_sum(agreements: &[i64; 62], n2: u8, even: usize, odd: usize, first: usize) -> i128
     requires small { AllWithin (2 ^ 59) agreements.now }
     requires member { n2 ≤ 2 }
@@ -128,7 +130,7 @@ fn places_sum(agreements: &[i64; 62], n2: u8, even: usize, odd: usize, first: us
     sum
 }
 
-// Applies a sign by multiplication: a branch on the sign would be mispredicted every other time.
+// Returns `number` with the sign `sign`, 1 or -1, by multiplication: a branch would be mispredicted every other time.
 fn signed(number: i64, sign: i8) -> i64
     requires small { nat_abs number ≤ 2 ^ 59 }
     requires sign { nat_abs sign ≡ 1 }
