@@ -8,10 +8,11 @@ use Rattle.fold128.specs.Spectrum.{spectrum_at}
 use Rattle.cs_num.specs.Complex.{sample_at}
 use Rattle.lte_types.specs.Numerology.{subcarriers}
 
--- the value at subcarrier k for the symbol whose useful part begins at sample start
+-- the demodulated value at subcarrier k, for the symbol whose useful part begins at sample `start`: the DFT divided by
+-- 2^12 and rounded
 unfoldable pub seen : List Sample → ℕ → ℕ → Cpx
 seen recording start k = rounded (spectrum_at (λ n. sample_at recording (start + n)) k) 12
 
--- the values at all subcarriers for the symbol whose useful part begins at sample start
+-- the demodulated values at all 72 subcarriers, for the symbol whose useful part begins at sample `start`
 unfoldable pub seen_symbol : List Sample → ℕ → List Cpx
 seen_symbol recording start = values_below subcarriers (seen recording start)

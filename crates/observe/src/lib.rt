@@ -13,9 +13,9 @@ use fold128::transform;
 use lte_types::{SUBCARRIERS, USEFUL_LENGTH};
 use sample_file::Recording;
 
-/// Demodulates the symbol whose useful part begins at sample `start`: the DFT sums over 128 samples at 72
-/// subcarriers, divided by 2^12 and rounded. Components are within 23,726,080, below 2^25. (own; TS 36.211 section
-/// 6.12 inverted)
+/// Returns the symbol whose useful part begins at sample `start`, demodulated: its 128-point DFT at 72 subcarriers,
+/// divided by 2^12 and rounded. Components have magnitude at most 23,726,080, below 2^25. (own; TS 36.211 section 6.12
+/// inverted)
 pub fn symbol(recording: &Recording, start: usize) -> [Cpx; SUBCARRIERS]
     requires { start + useful_length ≤ length recording.now }
     ensures value { result ≡ seen_symbol recording.now start }
@@ -25,7 +25,7 @@ pub fn symbol(recording: &Recording, start: usize) -> [Cpx; SUBCARRIERS]
     values_of(&window(recording, start))
 }
 
-// Returns the 72 values for 128 samples.
+// Returns the demodulated values at 72 subcarriers for a useful part of 128 samples.
 fn values_of(samples: &[Sample; USEFUL_LENGTH]) -> [Cpx; SUBCARRIERS]
     ensures value { result ≡ seen_of (sample_at samples.now) }
     ensures small { All (IsWithin 23726080) result }
@@ -33,7 +33,7 @@ fn values_of(samples: &[Sample; USEFUL_LENGTH]) -> [Cpx; SUBCARRIERS]
     round_all(&transform(samples))
 }
 
-// Returns the 128 samples from `start`.
+// Returns the 128 samples of `recording` from sample `start`.
 fn window(recording: &Recording, start: usize) -> [Sample; USEFUL_LENGTH]
     requires { start + useful_length ≤ length recording.now }
     ensures { result ≡ slice_range recording.now start (start + useful_length) }
@@ -43,7 +43,7 @@ fn window(recording: &Recording, start: usize) -> [Sample; USEFUL_LENGTH]
     samples
 }
 
-// Divides each sum by 2^12 and rounds it.
+// Returns the DFT sums divided by 2^12 and rounded.
 fn round_all(sums: &[Cpx; SUBCARRIERS]) -> [Cpx; SUBCARRIERS]
     requires { All (IsWithin 97182023680) sums.now }
     ensures value { result ≡ rounded_values (value_at sums.now) }
