@@ -2,10 +2,10 @@
 use Rattle.std.specs.Prelude.{◌≡◌, Bool, List, ℤ}
 use Rattle.tailbite.specs.LeastWord.{IsLeastWord}
 
--- there is only one minimum-cost word
+-- for given values, there is at most one minimum-cost word
 abbrev pub IsOneWord : Type 0
 IsOneWord = (values : List (List ℤ)) (u w : List Bool) → IsLeastWord values u → IsLeastWord values w → u ≡ w
 
--- there is a minimum-cost word
+-- for any values, there is a minimum-cost word
 abbrev pub IsSomeWord : Type 0
 IsSomeWord = (values : List (List ℤ)) → (word : List Bool) × IsLeastWord values word

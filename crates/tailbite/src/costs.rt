@@ -7,12 +7,13 @@ ghost use Rattle.tailbite.specs.Costs.{AreCosts, HaveCosts, code_cost, shared_co
 use crate::steps::next;
 use conv_code::against;
 
-/// The step costs at one position. Entry h is the cost of the steps from state 2h by 0 and from 2h + 1 by 1, which
-/// have the same coded bits; entry h + 32 is that of the steps from 2h by 1 and from 2h + 1 by 0, which have the
-/// opposite bits.
+/// The step costs at one position. Entry h is the cost of the steps from state 2h with input bit 0 and from 2h + 1 with
+/// 1, which have the same coded bits. Entry h + 32 is that of the steps from 2h with 1 and from 2h + 1 with 0, which
+/// have the complementary bits.
 pub type StepCosts = [u32; 64];
 
-/// Returns the cost of each three coded bits against one position's values.
+/// Returns the cost of each combination of three coded bits against one position's values. The index is the bits as a
+/// number, the first stream's bit most significant.
 fn code_costs(values: &[i32; 3]) -> [u32; 8]
     requires { AllWithin (2 ^ 20) values.now }
     ensures costs { (p : ℕ) → p < 8 → slice_index result p ≡ code_cost values.now p }
@@ -25,8 +26,9 @@ fn code_costs(values: &[i32; 3]) -> [u32; 8]
     costs
 }
 
-/// Returns one position's step costs, given the cost of each three coded bits.
-// Written out, the table is assembled from parts of vectors; in a loop each cost would be looked up alone.
+/// Returns one position's table of step costs, given the cost of each combination of three coded bits.
+// The table is written out, so the compiler assembles it from parts of vectors; in a loop it would look up each cost
+// separately.
 fn spread(by_code: &[u32; 8]) -> StepCosts
     ensures { result ≡ spread_costs by_code.now }
 {
@@ -44,7 +46,7 @@ fn spread(by_code: &[u32; 8]) -> StepCosts
     ]
 }
 
-/// Returns the step costs for one position's values.
+/// Returns the table of step costs for one position's values, which are at most 2^20 in magnitude.
 fn costs_of(values: &[i32; 3]) -> StepCosts
     requires { AllWithin (2 ^ 20) values.now }
     ensures { AreCosts values.now result }
@@ -52,8 +54,8 @@ fn costs_of(values: &[i32; 3]) -> StepCosts
     spread(&code_costs(values))
 }
 
-/// Writes one table of step costs per position. `tables` has at least as many entries as `values`, which are within
-/// 2^20.
+/// Writes the table of step costs for each position to `tables`, which is at least as long as `values`. Values have
+/// magnitude at most 2^20.
 pub fn fill_costs(values: &[[i32; 3]], tables: &mut [StepCosts])
     requires room { length values.now ≤ length tables.old }
     requires magnitudes { RowsWithin (2 ^ 20) values.now }

@@ -1,9 +1,9 @@
 //! Maximum-likelihood decoding of the tail-biting convolutional code (TS 36.212 section 5.1.3.1): finds, among all
-//! words of 6 to 64 bits, the one with the minimum cost. A word costs the sum of the magnitudes of the received
-//! values against its coded bits; if several words have the minimum cost, the first in lexicographic order is taken.
-//! The search covers the 64 encoder states in which a word may start and end, and leaves out those for which a bound
-//! shows that no word costs less.
-//! The single steps are published too: step costs, the next state, and a row of minimum costs one step on.
+//! words of 6 to 64 bits, the one with the minimum cost. A word's cost is the sum of the magnitudes of the received
+//! values that contradict its coded bits. If several words have the minimum cost, the first in lexicographic order is
+//! chosen. The search covers the 64 encoder states in which a word may start and end, and leaves out those for which a
+//! bound shows that no word costs less. Single steps are also public: step costs, the next state, and a row of minimum
+//! costs one step on.
 //! Tests: the crate `code_tests`.
 #![tactic(auto)]
 

@@ -1,4 +1,4 @@
-//! Passes over the trellis: the minimum cost from each state to an end, and to each state from any start.
+//! Passes over the trellis: the minimum cost from each state to a path's end, and from any start to each state.
 
 ghost use Rattle.std.specs.Prelude.{◌≡◌, ◌≢◌, ℕ, ◌+◌, ◌*◌, ◌^◌, ◌<◌, ◌≤◌, false, [], length};
 ghost use Rattle.std.specs.Prelude.{slice_index, slice_index_or};
@@ -13,12 +13,12 @@ ghost use Rattle.tailbite.specs.Passes.{IsPass, decoded_bit};
 use crate::costs::StepCosts;
 use crate::steps::next;
 
-/// One cost per state.
+/// A row of the trellis: one cost per state.
 pub type CostRow = [u32; 64];
 
-/// Writes the row of minimum costs from each state, one step before the given row.
-// If inlined, the loops are not compiled into vector instructions; neither is a loop that writes both states of a
-// pair.
+/// Writes to `earlier` the minimum cost from each state, given the row of minimum costs one step later.
+// If the function were inlined, its loops would not be compiled into vector instructions; nor would a loop that writes
+// both states of a pair.
 #[inline(never)]
 fn step_back(costs: &StepCosts, row: &CostRow, earlier: &mut CostRow)
     requires small { (y : ℕ) → y < 64 → slice_index costs.now y ≤ 3 * 2 ^ 20 }
@@ -38,7 +38,7 @@ fn step_back(costs: &StepCosts, row: &CostRow, earlier: &mut CostRow)
     }
 }
 
-/// Writes row `i` from row `i + 1`.
+/// Writes row `i`, the minimum costs from each state, from row `i + 1` and the step costs at position `i`.
 fn write_earlier(costs: &StepCosts, rows: &mut [CostRow], i: usize)
     requires inside { i + 1 < length rows.old }
     requires small { (y : ℕ) → y < 64 → slice_index costs.now y ≤ 3 * 2 ^ 20 }
@@ -56,8 +56,8 @@ fn write_earlier(costs: &StepCosts, rows: &mut [CostRow], i: usize)
     step_back(costs, &later[0], &mut earlier[i]);
 }
 
-/// Writes, for each position, the minimum cost from each state to an end, including the end state's cost in `ends`.
-/// The row after the last position is `ends`.
+/// Writes, for each position, the row of minimum costs from each state to a path's end, including the end state's cost
+/// in `ends`. The row after the last position is `ends`.
 pub(crate) fn pass(values: &[[i32; 3]], tables: &[StepCosts], ends: &CostRow, rows: &mut [CostRow])
     requires places { length values.now ≤ 64 }
     requires tables { length values.now ≤ length tables.now }
@@ -75,8 +75,8 @@ pub(crate) fn pass(values: &[[i32; 3]], tables: &[StepCosts], ends: &CostRow, ro
     }
 }
 
-/// Returns the row of minimum costs to each state, one step after the given row. The given costs are at most 2^31,
-/// the step costs at most 3 * 2^20.
+/// Returns the row of minimum costs to each state, one step after `row`. Costs in `row` are at most 2^31, step costs at
+/// most 3 * 2^20.
 #[inline(never)]
 pub fn step_on(costs: &StepCosts, row: &CostRow) -> CostRow
     requires small { (y : ℕ) → y < 64 → slice_index costs.now y ≤ 3 * 2 ^ 20 }
@@ -93,7 +93,7 @@ pub fn step_on(costs: &StepCosts, row: &CostRow) -> CostRow
     later
 }
 
-/// Returns the minimum cost of a path through all positions to each state, including the start state's cost in
+/// Returns the row of minimum costs of a path through all positions to each state, including the start state's cost in
 /// `starts`.
 pub(crate) fn reach(values: &[[i32; 3]], tables: &[StepCosts], starts: &CostRow) -> CostRow
     requires places { length values.now ≤ 64 }
@@ -111,8 +111,8 @@ pub(crate) fn reach(values: &[[i32; 3]], tables: &[StepCosts], starts: &CostRow)
     row
 }
 
-/// Returns the first bit on the minimum-cost path from a state, if `row` has the minimum costs one step on. Bit 0
-/// wins a tie, since its word is lexicographically first.
+/// Returns the first input bit on the minimum-cost path from `state`, if `row` has the minimum cost from each state one
+/// step later. If both bits cost the same, returns 0, whose word is lexicographically first.
 fn bit_from(costs: &StepCosts, row: &CostRow, state: usize) -> bool
     requires state { state < 64 }
     requires small { (y : ℕ) → y < 64 → slice_index costs.now y ≤ 3 * 2 ^ 20 }
@@ -128,8 +128,8 @@ fn bit_from(costs: &StepCosts, row: &CostRow, state: usize) -> bool
     costs[opposite] + row[half + 32] < costs[same] + row[half]
 }
 
-/// Returns the word of `count` bits along the minimum-cost path from `start`, as a number, and the state in which the
-/// path ends.
+/// Returns the word of `count` bits along the minimum-cost path from state `start`, as a number, and the state in which
+/// the path ends.
 pub(crate) fn walk(
     tables: &[StepCosts],
     rows: &[CostRow],

@@ -2,12 +2,12 @@
 //! 2^64 plus the word as a number: keys distinguish words with equal cost, and the minimum key belongs to the
 //! minimum-cost word.
 //!
-//! A backward pass with every end free gives each state the minimum cost of a path that starts there, wherever it
-//! ends. A forward pass, in which a start costs less where this minimum is higher, then gives each state a bound: a
-//! path that starts and ends in the state costs at least the minimum cost of reaching it, less the cost of starting
-//! there. If a state's bound is below the key of a word already found, the key of the minimum-cost path from the
-//! state, wherever that ends, is another bound. The start states are then searched in order of their bounds, until
-//! none is below the minimum key that was found.
+//! A backward pass, in which paths may end in any state, gives each state the minimum cost of a path that starts there.
+//! A forward pass, in which a start costs less where this minimum is higher, then gives each state a lower bound: a
+//! path that starts and ends in the state costs at least the minimum cost of reaching the state, less the cost of the
+//! start there. If a state's bound is below the key of a word already found, the key of the minimum-cost path from the
+//! state, in whichever state that path ends, is another bound. The start states are then searched in order of their
+//! bounds, until no bound is below the minimum key found so far.
 
 ghost use Rattle.std.specs.Prelude.{◌≡◌, ℕ, ◌+◌, ◌-◌, ◌*◌, ◌^◌, ◌<◌, ◌≤◌, length, slice_index};
 ghost use Rattle.finite.specs.Sizes.{RowsWithin};
@@ -25,27 +25,28 @@ use cs_bits::Bits;
 
 const STATES: usize = 64;
 
-/// The weight of one cost unit in a key: more than the number of any word.
+/// The weight of one cost unit in a key: more than any word as a number.
 const SCALE: u128 = 0x1_0000_0000_0000_0000;
 
-/// More than the cost of any word.
+/// A cost that is more than the cost of any word.
 const FAR: u32 = 0x4000_0000;
 
-/// Returns the key for a cost and a word's number.
+/// Returns the key for a cost and a word as a number.
 fn key_of(cost: u32, word: u64) -> u128
     ensures { result ≡ cost * scale + word }
 {
     cost as u128 * SCALE + word as u128
 }
 
-/// Returns the end costs if every end is free.
+/// Returns the end costs if paths may end in any state: 0 for each.
 fn free_ends() -> CostRow
     ensures { (x : ℕ) → x < 64 → slice_index result x ≡ 0 }
 {
     [0; STATES]
 }
 
-/// Returns the start or end costs if only `state`, below 64, is free: the other states cost more than any word.
+/// Returns the start or end costs if only `state`, below 64, is allowed: 0 for `state`, and more than any word costs
+/// for the others.
 pub fn free_at(state: usize) -> CostRow
     requires { state < 64 }
     ensures row { (x : ℕ) → x < 64 → slice_index result x ≡ ends_in far state x }
@@ -56,7 +57,7 @@ pub fn free_at(state: usize) -> CostRow
     row
 }
 
-/// Returns the minimum key of a path through all positions that starts and ends in `start`.
+/// Returns the minimum key of the words whose path starts and ends in state `start`.
 fn key_from(values: &[[i32; 3]], tables: &[StepCosts], rows: &mut [CostRow], start: usize) -> u128
     requires low { 6 ≤ length values.now }
     requires high { length values.now ≤ 64 }
@@ -73,8 +74,8 @@ fn key_from(values: &[[i32; 3]], tables: &[StepCosts], rows: &mut [CostRow], sta
     key_of(rows[0][start], word)
 }
 
-/// Returns the start costs for the forward pass: the higher the minimum cost from a state, the less a start there
-/// costs.
+/// Returns the start costs for the forward pass, given the minimum cost from each state: the higher this minimum, the
+/// lower the start cost.
 fn starts_by(from: &CostRow) -> CostRow
     ensures starts { (x : ℕ) → x < 64 → slice_index result x ≡ far - slice_index from.now x }
     ensures room { (x : ℕ) → x < 64 → slice_index result x ≤ 2 ^ 30 }
@@ -86,7 +87,8 @@ fn starts_by(from: &CostRow) -> CostRow
     starts
 }
 
-/// Writes each state's bound as a key: the minimum cost to reach the state, less the cost of a start there.
+/// Writes each state's bound as a key: the minimum cost of reaching the state, in `to`, less the cost of a start there,
+/// in `starts`. The word in the key is 0.
 fn fill_bounds(starts: &CostRow, to: &CostRow, bounds: &mut [u128; 64])
     ensures { (x : ℕ) → x < 64 →
         slice_index bounds.new x ≡ (slice_index to.now x - slice_index starts.now x) * scale }
@@ -96,8 +98,8 @@ fn fill_bounds(starts: &CostRow, to: &CostRow, bounds: &mut [u128; 64])
     }
 }
 
-/// Raises the bounds below `least` to the keys of the minimum-cost paths from their states. Returns the minimum of
-/// `least` and the keys of those paths that end where they start, since these are words.
+/// Raises each bound below `least` to the key of the minimum-cost path from its state. Returns the minimum of `least`
+/// and the keys of those paths that end where they start, since only these belong to words.
 fn raise_bounds(
     values: &[[i32; 3]],
     tables: &[StepCosts],
@@ -130,7 +132,7 @@ fn raise_bounds(
     least
 }
 
-/// Returns a state with the minimum bound.
+/// Returns the first state with the minimum bound.
 fn state_of_least(bounds: &[u128; 64]) -> usize
     ensures state { result < 64 }
     ensures least { (x : ℕ) → x < 64 → slice_index bounds.now result ≤ slice_index bounds.now x }
@@ -144,7 +146,7 @@ fn state_of_least(bounds: &[u128; 64]) -> usize
     least
 }
 
-/// Returns the minimum key of a word.
+/// Returns the minimum key among all words, given the step costs.
 fn least_key(
     values: &[[i32; 3]],
     tables: &[StepCosts],
@@ -179,7 +181,7 @@ fn least_key(
     least
 }
 
-/// Returns the minimum-cost word and its cost, given the step costs.
+/// Returns the minimum-cost word of N bits and its cost, given the step costs.
 fn least_of<const N: usize>(
     values: &[[i32; 3]; N],
     tables: &[StepCosts],
@@ -200,8 +202,8 @@ fn least_of<const N: usize>(
     (Bits::of_number((key % SCALE) as u64), (key / SCALE) as u32)
 }
 
-/// Returns the word of N bits with the minimum cost, the first in lexicographic order if several have it, and its
-/// cost. A positive value speaks for bit 0; a word costs the magnitudes of the values against it.
+/// Returns the word of N bits with the minimum cost, the lexicographically first of several, and its cost: the sum of
+/// the magnitudes of values that contradict its coded bits. A positive value stands for bit 0.
 pub fn least<const N: usize>(values: &[[i32; 3]; N], work: &mut Trellis) -> (Bits<N>, u32)
     requires low { 6 ≤ N }
     requires high { N ≤ 64 }
@@ -213,7 +215,7 @@ pub fn least<const N: usize>(values: &[[i32; 3]; N], work: &mut Trellis) -> (Bit
     least_of(values, &work.tables, &mut work.free, &mut work.rows)
 }
 
-/// Returns the minimum-cost word and its cost like `least`, from step costs that `fill_costs` wrote.
+/// Returns the minimum-cost word and its cost as `least` does, given step costs that `fill_costs` wrote.
 pub fn least_by<const N: usize>(
     values: &[[i32; 3]; N],
     tables: &[StepCosts],
