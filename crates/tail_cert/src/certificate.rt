@@ -12,13 +12,12 @@ use cs_bits::Bits;
 use std::alloc::{AllocError, Global};
 use std::marker::Model;
 
-/// A table's lower bounds, for each step from 1 to 40 and each of the 64 states after it.
+/// A table of lower bounds on path costs, by step, 1 to 40, and by state after the step.
 pub(crate) type Table = [[u32; 64]; 40];
 
 /// A certificate: three soft values for each of 40 positions, a 40-bit information word, its cost, a general table of
-/// bounds for paths from all 64 start states, and for each start state a table of its own or none. Contracts see it as
-/// the record of these. It allocates memory for all tables, and touches only the tables up to the last one that it has
-/// held.
+/// bounds for paths from all 64 start states, and for each start state its own table or none. Contracts see it as a
+/// record of these parts. Memory for all tables is allocated, but only tables up to the last one ever used are touched.
 #[derive(Drop)]
 pub struct Certificate {
     pub(crate) values: [[i32; 3]; 40],
@@ -49,14 +48,14 @@ impl Model for Certificate {
         × (64 ≤ vec_capacity c.tables) };
 }
 
-/// Returns all-zero values.
+/// Returns soft values of 0 for 40 positions.
 fn zero_values() -> [[i32; 3]; 40]
     ensures { result ≡ replicate 40 (replicate 3 (pos 0)) }
 {
     [[0; 3]; 40]
 }
 
-/// Returns the all-zero word.
+/// Returns the information word of 40 zero bits.
 fn zero_word() -> Bits<40>
     ensures { result ≡ replicate 40 false }
 {
@@ -70,14 +69,14 @@ fn no_states() -> Bits<64>
     Bits::new([false; 64])
 }
 
-/// Returns an all-zero table.
+/// Returns a table with all bounds 0.
 fn zero_table() -> Table
     ensures { result ≡ replicate 40 (replicate 64 0) }
 {
     [[0; 64]; 40]
 }
 
-/// Returns whether a set of start states contains state `s`.
+/// Returns whether the set of start states contains state `s`, 0 to 63.
 pub(crate) fn has(set: &Bits<64>, s: usize) -> bool
     requires { s < 64 }
     ensures { result ≡ has_table set.now s }
@@ -85,7 +84,7 @@ pub(crate) fn has(set: &Bits<64>, s: usize) -> bool
     set.get(63 - s)
 }
 
-/// Returns one past the last start state in a set, or 0 if it is empty.
+/// Returns one past the last start state in `set`, or 0 if the set is empty.
 fn end_of(set: &Bits<64>) -> usize
     ensures past { (s : ℕ) → s < 64 → has_table set.now s ≡ true → s < result }
     ensures most { result ≤ 64 }
@@ -99,7 +98,7 @@ fn end_of(set: &Bits<64>) -> usize
     end
 }
 
-/// Appends an all-zero table, for which there is capacity.
+/// Appends a table with all bounds 0 to `tables`, which has capacity for it.
 fn add_table(tables: &mut Vec<Table>)
     requires room { length tables.old.items < vec_capacity tables.old }
     ensures tables { tables.new.items ≡ tables.old.items ++ replicate 40 (replicate 64 0) ∷ [] }
@@ -111,7 +110,7 @@ fn add_table(tables: &mut Vec<Table>)
     }
 }
 
-/// Appends all-zero tables until each start state in the set has one. Does not allocate.
+/// Appends tables with all bounds 0 until each start state in `set` has one. Does not allocate.
 pub(crate) fn make_tables(set: &Bits<64>, tables: &mut Vec<Table>)
     requires each { All IsTable tables.old.items }
     requires most { length tables.old.items ≤ 64 }
@@ -125,7 +124,7 @@ pub(crate) fn make_tables(set: &Bits<64>, tables: &mut Vec<Table>)
     }
 }
 
-/// Returns the number of start states in a set.
+/// Returns the number of start states in `set`.
 pub(crate) fn states_in(set: &Bits<64>) -> usize
     ensures count { result ≡ total_below 64 (λ s. cond (has_table set.now s) 1 0) }
     ensures most { result ≤ 64 }
@@ -137,14 +136,14 @@ pub(crate) fn states_in(set: &Bits<64>) -> usize
     count
 }
 
-/// Returns the length in bytes of a certificate with tables for the start states in a set.
+/// Returns the length in bytes of a certificate in which the start states in `set` have their own tables.
 pub(crate) fn length_with(set: &Bits<64>) -> usize
     ensures { result ≡ head_count + table_count * total_below 64 (λ s. cond (has_table set.now s) 1 0) }
 {
     HEAD_BYTES + TABLE_BYTES * states_in(set)
 }
 
-/// Returns a certificate's length in bytes: 10,501, and 10,240 for each start state's table.
+/// Returns a certificate's length in bytes: 10,501 plus 10,240 for each start state that has its own table.
 pub fn length(certificate: &Certificate) -> usize
     ensures count { result ≡ head_count + table_count * tables_there certificate.now.tables }
     ensures bytes { result ≡ length (bytes_of certificate.now) }

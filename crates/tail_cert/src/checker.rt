@@ -1,8 +1,8 @@
 //! The check of a certificate.
 //!
-//! The stated cost must be the word's. Along each branch, a table's bound may rise by at most the branch's cost, unless
-//! it bounds nothing. For each start state, the cost may be at most the bound after 40 steps back to it, in the state's
-//! own table if it has one and otherwise in the general table.
+//! The stated cost must be the word's cost. Along each branch, a table's bound may rise by at most the branch's cost,
+//! unless the bound before the branch is the entry that states none. For each start state, the cost may be at most the
+//! bound for 40 steps back to it: in the state's own table if it has one, otherwise in the general table.
 
 ghost use Rattle.std.specs.Prelude.{◌≡◌, ◌+◌, ◌*◌, ◌^◌, ◌<◌, ◌≤◌, ◌↔◌, ℕ, IsTrue, length, slice_index};
 ghost use Rattle.finite.specs.Sizes.{RowsWithin};
@@ -22,17 +22,18 @@ const STATES: usize = 64;
 
 const STEPS: usize = 40;
 
-/// The entry that bounds nothing.
+/// The table entry that states no bound.
 const UNBOUNDED: u32 = 0xffff_ffff;
 
-/// Returns whether the inequality of a branch holds.
+/// Returns whether the bound rises from `from` to `to` by at most the branch's cost, or `from` states no bound.
 fn step_holds(cost: u32, from: u32, to: u32) -> bool
     ensures { IsTrue result ↔ StepHolds cost from to }
 {
     from == UNBOUNDED || to as u64 <= from as u64 + cost as u64
 }
 
-/// Returns whether the inequalities of both branches from state `x` hold.
+/// Returns whether the inequalities hold for both branches from state `x`, whose bound is `from`, to the states in the
+/// row `to`.
 fn both_hold(costs: &StepCosts, from: u32, to: &[u32; 64], x: usize) -> bool
     requires { x < 64 }
     ensures { IsTrue result ↔ BothHold costs.now from to.now x }
@@ -41,7 +42,8 @@ fn both_hold(costs: &StepCosts, from: u32, to: &[u32; 64], x: usize) -> bool
         && step_holds(cost_at(costs, x, true), from, to[next(x, true)])
 }
 
-/// Returns whether the inequalities of the branches from states `2 * h` and `2 * h + 1` hold.
+/// Returns whether the inequalities hold for all branches from states `2 * h` and `2 * h + 1`, between the rows `from`
+/// and `to`.
 fn pair_holds(costs: &StepCosts, from: &[u32; 64], to: &[u32; 64], h: usize) -> bool
     requires { h < 32 }
     ensures { IsTrue result ↔ (BothHold costs.now (slice_index from.now (2 * h)) to.now (2 * h)
@@ -50,7 +52,7 @@ fn pair_holds(costs: &StepCosts, from: &[u32; 64], to: &[u32; 64], h: usize) -> 
     both_hold(costs, from[2 * h], to, 2 * h) && both_hold(costs, from[2 * h + 1], to, 2 * h + 1)
 }
 
-/// Returns whether the inequalities of all branches in a step hold.
+/// Returns whether the inequalities hold for all branches of one step, between the rows `from` and `to`.
 fn row_holds(costs: &StepCosts, from: &[u32; 64], to: &[u32; 64]) -> bool
     ensures { IsTrue result ↔ RowHolds costs.now from.now to.now }
 {
@@ -62,7 +64,7 @@ fn row_holds(costs: &StepCosts, from: &[u32; 64], to: &[u32; 64]) -> bool
     true
 }
 
-/// Returns whether the inequalities of all steps in a table hold, with the bounds `first` before the first step.
+/// Returns whether the inequalities hold for all steps of `table`, with the bounds `first` before the first step.
 fn steps_hold(costs: &PathCosts, first: &[u32; 64], table: &Table) -> bool
     ensures { IsTrue result ↔ StepsHold costs.now.values.now (λ x. slice_index first.now x) table.now }
 {
@@ -76,7 +78,8 @@ fn steps_hold(costs: &PathCosts, first: &[u32; 64], table: &Table) -> bool
     true
 }
 
-/// Returns the bounds before the first step for paths that start in state `s`.
+/// Returns the bounds before the first step for paths that start in state `s`: 0 for `s`, and no bound for any other
+/// state.
 fn row_from(s: usize) -> [u32; 64]
     requires { s < 64 }
     ensures { (x : ℕ) → x < 64 → slice_index result x ≡ from_state s x }
@@ -86,7 +89,8 @@ fn row_from(s: usize) -> [u32; 64]
     row
 }
 
-/// Returns whether the cost is a lower bound for every path from state `s` back to it.
+/// Returns whether start state `s` is accepted: `cost` is at most the bound for 40 steps to `s`, in the state's own
+/// table, whose inequalities must all hold, or in the general table if it has none.
 fn start_holds(
     costs: &PathCosts,
     cost: u32,
@@ -107,7 +111,8 @@ fn start_holds(
     }
 }
 
-/// Returns whether the cost is a lower bound for every path from each state back to it.
+/// Returns whether every start state is accepted: `cost` is at most its bound for 40 steps back to it, and the
+/// inequalities of its own table, if it has one, hold.
 fn starts_hold(
     costs: &PathCosts,
     cost: u32,
@@ -127,7 +132,7 @@ fn starts_hold(
     true
 }
 
-/// Returns whether the general table and all start states hold.
+/// Returns whether the inequalities of the general table hold, and every start state is accepted.
 fn tables_hold(
     values: &[[i32; 3]; 40],
     cost: u32,
@@ -149,7 +154,7 @@ fn tables_hold(
     steps_hold(&costs, &[0; STATES], general) && starts_hold(&costs, cost, general, set, tables)
 }
 
-/// Returns the cost of a word.
+/// Returns the cost of `word`: the sum of the magnitudes of the values that contradict its coded bits.
 fn cost_of(values: &[[i32; 3]; 40], word: &Bits<40>) -> u32
     requires magnitudes { RowsWithin (2 ^ 20) values.now }
     requires bits { length word.now ≡ 40 }
@@ -164,7 +169,7 @@ fn cost_of(values: &[[i32; 3]; 40], word: &Bits<40>) -> u32
 }
 
 /// Returns whether a certificate is accepted: its stated cost is the word's, and its tables show that no path from a
-/// start state back to it costs less. If so, no 40-bit word costs less.
+/// start state back to it costs less. No 40-bit word costs less than an accepted certificate's cost.
 pub fn check(certificate: &Certificate) -> bool
     ensures accepted { IsTrue result ↔ IsAccepted certificate.now }
     ensures least { IsTrue result → IsLowerBound certificate.now.values certificate.now.cost }

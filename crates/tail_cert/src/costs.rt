@@ -5,7 +5,7 @@ ghost use Rattle.tailbite.specs.Costs.{HaveCosts};
 
 use tailbite::StepCosts;
 
-/// The soft values at 40 positions, and the step costs that they give.
+/// The soft values at 40 positions, and the tables of step costs computed from them.
 #[derive(Clone, Copy)]
 pub(crate) struct PathCosts<'a> {
     pub(crate) values: &'a [[i32; 3]; 40],

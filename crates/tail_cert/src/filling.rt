@@ -1,6 +1,6 @@
 //! The filling of a certificate.
 //!
-//! The general table holds the minimum costs from any state. A start state has a table of its own if its bound in the
+//! The general table holds the minimum costs from any start state. A start state has its own table if its bound in the
 //! general table, after 40 steps back to it, is below the word's cost. That table holds the minimum costs from the
 //! state, where a start in any other state costs 2^30.
 
@@ -21,7 +21,7 @@ const STATES: usize = 64;
 
 const STEPS: usize = 40;
 
-/// Fills a table with the minimum costs after each step, from the start costs in `start`.
+/// Fills `table` with the minimum costs to each state after each step, from the start costs in `start`.
 fn fill_table(costs: &PathCosts, start: &[u32; 64], table: &mut Table)
     requires room { (y : ℕ) → y < 64 → slice_index start.now y ≤ 2 ^ 30 }
     ensures rows { HasLeastRows costs.now.values.now start.now table.new 40 }
@@ -34,7 +34,7 @@ fn fill_table(costs: &PathCosts, start: &[u32; 64], table: &mut Table)
     }
 }
 
-/// Fills the table of start state `s`.
+/// Fills `table` for start state `s`: the minimum costs of paths from `s`.
 fn fill_start(costs: &PathCosts, s: usize, table: &mut Table)
     requires state { s < 64 }
     ensures bounds { IsTableFrom costs.now.values.now s table.new }
@@ -43,7 +43,7 @@ fn fill_start(costs: &PathCosts, s: usize, table: &mut Table)
     fill_table(costs, &free_at(s), table);
 }
 
-/// Returns the set of start states whose bound in the general table, after all steps back to them, is below the cost.
+/// Returns the set of start states whose bound in the general table, after 40 steps back to them, is below `cost`.
 fn states_below(cost: u32, general: &Table) -> Bits<64>
     ensures needed { (s : ℕ) → s < 64 → has_table result s ≡ nat_lt (bound from_any general.now 40 s) cost }
     ensures states { length result ≡ 64 }
@@ -55,7 +55,7 @@ fn states_below(cost: u32, general: &Table) -> Bits<64>
     Bits::new(set)
 }
 
-/// Fills the tables of the start states in a set.
+/// Fills the tables of the start states in `set`.
 fn fill_tables(costs: &PathCosts, set: &Bits<64>, tables: &mut [Table])
     requires tables { AreStored set.now tables.old }
     ensures bounds { (s : ℕ) → s < 64 → has_table set.now s ≡ true →
@@ -69,7 +69,7 @@ fn fill_tables(costs: &PathCosts, set: &Bits<64>, tables: &mut [Table])
     }
 }
 
-/// Returns a copy of a position's three values.
+/// Returns a copy of the three soft values of a position.
 fn triple_of(values: &[i32; 3]) -> [i32; 3]
     ensures same { result ≡ values.now }
     ensures count { length result ≡ 3 }
@@ -77,7 +77,7 @@ fn triple_of(values: &[i32; 3]) -> [i32; 3]
     *values
 }
 
-/// Returns a copy of all values, three per position.
+/// Returns a copy of all soft values, three per position.
 fn copy_of(values: &[[i32; 3]; 40]) -> [[i32; 3]; 40]
     ensures same { result ≡ values.now }
     ensures count { (k : ℕ) → k < 40 → length (slice_index_or result k []) ≡ 3 }

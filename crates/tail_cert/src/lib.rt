@@ -1,6 +1,6 @@
-//! Certificates of minimum cost for the 40-bit tail-biting code. They hold the soft values, an information word and its
-//! cost, a general table of lower bounds for the paths from all start states, and tables for the start states that need
-//! their own; together these show that no word costs less. A certificate is checked without a decoder.
+//! Certificates of minimum cost for the 40-bit tail-biting code. A certificate holds soft values, an information word
+//! and its cost, a general table of lower bounds for paths from all start states, and tables for the start states that
+//! need their own. Together these show that no word costs less, and they are checked without a decoder.
 //! Tests: the crate `code_tests`.
 #![tactic(auto)]
 
@@ -17,14 +17,14 @@ pub use filling::fill;
 pub use reading::{BadCertificate, head, parse};
 pub use writing::to_bytes;
 
-/// The length in bytes of a certificate's mark and values, which alone can break the format.
+/// The length in bytes of a certificate's mark and soft values, the only parts whose content can break the format.
 pub(crate) const FRONT_BYTES: usize = 244;
 
-/// The length in bytes of a certificate up to and including the set of start states that have a table, from which the
-/// full length follows.
+/// The length in bytes of a certificate up to and including the set of start states that have their own tables. The
+/// full length follows from this set.
 pub const HEAD_BYTES: usize = 10_501;
 
-/// The byte offset of the set of start states that have a table.
+/// The byte offset of the set of start states that have their own tables.
 pub(crate) const SET_PLACE: usize = HEAD_BYTES - 8;
 
 /// The length of a table in bytes.

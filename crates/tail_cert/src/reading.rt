@@ -14,11 +14,11 @@ use cs_bits::Bits;
 use std::fmt;
 use thiserror::Error;
 
-/// Bytes that are not a certificate, with the offset of the first byte that breaks the format; if the bytes end early,
-/// that is their number.
+/// Bytes that are not a certificate. The error reports the offset of the first byte that breaks the format, or the
+/// number of bytes if they end early.
 #[derive(Clone, Copy, Debug, PartialEq, Eq, Error)]
 pub struct BadCertificate {
-    /// The byte offset, counted from 0.
+    /// The byte offset of the format error, counted from 0.
     pub place: u64,
 }
 
@@ -35,14 +35,14 @@ impl fmt::Display for BadCertificate {
 
 const MARK: [u8; 4] = [0x4c, 0x54, 0x43, 0x32];
 
-/// Returns whether the byte at offset `p` differs from the mark's.
+/// Returns whether offset `p` is in the mark and the byte there differs from it.
 fn is_off_mark(bytes: &[u8], p: usize) -> bool
     ensures { IsTrue result ↔ IsOffMark bytes.now p }
 {
     p < 4 && p < bytes.len() && bytes[p] != MARK[p]
 }
 
-/// Returns the value in the two bytes at offset `at`.
+/// Returns the soft value in the two bytes at offset `at`.
 fn get_value(bytes: &[u8], at: usize) -> i32
     requires { at + 2 ≤ length bytes.now }
     ensures value { result ≡ value_at bytes.now at }
@@ -51,7 +51,7 @@ fn get_value(bytes: &[u8], at: usize) -> i32
     LittleEndian::read_i16(&bytes[at..]) as i32
 }
 
-/// Returns whether a value above 2,032 in magnitude begins at offset `p`.
+/// Returns whether a soft value above 2,032 in magnitude begins at offset `p`.
 fn is_large_value(bytes: &[u8], p: usize) -> bool
     ensures { IsTrue result ↔ IsLargeValue bytes.now p }
 {
@@ -62,15 +62,15 @@ fn is_large_value(bytes: &[u8], p: usize) -> bool
         && get_value(bytes, p).unsigned_abs() > 2032
 }
 
-/// Returns whether the mark or a value breaks the format at offset `p`.
+/// Returns whether the format is broken at offset `p`, by the mark or by a soft value.
 fn spoils(bytes: &[u8], p: usize) -> bool
     ensures { IsTrue result ↔ (IsOffMark bytes.now p ⊎ IsLargeValue bytes.now p) }
 {
     is_off_mark(bytes, p) || is_large_value(bytes, p)
 }
 
-/// Returns the offset of the first format error in the first `count` bytes: in the mark, in a value, or at an early
-/// end.
+/// Returns the offset of the first format error, in the mark, in a soft value, or at the end if there are fewer than
+/// `count` bytes; `None` if there is no error.
 fn first_break(bytes: &[u8], count: usize) -> Option<usize>
     ensures some { IfSome result (λ p. IsFirstBreakUpTo count bytes.now p) }
     ensures none { IsNone result → IsUnbrokenUpTo count bytes.now }
@@ -87,7 +87,7 @@ fn first_break(bytes: &[u8], count: usize) -> Option<usize>
     }
 }
 
-/// Reads a position's values.
+/// Reads the three soft values of a position from offset `at`.
 fn get_place(bytes: &[u8], at: usize, values: &mut [i32; 3])
     requires room { at + 6 ≤ length bytes.now }
     requires magnitudes { (t : ℕ) → t < 3 → nat_abs (value_at bytes.now (at + 2 * t)) ≤ 2032 }
@@ -99,7 +99,7 @@ fn get_place(bytes: &[u8], at: usize, values: &mut [i32; 3])
     }
 }
 
-/// Reads the values at all positions.
+/// Reads the soft values of all 40 positions.
 fn get_values(bytes: &[u8], values: &mut [[i32; 3]; 40])
     requires room { 244 ≤ length bytes.now }
     requires magnitudes { (j : ℕ) → j < 120 → nat_abs (value_at bytes.now (4 + 2 * j)) ≤ 2032 }
@@ -111,7 +111,7 @@ fn get_values(bytes: &[u8], values: &mut [[i32; 3]; 40])
     }
 }
 
-/// Reads the entry at offset `at`.
+/// Reads a table entry or cost, a little-endian 32-bit number, at offset `at`.
 fn get_entry(bytes: &[u8], at: usize) -> u32
     requires { at + 4 ≤ length bytes.now }
     ensures { entry_bytes result ≡ take 4 (drop at bytes.now) }
@@ -119,7 +119,7 @@ fn get_entry(bytes: &[u8], at: usize) -> u32
     LittleEndian::read_u32(&bytes[at..])
 }
 
-/// Reads the entries of a step.
+/// Reads the 64 bounds of one step from offset `at`.
 fn get_row(bytes: &[u8], at: usize, row: &mut [u32; 64])
     requires { at + 256 ≤ length bytes.now }
     ensures bytes { row_bytes row.new ≡ take 256 (drop at bytes.now) }
@@ -128,7 +128,7 @@ fn get_row(bytes: &[u8], at: usize, row: &mut [u32; 64])
     LittleEndian::read_u32_into(&bytes[at..at + 256], row);
 }
 
-/// Reads the entries of a table.
+/// Reads a table of bounds from offset `at`, step by step.
 fn get_table(bytes: &[u8], at: usize, table: &mut Table)
     requires { at + 10240 ≤ length bytes.now }
     ensures bytes { table_bytes table.new ≡ take 10240 (drop at bytes.now) }
@@ -139,7 +139,7 @@ fn get_table(bytes: &[u8], at: usize, table: &mut Table)
     }
 }
 
-/// Reads the set of start states that have a table.
+/// Reads the set of start states that have their own tables.
 fn get_set(bytes: &[u8]) -> Bits<64>
     requires { head_count ≤ length bytes.now }
     ensures states { (s : ℕ) → s < 64 → has_table result s ≡ tells_table bytes.now s }
@@ -150,7 +150,7 @@ fn get_set(bytes: &[u8]) -> Bits<64>
     Bits::of_number(LittleEndian::read_u64(&bytes[SET_PLACE..]))
 }
 
-/// Returns the length of the certificate that begins with these bytes.
+/// Returns the length in bytes of the certificate that begins with `bytes`, which include its set of start states.
 fn whole_length(bytes: &[u8]) -> usize
     requires { head_count ≤ length bytes.now }
     ensures count { result ≡ count_of bytes.now }
@@ -159,7 +159,7 @@ fn whole_length(bytes: &[u8]) -> usize
     length_with(&get_set(bytes))
 }
 
-/// Reads the tables of the start states in a set.
+/// Reads the tables of the start states in `set` from offset `at`.
 fn get_tables(bytes: &[u8], at: usize, set: &Bits<64>, tables: &mut [Table])
     requires tables { AreStored set.now tables.old }
     requires size { at + table_count * total_below 64 (λ s. cond (has_table set.now s) 1 0) ≡ length bytes.now }
@@ -175,7 +175,7 @@ fn get_tables(bytes: &[u8], at: usize, set: &Bits<64>, tables: &mut [Table])
     }
 }
 
-/// Reads the bits of a word.
+/// Reads the 40 bits of an information word from offset `at`.
 fn get_word(bytes: &[u8], at: usize) -> Bits<40>
     requires { at + 5 ≤ length bytes.now }
     ensures bytes { word_bytes result ≡ take 5 (drop at bytes.now) }
@@ -184,7 +184,7 @@ fn get_word(bytes: &[u8], at: usize) -> Bits<40>
     Bits::of_number(BigEndian::read_uint(&bytes[at..], 5))
 }
 
-/// Reads a whole certificate without format errors.
+/// Reads a complete certificate, which has no format errors.
 fn get_all(bytes: &[u8], into: &mut Certificate)
     requires unbroken { (p : ℕ) → Breaks bytes.now p → ⊥ }
     requires size { length bytes.now ≤ count_of bytes.now }
@@ -200,8 +200,8 @@ fn get_all(bytes: &[u8], into: &mut Certificate)
     get_tables(bytes, HEAD_BYTES, &into.set, &mut into.tables);
 }
 
-/// Returns the length of the certificate whose first 10,501 bytes are `bytes`. Fails with the offset of the first
-/// format error: a wrong mark, a value above 2,032 in magnitude, or an early end.
+/// Returns the length in bytes of the certificate whose first 10,501 bytes are `bytes`. Fails with the offset of the
+/// first format error: a wrong mark, a soft value above 2,032 in magnitude, or an early end.
 pub fn head(bytes: &[u8]) -> Result<usize, BadCertificate>
     requires { length bytes.now ≤ head_count }
     ensures ok { IfOk result (λ count. count ≡ count_of bytes.now) }
@@ -217,7 +217,7 @@ pub fn head(bytes: &[u8]) -> Result<usize, BadCertificate>
     }
 }
 
-/// Returns the offset of the first format error in a whole certificate.
+/// Returns the offset of the first format error in a certificate, including an early end; `None` if there is no error.
 fn first_break_of_whole(bytes: &[u8]) -> Option<usize>
     ensures some { IfSome result (λ p. IsFirstBreak bytes.now p) }
     ensures none { IsNone result → ((p : ℕ) → Breaks bytes.now p → ⊥) }
@@ -229,8 +229,8 @@ fn first_break_of_whole(bytes: &[u8]) -> Option<usize>
     }
 }
 
-/// Reads a certificate from at most 665,861 `bytes`, with none past its end. Fails with the offset of the first format
-/// error, and leaves `into` unchanged: a wrong mark, a value above 2,032 in magnitude, or an early end.
+/// Reads a certificate from `bytes`, at most 665,861 and none past its end. Fails with the offset of the first format
+/// error (wrong mark, soft value above 2,032 in magnitude, early end), and then leaves `into` unchanged.
 pub fn parse(bytes: &[u8], into: &mut Certificate) -> Result<(), BadCertificate>
     requires most { length bytes.now ≤ most_count }
     requires fits { IsUnbrokenUpTo head_count bytes.now → length bytes.now ≤ count_of bytes.now }

@@ -13,7 +13,7 @@ use crate::{Certificate, HEAD_BYTES, SET_PLACE, TABLE_BYTES};
 use byteorder::{BigEndian, ByteOrder, LittleEndian};
 use cs_bits::{Bits, number_of};
 
-/// Writes the mark.
+/// Writes the mark, LTC2, at the start of `out`.
 fn put_mark(out: &mut [u8])
     requires { 4 ≤ length out.old }
     ensures { out.new ≡ with_piece 0 mark out.old }
@@ -21,7 +21,7 @@ fn put_mark(out: &mut [u8])
     out[..4].copy_from_slice(b"LTC2");
 }
 
-/// Writes value `t` of a position.
+/// Writes soft value `t`, 0 to 2, of a position at offset `at`.
 fn put_value(values: &[i32; 3], t: usize, at: usize, out: &mut [u8])
     requires stream { t < 3 }
     requires magnitudes { AllWithin 2032 values.now }
@@ -32,7 +32,7 @@ fn put_value(values: &[i32; 3], t: usize, at: usize, out: &mut [u8])
     LittleEndian::write_i16(&mut out[at..], values[t] as i16);
 }
 
-/// Writes a position's values.
+/// Writes the three soft values of a position from offset `at`.
 fn put_place(values: &[i32; 3], at: usize, out: &mut [u8])
     requires magnitudes { AllWithin 2032 values.now }
     requires room { at + 6 ≤ length out.old }
@@ -44,7 +44,7 @@ fn put_place(values: &[i32; 3], at: usize, out: &mut [u8])
     }
 }
 
-/// Writes the values at all positions.
+/// Writes the soft values of all 40 positions from offset `at`.
 fn put_values(values: &[[i32; 3]; 40], at: usize, out: &mut [u8])
     requires magnitudes { RowsWithin 2032 values.now }
     requires room { at + 240 ≤ length out.old }
@@ -56,7 +56,7 @@ fn put_values(values: &[[i32; 3]; 40], at: usize, out: &mut [u8])
     }
 }
 
-/// Writes an entry at offset `at`.
+/// Writes a table entry or cost, a little-endian 32-bit number, at offset `at`.
 fn put_entry(entry: u32, at: usize, out: &mut [u8])
     requires { at + 4 ≤ length out.old }
     ensures bytes { out.new ≡ with_piece at (entry_bytes entry) out.old }
@@ -65,7 +65,7 @@ fn put_entry(entry: u32, at: usize, out: &mut [u8])
     LittleEndian::write_u32(&mut out[at..], entry);
 }
 
-/// Writes the entries of a step.
+/// Writes the 64 bounds of one step from offset `at`.
 fn put_row(row: &[u32; 64], at: usize, out: &mut [u8])
     requires { at + 256 ≤ length out.old }
     ensures bytes { out.new ≡ with_piece at (row_bytes row.now) out.old }
@@ -74,7 +74,7 @@ fn put_row(row: &[u32; 64], at: usize, out: &mut [u8])
     LittleEndian::write_u32_into(row, &mut out[at..at + 256]);
 }
 
-/// Writes the entries of a table.
+/// Writes a table of bounds from offset `at`, step by step.
 fn put_table(table: &Table, at: usize, out: &mut [u8])
     requires { at + 10240 ≤ length out.old }
     ensures bytes { out.new ≡ with_piece at (table_bytes table.now) out.old }
@@ -85,7 +85,7 @@ fn put_table(table: &Table, at: usize, out: &mut [u8])
     }
 }
 
-/// Writes the set of start states that have a table.
+/// Writes the set of start states that have their own tables, 8 bytes, at offset `at`.
 fn put_set(set: &Bits<64>, at: usize, out: &mut [u8])
     requires states { length set.now ≡ 64 }
     requires room { at + 8 ≤ length out.old }
@@ -96,7 +96,7 @@ fn put_set(set: &Bits<64>, at: usize, out: &mut [u8])
     LittleEndian::write_u64(&mut out[at..], number_of(set.slice()));
 }
 
-/// Writes the tables of the start states in a set.
+/// Writes the tables of the start states in `set` from offset `at`.
 fn put_tables(set: &Bits<64>, tables: &[Table], at: usize, out: &mut [u8])
     requires starts { HaveTables set.now tables.now }
     requires room { at + table_count * total_below 64 (λ s. cond (has_table set.now s) 1 0) ≤ length out.old }
@@ -113,7 +113,7 @@ fn put_tables(set: &Bits<64>, tables: &[Table], at: usize, out: &mut [u8])
     }
 }
 
-/// Writes the bits of a word at offset `at`.
+/// Writes the 40 bits of an information word at offset `at`.
 fn put_word(word: &Bits<40>, at: usize, out: &mut [u8])
     requires { at + 5 ≤ length out.old }
     ensures bytes { out.new ≡ with_piece at (word_bytes word.now) out.old }
@@ -122,7 +122,7 @@ fn put_word(word: &Bits<40>, at: usize, out: &mut [u8])
     BigEndian::write_uint(&mut out[at..], number_of(word.slice()), 5);
 }
 
-/// Writes the bytes of a certificate to `out`, which has the length that `length` returns.
+/// Writes the bytes of a certificate to `out`, whose length is the value of `length`.
 pub fn to_bytes(certificate: &Certificate, out: &mut [u8])
     requires { length out.old ≡ head_count + table_count * tables_there certificate.now.tables }
     ensures bytes { out.new ≡ bytes_of certificate.now }
