@@ -1,4 +1,4 @@
--- Invariants while certificates are read, and how the reading ends (own).
+-- Invariants while certificates are read, and the possible results of reading them (own).
 use Rattle.std.specs.Prelude.{◌≡◌, ◌⊎◌, ℕ, ◌+◌, ◌<◌, ◌≤◌, ◌++◌, Bool, List, length}
 use Rattle.cs_outside.specs.Outside.{SourceState}
 use Rattle.cs_outside.specs.Streams.{HasRead, HasReadAll, HasFailedAfter, IsAtEnd}
@@ -12,15 +12,17 @@ use Rattle.certificates.specs.Stream.{most_bytes, IsAnswer, AreAnswers, IsFirstB
 
 -- ---- one certificate
 
--- no byte in a part of a certificate breaks the format
+-- no byte in `part`, the first bytes of a certificate, breaks the format
 abbrev pub IsSound : List ℕ → Type 0
 IsSound part = (place : ℕ) → place < length part → Breaks part place → ⊥
 
--- how many bytes of a certificate that has begun can be read: those up to its set, or all once its set is read
+-- `aim` is the number of bytes up to which a certificate may be read after its bytes `part`: up to and including its
+-- set of start states, or up to its end once the set is read
 abbrev pub IsAim : List ℕ → ℕ → Type 0
 IsAim part aim = (aim ≡ head_count) ⊎ ((head_count ≤ length part) × (aim ≡ count_of part))
 
--- an incomplete part, a whole certificate with its answer, or the first byte that breaks the format
+-- the state of a certificate after its bytes `part` were read: incomplete; complete, with the answer whether it is
+-- accepted; or broken, with the offset of the first format error
 abbrev pub IsStep : List ℕ → Step → Type 0
 IsStep part (Partial aim) = (length part < aim) × IsAim part aim × IsSound part
 IsStep part (Whole answer) = (certificate : Held) × IsAnswer certificate answer × (part ≡ bytes_of certificate)
@@ -28,15 +30,15 @@ IsStep part (Broken place) = (place < length part) × IsFirstBreak part place
 
 -- ---- the whole input
 
--- certificates were read to the end of the input, with these answers
+-- certificates were read to the end of the input, and `answers` says in order whether each is accepted
 pub record HasReadAnswers (answers : List Bool) (before now : SourceState) : Type 0 where
   pub bytes : List ℕ
   pub are_answers : AreAnswers bytes answers
   pub whole : HasReadAll most_bytes bytes before now
 
--- the bytes read break the format first at this offset, and either the input ended or the same holds for any
--- continuation; from the offset, at most the length of the longest certificate was read, and in all at most one byte
--- past the limit
+-- the first format error in the bytes read is at offset `place`. Either the input ended, or the offset is the same for
+-- every continuation. From `place` on, at most the length of the longest certificate was read, and in all at most one
+-- byte past the limit.
 pub record HasReadBroken (place : ℕ) (before now : SourceState) : Type 0 where
   pub bytes : List ℕ
   pub read : HasRead bytes before now
@@ -45,20 +47,21 @@ pub record HasReadBroken (place : ℕ) (before now : SourceState) : Type 0 where
   pub few : length bytes ≤ most_bytes + 1
   pub settled : IsAtEnd now ⊎ ((rest : List ℕ) → IsBrokenAt (bytes ++ rest) place)
 
--- one byte past the limit was read, and no byte within the limit breaks the format, whatever follows
+-- one byte past the limit was read, and no byte within the limit breaks the format, whatever bytes follow
 pub record HasReadTooMany (before now : SourceState) : Type 0 where
   pub front : List ℕ
   pub read : HasRead front before now
   pub past : length front ≡ most_bytes + 1
   pub unbroken : (rest : List ℕ) (place : ℕ) → IsFirstBroken (front ++ rest) place → most_bytes ≤ place
 
--- a read failed within the limit, and none of the bytes read breaks the format
+-- a read failed before the limit was passed, and none of the bytes read breaks the format
 pub record HasFailedUnbroken (before now : SourceState) : Type 0 where
   pub front : List ℕ
   pub failed : HasFailedAfter most_bytes front before now
   pub unbroken : IsUnbroken front
 
--- the reason why the certificates were not answered
+-- what happened in the source for each error with which reading certificates may end; nothing is stated about a failed
+-- allocation
 abbrev pub IsCause : SourceState → SourceState → StreamError → Type 0
 IsCause before now (BrokenAt place) = HasReadBroken place before now
 IsCause before now TooLong = HasReadTooMany before now

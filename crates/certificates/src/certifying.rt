@@ -1,7 +1,7 @@
 //! Certificates for the MIBs in a recording's cell list.
 //!
 //! A certificate holds the combined soft values for the entry's frames, their minimum-cost word, which carries the MIB,
-//! and its cost. Writing does not allocate. If a sink that states its room fails, the room was too small for all
+//! and its cost. Writing does not allocate. If a sink whose free space is known fails, that space was too small for all
 //! certificates.
 
 ghost use Rattle.std.specs.Prelude.{◌≡◌, ◌≤◌, OnOk, OnErr};
@@ -24,8 +24,8 @@ use std::alloc::{AllocError, Global};
 use tail_cert::{Certificate, MOST_BYTES, fill, length, to_bytes};
 use tailbite::Trellis;
 
-/// The memory in which certificates are made: for one certificate, the search for its word, and the bytes of the
-/// longest certificate. Its contents between two calls have no meaning.
+/// The memory in which certificates are made: for one certificate, for the search for its word, and for the bytes of
+/// the longest certificate. Its contents have no meaning between two calls.
 #[derive(Drop)]
 pub struct CertificateWork {
     certificate: Certificate,
@@ -48,8 +48,8 @@ impl CertificateWork {
     }
 }
 
-/// Writes an accepted certificate for each entry of a recording's list, in order; `readings` says how the entries were
-/// read. Fails if the sink counts a fault, after it has taken only a prefix of them. (own)
+/// Writes an accepted certificate for each entry of a recording's list to `sink`, in order. `readings` has each entry's
+/// reading. Fails if the sink reports a fault; only a prefix of the certificates is then written. (own)
 pub fn certify<K: Sink>(
     recording: &Recording,
     entries: &[Entry],
@@ -74,7 +74,7 @@ pub fn certify<K: Sink>(
     Ok(())
 }
 
-// Writes an entry's certificate.
+// Writes an entry's certificate to `sink`. Fails if the sink reports a fault.
 fn certify_one<K: Sink>(
     recording: &Recording,
     entry: &Entry,
@@ -96,7 +96,7 @@ fn certify_one<K: Sink>(
     write_whole(sink, work.buffer.as_slice())
 }
 
-// Makes an entry's certificate and its bytes.
+// Makes an entry's certificate and its bytes in `work`.
 fn make(recording: &Recording, entry: &Entry, reading: &Reading, work: &mut CertificateWork)
     ghost receiver: { Receiver }
     requires entry { IsEntryOfSome (IsEntryFor receiver recording.now)
@@ -109,7 +109,7 @@ fn make(recording: &Recording, entry: &Entry, reading: &Reading, work: &mut Cert
     put(&work.certificate, &mut work.buffer)
 }
 
-// Replaces the content of `buffer`, whose capacity suffices, with the bytes of a certificate.
+// Replaces the content of `buffer`, which has capacity for the longest certificate, with the bytes of a certificate.
 fn put(certificate: &Certificate, buffer: &mut Vec<u8>)
     requires { most_count ≤ vec_capacity buffer.old }
     ensures bytes { buffer.new.items ≡ bytes_of certificate.now }

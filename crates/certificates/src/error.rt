@@ -1,4 +1,4 @@
-//! The reasons why the certificates in a source were not answered.
+//! The reasons why the certificates in a source could not all be checked.
 
 ghost use Rattle.std.specs.Prelude.{◌≡◌, Some};
 ghost use Rattle.certificates.specs.Words.{error_text};
@@ -8,15 +8,15 @@ use std::alloc::AllocError;
 use std::fmt;
 use thiserror::Error;
 
-/// The reason why the certificates in a source were not answered. (own)
+/// The reason why the certificates in a source could not all be checked. (own)
 #[derive(Clone, Copy, Debug, PartialEq, Eq, Error)]
 pub enum StreamError {
-    /// The offset, from 0, of the first byte that breaks the format; if the input ends within a certificate, the
-    /// input's length.
+    /// A certificate's format is broken at this byte offset in the input, counted from 0. If the input ends within a
+    /// certificate, the offset is the input's length.
     Broken(u64),
-    /// The input is longer than 67,108,864 bytes, and none of these breaks the format.
+    /// The input is longer than 67,108,864 bytes, and none of the first 67,108,864 breaks the format.
     TooLong,
-    /// A call of the source failed before any byte that breaks the format was read.
+    /// Reading from the source failed before any byte that breaks the format was read.
     ReadFault,
     /// An allocation failed.
     OutOfMemory,

@@ -1,5 +1,5 @@
-//! Sequences of certificates: those for a recording's cell list, written to a sink, and the answers to those read from
-//! a source.
+//! Sequences of certificates: writing those for a recording's cell list to a sink, and checking those read from a
+//! source.
 //! Tests: the crate `top_tests`.
 #![tactic(auto)]
 

@@ -1,4 +1,4 @@
-//! The bytes of a certificate while it is read.
+//! The buffer for a certificate's bytes while they are read.
 
 ghost use Rattle.std.specs.Prelude.{◌≡◌, ℕ, ◌+◌, ◌<◌, ◌≤◌, List, IfOk, OnErr, length, take};
 ghost use Rattle.cs_outside.specs.Counts.{Rose};
@@ -10,8 +10,8 @@ use std::alloc::{AllocError, Global};
 use std::marker::Model;
 use tail_cert::HEAD_BYTES;
 
-// A buffer for a certificate's bytes while it is read, as long as the certificate is known to be so far. Contracts see
-// it as the list of all its bytes.
+// A buffer for a certificate's bytes while they are read, at least as long as the certificate is known to be. Contracts
+// see it as the list of all its bytes.
 #[derive(Drop)]
 pub(crate) struct PartRead {
     bytes: Vec<u8>,
@@ -24,7 +24,8 @@ impl Model for PartRead {
 }
 
 impl PartRead {
-    // Returns a buffer for the bytes up to the set of start states, from which the certificate's length follows.
+    // Returns a buffer for a certificate's bytes up to and including its set of start states, from which its full
+    // length follows.
     pub(crate) fn new(alloc: Global) -> Result<PartRead, AllocError>
         ensures { IfOk result (λ part. length part ≡ head_count) }
     {
@@ -32,7 +33,7 @@ impl PartRead {
         Ok(PartRead { bytes })
     }
 
-    // Grows the buffer to at least `count` bytes. Its content stays.
+    // Grows the buffer to at least `count` bytes, and keeps its content. Fails only if an allocation fails.
     pub(crate) fn make_room(&mut self, count: usize) -> Result<(), AllocError>
         ensures room { IfOk result (λ _. count ≤ length self.new) }
         ensures stays { (k : ℕ) → k ≤ length self.old → take k self.new ≡ take k self.old }
@@ -45,7 +46,7 @@ impl PartRead {
         }
     }
 
-    // Returns the first `count` bytes.
+    // Returns the first `count` bytes of the buffer.
     pub(crate) fn front(&self, count: usize) -> &[u8]
         requires { count ≤ length self.now }
         ensures { result.now ≡ take count self.now }
@@ -53,7 +54,8 @@ impl PartRead {
         &self.bytes.as_slice()[..count]
     }
 
-    // Reads from `source` into the bytes from `at` up to `end`, and returns how many bytes were read.
+    // Reads bytes from `source` into the buffer, from index `at` to before `end`, and returns their number; 0 at the
+    // end of the input. Fails if the source fails.
     pub(crate) fn read<S: Source>(
         &mut self,
         source: &mut S,

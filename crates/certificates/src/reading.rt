@@ -1,7 +1,7 @@
-//! The reading of certificates, one after another, and their checks.
+//! Reading and checking a sequence of certificates.
 //!
-//! Certificates are checked as they are read. `Broken` is returned before the bytes read from its offset exceed the
-//! length of the longest certificate, and `TooLong` after one byte past the limit of 67,108,864.
+//! Certificates are checked as they are read. The error `Broken` is returned before the bytes read from its offset on
+//! exceed the length of the longest certificate, and `TooLong` after one byte past the limit of 67,108,864.
 
 ghost use Rattle.std.specs.Prelude.{◌≡◌, ◌<◌, ◌≤◌, ◌+◌, ◌-◌, min, length, take, IfOk, IfErr, OnErr};
 ghost use Rattle.cs_outside.specs.Counts.{Rose};
@@ -15,22 +15,22 @@ use cs_outside::{Failed, Source};
 use std::alloc::Global;
 use tail_cert::{Certificate, HEAD_BYTES, check, head, parse};
 
-// The maximum number of bytes that are read.
+// The limit on the length of the input, in bytes. At most one byte past it is read.
 const MOST_BYTES: usize = 67_108_864;
 
-// The result of examining the bytes of a certificate read so far.
+// The state of a certificate after some of its bytes were read.
 #[derive(Drop)]
 pub(crate) enum Step {
-    // The certificate is incomplete, and this many of its bytes can be read.
+    // The certificate is incomplete; the number of its bytes that may be read so far.
     Partial(usize),
-    // The certificate is whole, with this answer.
+    // The certificate is complete; whether it is accepted.
     Whole(bool),
-    // The byte at this offset is the first that breaks the format.
+    // The format is broken; the offset in the certificate of the first byte that breaks it.
     Broken(u64),
 }
 
-/// Reads the certificates in a source to the end of the input, and returns for each whether it is accepted. If an error
-/// occurs, the answers so far are dropped. (own)
+/// Reads the certificates in a source to the end of the input, and returns in order whether each is accepted. If an
+/// error occurs, the earlier answers are dropped. (own)
 pub fn read_answers<S: Source>(alloc: Global, source: &mut S) -> Result<Vec<bool>, StreamError>
     ensures ok { IfOk result (λ answers. HasReadAnswers answers.items (S.state source.old) (S.state source.new)) }
     ensures err { IfErr result (IsCause (S.state source.old) (S.state source.new)) }
@@ -41,8 +41,8 @@ pub fn read_answers<S: Source>(alloc: Global, source: &mut S) -> Result<Vec<bool
     read_each(alloc, source, &mut certificate, &mut part)
 }
 
-// Returns the answers to the certificates in a source, with memory for the longest certificate and a buffer for the
-// part read.
+// Returns in order whether each certificate in a source is accepted. `certificate` and `part` hold the current one and
+// its bytes.
 fn read_each<S: Source>(
     alloc: Global,
     source: &mut S,
@@ -55,7 +55,8 @@ fn read_each<S: Source>(
     ensures never_falls { (S.state source.old).faults ≤ (S.state source.new).faults }
 {
     let mut answers = Vec::new(alloc);
-    // bytes in complete certificates, bytes read of the next one, and how many of its bytes can be read
+    // the number of bytes in complete certificates, of bytes read of the next certificate, and of its bytes that may be
+    // read so far
     let mut done = 0;
     let mut filled = 0;
     let mut aim = HEAD_BYTES;
@@ -90,8 +91,8 @@ fn read_each<S: Source>(
     }
 }
 
-// Returns the error for a byte that breaks the format at offset `place` of the input; the byte after the limit is not
-// examined.
+// Returns the error for a byte at offset `place` of the input that breaks the format: `Broken` within the limit,
+// `TooLong` for the byte past it.
 fn broken_at(place: u64) -> StreamError
     ensures within { place < most_bytes → result ≡ StreamError.Broken place }
     ensures past { most_bytes ≤ place → result ≡ StreamError.TooLong }
@@ -103,8 +104,8 @@ fn broken_at(place: u64) -> StreamError
     }
 }
 
-// Returns how far the current certificate may be read, after `done` bytes in complete ones: at most one byte past the
-// limit.
+// Returns how many bytes of the current certificate may be read if `done` bytes are in complete ones: up to `aim`, but
+// at most one byte past the limit.
 fn part_end(aim: usize, done: usize) -> usize
     requires { done ≤ most_bytes }
     ensures { result ≡ min aim (most_bytes + 1 - done) }
@@ -112,7 +113,7 @@ fn part_end(aim: usize, done: usize) -> usize
     aim.min(MOST_BYTES + 1 - done)
 }
 
-// Examines the bytes of a certificate read so far.
+// Returns the state of a certificate after its bytes `part` were read. A complete one is read into `certificate`.
 fn judge(part: &[u8], certificate: &mut Certificate) -> Step
     requires most { length part.now ≤ most_count }
     requires fits { length part.now ≤ count_of part.now }
@@ -127,7 +128,8 @@ fn judge(part: &[u8], certificate: &mut Certificate) -> Step
     }
 }
 
-// Examines all bytes of a certificate.
+// Returns the state of a certificate after all its bytes were read: whether it is accepted, or where its format is
+// broken.
 fn judge_whole(part: &[u8], certificate: &mut Certificate) -> Step
     requires most { length part.now ≤ most_count }
     requires fits { length part.now ≡ count_of part.now }
