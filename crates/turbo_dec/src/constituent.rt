@@ -1,9 +1,9 @@
 //! A constituent decoder's extrinsic values, by max-log-MAP (own).
 //!
-//! For each bit, the extrinsic value is the maximum score of a word with 0 there, less the maximum score with 1, less
-//! the bit's value and prior, clamped to -2047 to 2047. A word's score is the sum of the soft values whose bits are 0
-//! in the word, its parity bits and its tail (TS 36.212 sections 5.1.3.2.1 and 5.1.3.2.2); an information bit counts
-//! its value and its prior.
+//! For each bit, the extrinsic value is the maximum score of a word with 0 there, less the maximum score of a word with
+//! 1, less the bit's own soft value and prior, clamped to -2047 to 2047. A word's score is the sum of the soft values
+//! of its information, parity and tail bits that are 0 (TS 36.212 sections 5.1.3.2.1 and 5.1.3.2.2), where an
+//! information bit's prior is added to its soft value.
 
 ghost use Rattle.std.specs.Prelude.{◌≡◌, ℕ, ◌+◌, ◌*◌, ◌^◌, ◌<◌, ◌≤◌, ◌+ℤ◌, ◌-ℤ◌, All, pos, nat_abs, length, slice_index, []};
 ghost use Rattle.turbo_dec.specs.Decoder.{IsSmall, at, values_of, within_2047, extrinsics, extrinsic};
@@ -12,10 +12,11 @@ ghost use Rattle.turbo_dec.specs.Costs.{starts, HasRows};
 use crate::costs::{Soft, backward_row, forward_row, least_through, tail_row};
 use crate::work::Work;
 
-/// A cost greater than that of any path.
+/// A cost that is more than the cost of any path.
 const FAR: u32 = 0x1000_0000;
 
-/// A decoder's soft values: for each information bit its value, its parity bit's value, and its prior.
+/// A constituent decoder's input: for each information bit its soft value, its prior, and the soft value of its parity
+/// bit.
 #[derive(Clone, Copy)]
 struct Streams<'a> {
     systematic: &'a [i32],
@@ -29,7 +30,7 @@ struct Streams<'a> {
     ghost small_prior: { All IsSmall prior.now },
 }
 
-/// Returns the soft values for the step at index `k`.
+/// Returns the soft values of the step at index `k`, with the information bit's prior added.
 fn soft_at(streams: &Streams, k: usize) -> Soft
     requires index { k < length streams.now.systematic.now }
     ensures sum { result.sum ≡ at streams.now.systematic.now k +ℤ at streams.now.prior.now k }
@@ -42,7 +43,8 @@ fn soft_at(streams: &Streams, k: usize) -> Soft
     }
 }
 
-/// Returns the row before the first step: the encoder starts in state 0.
+/// Returns the row of costs before the first step: 0 for state 0, in which the encoder starts, and more than any path
+/// costs for the others.
 fn start_row() -> [u32; 8]
     ensures row { (x : ℕ) → x < 8 → slice_index result x ≡ starts x }
     ensures size { length result ≡ 8 }
@@ -50,7 +52,7 @@ fn start_row() -> [u32; 8]
     [0, FAR, FAR, FAR, FAR, FAR, FAR, FAR]
 }
 
-/// Writes the rows of minimum costs to each state, before the first step and after each step.
+/// Writes the rows of minimum costs to each state: before the first step, and after each step.
 fn forward(streams: &Streams, rows: &mut [[u32; 8]])
     requires room { length streams.now.systematic.now < length rows.old }
     ensures { HasRows (values_of streams.now.systematic.now streams.now.parity.now [] streams.now.prior.now)
@@ -64,7 +66,8 @@ fn forward(streams: &Streams, rows: &mut [[u32; 8]])
     }
 }
 
-/// Returns the extrinsic value, from the minimum path costs with bit 0 and with bit 1.
+/// Returns a bit's extrinsic value, from the minimum path costs with the bit 0 (`zeros`) and with the bit 1 (`ones`),
+/// and its step's soft values.
 fn extrinsic_of(zeros: u32, ones: u32, soft: &Soft) -> i32
     requires zeros { zeros ≤ 2 ^ 30 }
     requires ones { ones ≤ 2 ^ 30 }
@@ -74,7 +77,8 @@ fn extrinsic_of(zeros: u32, ones: u32, soft: &Soft) -> i32
     difference.clamp(-2047, 2047)
 }
 
-/// Writes the extrinsic values by the backward recursion, from the forward recursion's rows.
+/// Writes the extrinsic values to `out` by the backward recursion. `rows` are the minimum costs from the forward
+/// recursion.
 fn backward(streams: &Streams, tail: &[i32; 6], rows: &[[u32; 8]], out: &mut [i32])
     requires outs { length out.old ≡ length streams.now.systematic.now }
     requires small_tail { All IsSmall tail.now }
@@ -94,8 +98,8 @@ fn backward(streams: &Streams, tail: &[i32; 6], rows: &[[u32; 8]], out: &mut [i3
     }
 }
 
-/// Writes the extrinsic values of a word of at most 1,024 bits to `out`. The four slices have one length, `tail` has
-/// the order x(K), z(K), x(K + 1), .., and each value is at most 4,096 in magnitude.
+/// Writes the extrinsic values for at most 1,024 information bits to `out`. The four slices have equal lengths, `tail`
+/// has the order x(K), z(K), x(K + 1), .., and each input is at most 4,096 in magnitude.
 pub fn half(
     systematic: &[i32],
     parity: &[i32],

@@ -11,7 +11,7 @@ use turbo_code::{before, bit_to, next, parity_bit, tail_bit, tail_parity};
 
 const STATES: usize = 8;
 
-/// A step's soft values: the information bit's value with its prior, and the parity bit's value.
+/// A step's soft values: `sum` is the information bit's value plus its prior, and `parity` the parity bit's value.
 #[derive(Drop)]
 pub(crate) struct Soft {
     pub(crate) sum: i32,
@@ -20,7 +20,7 @@ pub(crate) struct Soft {
     ghost parity_small: { nat_abs parity ≤ 4096 },
 }
 
-/// Returns the cost of the step from state `x` with bit `u`.
+/// Returns the cost of the step from state `x`, 0 to 7, with information bit `u`.
 fn edge(soft: &Soft, x: usize, u: bool) -> u32
     requires state { x < 8 }
     ensures cost { result ≡ edge_cost soft.now.sum soft.now.parity x u }
@@ -29,7 +29,7 @@ fn edge(soft: &Soft, x: usize, u: bool) -> u32
     disagreement_of(soft.sum, u) + disagreement_of(soft.parity, parity_bit(x, u))
 }
 
-/// Returns the minimum cost to state `x`, given the row of minimum costs one step before.
+/// Returns the minimum cost to state `x`, given the row of minimum costs to each state one step before.
 fn forward_at(soft: &Soft, row: &[u32; 8], x: usize) -> u32
     requires state { x < 8 }
     requires room { (y : ℕ) → y < 8 → slice_index row.now y ≤ 2 ^ 31 }
@@ -42,7 +42,7 @@ fn forward_at(soft: &Soft, row: &[u32; 8], x: usize) -> u32
     by_first.min(by_second)
 }
 
-/// Returns the minimum cost from state `x`, given the row of minimum costs one step later.
+/// Returns the minimum cost from state `x`, given the row of minimum costs from each state one step later.
 fn backward_at(soft: &Soft, row: &[u32; 8], x: usize) -> u32
     requires state { x < 8 }
     requires room { (y : ℕ) → y < 8 → slice_index row.now y ≤ 2 ^ 31 }
@@ -84,7 +84,8 @@ pub(crate) fn backward_row(soft: &Soft, row: &[u32; 8]) -> [u32; 8]
     earlier
 }
 
-/// Returns the minimum cost over paths whose step has bit `b`, from the costs before and after the step.
+/// Returns the minimum cost over paths whose step has information bit `b`, given the costs to each state before the
+/// step and from each state after it.
 pub(crate) fn least_through(soft: &Soft, before: &[u32; 8], after: &[u32; 8], b: bool) -> u32
     requires before { (y : ℕ) → y < 8 → slice_index before.now y ≤ 2 ^ 30 }
     requires after { (y : ℕ) → y < 8 → slice_index after.now y ≤ 2 ^ 30 }
@@ -99,7 +100,7 @@ pub(crate) fn least_through(soft: &Soft, before: &[u32; 8], after: &[u32; 8], b:
     least
 }
 
-/// Returns the cost of tail step `j` from state `x`.
+/// Returns the cost of tail step `j`, 0 to 2, from state `x`, 0 to 7.
 fn tail_step(tail: &[i32; 6], j: usize, x: usize) -> u32
     requires step { j < 3 }
     requires small { All IsSmall tail.now }
@@ -109,7 +110,7 @@ fn tail_step(tail: &[i32; 6], j: usize, x: usize) -> u32
     disagreement_of(tail[2 * j], tail_bit(x)) + disagreement_of(tail[2 * j + 1], tail_parity(x))
 }
 
-/// Returns the tail's cost from state `x`.
+/// Returns the cost of the three tail steps from state `x`, 0 to 7.
 fn tail_at(tail: &[i32; 6], x: usize) -> u32
     requires state { x < 8 }
     requires small { All IsSmall tail.now }
@@ -119,7 +120,7 @@ fn tail_at(tail: &[i32; 6], x: usize) -> u32
     tail_step(tail, 0, x) + tail_step(tail, 1, x / 2) + tail_step(tail, 2, x / 2 / 2)
 }
 
-/// Returns the row of the tail's costs from each state.
+/// Returns the row of costs of the three tail steps from each state.
 pub(crate) fn tail_row(tail: &[i32; 6]) -> [u32; 8]
     requires small { All IsSmall tail.now }
     ensures row { (x : ℕ) → x < 8 → slice_index result x ≡ tail_cost tail.now x }

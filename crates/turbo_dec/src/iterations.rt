@@ -1,8 +1,9 @@
 //! The iterations between the two constituent decoders (own).
 //!
-//! An iteration runs the first decoder, then the second, which reads the interleaved bits. Each decoder's prior is the
-//! other's last extrinsic values, each less its quarter rounded toward 0; the first prior is 0. A bit is decided as 1
-//! if its soft value and both extrinsic values, without that reduction, sum to less than 0.
+//! An iteration runs the first decoder, then the second, which reads the interleaved bits. Each decoder's prior is
+//! derived from the other's last extrinsic values: each value less a quarter of it, rounded toward 0. The first prior
+//! is 0. A bit is decided as 1 if the sum of its soft value and both extrinsic values, without that reduction, is
+//! negative.
 
 ghost use Rattle.std.specs.Prelude.{◌≡◌, ℕ, ◌+◌, ◌-◌, ◌<◌, ◌≤◌, ◌+ℤ◌, All, nat_abs, int_lt, length, map, take, pos};
 ghost use Rattle.arrayvec.specs.ArrayVec.{array_vec_len};
@@ -20,19 +21,19 @@ use arrayvec::ArrayVec;
 use cs_bits::has_check_24;
 use turbo_code::{Combined, Row, interleaver};
 
-/// The bits of a block, at most 1,000, without their CRC.
+/// The bits of a decoded block, at most 1,000, without the CRC.
 pub type Block = ArrayVec<bool, 1000>;
 
 /// The maximum number of iterations.
 const ITERATIONS: usize = 8;
 
-/// The number of CRC bits.
+/// The number of CRC24A bits.
 const CHECK: usize = 24;
 
-/// One value per bit of a word; entries past the word are unused.
+/// One value per bit of a word. Entries past the word's length are unused.
 type BitValues = [i32; 1024];
 
-/// Returns a decoder's six tail values, which start at `index` of the streams.
+/// Returns a constituent decoder's six tail values, which start at `index` in the streams.
 fn tail_of(sums: &[[i32; 1028]; 3], index: usize) -> [i32; 6]
     requires { index ≤ 1026 }
     ensures { result ≡ tail_items (pos 0) sums.now index }
@@ -47,7 +48,7 @@ fn tail_of(sums: &[[i32; 1028]; 3], index: usize) -> [i32; 6]
     ]
 }
 
-/// Returns a stream's soft values without its tail.
+/// Returns a stream's soft values without those of the tail.
 fn stream_of<'a>(stream: &'a [i32; 1028], row: &Row) -> &'a [i32]
     requires row { IsAnyRow row.now }
     ensures values { result.now ≡ values_below row.now.k (at stream.now) }
@@ -57,7 +58,7 @@ fn stream_of<'a>(stream: &'a [i32; 1028], row: &Row) -> &'a [i32]
     &stream[..row.k as usize]
 }
 
-/// Returns `values` without the unused entries.
+/// Returns the used entries of `values`, one per bit of the block size in `row`.
 fn front_of<'a>(values: &'a BitValues, row: &Row) -> &'a [i32]
     requires row { IsAnyRow row.now }
     ensures values { result.now ≡ take row.now.k values.now }
@@ -67,7 +68,7 @@ fn front_of<'a>(values: &'a BitValues, row: &Row) -> &'a [i32]
     &values[..row.k as usize]
 }
 
-/// Returns the bits of `word` without the unused entries.
+/// Returns the used bits of `word`, as many as the block size in `row`.
 fn bits_of<'a>(word: &'a [bool; 1024], row: &Row) -> &'a [bool]
     requires row { IsAnyRow row.now }
     ensures bits { result.now ≡ take row.now.k word.now }
@@ -78,7 +79,7 @@ fn bits_of<'a>(word: &'a [bool; 1024], row: &Row) -> &'a [bool]
     &word[..row.k as usize]
 }
 
-/// Returns the values interleaved, in the order of the second decoder.
+/// Returns `values` interleaved, in the order of the second decoder.
 fn in_order_of(row: &Row, values: &[i32]) -> BitValues
     requires row { IsAnyRow row.now }
     requires count { length values.now ≡ row.now.k }
@@ -94,7 +95,7 @@ fn in_order_of(row: &Row, values: &[i32]) -> BitValues
     ordered
 }
 
-/// Returns the values deinterleaved, from the order of the second decoder.
+/// Returns `values`, which are in the order of the second decoder, deinterleaved.
 fn in_word_order_of(row: &Row, values: &[i32]) -> BitValues
     requires row { IsAnyRow row.now }
     requires count { length values.now ≡ row.now.k }
@@ -110,7 +111,7 @@ fn in_word_order_of(row: &Row, values: &[i32]) -> BitValues
     ordered
 }
 
-/// Returns one constituent decoder's extrinsic values.
+/// Returns one constituent decoder's extrinsic values, followed by unused entries.
 fn extrinsics_of(
     systematic: &[i32],
     parity: &[i32],
@@ -142,7 +143,7 @@ fn extrinsics_of(
     found
 }
 
-/// Returns the first decoder's extrinsic values.
+/// Returns the first decoder's extrinsic values, from the combined soft values and its prior.
 fn first_extrinsics_of(
     sums: &[[i32; 1028]; 3],
     row: &Row,
@@ -165,7 +166,8 @@ fn first_extrinsics_of(
     )
 }
 
-/// Returns the second decoder's extrinsic values, deinterleaved, from its prior `handed`.
+/// Returns the second decoder's extrinsic values, deinterleaved, from the combined soft values and its prior `handed`,
+/// which is not yet interleaved.
 fn second_extrinsics_of(
     sums: &[[i32; 1028]; 3],
     row: &Row,
@@ -191,7 +193,7 @@ fn second_extrinsics_of(
     in_word_order_of(row, front_of(&found, row))
 }
 
-/// Returns the prior derived from an extrinsic value: the value less its quarter, rounded toward 0.
+/// Returns the prior derived from the extrinsic value `e`: `e` less its quarter, which is rounded toward 0.
 fn handed_on_of(e: &i32) -> i32
     requires { IsSmall e.now }
     ensures value { result ≡ handed_on e.now }
@@ -200,7 +202,7 @@ fn handed_on_of(e: &i32) -> i32
     e - e / 4
 }
 
-/// Returns the priors derived from extrinsic values.
+/// Returns the priors derived from the extrinsic values in `found`.
 fn hand_on(found: &BitValues) -> BitValues
     requires small { All IsSmall found.now }
     ensures values { result ≡ map handed_on found.now }
@@ -213,7 +215,7 @@ fn hand_on(found: &BitValues) -> BitValues
     handed
 }
 
-/// Returns whether a bit is decided as 1, from its soft value and its two extrinsic values.
+/// Returns whether a bit is decided as 1: the sum of its soft value and its two extrinsic values is negative.
 fn is_one(value: &i32, first: &i32, second: &i32) -> bool
     requires value { IsSmall value.now }
     requires first { IsSmall first.now }
@@ -223,7 +225,7 @@ fn is_one(value: &i32, first: &i32, second: &i32) -> bool
     value + first + second < 0
 }
 
-/// Returns an iteration's hard decisions.
+/// Returns the hard decision on each bit, from its soft value and both decoders' extrinsic values.
 fn bits_decoded(systematic: &[i32], first: &[i32], second: &[i32]) -> [bool; 1024]
     requires count { length systematic.now ≤ 1024 }
     requires firsts { length first.now ≡ length systematic.now }
@@ -242,7 +244,7 @@ fn bits_decoded(systematic: &[i32], first: &[i32], second: &[i32]) -> [bool; 102
     word
 }
 
-/// Runs one iteration and returns its hard decisions; `prior` becomes the next iteration's prior.
+/// Runs one iteration and returns its hard decisions. Replaces `prior`, the first decoder's, with the next iteration's.
 fn iterate(
     sums: &[[i32; 1028]; 3],
     row: &Row,
@@ -268,7 +270,7 @@ fn iterate(
     )
 }
 
-/// Returns the bits in front of the CRC.
+/// Returns the bits of `word` in front of its 24 CRC bits.
 fn payload_of(word: &[bool]) -> Block
     requires low { 24 ≤ length word.now }
     requires high { length word.now ≤ 1024 }
@@ -281,8 +283,8 @@ fn payload_of(word: &[bool]) -> Block
     }
 }
 
-/// Decodes combined soft values into the first of eight iterates whose CRC24A passes (TS 36.212 section 5.1.1), without
-/// the CRC; `None` if none passes. `row` is from either table, and the values have magnitude at most 4,096.
+/// Returns the first of eight iterates whose CRC24A passes (TS 36.212 section 5.1.1), without the CRC, or `None`. `row`
+/// is from either table of block sizes, and the combined soft values have magnitude at most 4,096.
 pub fn decode(values: &Combined, row: Row, work: &mut Work) -> Option<Block>
     requires row { IsAnyRow row }
     requires magnitudes { All (All IsSmall) values.now.d }

@@ -2,12 +2,13 @@
 
 ghost use Rattle.turbo_dec.specs.Laws.{GreatestScoresAreGreatest, OrdersUndoEachOther};
 
-/// A law: `greatest_score` is the score of some word with the given bit, and no such word scores more.
+/// A law: `greatest_score` is the maximum score among information words with the given bit at the given index: some
+/// such word has that score, and none has a greater one.
 pub fn greatest_scores()
     ensures { GreatestScoresAreGreatest }
 {}
 
-/// A law: deinterleaving undoes interleaving.
+/// A law: deinterleaving undoes interleaving, for each block size.
 pub fn orders_undo_each_other()
     ensures { OrdersUndoEachOther }
 {}

@@ -4,8 +4,8 @@ ghost use Rattle.std.specs.Prelude.{◌≡◌, vec_len};
 
 use std::alloc::{AllocError, Global};
 
-/// A decoder's working memory: the minimum costs to the 8 states, for each index of a word of up to 1,024 bits and for
-/// its end. Its contents between two calls have no meaning.
+/// A decoder's working memory: a row of minimum costs to the 8 states for each index of a word of up to 1,024 bits, and
+/// one for its end. Its contents have no meaning between two calls.
 #[derive(Drop)]
 pub struct Work {
     pub(crate) rows: Vec<[u32; 8]>,
