@@ -1,13 +1,13 @@
--- What a sink took while samples were written in pieces: its record before and now. (own)
+-- Writing samples in pieces: the bytes that a sink took between its states `before` and `now`. (own)
 use Rattle.std.specs.Prelude.{◌≡◌, ℕ, ◌%◌, ◌++◌, List, length}
 use Rattle.cs_outside.specs.Outside.{SinkState}
 use Rattle.cs_outside.specs.Streams.{HasWritten}
 
--- the number of bytes in a piece
+-- the number of bytes in a complete piece
 abbrev pub piece_bytes : ℕ
 piece_bytes = 16384
 
--- the first of these bytes were written, in full pieces, and the rest waits
+-- a prefix of `bytes` was written in complete pieces, and `rest` is not written yet
 pub record HasWrittenPieces (bytes rest : List ℕ) (before now : SinkState) : Type 0 where
   pub front : List ℕ
   pub split : bytes ≡ front ++ rest

@@ -9,7 +9,7 @@ use byteorder::{ByteOrder, LittleEndian};
 use cs_num::Sample;
 use std::alloc::AllocError;
 
-/// The sample format of a recording's bytes, by its SigMF name. (own)
+/// The sample format of a recording's bytes. Each case's SigMF name is in parentheses. (own)
 #[derive(Clone, Copy, Debug, PartialEq, Eq)]
 pub enum SampleForm {
     /// Four bytes per sample: the real, then the imaginary component, each a signed 16-bit number, low byte first
@@ -32,7 +32,7 @@ impl SampleForm {
         }
     }
 
-    // Appends the samples that `bytes` hold.
+    // Appends the complete samples in `bytes`. Fails only if an allocation fails.
     pub(crate) fn append_samples(
         self,
         bytes: &[u8],
@@ -47,8 +47,8 @@ impl SampleForm {
     }
 }
 
-// Appends one sample for each four bytes. Reserves the memory first, so that a refusal is final: `extend` would retry
-// with less.
+// Appends one sample for each four bytes. Reserves memory first: if that fails, the call fails, whereas `extend` alone
+// would retry with less.
 fn append_16_bits(bytes: &[u8], samples: &mut Vec<Sample>) -> Result<(), AllocError>
     ensures { IfOk result (λ _. samples.new.items ≡ samples.old.items ++ samples_of bytes.now) }
 {
@@ -57,7 +57,7 @@ fn append_16_bits(bytes: &[u8], samples: &mut Vec<Sample>) -> Result<(), AllocEr
     samples.extend(fours.iter().map(|four| sample_of_four(four)))
 }
 
-// Appends one sample for each two bytes. Reserves the memory first.
+// Appends one sample for each two bytes. Reserves memory first, as `append_16_bits` does.
 fn append_8_bits(bytes: &[u8], samples: &mut Vec<Sample>) -> Result<(), AllocError>
     ensures { IfOk result (λ _. samples.new.items ≡ samples.old.items ++ samples_of_8 bytes.now) }
 {
@@ -66,7 +66,7 @@ fn append_8_bits(bytes: &[u8], samples: &mut Vec<Sample>) -> Result<(), AllocErr
     samples.extend(twos.iter().map(|two| sample_of_two(two)))
 }
 
-// Returns the sample in four bytes.
+// Returns the sample in four bytes, in the format `Ci16`.
 fn sample_of_four(bytes: &[u8; 4]) -> Sample
     ensures { result ≡ sample_in Ci16 bytes.now }
 {
@@ -76,7 +76,7 @@ fn sample_of_four(bytes: &[u8; 4]) -> Sample
     }
 }
 
-// Returns the sample in two bytes.
+// Returns the sample in two bytes, in the format `Cu8`.
 fn sample_of_two(bytes: &[u8; 2]) -> Sample
     ensures { result ≡ sample_in Cu8 bytes.now }
 {
@@ -86,7 +86,7 @@ fn sample_of_two(bytes: &[u8; 2]) -> Sample
     }
 }
 
-// Returns the signed number in two bytes, low byte first.
+// Returns the signed 16-bit component in two bytes, low byte first.
 fn component(bytes: &[u8]) -> i16
     requires { length bytes.now ≡ 2 }
     ensures { result ≡ component_of (slice_index bytes.now 0) (slice_index bytes.now 1) }
@@ -94,7 +94,7 @@ fn component(bytes: &[u8]) -> i16
     LittleEndian::read_i16(bytes)
 }
 
-// Returns the component that a byte stands for, in steps of two about 0.
+// Returns the component that a byte v represents, `2v - 255`.
 fn centred(byte: u8) -> i16
     ensures { result ≡ centred byte }
 {

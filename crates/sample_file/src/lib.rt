@@ -1,4 +1,4 @@
-//! Recordings: samples in memory, read from a source of bytes, and samples written to a sink.
+//! Recordings: reading samples from a source of bytes into memory, and writing samples to a sink.
 //! Tests: the crates `low_tests` and `fault_tests`.
 #![tactic(auto)]
 

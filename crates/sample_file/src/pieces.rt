@@ -11,11 +11,11 @@ use cs_num::Sample;
 use cs_outside::{Failed, Sink, write_whole};
 use std::marker::Model;
 
-// The number of bytes in a piece.
+// The number of bytes in a complete piece.
 const PIECE: usize = 16_384;
 
-/// Writes samples, four bytes each, in pieces of 16,384 bytes, whatever number is pushed at a time; only the last
-/// piece may be shorter. Allocates nothing. Contracts see the bytes that still wait to be written. (own)
+/// A writer of samples, four bytes each, in pieces of 16,384 bytes, however many samples are pushed at a time. Only the
+/// last piece may be shorter. Does not allocate. Contracts see the bytes that are not written yet. (own)
 #[derive(Drop)]
 pub struct PieceWriter {
     buffer: [u8; PIECE],
@@ -41,8 +41,8 @@ impl PieceWriter {
         }
     }
 
-    /// Adds the samples' bytes and writes each piece that is full. Returns `Failed` if the sink fails; then a prefix
-    /// of the waiting bytes and the new ones was written, and the buffer's contents are unspecified.
+    /// Buffers the samples' bytes and writes each complete piece. Fails if the sink fails; a prefix of the buffered and
+    /// new bytes is then written, and the buffer's content has no meaning.
     pub fn push<K: Sink>(&mut self, sink: &mut K, samples: &[Sample]) -> Result<(), Failed>
         ensures ok { OnOk result (HasWrittenPieces (self.old ++ bytes_of samples.now) self.new
             (K.state sink.old) (K.state sink.new)) }
@@ -64,7 +64,7 @@ impl PieceWriter {
         Ok(())
     }
 
-    /// Writes the waiting bytes as the last piece.
+    /// Writes the buffered bytes as the last piece. Fails if the sink fails.
     pub fn finish<K: Sink>(self, sink: &mut K) -> Result<(), Failed>
         ensures ok { OnOk result (HasWritten self (K.state sink.old) (K.state sink.new)) }
         ensures front { OnErr result (HasWrittenFront self (K.state sink.old) (K.state sink.new)) }
@@ -75,7 +75,7 @@ impl PieceWriter {
         write_whole(sink, &self.buffer[..self.end])
     }
 
-    // Writes the waiting bytes if they are a full piece.
+    // Writes the buffered bytes if they are a complete piece. Fails if the sink fails.
     fn make_room<K: Sink>(&mut self, sink: &mut K) -> Result<(), Failed>
         ensures ok { OnOk result (HasWrittenPieces self.old self.new (K.state sink.old) (K.state sink.new)) }
         ensures room { OnOk result (length self.new < piece_bytes) }
@@ -94,7 +94,7 @@ impl PieceWriter {
         Ok(())
     }
 
-    // Copies as many of the first samples as the buffer has room for, and returns their number.
+    // Copies the first of `samples` to the buffer, as many as it has room for, and returns their number.
     fn take_samples(&mut self, samples: &[Sample]) -> usize
         requires room { length self.old < piece_bytes }
         requires some { 0 < length samples.now }

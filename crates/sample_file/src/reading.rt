@@ -1,5 +1,5 @@
-//! Reading a recording from a source of bytes, which may return them in pieces of any size. After an error the bytes
-//! read are lost.
+//! Reading a recording from a source of bytes, which may return them in pieces of any size. If an error occurs, the
+//! samples read are dropped.
 
 ghost use Rattle.std.specs.Prelude.{◌≡◌, ◌+◌, ◌*◌, ◌^◌, ◌<◌, ◌≤◌, length, take, List, IfOk, IsOk, IsErr, IsErrOf};
 ghost use Rattle.cs_num.specs.declared.Sample.{Sample as SampleValue};
@@ -23,7 +23,7 @@ use std::alloc::{AllocError, Global};
 use std::fmt;
 use thiserror::Error;
 
-/// Why no recording was read.
+/// The reason why no recording was read.
 #[derive(Clone, Copy, Debug, PartialEq, Eq, Error)]
 pub enum FileError {
     /// The input ended within a sample.
@@ -32,7 +32,7 @@ pub enum FileError {
     TooShort,
     /// The input is longer than 1,920,000 samples.
     TooLong,
-    /// A call of the source failed.
+    /// Reading from the source failed.
     ReadFault,
     /// An allocation failed.
     OutOfMemory,
@@ -66,15 +66,15 @@ impl From<AllocError> for FileError {
 // The maximum number of bytes that one call to a source requests.
 const PIECE: usize = 16_384;
 
-// The first samples of the input, and the number of all its samples.
+// The samples of the input that are kept, and the number of all samples read.
 #[derive(Drop)]
 struct Front {
     samples: Vec<Sample>,
     count: usize,
 }
 
-/// Reads 57,600 to 1,920,000 samples in format `form`, to the end of the source. An input that ends within a sample is
-/// ragged, however short; one that is too long is read one byte past the limit. (own)
+/// Reads 57,600 to 1,920,000 samples in format `form`, to the end of the source. Input that ends within a sample is
+/// `Ragged`, even if it is also too short. Reads at most one byte past the limit. (own)
 pub fn read_as<S: Source>(
     alloc: Global,
     source: &mut S,
@@ -98,8 +98,8 @@ pub fn read_as<S: Source>(
     read_front(alloc, source, form, MOST_SAMPLES)
 }
 
-/// Reads a complete recording like `read_as`, but keeps only its first `most` samples, 57,600 to 1,920,000. The
-/// remaining samples are counted and take no memory. (own)
+/// Reads a complete recording as `read_as` does, but keeps only its first `most` samples, 57,600 to 1,920,000. Later
+/// samples are only counted. (own)
 pub fn read_front<S: Source>(
     alloc: Global,
     source: &mut S,
@@ -177,8 +177,8 @@ pub fn read_front_at<S: Source>(
     }
 }
 
-/// Reads a recording of signed 16-bit numbers, four bytes per sample: `read_as` with `Ci16`. An input that is too
-/// long is read up to byte 7,680,001. (own)
+/// Reads a recording of signed 16-bit components, four bytes per sample, as `read_as` does with `Ci16`. Reads at most
+/// byte 7,680,001 of an input that is too long. (own)
 pub fn read_recording<S: Source>(alloc: Global, source: &mut S) -> Result<Recording, FileError>
     ensures ok { IfOk result (λ recording.
         HasReadRecording Ci16 recording (S.state source.old) (S.state source.new)) }
@@ -198,8 +198,8 @@ pub fn read_recording<S: Source>(alloc: Global, source: &mut S) -> Result<Record
     read_as(alloc, source, SampleForm::Ci16)
 }
 
-/// Reads a recording of 8-bit numbers, two bytes per sample: `read_as` with `Cu8`. An input that is too long is read
-/// up to byte 3,840,001. (own)
+/// Reads a recording of 8-bit components, two bytes per sample, as `read_as` does with `Cu8`. Reads at most byte
+/// 3,840,001 of an input that is too long. (own)
 pub fn read_cu8<S: Source>(alloc: Global, source: &mut S) -> Result<Recording, FileError>
     ensures ok { IfOk result (λ recording.
         HasReadRecording Cu8 recording (S.state source.old) (S.state source.new)) }
@@ -219,7 +219,7 @@ pub fn read_cu8<S: Source>(alloc: Global, source: &mut S) -> Result<Recording, F
     read_as(alloc, source, SampleForm::Cu8)
 }
 
-// Returns the number of bytes in `samples` samples and `begun` further bytes.
+// Returns the number of bytes in `samples` complete samples and `begun` bytes of an incomplete one.
 fn bytes_read(form: SampleForm, samples: usize, begun: usize) -> usize
     requires samples { samples ≤ 2 ^ 40 }
     requires begun { begun ≤ 4 }
@@ -231,7 +231,7 @@ fn bytes_read(form: SampleForm, samples: usize, begun: usize) -> usize
     }
 }
 
-// Returns the recording with `samples`, which are enough for one.
+// Returns the recording that consists of `samples`, at most 1,920,000, or `TooShort` if they are fewer than 57,600.
 fn recording_of(samples: Vec<Sample>) -> Result<Recording, FileError>
     requires least { least_samples ≤ length samples.items }
     requires most { length samples.items ≤ most_samples }
@@ -245,7 +245,8 @@ fn recording_of(samples: Vec<Sample>) -> Result<Recording, FileError>
     }
 }
 
-// Returns the kept samples, or `TooShort` if all samples of the input are fewer than 30 ms.
+// Returns the kept samples, or `TooShort` if the input has fewer than 30 ms of samples, at `factor` times 1.92 million
+// samples per second.
 fn enough(factor: usize, front: Front) -> Result<Vec<Sample>, FileError>
     requires factor { factor ≤ 16 }
     ensures ok { IfOk result (λ samples. samples.items ≡ front.samples.items) }
@@ -260,8 +261,8 @@ fn enough(factor: usize, front: Front) -> Result<Vec<Sample>, FileError>
     }
 }
 
-// Takes the samples from the buffer's first `end` bytes and keeps the first `most` in all. Moves the bytes of an
-// incomplete sample to the buffer's front and returns their number.
+// Takes the complete samples from the buffer's first `end` bytes, counts them, and keeps the first `most` of all. Moves
+// the bytes of an incomplete sample to the buffer's start and returns their number.
 fn take_front(
     form: SampleForm,
     most: usize,

@@ -9,8 +9,8 @@ use cs_num::Sample;
 use lte_types::{LEAST_SAMPLES, MOST_SAMPLES};
 use std::marker::Model;
 
-/// A list of 57,600 to 1,920,000 samples at 1.92 million samples per second: 30 ms to one second. Contracts see a
-/// list of samples. (own)
+/// A recording of 57,600 to 1,920,000 samples at 1.92 million samples per second, 30 ms to 1 s. Contracts see it as the
+/// list of its samples. (own)
 #[derive(Drop)]
 pub struct Recording {
     samples: Vec<Sample>,
@@ -25,8 +25,7 @@ impl Model for Recording {
 }
 
 impl Recording {
-    /// Returns the recording with these samples, or `None` exactly if their number is below 57,600 or above
-    /// 1,920,000.
+    /// Returns the recording that consists of `samples`, or `None` if their number is below 57,600 or above 1,920,000.
     pub fn new(samples: Vec<Sample>) -> Option<Self>
         ensures valid { IsSome result ↔ IsRecording samples.items }
         ensures value { IfSome result (λ recording. recording ≡ samples.items) }

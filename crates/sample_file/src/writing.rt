@@ -12,7 +12,7 @@ use cs_outside::{Failed, Sink};
 use std::alloc::{AllocError, Global};
 
 /// Returns the samples as bytes, four each: the real, then the imaginary component, each a signed 16-bit number, low
-/// byte first. (own)
+/// byte first. Fails only if an allocation fails. (own)
 pub fn bytes_of(alloc: Global, samples: &[Sample]) -> Result<Vec<u8>, AllocError>
     ensures { IfOk result (λ bytes. bytes.items ≡ all_bytes samples.now) }
 {
@@ -23,8 +23,8 @@ pub fn bytes_of(alloc: Global, samples: &[Sample]) -> Result<Vec<u8>, AllocError
     Ok(bytes)
 }
 
-/// Writes samples to a sink, four bytes each: the real, then the imaginary component, each a signed 16-bit number,
-/// low byte first. Pieces have 16,384 bytes; only the last may be shorter. Allocates nothing. (own)
+/// Writes samples to `sink`, four bytes each: real, then imaginary component, signed 16-bit, low byte first. Pieces
+/// have 16,384 bytes; only the last may be shorter. Fails if the sink fails. Does not allocate. (own)
 pub fn write_samples<K: Sink>(sink: &mut K, samples: &[Sample]) -> Result<(), Failed>
     ensures ok { OnOk result (HasWritten (all_bytes samples.now) (K.state sink.old) (K.state sink.new)) }
     ensures front { OnErr result (HasWrittenFront (all_bytes samples.now) (K.state sink.old) (K.state sink.new)) }
@@ -39,7 +39,8 @@ pub fn write_samples<K: Sink>(sink: &mut K, samples: &[Sample]) -> Result<(), Fa
     }
 }
 
-// Writes the samples' bytes into a buffer of exactly that size. Inlined it would be a loop over single samples.
+// Writes the samples' bytes to `buffer`, which has exactly their length. If the function were inlined, it would become
+// a loop over single samples.
 #[inline(never)]
 pub(crate) fn put_samples(buffer: &mut [u8], samples: &[Sample])
     requires { length buffer.old ≡ 4 * length samples.now }
@@ -50,7 +51,7 @@ pub(crate) fn put_samples(buffer: &mut [u8], samples: &[Sample])
     }
 }
 
-// Returns the four bytes of a sample.
+// Returns the four bytes of a sample: real, then imaginary component, low byte first.
 fn bytes_of_sample(sample: &Sample) -> [u8; 4]
     ensures { result ≡ sample_bytes sample.now }
 {
@@ -59,7 +60,7 @@ fn bytes_of_sample(sample: &Sample) -> [u8; 4]
     bytes
 }
 
-/// A law: the bytes of samples are read back as the same samples if no component is below -32,767.
+/// A law: the bytes of samples are read back as equal samples, if no component is below -32,767.
 pub fn bytes_are_read_back()
     ensures { AreReadBack }
 {}
