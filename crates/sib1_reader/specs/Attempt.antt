@@ -9,34 +9,36 @@ use Rattle.sib1_reader.specs.Subframe.{Subframe}
 use Rattle.sib1_reader.specs.Control.{Grants}
 use Rattle.sib1_reader.specs.Block.{Decodes}
 
--- the grant was decoded, and the resource blocks that it assigns give the answer
+-- `grant` is decoded from the PDCCH candidate, and `answer` from the soft values in the resource blocks that it assigns
 pub record IsGranted (values : Subframe) (indicator : ℕ) (grant : Grant) (answer : Result Sib1 Sib1Reason) :
     Type 0 where
   pub grants : Grants (values.elements indicator) (values.candidate indicator) (Ok grant)
   pub decodes : Decodes (values.shared indicator grant.start grant.blocks) grant answer
 
--- the answer that follows from the grant; without a grant, the reason for its absence
+-- `answer` follows from the grant; without a grant, `answer` is the reason for its absence
 abbrev pub Follows : Subframe → ℕ → Option Grant → Result Sib1 Sib1Reason → Type 0
 Follows values indicator (Some grant) answer = IsGranted values indicator grant answer
 Follows values indicator None (Err reason) =
     Grants (values.elements indicator) (values.candidate indicator) (Err reason)
 Follows values indicator None (Ok fields) = ⊥
 
--- the attempt on a subframe with these soft values
+-- `attempt` is the attempt to read system information from the soft values of subframe 5: the control format indicator,
+-- the grant if there is one, and the answer
 pub record IsAttempt (values : Subframe) (attempt : Attempt) : Type 0 where
   pub decoded : IsIndicator values.indicator attempt.cfi
   pub follows : Follows values attempt.cfi attempt.grant attempt.answer
 
--- the indicator and the grant with which an attempt read its fields, or none if it read none
+-- the control format indicator and the grant with which an attempt read the fields; none if no fields were read
 abbrev pub granted_with : ℕ → Option Grant → Result Sib1 Sib1Reason → Option (ℕ × Grant)
 granted_with indicator (Some grant) (Ok fields) = Some (indicator, grant)
 granted_with indicator (Some grant) (Err reason) = None
 granted_with indicator None answer = None
 
+-- the control format indicator and the grant with which an attempt read the fields; none if no fields were read
 abbrev pub granted_by : Attempt → Option (ℕ × Grant)
 granted_by attempt = granted_with attempt.cfi attempt.grant attempt.answer
 
--- a subframe's answer with these soft values
+-- `answer` is the result of the attempt to read system information from the soft values of subframe 5
 pub record Reads (values : Subframe) (answer : Result Sib1 Sib1Reason) : Type 0 where
   pub attempt : Attempt
   pub is : IsAttempt values attempt

@@ -11,18 +11,19 @@ use Rattle.pcfich.specs.Values.{indicator_values_by}
 use Rattle.pdcch.specs.Candidate.{candidate_values_by}
 use Rattle.pdsch.specs.Values.{shared_values_by}
 
+-- the descrambled soft values of a subframe, and the number of its control channel elements
 pub record Subframe : Type 0 where
   -- the 32 PCFICH soft values
   pub indicator : List ℤ
-  -- the number of control channel elements, by indicator
+  -- the number of control channel elements, by control format indicator
   pub elements : ℕ → ℕ
-  -- the 288 soft values for control channel elements 0 to 3, by indicator
+  -- the 288 PDCCH soft values of control channel elements 0 to 3, by control format indicator
   pub candidate : ℕ → List ℤ
-  -- the PDSCH soft values, by indicator, first resource block and count of blocks
+  -- the PDSCH soft values, by control format indicator, first resource block and number of resource blocks
   pub shared : ℕ → ℕ → ℕ → List ℤ
 
--- a subframe's soft values from its two slots, for a transmission scheme and any `Valuing`, the method that computes
--- soft values, with the MIB's PHICH configuration
+-- a subframe's soft values, from its two slots and the MIB's PHICH configuration, for a transmission scheme. `values`
+-- is the method that computes soft values of resource elements.
 abbrev pub subframe_by : Carrier → Valuing → SeenSlot → SeenSlot → Duration → Resource → Subframe
 subframe_by carrier values first second duration resource = record {
   indicator = indicator_values_by values first;
@@ -31,6 +32,6 @@ subframe_by carrier values first second duration resource = record {
   shared = shared_values_by carrier values first second;
 }
 
--- a subframe's soft values from its two slots, with one antenna port
+-- a subframe's soft values, from its two slots and the MIB's PHICH configuration, with one antenna port
 abbrev pub one_port : SeenSlot → SeenSlot → Duration → Resource → Subframe
 one_port = subframe_by OnePort placed_values

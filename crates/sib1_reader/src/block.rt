@@ -18,8 +18,8 @@ use soft_bits::ReadSlot;
 use turbo_code::{Combined, Row, combine, row_of};
 use turbo_dec::{Block, Work, decode};
 
-/// Returns the fields of the transport block that `grant` assigns, as `fields_of` does. `first` and `second` are slots
-/// 10 and 11 of one cell, and `cfi` is 2 or 3.
+/// Returns the fields of the transport block that `grant` assigns, or the reason why there are none, as `fields_of`
+/// does. `first` and `second` are slots 10 and 11 of one cell, and `cfi` is 2 or 3.
 pub(crate) fn fields_in<S: ReadSlot>(
     first: &S,
     second: &S,
@@ -41,8 +41,8 @@ pub(crate) fn fields_in<S: ReadSlot>(
     fields_of(&values[..count], grant, turbo)
 }
 
-/// Returns the fields decoded from the PDSCH soft values, at most 5,760 from -127 to 127, or why there are none:
-/// `NotDecoded` if no CRC passes, otherwise the error from `sib1::read`.
+/// Returns the SIB1 fields decoded from the PDSCH soft values, at most 5,760 from -127 to 127. Fails with `NotDecoded`
+/// if no CRC passes, or with the error of `sib1::read`.
 pub fn fields_of(values: &[i16], grant: &Grant, turbo: &mut Work) -> Result<Sib1, Sib1Reason>
     requires count { length values.now ≤ 5760 }
     requires magnitudes { AllWithin 127 values.now }
@@ -56,8 +56,8 @@ pub fn fields_of(values: &[i16], grant: &Grant, turbo: &mut Work) -> Result<Sib1
     }
 }
 
-/// Returns the transport block decoded from the PDSCH soft values, at most 5,760 from -127 to 127; `None` if no iterate
-/// passes its CRC. `grant` is one that `dci::read` can return.
+/// Returns the transport block decoded from the PDSCH soft values, at most 5,760 from -127 to 127, or `None` if no
+/// iteration's block passes the CRC. `grant` is one that `dci::read` can return.
 pub fn block_of(values: &[i16], grant: &Grant, turbo: &mut Work) -> Option<Block>
     requires count { length values.now ≤ 5760 }
     requires magnitudes { AllWithin 127 values.now }
@@ -68,7 +68,7 @@ pub fn block_of(values: &[i16], grant: &Grant, turbo: &mut Work) -> Option<Block
     decode(&sums_of(values, row, grant.rv), row, turbo)
 }
 
-// Returns the table row for the grant's transport block size.
+// Returns the row of the turbo code's table for the grant's transport block with its CRC.
 fn row_for(grant: &Grant) -> Row
     requires { IsGrant grant.now }
     ensures row { IsRow result }
@@ -80,7 +80,7 @@ fn row_for(grant: &Grant) -> Row
     }
 }
 
-// Returns the soft values combined by coded bit.
+// Returns the soft values combined by coded bit, with rate matching from redundancy version `rv`.
 fn sums_of(values: &[i16], row: Row, rv: u8) -> Combined
     requires count { length values.now ≤ 5760 }
     requires magnitudes { AllWithin 127 values.now }

@@ -18,11 +18,11 @@ use pdcch::{candidate, elements};
 use soft_bits::ReadSlot;
 use tailbite::{Trellis, least};
 
-// The number of control information bits, without the CRC.
+// The number of information bits in a control message, without the CRC.
 const INFORMATION: usize = 21;
 
-/// Returns the grant of subframe 5, or the first reason why there is none: too few control channel elements, no word
-/// whose CRC passes, or an error from `dci::read`. `first` is slot 10.
+/// Returns the grant of subframe 5. Fails if there are fewer than four control channel elements, if the word's CRC does
+/// not pass, or with an error of `dci::read`, whichever is first. `first` is slot 10.
 pub fn granted<S: ReadSlot>(
     first: &S,
     cfi: Cfi,
@@ -41,8 +41,8 @@ pub fn granted<S: ReadSlot>(
     }
 }
 
-/// Returns the grant decoded from the 288 soft values for control channel elements 0 to 3, each from -127 to 127. The
-/// errors are `NoControl` if the CRC in the 37-bit word fails, and those from `dci::read`.
+/// Returns the grant decoded from the 288 soft values of control channel elements 0 to 3, each from -127 to 127. Fails
+/// with `NoControl` if the CRC in the 37-bit word fails, or with an error of `dci::read`.
 pub fn grant_of(values: &[i16; 288], trellis: &mut Trellis) -> Result<Grant, Sib1Reason>
     requires { AllWithin 127 values.now }
     ensures answer { (count : ℕ) → 4 ≤ count → Grants count values.now result }
@@ -55,7 +55,7 @@ pub fn grant_of(values: &[i16; 288], trellis: &mut Trellis) -> Result<Grant, Sib
     dci::read(&information_of(&word))
 }
 
-// Returns the soft values combined by coded bit.
+// Returns the 288 soft values combined by coded bit of the 37-bit word.
 fn sums_of(values: &[i16; 288]) -> [[i32; 3]; 37]
     requires { AllWithin 127 values.now }
     ensures sums { result ≡ summed 37 values.now }
@@ -64,7 +64,8 @@ fn sums_of(values: &[i16; 288]) -> [[i32; 3]; 37]
     combine(values)
 }
 
-// Returns whether the last 16 bits are the CRC of the others, masked with the SI-RNTI (TS 36.212 section 5.3.3.2).
+// Returns whether the last 16 bits of `word` are the CRC of the others, masked with the SI-RNTI (TS 36.212 section
+// 5.3.3.2).
 fn is_checked(word: &Bits<37>) -> bool
     ensures { IsTrue result ↔ HasCheck16 system_information_rnti word.now }
 {
@@ -72,7 +73,7 @@ fn is_checked(word: &Bits<37>) -> bool
     number_of(check) as u16 == crc16(information) ^ SI_RNTI
 }
 
-// Returns the bits without the CRC.
+// Returns the 21 information bits of `word`, without the CRC.
 fn information_of(word: &Bits<37>) -> Bits<21>
     ensures { result ≡ message_of 16 word.now }
 {

@@ -4,10 +4,10 @@ use std::alloc::{AllocError, Global};
 use tailbite::Trellis;
 use turbo_dec::Work;
 
-/// Working memory for both decoders. Its contents between two calls have no meaning.
+/// Working memory for the tail-biting and the turbo decoder. Its contents have no meaning between two calls.
 #[derive(Drop)]
 pub struct Decoders {
-    /// The trellis of the tail-biting code.
+    /// The working memory of the tail-biting decoder.
     pub trellis: Trellis,
     /// The working memory of the turbo decoder.
     pub turbo: Work,

@@ -14,7 +14,7 @@ use lte_types::{Cfi, Mib, Sib1, Sib1Reason};
 use pcfich::cfi;
 use soft_bits::ReadSlot;
 
-/// One attempt to read SystemInformationBlockType1 (own): the intermediate results and the answer.
+/// An attempt to read SystemInformationBlockType1 in one frame: the intermediate results and the answer. (own)
 #[derive(Debug, Drop)]
 pub struct Attempt {
     /// The control format indicator.
@@ -32,7 +32,8 @@ pub struct Attempt {
 }
 
 impl Attempt {
-    /// Returns the indicator and the grant with which the fields were read; `None` if there are no fields or no grant.
+    /// Returns the control format indicator and the grant with which the fields were read, or `None` if no fields were
+    /// read.
     pub fn granted(&self) -> Option<(Cfi, Grant)>
         ensures { result ≡ granted_by self.now }
     {
@@ -45,7 +46,7 @@ impl Attempt {
 }
 
 /// Returns the attempt to read SystemInformationBlockType1 in subframe 5. `first` and `second` are slots 10 and 11 of
-/// one cell; of its MIB, only the PHICH duration and resource are used.
+/// one cell. Only the PHICH duration and resource of `mib` are used.
 pub fn attempt_in<S: ReadSlot>(first: &S, second: &S, mib: Mib, work: &mut Decoders) -> Attempt
     requires first { (S.seen_as first.now).number ≡ 10 }
     requires second { (S.seen_as second.now).number ≡ 11 }
@@ -70,7 +71,8 @@ pub fn attempt_in<S: ReadSlot>(first: &S, second: &S, mib: Mib, work: &mut Decod
     }
 }
 
-/// Returns the attempt's answer for subframe 5, as in `attempt_in`.
+/// Returns the SIB1 fields in subframe 5, or the reason why they were not read. The arguments are those of
+/// `attempt_in`.
 pub fn read<S: ReadSlot>(
     first: &S,
     second: &S,
