@@ -13,26 +13,28 @@ use Rattle.lte_types.specs.Codes.{bandwidth, duration, resource}
 use Rattle.pbch.specs.declared.master.Master.{Master}
 use Rattle.pbch.specs.Values.{summed_values, coded_values}
 
--- the sum of all magnitudes
+-- the sum of the magnitudes of the 120 combined soft values
 unfoldable pub total : List (List ℤ) → ℕ
 total values = total_below 40 (λ k. total_below 3 (λ t. nat_abs (sum_at values k t)))
 
--- the CRC mask for a number of antenna ports
+-- the CRC mask for an antenna port count (TS 36.212 section 5.3.1.1)
 abbrev pub mask : ℕ → ℕ
 mask ports = if nat_eq ports 1 then 0 else (if nat_eq ports 2 then 0xffff else 0x5555)
 
--- a word's CRC passes with the mask for a number of antenna ports: 1, 2 or 4
+-- the CRC in the 40-bit word passes with the mask for `ports` antenna ports, which are 1, 2 or 4
 pub record PassesWith (ports : ℕ) (word : List Bool) : Type 0 where
   pub count : (ports ≡ 1) ⊎ (ports ≡ 2) ⊎ (ports ≡ 4)
   pub check : HasCheck16 (mask ports) word
 
--- the word carries these fields
+-- the 40-bit word carries the MIB `mib`: bandwidth, PHICH duration, PHICH resource, upper bits of the frame number, and
+-- spare bits
 abbrev pub Carries : List Bool → Mib → Type 0
 Carries word mib =
     HasFields mib (bandwidth (field word 0 3)) (duration (field word 3 1)) (resource (field word 4 2))
     (field word 6 8) (field word 14 10)
 
--- the values decode to this word, in a cell with this number of antenna ports
+-- the combined soft values decode to `word`, in a cell with `ports` antenna ports. Not all values are 0, the word has
+-- the minimum cost, at most a quarter of the sum of magnitudes, its CRC passes, and its bandwidth code is valid.
 pub record Decodes (values : List (List ℤ)) (word : List Bool) (ports : ℕ) : Type 0 where
   pub least : IsLeastWord values word
   pub heard : 0 < total values
@@ -40,37 +42,38 @@ pub record Decodes (values : List (List ℤ)) (word : List Bool) (ports : ℕ) :
   pub check : PassesWith ports word
   pub width : field word 0 3 ≤ 5
 
--- the values decode to this MIB
+-- the combined soft values decode to the MIB `master`, with its antenna port count and cost
 pub record DecodesMaster (values : List (List ℤ)) (master : Master) : Type 0 where
   pub word : List Bool
   pub decodes : Decodes values word master.ports
   pub mib : Carries word master.mib
   pub cost : master.cost ≡ word_cost values word
 
--- the values decode to no word
+-- the combined soft values decode to no word, with any antenna port count
 abbrev pub DecodesNothing : List (List ℤ) → Type 0
 DecodesNothing values = (word : List Bool) (ports : ℕ) → Decodes values word ports → ⊥
 
--- the slots decode to this MIB, if the first has this phase
+-- the PBCH in `slots`, one slot per frame, decodes to the MIB `master` if the first frame is at `phase` in the period
+-- of four
 abbrev pub IsMaster : List SeenSlot → ℕ → Master → Type 0
 IsMaster slots phase master = DecodesMaster (coded_values slots phase) master
 
--- the slots decode to no MIB, if the first has this phase
+-- the PBCH in `slots`, one slot per frame, decodes to no MIB if the first frame is at `phase` in the period of four
 abbrev pub HasNoMaster : List SeenSlot → ℕ → Type 0
 HasNoMaster slots phase = DecodesNothing (coded_values slots phase)
 
 -- ---- the MIB at all phases
 
--- the MIB listed for a phase, if there is one
+-- the MIB at a phase in a list by phase, if there is one
 abbrev pub master_at : List (Option Master) → ℕ → Option Master
 master_at masters phase = slice_index_or masters phase None
 
--- the sums listed for a phase
+-- the combined soft values at a phase in a list by phase
 abbrev pub sums_at : List (List (List ℤ)) → ℕ → List (List ℤ)
 sums_at sums phase = slice_index_or sums phase []
 
--- the MIB listed for a phase is decoded from a cell's received frames, `count` of them with `size` bits each in the
--- period, if the first has that phase; None if they do not fit in one period of four
+-- if the first frame is at `phase`, the MIB that `masters` lists is decoded from `received`, the soft values of `count`
+-- consecutive frames with `size` bits each; none is listed if the frames exceed the period of four
 pub record IsDecoded (identity size count : ℕ) (received : List ℤ) (masters : List (Option Master)) (phase : ℕ) :
     Type 0 where
   pub decoded : phase + count ≤ 4 →
@@ -78,7 +81,8 @@ pub record IsDecoded (identity size count : ℕ) (received : List ℤ) (masters 
       MatchOption (master_at masters phase) (DecodesNothing values) (DecodesMaster values)
   pub beyond : 4 < phase + count → master_at masters phase ≡ None
 
--- each phase lists the MIB for these frames of a cell
+-- `masters` lists for each phase of the first frame the MIB decoded from `received`, the soft values of `count`
+-- consecutive frames with `size` bits each
 pub record AreMasters (identity size count : ℕ) (received : List ℤ) (masters : List (Option Master)) : Type 0 where
   pub phases : length masters ≡ 4
   pub first : IsDecoded identity size count received masters 0

@@ -1,4 +1,4 @@
-//! The fields of a 40-bit word.
+//! The antenna port count and the MIB that a 40-bit word carries.
 
 ghost use Rattle.std.specs.Prelude.{◌≡◌, ℕ, ◌<◌, ◌≤◌, ◌^◌, ◌-◌, length, slice_range, bit_xor, MatchOption, nat_eq};
 ghost use Rattle.cs_bits.specs.Numbers.{field};
@@ -7,14 +7,14 @@ ghost use Rattle.pbch.specs.Master.{PassesWith, Carries};
 use cs_bits::{Bits, crc16, number_of};
 use lte_types::{Bandwidth, Duration, Mib, Resource};
 
-// The CRC masks (TS 36.212 section 5.3.1.1).
+// The CRC masks for 1, 2 and 4 antenna ports (TS 36.212 section 5.3.1.1).
 const ONE_PORT: u16 = 0x0000;
 
 const TWO_PORTS: u16 = 0xffff;
 
 const FOUR_PORTS: u16 = 0x5555;
 
-/// Returns the number of antenna ports with whose mask the word's CRC passes.
+/// Returns the antenna port count with whose mask the CRC of `word` passes, or `None` if no mask fits.
 pub(crate) fn ports_of(word: &Bits<40>) -> Option<u8>
     ensures { MatchOption result ((ports : ℕ) → PassesWith ports word.now → ⊥) (λ ports. PassesWith ports word.now) }
 {
@@ -33,7 +33,7 @@ pub(crate) fn ports_of(word: &Bits<40>) -> Option<u8>
     }
 }
 
-/// Returns a word's MIB, or `None` exactly if its bandwidth code is above 5.
+/// Returns the MIB that `word` carries, or `None` if its bandwidth code is above 5.
 pub(crate) fn mib_of(word: &Bits<40>) -> Option<Mib>
     ensures { MatchOption result (5 < field word.now 0 3) (λ mib. (field word.now 0 3 ≤ 5) × Carries word.now mib) }
 {

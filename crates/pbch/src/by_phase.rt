@@ -1,4 +1,4 @@
-//! The MIB in consecutive frames, by the phase of the first.
+//! MIB decoding in consecutive frames, by the phase of the first frame.
 
 ghost use Rattle.std.specs.Prelude.{◌≡◌, ℕ, ◌+◌, ◌*◌, ◌^◌, ◌<◌, ◌≤◌, All, nat_abs, length, slice_index_or, pos, None, MatchOption};
 ghost use Rattle.std.specs.List.{flat_map};
@@ -13,8 +13,8 @@ use crate::{CellScrambling, Master, Received, WordSums};
 use soft_bits::Slot;
 use tailbite::{Trellis, least};
 
-/// Decodes the MIB (TS 36.212 section 5.3.1, TS 36.331 section 6.2.2). `None` exactly if all sums are 0, over a
-/// quarter by magnitude opposes the minimum-cost word, its CRC fits no mask, or its bandwidth code exceeds 5.
+/// Decodes the MIB (TS 36.212 section 5.3.1, TS 36.331 section 6.2.2). Returns `None` if all combined values are 0,
+/// over a quarter by magnitude opposes the minimum-cost word, no CRC mask fits, or the bandwidth code exceeds 5.
 pub fn explain_slots(slots: &[Slot], phase: u8, work: &mut Trellis) -> Option<Master>
     requires some { 0 < length slots.now }
     requires period { phase + length slots.now ≤ 4 }
@@ -25,24 +25,24 @@ pub fn explain_slots(slots: &[Slot], phase: u8, work: &mut Trellis) -> Option<Ma
     master_of(&values(slots, phase), work)
 }
 
-/// Decoding results for a cell's frames, by the phase of the first. (own)
+/// The MIBs decoded in a cell's consecutive frames, by the phase of the first frame. (own)
 #[derive(Clone, Copy)]
 pub struct ByPhase {
-    /// The decoded MIB at each phase.
+    /// The MIB decoded at each phase, if there is one.
     pub at: [Option<Master>; 4],
-    /// The sums of the soft values at each phase.
+    /// The combined soft values at each phase.
     pub sums: [WordSums; 4],
 }
 
-// The decoding result at one phase: the MIB, and the sums that it was decoded from.
+// The MIB decoded at one phase, if there is one, and the combined soft values.
 #[derive(Clone, Copy)]
 struct AtPhase {
     master: Option<Master>,
     sums: WordSums,
 }
 
-/// Decodes the MIB at phases 0 to 3 from consecutive frames, each with `size` bits in the period: 480, or 432 with
-/// the extended cyclic prefix. If the frames exceed the period at a phase, it has no MIB.
+/// Decodes the MIB at phases 0 to 3 of the first of `frames`, each with `size` bits in the period: 480, or 432 with the
+/// extended cyclic prefix. Phases at which the frames exceed the period have no MIB.
 pub fn masters(
     cell: &CellScrambling,
     size: usize,
@@ -64,7 +64,7 @@ pub fn masters(
     }
 }
 
-// Decodes the MIB if the first frame has this phase.
+// Decodes the MIB if the first frame is at `phase` in the period of four.
 fn decoded_at(
     cell: &CellScrambling,
     size: usize,
@@ -94,8 +94,8 @@ fn decoded_at(
     }
 }
 
-/// Decodes the MIB from the 40-bit word's soft values, three per bit and within 2^20. `None` exactly under the
-/// conditions that `explain_slots` lists.
+/// Decodes the MIB from the combined soft values of the 40-bit word, three per bit, of magnitude at most 2^20. Returns
+/// `None` under the conditions that `explain_slots` lists.
 pub fn master_of(values: &[[i32; 3]; 40], work: &mut Trellis) -> Option<Master>
     requires { RowsWithin (2 ^ 20) values.now }
     ensures { MatchOption result (DecodesNothing values.now) (DecodesMaster values.now) }
@@ -113,7 +113,7 @@ pub fn master_of(values: &[[i32; 3]; 40], work: &mut Trellis) -> Option<Master>
     Some(Master { ports, mib, cost })
 }
 
-// Returns the sum of the magnitudes at one index.
+// Returns the sum of the magnitudes of the three combined soft values at one index of the 40-bit word.
 fn weight_of(place: &[i32; 3]) -> u32
     requires { AllWithin (2 ^ 20) place.now }
     ensures value { result ≡ total_below 3 (λ t. nat_abs (slice_index_or place.now t (pos 0))) }
@@ -122,7 +122,7 @@ fn weight_of(place: &[i32; 3]) -> u32
     place[0].unsigned_abs() + place[1].unsigned_abs() + place[2].unsigned_abs()
 }
 
-/// Returns the sum of the magnitudes over the 40-bit word's soft values, which are within 2^20.
+/// Returns the sum of the magnitudes of the 40-bit word's combined soft values, each at most 2^20 in magnitude.
 pub fn total_of(values: &[[i32; 3]; 40]) -> u32
     requires { RowsWithin (2 ^ 20) values.now }
     ensures { result ≡ total values.now }

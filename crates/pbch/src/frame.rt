@@ -6,8 +6,8 @@ ghost use Rattle.finite.specs.Sizes.{AllWithin};
 use arrayvec::ArrayVec;
 use std::marker::Model;
 
-/// The soft values received on the PBCH in one frame: 480 with the normal cyclic prefix, 432 with the extended one
-/// (TS 36.211 section 6.6), each from -127 to 127. Contracts see a list.
+/// The PBCH soft values in one frame, not descrambled: 480 with the normal cyclic prefix, 432 with the extended one (TS
+/// 36.211 section 6.6), each from -127 to 127. Contracts see them as a list.
 #[derive(Default, Drop)]
 pub struct Received {
     values: ArrayVec<i16, 480>,
@@ -22,7 +22,7 @@ impl Model for Received {
 }
 
 impl Received {
-    /// Returns the frame with these values, at most 480, each from -127 to 127.
+    /// Returns the frame with the soft values `values`, at most 480, each from -127 to 127.
     pub fn new(values: &[i16]) -> Received
         requires few { length values.now ≤ 480 }
         requires magnitudes { AllWithin 127 values.now }
@@ -33,7 +33,7 @@ impl Received {
         Received { values: kept }
     }
 
-    /// Returns the values in the order of their resource elements.
+    /// Returns the soft values, in the order of their resource elements.
     pub fn slice(&self) -> &[i16]
         ensures values { result.now ≡ self.now }
         ensures few { length self.now ≤ 480 }
@@ -42,7 +42,7 @@ impl Received {
         self.values.as_slice()
     }
 
-    /// Returns the number of values in the frame.
+    /// Returns the number of soft values in the frame, at most 480.
     pub fn len(&self) -> usize
         ensures value { result ≡ length self.now }
         ensures few { result ≤ 480 }

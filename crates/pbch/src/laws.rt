@@ -2,7 +2,7 @@
 
 ghost use Rattle.pbch.specs.Laws.{IsOneMaster};
 
-/// A law: soft values decode to at most one MIB.
+/// A law: any combined soft values decode to at most one MIB.
 pub fn at_most_one_master()
     ensures { IsOneMaster }
 {}

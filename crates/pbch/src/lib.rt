@@ -1,5 +1,5 @@
-//! PBCH decoding: the soft values in one to four frames, summed by coded bit, and the MIB (master block) decoded from
-//! the sums (TS 36.211 section 6.6, TS 36.212 section 5.3.1).
+//! PBCH decoding: the soft values in one to four frames, combined by coded bit, and the MIB (master block) decoded from
+//! them (TS 36.211 section 6.6, TS 36.212 section 5.3.1).
 //! Tests: the crate `slot_tests`.
 #![tactic(auto)]
 

@@ -11,7 +11,7 @@ use soft_bits::Scrambling;
 use std::marker::Model;
 
 /// The PBCH scrambling bits of a cell in the four frames of a period, computed once (TS 36.211 section 6.6.1).
-/// Contracts see the cell identity.
+/// Contracts see them as the cell identity.
 #[derive(Drop)]
 pub struct CellScrambling {
     id: CellId,
@@ -27,7 +27,7 @@ impl Model for CellScrambling {
 }
 
 impl CellScrambling {
-    /// Returns the bits for this cell.
+    /// Returns the PBCH scrambling bits for the cell identity `id`.
     pub fn new(id: CellId) -> CellScrambling
         ensures { result ≡ id }
     {
@@ -37,7 +37,7 @@ impl CellScrambling {
         }
     }
 
-    /// Descrambles values that start at bit `first` in the period. `first` plus the count is at most 1,920.
+    /// Descrambles `values`, which start at bit `first` in the period. `first` plus the count is at most 1,920.
     pub fn descramble(&self, first: usize, values: &mut [i16])
         requires few { first + length values.old ≤ 1920 }
         requires magnitudes { AllWithin 127 values.old }

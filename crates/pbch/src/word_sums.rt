@@ -1,11 +1,12 @@
-//! The sums that a word is decoded from.
+//! The combined soft values from which a 40-bit word is decoded.
 
 ghost use Rattle.std.specs.Prelude.{◌≡◌, List, ℤ, length};
 ghost use Rattle.finite.specs.Sizes.{AllWithin, RowsWithin};
 
 use std::marker::Model;
 
-// The sums at one index of the word, one per stream, within 2,032. Contracts see a list.
+// The combined soft values at one index of the word, one per stream, at most 2,032 in magnitude. Contracts see them as
+// a list.
 #[derive(Clone, Copy)]
 struct SumRow {
     sums: [i16; 3],
@@ -43,8 +44,8 @@ impl SumRow {
     }
 }
 
-/// The sums that a 40-bit word is decoded from: at each index one per stream, within 2,032. Contracts see a list with
-/// a list for each index. (own)
+/// The combined soft values from which a 40-bit word is decoded: three per index, one for each stream, at most 2,032 in
+/// magnitude. Contracts see them as a list of lists. (own)
 #[derive(Clone, Copy)]
 pub struct WordSums {
     rows: [SumRow; 40],
@@ -61,7 +62,7 @@ impl Model for WordSums {
 }
 
 impl WordSums {
-    /// Returns the sums for a word, from `rows` by index and stream, each within 2,032.
+    /// Returns the combined soft values in `rows`, by index and stream. Their magnitude is at most 2,032.
     pub fn new(rows: &[[i32; 3]; 40]) -> WordSums
         requires { RowsWithin 2032 rows.now }
         ensures { result ≡ rows.now }
@@ -73,7 +74,7 @@ impl WordSums {
         WordSums { rows: kept }
     }
 
-    /// Returns the sums by index and stream, each within 2,032.
+    /// Returns the combined soft values by index and stream. Their magnitude is at most 2,032.
     pub fn rows(&self) -> [[i32; 3]; 40]
         ensures rows { result ≡ self.now }
         ensures magnitudes { RowsWithin 2032 result }
