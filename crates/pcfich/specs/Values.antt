@@ -5,11 +5,12 @@ use Rattle.grid_map.specs.Scrambling.{pcfich_c_init}
 use Rattle.soft_bits.specs.Soft.{SeenSlot}
 use Rattle.soft_bits.specs.Places.{Valuing, placed_values, descrambled}
 
--- the 32 descrambled soft values, for any `Valuing`, the method that computes soft values
+-- the 32 descrambled PCFICH soft values in a subframe's first slot. `values` is the method that computes soft values of
+-- resource elements.
 unfoldable pub indicator_values_by : Valuing → SeenSlot → List ℤ
 indicator_values_by values slot =
     descrambled (pcfich_c_init slot.identity slot.number) 0 (values (λ p. slot) (pcfich_places slot.identity))
 
--- the 32 descrambled soft values with one antenna port
+-- the 32 descrambled PCFICH soft values in a subframe's first slot, with one antenna port
 abbrev pub indicator_values : SeenSlot → List ℤ
 indicator_values = indicator_values_by placed_values

@@ -11,8 +11,8 @@ use grid_map::indicator_bit;
 use lte_types::Cfi;
 use soft_bits::ReadSlot;
 
-/// Returns the minimum-cost control format indicator in slot 10, the first of subframe 5; ties go to the lowest. The
-/// cost is the summed magnitude of the soft values that disagree with the indicator's 32 bits.
+/// Returns the control format indicator with the minimum cost in slot 10, the first of subframe 5; ties go to the
+/// lowest. The cost is the summed magnitude of the soft values that disagree with the indicator's 32 bits.
 pub fn cfi<S: ReadSlot>(slot: &S) -> Cfi
     requires { (S.seen_as slot.now).number ≡ 10 }
     ensures { IsIndicator (indicator_values_by S.values_by (S.seen_as slot.now)) result }
@@ -20,8 +20,8 @@ pub fn cfi<S: ReadSlot>(slot: &S) -> Cfi
     indicator(&received(slot))
 }
 
-/// Returns the minimum-cost control format indicator for the 32 PCFICH soft values, each from -127 to 127; ties go to
-/// the lowest.
+/// Returns the control format indicator with the minimum cost for the 32 PCFICH soft values, each from -127 to 127.
+/// Ties go to the lowest indicator.
 pub fn indicator(values: &[i16; 32]) -> Cfi
     requires { AllWithin 127 values.now }
     ensures { IsIndicator values.now result }
@@ -30,7 +30,7 @@ pub fn indicator(values: &[i16; 32]) -> Cfi
     Cfi::new(best).unwrap()
 }
 
-// Returns the number, 1 to 3, of the minimum cost; ties go to the first.
+// Returns which of three costs is the minimum: 1, 2 or 3. Ties go to the lowest number.
 fn least_of(first: u32, second: u32, third: u32) -> u8
     ensures value { result ≡ (if nat_le first second && nat_le first third then 1
         else (if nat_le second third then 2 else 3)) }
@@ -45,7 +45,7 @@ fn least_of(first: u32, second: u32, third: u32) -> u8
     }
 }
 
-// Returns the indicator's cost.
+// Returns the cost of `indicator`: the sum of the magnitudes of soft values that disagree with its 32 bits.
 fn cost_of(values: &[i16; 32], indicator: u8) -> u32
     requires some { 1 ≤ indicator }
     requires magnitudes { AllWithin 127 values.now }
@@ -58,8 +58,8 @@ fn cost_of(values: &[i16; 32], indicator: u8) -> u32
     cost
 }
 
-/// A law: soft values select exactly one indicator. If they all agree with one indicator's bits, that indicator is
-/// selected.
+/// A law: for any soft values, exactly one control format indicator is decoded. If all soft values are nonzero and
+/// agree with one indicator's bits, it is that indicator.
 pub fn only_one_indicator()
     ensures one { (values : List ℤ) (a b : ℕ) → IsIndicator values a → IsIndicator values b → a ≡ b }
     ensures some { (values : List ℤ) → (indicator : ℕ) × IsIndicator values indicator }

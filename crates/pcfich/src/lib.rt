@@ -1,5 +1,5 @@
-//! The control format indicator of a subframe: the PCFICH soft values, and the indicator that they select (TS 36.211
-//! section 6.7, TS 36.212 section 5.3.4).
+//! The control format indicator of a subframe: the PCFICH soft values, and the indicator that is decoded from them (TS
+//! 36.211 section 6.7, TS 36.212 section 5.3.4).
 //! Tests: the crate `slot_tests`.
 #![tactic(auto)]
 

@@ -7,7 +7,7 @@ ghost use Rattle.pcfich.specs.Values.{indicator_values_by};
 use grid_map::{pcfich_c_init, pcfich_places};
 use soft_bits::{ReadSlot, descramble, fill_slot};
 
-// Returns the 32 descrambled PCFICH soft values.
+// Returns the 32 descrambled PCFICH soft values in `slot`, a subframe's first.
 pub(crate) fn received<S: ReadSlot>(slot: &S) -> [i16; 32]
     ensures values { result ≡ indicator_values_by S.values_by (S.seen_as slot.now) }
     ensures magnitudes { AllWithin 127 result }
