@@ -1,4 +1,4 @@
-//! The PDCCH candidate's soft values.
+//! The soft values of the PDCCH candidate.
 
 ghost use Rattle.std.specs.Prelude.{◌≡◌, ◌/◌, ◌<◌, ◌≤◌, All, IfSome, IsTrue, length};
 ghost use Rattle.finite.specs.Sizes.{AllWithin};
@@ -10,8 +10,8 @@ use grid_map::{Reg, candidate_places, pdcch, pdcch_c_init};
 use lte_types::{CellId, Cfi, Mib};
 use soft_bits::{ReadSlot, descramble, fill_slot};
 
-/// Returns the number of control channel elements (CCE) in the control region, each with nine resource element groups
-/// (TS 36.211 section 6.8.1). There are two for indicator 1, and at least four for 2 and 3.
+/// Returns the number of control channel elements (CCE) in the control region, each of nine resource element groups (TS
+/// 36.211 section 6.8.1): two for indicator 1, and at least four for indicators 2 and 3.
 pub fn elements(id: CellId, cfi: Cfi, mib: Mib) -> u8
     ensures count { result ≡ length (pdcch_groups id cfi mib.duration mib.resource) / 9 }
     ensures value { result ≡ element_count cfi mib.duration mib.resource }
@@ -19,8 +19,8 @@ pub fn elements(id: CellId, cfi: Cfi, mib: Mib) -> u8
     (pdcch(id, cfi, mib).len() / 9) as u8
 }
 
-/// Returns the descrambled soft values for control channel elements 0 to 3 in slot 10, the first of subframe 5, in
-/// coded-bit order; `None` if there are fewer than four elements.
+/// Returns the descrambled soft values of control channel elements 0 to 3 in slot 10, the first of subframe 5, in the
+/// order of the coded bits; `None` if there are fewer than four elements.
 #[tactic(auto, using(crate::proofs::Decoded::too_few, crate::proofs::Decoded::enough))]
 pub fn candidate<S: ReadSlot>(slot: &S, cfi: Cfi, mib: Mib) -> Option<[i16; 288]>
     requires { (S.seen_as slot.now).number ≡ 10 }
@@ -34,7 +34,7 @@ pub fn candidate<S: ReadSlot>(slot: &S, cfi: Cfi, mib: Mib) -> Option<[i16; 288]
     Some(stream(slot, groups.as_slice()))
 }
 
-// Returns the candidate's soft values, if the PDCCH occupies `groups`.
+// Returns the candidate's descrambled soft values if the PDCCH occupies `groups`, at least 36 resource element groups.
 fn stream<S: ReadSlot>(slot: &S, groups: &[Reg]) -> [i16; 288]
     requires few { length groups.now ≤ 66 }
     requires enough { 36 ≤ length groups.now }
