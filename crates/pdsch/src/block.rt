@@ -1,5 +1,6 @@
-//! The soft values for the assigned resource blocks: two per resource element, each from -127 to 127, ordered as in
-//! TS 36.211 section 6.4. The scrambling sequence starts once, with the subframe (section 6.3.1).
+//! The PDSCH soft values of the assigned resource blocks: two per resource element, each from -127 to 127, in the order
+//! of TS 36.211 section 6.4. The scrambling sequence starts with the subframe, and not again with its second slot
+//! (section 6.3.1).
 
 ghost use Rattle.std.specs.Prelude.{◌≡◌, ◌*◌, ◌%◌, ◌<◌, ◌≤◌, All, length, take, drop};
 ghost use Rattle.finite.specs.Sizes.{AllWithin};
@@ -16,11 +17,11 @@ use grid_map::{Place, pdsch_c_init, shared_count, shared_place};
 use lte_types::{Assignment, Carrier, CellId, Cfi};
 use soft_bits::{ReadSlot, descramble};
 
-/// The maximum number of soft values in a grant: six resource blocks, indicator 2 and one antenna port.
+/// The maximum number of soft values for a grant: six resource blocks, indicator 2 and one antenna port.
 pub const MOST_VALUES: usize = 1224;
 
-/// Writes a grant's descrambled soft values to the front of `out`, two per resource element, and returns their count.
-/// `first` and `second` are slots 10 and 11 of one cell, `cfi` is 2 or 3.
+/// Writes the descrambled soft values of the resource blocks in `grant` to the front of `out`, two per resource
+/// element, and returns their number. `first` and `second` are slots 10 and 11; `cfi` is 2 or 3.
 pub fn values<S: ReadSlot>(
     first: &S,
     second: &S,
@@ -45,7 +46,7 @@ pub fn values<S: ReadSlot>(
     }
 }
 
-// Writes the soft values for the assigned blocks to the front of `out`, and returns their count.
+// Writes the descrambled soft values of the assigned resource blocks to the front of `out`, and returns their number.
 fn fill_values<S: ReadSlot>(
     first: &S,
     second: &S,
@@ -65,7 +66,7 @@ fn fill_values<S: ReadSlot>(
     2 * count
 }
 
-// Writes the assigned blocks' resource elements to the front of `places`, and returns their count.
+// Writes the resource elements of the assigned resource blocks to the front of `places`, and returns their number.
 fn fill_places(
     carrier: Carrier,
     id: CellId,
@@ -85,7 +86,7 @@ fn fill_places(
     count
 }
 
-// Writes the descrambled PDSCH soft values at the resource elements `places`.
+// Fills `values` with the descrambled PDSCH soft values at the resource elements `places`, two per element.
 fn fill_shared<S: ReadSlot>(first: &S, second: &S, places: &[Place], values: &mut [i16])
     requires few { length places.now ≤ 612 }
     requires inside { All (λ p. (p.symbol < 14) × (p.k < subcarriers)) places.now }

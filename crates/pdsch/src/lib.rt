@@ -1,4 +1,4 @@
-//! The soft values from the physical downlink shared channel (PDSCH) that carries SystemInformationBlockType1, in
+//! The soft values of the physical downlink shared channel (PDSCH) that carries SystemInformationBlockType1, in
 //! subframe 5 (TS 36.211 sections 6.3.1 and 6.4).
 //! Tests: the crate `slot_tests`.
 #![tactic(auto)]
