@@ -1,4 +1,4 @@
--- What the reasons for an identity say, in plain words. (own)
+-- Laws of the reasons why an identity is in a recording's list or not. (own)
 use Rattle.std.specs.Prelude.{◌≡◌, ◌↔◌, ℕ, ◌≤◌, List, length}
 use Rattle.std.specs.List.{Contains}
 use Rattle.cs_num.specs.declared.Sample.{Sample}
@@ -12,30 +12,30 @@ use Rattle.reasons.specs.declared.reason.Reason.TheVariants.{Listed}
 use Rattle.reasons.specs.declared.reason.ListedCell.{ListedCell}
 use Rattle.reasons.specs.Reason.{IsReasonFor}
 
--- a list has an entry with this identity
+-- `list` has an entry with the cell identity `identity`
 pub record HasEntry (list : List Entry) (identity : ℕ) : Type 0 where
   pub entry : Entry
   pub inside : Contains list entry
   pub same : entry.id ≡ identity
 
--- one of the reasons is `listed`
+-- one of `reasons` is that a cell is listed
 pub record SaysListed (reasons : List Reason) : Type 0 where
   pub cell : ListedCell
   pub inside : Contains reasons (Listed cell)
 
--- an identity is in the list of a recording if and only if the reasons for it say `listed`
+-- an identity is in a recording's list if and only if one of its reasons is that a cell is listed
 abbrev pub ListedIsInList : Type 0
 ListedIsInList = (receiver : Receiver) (recording : List Sample) (identity : ℕ) (reasons : List Reason)
     (list : List Entry) → IsReasonFor receiver recording identity reasons → IsListFor receiver recording list →
     HasEntry list identity ↔ SaysListed reasons
 
--- there is one answer
+-- for an identity, there is at most one list of reasons
 abbrev pub HasOneReason : Type 0
 HasOneReason = (receiver : Receiver) (recording : List Sample) (identity : ℕ) (first second : List Reason) →
     IsReasonFor receiver recording identity first → IsReasonFor receiver recording identity second → first ≡ second
 
--- the first frames decide the reasons: for each receiver that reads only them, two recordings of at least 326,400
--- samples that agree in these have the same reasons for an identity
+-- the first frames decide the reasons: for each receiver that reads only these frames, two recordings of at least
+-- 326,400 samples that agree in the first 326,400 have equal reasons for an identity
 abbrev pub FirstFramesDecideReasons : Type 0
 FirstFramesDecideReasons = (receiver : Receiver) → LooksAtFirstFrames receiver → (first second : List Sample)
     (identity : ℕ) (reasons : List Reason) → deciding_length ≤ length first → deciding_length ≤ length second →

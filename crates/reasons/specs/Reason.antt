@@ -1,4 +1,4 @@
--- Why an identity is in the list of a recording, or not: the first rule that fails. (own)
+-- Why a cell identity is in a recording's list or not: the first rule that fails. (own)
 use Rattle.std.specs.Prelude.{◌≡◌, ℕ, ◌/◌, ◌%◌, Bool, nat_eq, int_lt, if◌then◌else◌, MatchBool, List, [], ◌∷◌, filter, map, ℤ}
 use Rattle.std.specs.List.{AllZip}
 use Rattle.cs_num.specs.declared.Sample.{Sample}
@@ -25,14 +25,15 @@ use Rattle.reasons.specs.Attempt.{IsClosest}
 
 -- ---- what is listed
 
+-- whether an entry has the cell identity `identity`
 abbrev pub has_identity : ℕ → Entry → Bool
 has_identity identity entry = nat_eq entry.id identity
 
--- the reason of an entry of the list
+-- the reason for a listed entry: that its cell is listed, with its start, frame number and antenna port count
 abbrev pub listed : Entry → Reason
 listed entry = Listed (record { start = entry.start; sfn = entry.sfn; ports = entry.ports })
 
--- the reasons are those of the entries of the recording's list with this identity
+-- `reasons` are those for the entries of the recording's list with the cell identity `identity`, in listing order
 pub record AreListed (receiver : Receiver) (recording : List Sample) (identity : ℕ) (reasons : List Reason) :
     Type 0 where
   pub list : List Entry
@@ -41,10 +42,12 @@ pub record AreListed (receiver : Receiver) (recording : List Sample) (identity :
 
 -- ---- the rules that a hit may fail, in their order
 
+-- the fraction of the energy at a hit that the primary signal explains, in thousandths, rounded down
 abbrev pub ratio_of : Hit → ℕ
 ratio_of hit = thousandths hit.peak hit.energy hit.n2
 
--- there is no room for the secondary signal before the hit
+-- the reason if the useful part of the preceding symbol, which carries the secondary signal, begins before the
+-- recording
 abbrev pub no_room : Carrier → Hit → Reason
 no_room carrier hit = NoRoom (record {
   t = hit.t;
@@ -52,11 +55,12 @@ no_room carrier hit = NoRoom (record {
   step = symbol_step (prefix_of carrier);
 })
 
--- the greater of the scores of a group in the two halves of a frame
+-- the greater of a group's scores in the two half-frames
 abbrev pub group_score : (ℕ → Half → ℤ) → ℕ → ℤ
 group_score scores n1 = if int_lt (scores n1 Zero) (scores n1 Five) then scores n1 Five else scores n1 Zero
 
--- the hit has another identity, with this score beside that of the identity's own group
+-- the report on a hit whose cell has another identity: that identity, the score of its group and half-frame, and the
+-- score of the group of `identity`
 abbrev pub other_cell : Carrier → List Sample → ℕ → Hit → OtherCell
 other_cell carrier recording identity hit =
     let scores = prefix_scores (prefix_of carrier) recording hit in
@@ -68,7 +72,8 @@ other_cell carrier recording identity hit =
       own = record { score = group_score scores (identity / 3) };
     }
 
--- no frames of the hit's cell carry a MIB that the receiver takes; the numbers are those of the first frame alone
+-- the reason if no frames of the hit's cell carry a MIB that the receiver accepts. Its attempt is that on the cell's
+-- first frame alone.
 pub record HasNoMib (receiver : Receiver) (recording : List Sample) (hit : Hit) (reason : Reason) : Type 0 where
   pub attempt : Attempt
   pub closest : IsClosest
@@ -80,7 +85,8 @@ pub record HasNoMib (receiver : Receiver) (recording : List Sample) (hit : Hit) 
     attempt = attempt;
   })
 
--- the first rule that the cell with this identity fails at a hit of its root, if the list has no entry with it
+-- `reason` is the first rule that the cell `identity` fails at a hit of its primary signal, if the list has no entry
+-- with that identity
 abbrev pub IsFirstFailing : Receiver → List Sample → ℕ → Hit → Reason → Type 0
 IsFirstFailing receiver recording identity hit reason =
     MatchBool (has_step_before receiver.carrier hit)
@@ -91,11 +97,13 @@ IsFirstFailing receiver recording identity hit reason =
 
 -- ---- the reasons for an identity
 
+-- whether a hit belongs to the primary signal n2
 abbrev pub has_root : ℕ → Hit → Bool
 has_root n2 hit = nat_eq hit.n2 n2
 
--- each entry with the identity; else of each hit of its root the first rule that fails there; and where there is no
--- such hit, the sample at which its signal is strongest
+-- `reasons` has each listed entry of the identity. If there is none, it has for each hit of the identity's primary
+-- signal the first rule that fails there. If there is no such hit either, it has the sample at which that signal is
+-- strongest.
 abbrev pub AreReasons : Receiver → List Sample → ℕ → List Entry → List Hit → List Reason → Type 0
 AreReasons receiver recording identity (entry ∷ entries) hits reasons = reasons ≡ map listed (entry ∷ entries)
 AreReasons receiver recording identity [] [] reasons =
@@ -103,7 +111,7 @@ AreReasons receiver recording identity [] [] reasons =
 AreReasons receiver recording identity [] (hit ∷ hits) reasons =
     AllZip (IsFirstFailing receiver recording identity) (hit ∷ hits) reasons
 
--- why an identity is in the list of a recording by a receiver, or not
+-- `reasons` say why a cell identity is in a receiver's list of a recording or not
 pub record IsReasonFor (receiver : Receiver) (recording : List Sample) (identity : ℕ) (reasons : List Reason) :
     Type 0 where
   pub list : List Entry

@@ -1,4 +1,4 @@
-//! How close the first frame of a cell is to a MIB.
+//! How close a cell's first frame is to a MIB.
 
 ghost use Rattle.std.specs.Prelude.{◌≡◌, ◌*◌, ◌<◌, ◌≤◌, MatchOption};
 ghost use Rattle.std.specs.List.{flat_map};
@@ -17,7 +17,8 @@ use pbch::{Received, master_of, sums_of, total_of};
 use sample_file::Recording;
 use tailbite::{Trellis, least};
 
-/// Returns the attempt to read the MIB of a cell in its first frame, at the phase that is closest to one.
+/// Returns the attempt to decode a MIB from a cell's first frame alone, at the phase with the minimum ratio of cost to
+/// total.
 pub(crate) fn closest_attempt<F: FrameReader>(
     reader: &F,
     recording: &Recording,
@@ -37,7 +38,7 @@ pub(crate) fn closest_attempt<F: FrameReader>(
     closer(closer(closer(first, second), third), fourth)
 }
 
-// The attempt by one frame of a cell at a phase.
+// Returns the attempt to decode a MIB from one frame at `phase`, with `size` bits per frame in the period.
 fn attempt_at(
     id: CellId,
     size: usize,
@@ -53,7 +54,7 @@ fn attempt_at(
     attempt_of(&sums, phase, work)
 }
 
-// The attempt by the sums of a frame at a phase.
+// Returns the attempt to decode a MIB from a frame's combined soft values at `phase`.
 fn attempt_of(sums: &[[i32; 3]; 40], phase: u8, work: &mut Trellis) -> Attempt
     requires { RowsWithin 2032 sums.now }
     ensures { IsAttempt sums.now phase result }
@@ -69,7 +70,7 @@ fn attempt_of(sums: &[[i32; 3]; 40], phase: u8, work: &mut Trellis) -> Attempt
     }
 }
 
-// The antenna ports of the MIB that sums carry, if any.
+// Returns the antenna port count of the MIB that combined soft values decode to, if any.
 fn ports_of(sums: &[[i32; 3]; 40], work: &mut Trellis) -> Option<u8>
     requires { RowsWithin 2032 sums.now }
     ensures { MatchOption result (DecodesNothing sums.now) (HasPorts sums.now) }
@@ -80,7 +81,7 @@ fn ports_of(sums: &[[i32; 3]; 40], work: &mut Trellis) -> Option<u8>
     }
 }
 
-// The one with the smaller ratio of cost to total, and of equals the first.
+// Returns the attempt with the lower ratio of cost to total, or `first` if the ratios are equal.
 fn closer(first: Attempt, second: Attempt) -> Attempt
     ensures { result ≡ closer_of first second }
 {

@@ -16,8 +16,8 @@ use sample_file::Recording;
 use sss_detect::{place_with, ranking_with};
 use tailbite::Trellis;
 
-/// Returns the first rule that the cell with identity `id` fails at `hit`, a hit of its root. The list must have no
-/// entry with `id`.
+/// Returns the first rule that the cell with identity `id` fails at `hit`, which belongs to its primary signal. The
+/// list has no entry with `id`.
 pub(crate) fn first_failing<F: FrameReader>(
     reader: &F,
     recording: &Recording,
@@ -42,7 +42,8 @@ pub(crate) fn first_failing<F: FrameReader>(
     }
 }
 
-// Returns the first rule that the cell fails at a hit with room for the secondary signal before it.
+// Returns the first rule that the cell with identity `id` fails at `hit`, if the recording contains the useful part of
+// the preceding symbol, which carries the secondary signal.
 fn failing_with_room<F: FrameReader>(
     reader: &F,
     recording: &Recording,
@@ -63,7 +64,7 @@ fn failing_with_room<F: FrameReader>(
     }
 }
 
-// The place of the cell of a hit.
+// Returns the place of the hit's cell: the cell identity and the sample at which its first frame starts.
 fn place_of(recording: &Recording, hit: &Hit, carrier: Carrier) -> CellPlace
     requires { HasRoom carrier hit.now }
     ensures { result ≡ place_by carrier recording.now hit.now }
@@ -73,7 +74,7 @@ fn place_of(recording: &Recording, hit: &Hit, carrier: Carrier) -> CellPlace
     place_with(recording, hit, carrier.prefix())
 }
 
-// How close the cell of a hit is to a MIB.
+// Returns the reason `NoMib` for a hit, with the attempt that shows how close the first frame of its cell is to a MIB.
 fn no_mib<F: FrameReader>(
     reader: &F,
     recording: &Recording,
@@ -98,7 +99,7 @@ fn no_mib<F: FrameReader>(
     })
 }
 
-// The other cell of a hit, with its score and that of the identity.
+// Returns the report on a hit whose cell has another identity than `id`, with the scores of both.
 fn other_cell(recording: &Recording, hit: &Hit, carrier: Carrier, id: CellId) -> OtherCell
     requires room { HasRoom carrier hit.now }
     requires small { IsSmallHit hit.now }
@@ -118,7 +119,7 @@ fn other_cell(recording: &Recording, hit: &Hit, carrier: Carrier, id: CellId) ->
     }
 }
 
-// The fraction of a hit in thousandths, rounded down.
+// Returns the fraction of the energy at a hit that the primary signal explains, in thousandths, rounded down.
 fn ratio_of(hit: &Hit) -> u128
     requires span { IsInSpan hit.now }
     requires small { IsSmallHit hit.now }

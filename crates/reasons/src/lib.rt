@@ -1,4 +1,4 @@
-//! Why an identity is in the list of cells of a recording or not: the first rule that fails, with its numbers.
+//! Why a cell identity is in a recording's cell list or not: the first rule that fails, with its numbers.
 #![tactic(auto)]
 
 mod attempts;

@@ -1,77 +1,81 @@
-//! The reasons why an identity is in a list of cells or not.
+//! The reasons why a cell identity is in a cell list or not.
 
 use lte_types::{CellId, Sfn};
 use sss_detect::Choice;
 
-/// A reason why an identity is in the list of cells, or not: the first rule that fails. (own)
+/// A reason why a cell identity is in the cell list, or the first rule that fails. (own)
 #[derive(Clone, Copy, Debug, PartialEq, Eq)]
 pub enum Reason {
-    /// The list has this entry with the identity.
+    /// The list has an entry with the identity.
     Listed(ListedCell),
-    /// No sample of the span is a hit of the identity's root.
+    /// No sample in the span is a hit of the identity's primary signal. Gives the sample at which that signal is
+    /// strongest.
     NoHit(StrongestPlace),
-    /// There is no room for the secondary signal before the hit.
+    /// The hit is too early: the useful part of the preceding symbol, which carries the secondary signal, begins before
+    /// the recording.
     NoRoom(EarlyHit),
-    /// The hit has another identity.
+    /// The hit's cell has another identity.
     OtherIdentity(OtherCell),
-    /// The hit has the identity, and no frames of its cell give a MIB that the list takes.
+    /// The hit's cell has the identity, but no frames of it carry a MIB that the receiver accepts.
     NoMib(UnreadCell),
 }
 
-/// An entry of the list. (own)
+/// A listed entry with the identity. (own)
 #[derive(Clone, Copy, Debug, PartialEq, Eq)]
 pub struct ListedCell {
     /// The sample at which the first frame starts.
     pub start: u32,
-    /// The frame number of the first frame.
+    /// The system frame number of the first frame.
     pub sfn: Sfn,
     /// The antenna port count.
     pub ports: u8,
 }
 
-/// The sample at which the primary signal of a root is strongest. (own)
+/// The sample at which a primary signal is strongest. (own)
 #[derive(Clone, Copy, Debug, PartialEq, Eq)]
 pub struct StrongestPlace {
     /// The sample, 128 to 19,345.
     pub t: u32,
-    /// The fraction of the energy that the signal explains, in thousandths; a hit has at least 250.
+    /// The fraction of the energy that the primary signal explains, in thousandths; at least 250 at a hit.
     pub ratio: u128,
 }
 
-/// A hit before which there is no room for the secondary signal. (own)
+/// A hit that is too early: the useful part of the preceding symbol, which carries the secondary signal, begins before
+/// the recording. (own)
 #[derive(Clone, Copy, Debug, PartialEq, Eq)]
 pub struct EarlyHit {
     /// The sample of the hit.
     pub t: u32,
     /// The fraction of the energy that the signal explains, in thousandths.
     pub ratio: u128,
-    /// The first sample that has room.
+    /// The first sample at which a hit is late enough: the useful part of the preceding symbol then begins within the
+    /// recording.
     pub step: usize,
 }
 
-/// A hit of another identity. (own)
+/// A hit whose cell has another identity than the one asked for. (own)
 #[derive(Clone, Copy, Debug, PartialEq, Eq)]
 pub struct OtherCell {
     /// The sample of the hit.
     pub t: u32,
     /// The fraction of the energy that the signal explains, in thousandths.
     pub ratio: u128,
-    /// The identity of the hit.
+    /// The identity of the hit's cell.
     pub id: CellId,
-    /// The best pair of a group and a half, with its score.
+    /// The identity group and the half-frame with the maximum score, with that score.
     pub best: Choice,
-    /// The score of the identity that was asked for.
+    /// The score of the identity asked for.
     pub own: OwnScore,
 }
 
-/// The greater of the scores of an identity in the two halves of a frame. (own)
+/// The greater of an identity's scores in the two half-frames. (own)
 #[derive(Clone, Copy, Debug, PartialEq, Eq)]
 pub struct OwnScore {
-    /// The score.
+    /// The score: a sum over the subcarriers of the secondary signal, as in `Choice`.
     pub score: i128,
 }
 
-/// A cell without a MIB that the list takes. (own)
+/// A cell without a MIB that the receiver accepts. (own)
 #[derive(Clone, Copy, Debug, PartialEq, Eq)]
 pub struct UnreadCell {
     /// The sample of the hit.
@@ -80,19 +84,20 @@ pub struct UnreadCell {
     pub ratio: u128,
     /// The sample at which the first frame starts.
     pub start: u32,
-    /// The phase of the first frame at which it is closest to a MIB.
+    /// The attempt to decode a MIB from the first frame, at the phase at which it is closest to one.
     pub attempt: Attempt,
 }
 
-/// How close the first frame of a cell is to a MIB at a phase. (own)
+/// How close a cell's first frame is to a MIB at one phase. (own)
 #[derive(Clone, Copy, Debug, PartialEq, Eq)]
 pub struct Attempt {
-    /// The number of the frame modulo 4.
+    /// The phase: the frame's number modulo 4.
     pub phase: u8,
-    /// The minimum cost of all words.
+    /// The minimum cost among all words: the sum of the magnitudes of the combined soft values that disagree with a
+    /// word's coded bits.
     pub cost: u32,
-    /// The sum of the magnitudes of the values.
+    /// The sum of the magnitudes of the combined soft values.
     pub total: u32,
-    /// The antenna port count of the MIB, if the frame carries one.
+    /// The antenna port count of the MIB, if the frame carries one at this phase.
     pub ports: Option<u8>,
 }

@@ -17,8 +17,8 @@ use sample_file::Recording;
 use std::alloc::{AllocError, Global};
 use tailbite::Trellis;
 
-/// Returns why `id` is in the list of `recording` by `reader`, or not: its entries, or at each hit of its root the
-/// first rule that fails, or the strongest sample. Fails only if an allocation fails. (own)
+/// Returns why `id` is in the list of `recording` or not: its entries, the first rule that fails at each hit of its
+/// primary signal, or the sample where that signal is strongest. Fails only if allocation fails. (own)
 pub fn reasons_by<F: FrameReader>(
     alloc: Global,
     reader: &F,
@@ -37,7 +37,8 @@ pub fn reasons_by<F: FrameReader>(
     }
 }
 
-// The entries of the list with the identity.
+// Returns the reasons for the entries with identity `id` in the list that `reader` gives. Fails only if an allocation
+// fails.
 fn listed_by<F: FrameReader>(
     alloc: Global,
     reader: &F,
@@ -54,7 +55,7 @@ fn listed_by<F: FrameReader>(
     entries_with(alloc, list.slice(), id)
 }
 
-// The entries with the identity.
+// Returns the reasons for the entries in `list` with identity `id`. Fails only if an allocation fails.
 fn entries_with(alloc: Global, list: &[Entry], id: CellId) -> Result<Vec<Reason>, AllocError>
     ensures { IfOk result (λ reasons. reasons.items ≡ map listed_of (filter (has_identity id) list.now)) }
 {
@@ -65,7 +66,7 @@ fn entries_with(alloc: Global, list: &[Entry], id: CellId) -> Result<Vec<Reason>
     Ok(reasons)
 }
 
-// Adds an entry, if it has the identity.
+// Appends the reason for an entry, if the entry has identity `id`. Fails only if an allocation fails.
 fn add_entry(entry: &Entry, id: CellId, reasons: &mut Vec<Reason>) -> Result<(), AllocError>
     ensures { OnOk result (reasons.new.items
         ≡ reasons.old.items ++ map listed_of (filter (has_identity id) (entry.now ∷ []))) }
@@ -76,7 +77,7 @@ fn add_entry(entry: &Entry, id: CellId, reasons: &mut Vec<Reason>) -> Result<(),
     Ok(())
 }
 
-// An entry of the list.
+// Returns the reason for a listed entry.
 fn listed(entry: &Entry) -> Reason
     ensures { result ≡ listed_of entry.now }
 {
@@ -87,7 +88,7 @@ fn listed(entry: &Entry) -> Reason
     })
 }
 
-// The reasons for an identity that is not listed.
+// Returns the reasons for the identity `id`, which is not in the list. Fails only if an allocation fails.
 fn unlisted_by<F: FrameReader>(
     alloc: Global,
     reader: &F,
@@ -107,7 +108,7 @@ fn unlisted_by<F: FrameReader>(
     Ok(reasons)
 }
 
-// The first rules that fail at the hits of the identity's root.
+// Returns the first rule that fails at each hit of the primary signal of `id`. Fails only if an allocation fails.
 fn failing_at<F: FrameReader>(
     alloc: Global,
     reader: &F,
@@ -128,8 +129,8 @@ fn failing_at<F: FrameReader>(
     Ok(reasons)
 }
 
-// Adds the first rule that fails at a hit, if it is of the identity's root. A private call of six parameters: a turn of
-// the loop over hits.
+// Appends the first rule that fails at a hit, if the hit belongs to the primary signal of `id`. The function has six
+// parameters because it is the body of the loop over hits.
 fn add_failing<F: FrameReader>(
     reader: &F,
     recording: &Recording,

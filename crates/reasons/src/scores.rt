@@ -1,4 +1,4 @@
-//! The score of an identity beside what is seen at a hit.
+//! The score of a given identity at a hit.
 
 ghost use Rattle.std.specs.Prelude.{◌≡◌, ◌+◌, ◌≤◌, ◌^◌, All, length, nat_abs, int_lt, if◌then◌else◌, ◌*ℤ◌};
 ghost use Rattle.cs_num.specs.Complex.{IsWithin, times, conjugate, value_at};
@@ -15,7 +15,7 @@ use observe::symbol;
 use sample_file::Recording;
 use sync_seq::{MIDDLE, pss, sss};
 
-/// Returns the greater of the scores of a group at a hit, in the two halves of a frame.
+/// Returns the greater of the scores of group `n1` at a hit in the two half-frames.
 pub(crate) fn own_score(recording: &Recording, hit: &Hit, prefix: Prefix, n1: u16) -> OwnScore
     requires after { symbol_step prefix ≤ hit.now.t }
     requires within { hit.now.t + 128 ≤ length recording.now }
@@ -31,14 +31,14 @@ pub(crate) fn own_score(recording: &Recording, hit: &Hit, prefix: Prefix, n1: u1
     greater(zero, five)
 }
 
-// The greater score, and of equals the first.
+// Returns the greater score, or `zero` if the scores are equal.
 fn greater(zero: OwnScore, five: OwnScore) -> OwnScore
     ensures { result.score ≡ (if int_lt zero.score five.score then five.score else zero.score) }
 {
     if zero.score < five.score { five } else { zero }
 }
 
-// The score of a group and a half.
+// Returns the score of group `n1` in `half`, from the demodulated primary and secondary symbols.
 fn score_of(primary: &[Cpx; 72], secondary: &[Cpx; 72], n2: u8, n1: u16, half: Half) -> OwnScore
     requires member { n2 ≤ 2 }
     requires group { n1 ≤ 167 }
@@ -49,7 +49,7 @@ fn score_of(primary: &[Cpx; 72], secondary: &[Cpx; 72], n2: u8, n1: u16, half: H
     sum_of(primary, secondary, &pss(n2), &sss(n1, n2, half))
 }
 
-// The sum of the terms of a score, by the values and the signs of the two sequences.
+// Returns the sum of the terms of a score, from the primary sequence's `values` and the secondary sequence's `signs`.
 fn sum_of(
     primary: &[Cpx; 72],
     secondary: &[Cpx; 72],
@@ -71,7 +71,7 @@ fn sum_of(
     OwnScore { score: sum }
 }
 
-// A number with a sign.
+// Returns `number` with the sign `sign`, 1 or -1.
 fn signed(number: i64, sign: i8) -> i64
     requires small { nat_abs number ≤ 2 ^ 59 }
     requires sign { nat_abs sign ≡ 1 }
@@ -81,7 +81,8 @@ fn signed(number: i64, sign: i8) -> i64
     sign as i64 * number
 }
 
-// What two subcarriers say of a value.
+// Returns the agreement at one subcarrier, from the values received in the primary and the secondary symbol and the
+// primary sequence's `value`.
 fn agree(primary: Cpx, secondary: Cpx, value: Cpx) -> i64
     requires primary { IsWithin (2 ^ 25) primary }
     requires secondary { IsWithin (2 ^ 25) secondary }

@@ -1,4 +1,4 @@
-//! Where the primary signal of a root is strongest.
+//! The sample at which a primary signal is strongest.
 
 ghost use Rattle.std.specs.Prelude.{◌≡◌, ◌+◌, ◌<◌, ◌≤◌, ◌^◌, if◌then◌else◌};
 ghost use Rattle.pss_search.specs.Metrics.{end_place, metric_at};
@@ -10,17 +10,18 @@ use crate::reason::StrongestPlace;
 use pss_search::{Metric, Sweep, signal_power};
 use sample_file::Recording;
 
-// The samples after the first that a sweep measures.
+// The number of samples that a sweep measures after the first.
 const FURTHER: usize = 19_217;
 
-// A sample with its metric.
+// A sample with its metric for one primary signal.
 #[derive(Clone, Copy)]
 struct Swept {
     t: u32,
     metric: Metric,
 }
 
-/// Returns the sample at which the primary signal of an identity within the group is strongest, 128 to 19,345. (own)
+/// Returns the sample, 128 to 19,345, at which the primary signal for the identity `n2` within the group is strongest,
+/// with its fraction of the energy. (own)
 pub(crate) fn strongest(recording: &Recording, n2: u8) -> StrongestPlace
     requires { n2 ≤ 2 }
     ensures { result ≡ strongest_place recording.now n2 }
@@ -37,7 +38,7 @@ pub(crate) fn strongest(recording: &Recording, n2: u8) -> StrongestPlace
     }
 }
 
-// The next sample of a sweep.
+// Measures the next sample of a sweep, and returns it with its metric for `n2`.
 fn next_of(sweep: &mut Sweep, n2: u8) -> Swept
     requires member { n2 ≤ 2 }
     requires more { sweep.old.place < end_place }
@@ -56,7 +57,7 @@ fn next_of(sweep: &mut Sweep, n2: u8) -> Swept
     }
 }
 
-// The one of greater metric, and of equals the first.
+// Returns the sample with the greater metric, or `first` if the metrics are equal.
 fn stronger(first: Swept, second: Swept) -> Swept
     requires first { IsSmallMetric first.metric }
     requires second { IsSmallMetric second.metric }
@@ -70,7 +71,7 @@ fn stronger(first: Swept, second: Swept) -> Swept
     }
 }
 
-// Whether the second metric is greater.
+// Returns whether the metric `second` is greater than `first`.
 fn is_greater(first: &Metric, second: &Metric) -> bool
     requires first { IsSmallMetric first.now }
     requires second { IsSmallMetric second.now }
@@ -81,7 +82,8 @@ fn is_greater(first: &Metric, second: &Metric) -> bool
     second.energy > 0 && (first.energy == 0 || ours < theirs)
 }
 
-/// Returns the fraction of a metric in thousandths, rounded down; 0 without energy.
+/// Returns the fraction of the energy that the primary signal `n2` explains, in thousandths, rounded down; 0 without
+/// energy.
 pub(crate) fn thousandths(peak: u128, energy: u64, n2: u8) -> u128
     requires member { n2 ≤ 2 }
     requires peak { peak < 2 ^ 70 }
