@@ -12,11 +12,11 @@ use Rattle.frequency_offset.specs.Order.{by_magnitude}
 use Rattle.frequency_offset.specs.Fine.{fine_turn}
 use Rattle.frequency_offset.specs.Fractions.{fraction_of, greatest}
 
--- coarse offset k in steps of 117.1875 Hz: multiples of 3.75 kHz, by magnitude
+-- coarse offset `k` in steps of 117.1875 Hz: the multiples of 3.75 kHz, ordered by magnitude
 abbrev pub coarse_turn : ℕ → ℤ
 coarse_turn k = pos 32 *ℤ by_magnitude k
 
--- the candidate from the best hit in a recording corrected by coarse offset k
+-- the candidate from `best`, the best hit in `turned`, a recording corrected by coarse offset `k`
 abbrev pub candidate_by : List Sample → ℕ → Hit → Candidate
 candidate_by turned k best = record {
   coarse = by_magnitude k;
@@ -25,17 +25,17 @@ candidate_by turned k best = record {
   fraction = fraction_of best;
 }
 
--- the recording corrected by coarse offset k
+-- `recording` corrected by coarse offset `k`
 abbrev pub coarsely_turned : List Sample → ℕ → List Sample
 coarsely_turned recording k = turned recording (coarse_turn k)
 
--- the candidate at coarse offset k, if the corrected recording has a hit
+-- the candidate at coarse offset `k`, if the recording corrected by that offset has a hit
 unfoldable pub candidate_at : List Sample → ℕ → Option Candidate
 candidate_at recording k =
     option_map (candidate_by (coarsely_turned recording k) k)
     (greatest fraction_of (hits_of (coarsely_turned recording k)))
 
--- the candidates at the first `count` of 33 coarse offsets up to 60 kHz, by magnitude
+-- the candidates at the first `count` of the 33 coarse offsets up to 60 kHz, ordered by magnitude
 unfoldable pub candidates_below : List Sample → ℕ → List Candidate
 candidates_below recording count = joined_below count (λ k. option_to_list (candidate_at recording k))
 
@@ -43,17 +43,18 @@ candidates_below recording count = joined_below count (λ k. option_to_list (can
 abbrev pub candidates_of : List Sample → List Candidate
 candidates_of recording = candidates_below recording 33
 
--- whether the second offset is more than 64 steps, 7.5 kHz, from the first
+-- whether the offsets of `first` and `second` differ by more than 64 steps (7.5 kHz)
 abbrev pub is_far : Candidate → Candidate → Bool
 is_far first second = nat_lt 64 (nat_abs (second.turn -ℤ first.turn))
 
--- the candidate with the largest fraction, then the best one among those far from it, and so on, at most n
+-- at most `n` selected candidates: the candidate with the largest fraction, then the one with the largest fraction
+-- among the candidates that are far from every selected one, and so on
 unfoldable pub first_taken : ℕ → List Candidate → List Candidate
 first_taken zero candidates = []
 first_taken (suc n) candidates =
     option_map_or (λ best. best ∷ first_taken n (filter (is_far best) candidates))
     (greatest (λ c. c.fraction) candidates) []
 
--- the selected candidates, in order
+-- the at most four candidates selected in a recording, in order of selection
 abbrev pub taken_of : List Sample → List Candidate
 taken_of recording = first_taken 4 (candidates_of recording)

@@ -8,7 +8,7 @@ use Rattle.frequency_offset.specs.declared.estimation.OffsetEstimate.{OffsetEsti
 use Rattle.frequency_offset.specs.Turned.{mean, turned}
 use Rattle.frequency_offset.specs.Estimation.{HasCells, IsEstimated, IsApplied}
 
--- each component of a sample has 16 bits
+-- both components of a sample fit in 16 signed bits
 pub record Has16Bits (sample : Sample) : Type 0 where
   pub re : FitsSigned w16 sample.re
   pub im : FitsSigned w16 sample.im
@@ -31,22 +31,23 @@ abbrev pub IsOneApplied : Type 0
 IsOneApplied =
     (recording first second : List Sample) → IsApplied recording first → IsApplied recording second → first ≡ second
 
--- if there is an estimate, the corrected recording has as many cells as it states
+-- if a recording has an estimate, the corrected recording has the estimated number of cells
 abbrev pub ReportedCellsAreListed : Type 0
 ReportedCellsAreListed =
     (recording applied : List Sample) (estimate : OffsetEstimate) → IsEstimated recording (Some estimate) →
     IsApplied recording applied →
     HasCells applied estimate.cells
 
--- the estimate lies within 67.5 kHz
+-- the estimated offset is from -576 to 575 steps of 117.1875 Hz, at most 67.5 kHz in magnitude
 pub record IsTurnInRange (estimate : OffsetEstimate) : Type 0 where
   pub least : negsuc 575 ≤ℤ estimate.turn
   pub most : estimate.turn ≤ℤ pos 575
 
+-- every estimated offset of a recording is in range
 abbrev pub TurnIsInRange : Type 0
 TurnIsInRange = (recording : List Sample) (estimate : OffsetEstimate) → IsEstimated recording (Some estimate) →
     IsTurnInRange estimate
 
--- a corrected recording is a recording
+-- a valid recording stays valid when corrected by any offset
 abbrev pub TurnedIsRecording : Type 0
 TurnedIsRecording = (recording : List Sample) (m : ℤ) → IsRecording recording → IsRecording (turned recording m)

@@ -19,7 +19,7 @@ use std::marker::Model;
 // The number of samples that the PSS search reads.
 const LOOKED_AT: usize = 19_473;
 
-// A corrected recording, whose samples are computed on demand. Contracts see it as their list.
+// A corrected recording whose samples are computed on demand. Contracts see it as a list of samples.
 #[derive(Drop)]
 pub(crate) struct Turned<'a> {
     samples: &'a [Sample],
@@ -41,7 +41,7 @@ impl<'a> Model for Turned<'a> {
 }
 
 impl<'a> Turned<'a> {
-    // Creates the correction of samples with this mean by `m`.
+    // Creates a view of `samples`, whose mean is `mean`, corrected by offset `m`.
     pub(crate) fn new(samples: &'a [Sample], mean: Cpx, m: i16) -> Turned<'a>
         requires { IsCentred samples.now mean }
         ensures { result ≡ turned_by samples.now m }
@@ -61,7 +61,7 @@ impl<'a> Turned<'a> {
         self.samples.len()
     }
 
-    // Returns sample `i`.
+    // Returns sample `i` of the corrected recording.
     pub(crate) fn at(&self, i: usize) -> Sample
         requires { i < length self.now }
         ensures { result ≡ slice_index_or self.now i silence }
@@ -70,7 +70,7 @@ impl<'a> Turned<'a> {
         turned_back(samples[i], self.mean, angle(&self.turn, i))
     }
 
-    // Returns all samples.
+    // Returns the complete corrected recording.
     pub(crate) fn whole(&self, alloc: Global) -> Result<Recording, AllocError>
         ensures value { IfOk result (λ whole. whole ≡ self.now) }
         ensures valid { IfOk result IsRecording }
@@ -87,7 +87,7 @@ impl<'a> Turned<'a> {
         self.with_first(alloc, count, count)
     }
 
-    // Returns the shortest recording with the same hits: the samples that the PSS search reads, then others.
+    // Returns the shortest recording with the same hits: the samples that the PSS search reads, padded with zeros.
     pub(crate) fn looked_at(&self, alloc: Global) -> Result<Recording, AllocError>
         ensures { IfOk result (λ front. take 19473 front ≡ take 19473 self.now) }
     {
@@ -96,7 +96,7 @@ impl<'a> Turned<'a> {
         self.with_first(alloc, LOOKED_AT, LEAST_SAMPLES)
     }
 
-    // Returns the first `count` samples followed by others, `whole` in total.
+    // Returns the first `count` corrected samples, padded with zeros to `whole` samples.
     fn with_first(&self, alloc: Global, count: usize, whole: usize) -> Result<Recording, AllocError>
         requires count { count ≤ length self.now }
         requires room { count ≤ whole }
@@ -113,7 +113,7 @@ impl<'a> Turned<'a> {
         }
     }
 
-    // Overwrites the first `count` samples of `others`.
+    // Overwrites the first `count` samples in `others` with corrected samples.
     fn write(&self, count: usize, others: &mut [Sample])
         requires count { count ≤ length self.now }
         requires room { count ≤ length others.old }
@@ -134,7 +134,7 @@ fn angle(m: &i16, i: usize) -> i64
     (*m as i64 * i as i64) >> 7
 }
 
-// Returns a sample minus the mean, rotated back by the phase.
+// Returns `sample` minus `mean`, rotated back by the phase `angle`, in 1/128 of a cycle.
 fn turned_back(sample: Sample, mean: Cpx, angle: i64) -> Sample
     requires { IsWithin 32768 mean }
     ensures { result ≡ turned_back_by (value_of sample) mean angle }

@@ -21,7 +21,7 @@ use std::alloc::{AllocError, Global};
 pub struct Candidate {
     /// The coarse offset, in steps of 3.75 kHz: -16 to 16.
     pub coarse: i16,
-    /// The offset.
+    /// The coarse plus the fine offset, in steps of 117.1875 Hz: -576 to 575.
     pub turn: i16,
     /// The hit count at the coarse offset.
     pub hits: usize,
@@ -29,7 +29,7 @@ pub struct Candidate {
     pub fraction: Fraction,
 }
 
-// Returns the candidates in a recording.
+// Returns the candidates at all 33 coarse offsets of a recording.
 pub(crate) fn candidates_of(alloc: Global, centred: &Centred) -> Result<Vec<Candidate>, AllocError>
     ensures value { IfOk result (λ list. list.items ≡ all_candidates centred.now) }
     ensures small { IfOk result (λ list. All IsSmallCandidate list.items) }
@@ -42,7 +42,7 @@ pub(crate) fn candidates_of(alloc: Global, centred: &Centred) -> Result<Vec<Cand
     Ok(candidates)
 }
 
-// Adds the candidate at coarse offset `k`, if there is one.
+// Appends the candidate at coarse offset `k`, if there is one.
 fn add_candidate(
     alloc: Global,
     centred: &Centred,
@@ -63,7 +63,7 @@ fn add_candidate(
     }
 }
 
-// Returns coarse offset `k`, by magnitude.
+// Returns coarse offset `k`, ordered by magnitude, in steps of 117.1875 Hz.
 fn coarse_turn(k: usize) -> i16
     requires { k < 33 }
     ensures value { result ≡ coarse_turn_of k }

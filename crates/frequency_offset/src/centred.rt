@@ -10,7 +10,7 @@ use cs_num::{Cpx, Sample};
 use sample_file::Recording;
 use std::marker::Model;
 
-// A recording with its mean. Contracts see it as its samples.
+// A recording with its mean. Contracts see only the samples.
 #[derive(Drop)]
 pub(crate) struct Centred<'a> {
     samples: &'a [Sample],
@@ -39,7 +39,7 @@ impl<'a> Centred<'a> {
         Centred { samples, mean }
     }
 
-    // Returns the recording corrected by `m`.
+    // Returns the recording corrected by offset `m`.
     pub(crate) fn turned(&self, m: i16) -> Turned<'a>
         ensures { result ≡ turned_by self.now m }
     {

@@ -30,12 +30,12 @@ pub struct OffsetEstimate {
 pub struct Estimation {
     /// The estimate, if one of the 33 coarse offsets gives a hit.
     pub estimate: Option<OffsetEstimate>,
-    /// The selected candidates, in order: at most four.
+    /// The selected candidates, at most four, in order of selection.
     pub candidates: Vec<Candidate>,
 }
 
-/// Corrects a recording by `m`: subtracts the mean, shifts the frequency by `-m` times 117.1875 Hz, rounds, and clamps
-/// to 16 bits. Fails only if an allocation fails. (own)
+/// Corrects a recording by offset `m`: subtracts the mean, shifts the frequency by `-m` times 117.1875 Hz, rounds, and
+/// clamps to 16 bits. Fails only if an allocation fails. (own)
 pub fn turned(alloc: Global, recording: &Recording, m: i16) -> Result<Recording, AllocError>
     ensures value { IfOk result (λ samples. samples ≡ turned_by recording.now m) }
     ensures valid { IfOk result IsRecording }
@@ -97,7 +97,7 @@ fn turn_of(estimate: &Option<OffsetEstimate>) -> i16
     }
 }
 
-// Returns the selected candidates in a recording, in order.
+// Returns the selected candidates in a recording, in order of selection.
 fn taken_of(alloc: Global, centred: &Centred) -> Result<Vec<Candidate>, AllocError>
     ensures { IfOk result (λ taken. taken.items ≡ all_taken centred.now) }
 {
@@ -105,7 +105,7 @@ fn taken_of(alloc: Global, centred: &Centred) -> Result<Vec<Candidate>, AllocErr
     taken(alloc, candidates)
 }
 
-// Returns the estimate from a list of candidates.
+// Returns the estimate from the first candidate in `taken` that gives cells, or from the first one if none does.
 fn estimated_among(
     alloc: Global,
     centred: &Centred,
@@ -126,7 +126,7 @@ fn estimated_among(
     Ok(first)
 }
 
-// Returns the estimate from a candidate.
+// Returns the candidate's offset and hit count, and the number of cells after correction by that offset.
 fn turn_estimated_of(
     alloc: Global,
     centred: &Centred,

@@ -16,7 +16,7 @@ use crate::table::w_at;
 use cs_num::Cpx;
 use lte_types::{HALF_FRAME_LENGTH, Half, Prefix, USEFUL_LENGTH};
 
-// Returns the fine offset, -64 to 63, by the PSS at sample `t` of a corrected recording.
+// Returns the fine offset, -64 to 63, of a corrected recording whose PSS is at sample `t`.
 pub(crate) fn fine_turn(turned: &Turned, t: usize) -> i16
     requires { t < 19600 }
     ensures value { result ≡ fine_turn_of turned.now t }
@@ -25,7 +25,7 @@ pub(crate) fn fine_turn(turned: &Turned, t: usize) -> i16
     best_fit(prefix_sum(turned, t))
 }
 
-// Returns the offset that matches a sum best.
+// Returns the offset that matches the prefix sum best.
 fn best_fit(sum: Cpx) -> i16
     requires { IsWithin (2 ^ 46) sum }
     ensures value { result ≡ best_fit_of sum }
@@ -38,7 +38,7 @@ fn best_fit(sum: Cpx) -> i16
     by_magnitude(best)
 }
 
-// Returns the index of the offset that matches better; on a tie, the first.
+// Returns the index, `first` or `second`, of the offset that matches the prefix sum better; `first` on a tie.
 fn better_fit(sum: Cpx, first: usize, second: usize) -> usize
     requires sum { IsWithin (2 ^ 46) sum }
     requires first { first < useful_length }
@@ -53,7 +53,7 @@ fn better_fit(sum: Cpx, first: usize, second: usize) -> usize
     }
 }
 
-// Returns how well a sum matches offset `m`.
+// Returns how well the prefix sum matches offset `m`.
 fn fit(sum: Cpx, m: i16) -> i64
     requires { IsWithin (2 ^ 46) sum }
     ensures { result ≡ fit_of sum m }
@@ -61,7 +61,7 @@ fn fit(sum: Cpx, m: i16) -> i64
     sum.mul(w_at(m as i64).conj()).re
 }
 
-// Returns the sum over 160 slots.
+// Returns the sum of the prefix products over 160 slots, for a PSS at sample `t`.
 fn prefix_sum(turned: &Turned, t: usize) -> Cpx
     requires { t < 19600 }
     ensures value { result ≡ prefix_sum_of turned.now t }
@@ -75,7 +75,7 @@ fn prefix_sum(turned: &Turned, t: usize) -> Cpx
     sum
 }
 
-// Returns the start of the first half frame in the recording, from a PSS position.
+// Returns the start of the first half frame in a recording whose PSS is at sample `t`.
 fn half_start(t: usize) -> usize
     requires { t < 19600 }
     ensures value { result ≡ half_start_of t }
@@ -85,7 +85,7 @@ fn half_start(t: usize) -> usize
     (t + (HALF_FRAME_LENGTH - primary)) % HALF_FRAME_LENGTH
 }
 
-// Returns the sum for a slot.
+// Returns the sum of the prefix products over a slot's seven symbols.
 fn slot_sum(turned: &Turned, start: usize, slot: usize) -> Cpx
     requires start { start < half_frame_length }
     requires slot { slot < 160 }
@@ -106,7 +106,8 @@ fn is_carried(slot: usize, symbol: usize) -> bool
     symbol == 0 || symbol == 4 || (slot % 10 == 0 && (symbol == 5 || symbol == 6))
 }
 
-// Returns the sum for a symbol, if every cell transmits in it and it lies in the recording.
+// Returns the sum of a symbol's prefix products; 0 if some cells do not transmit in the symbol, or the recording ends
+// before the symbol does.
 fn symbol_sum(turned: &Turned, start: usize, slot: usize, symbol: usize) -> Cpx
     requires start { start < half_frame_length }
     requires slot { slot < 160 }
@@ -131,7 +132,7 @@ fn counts(turned: &Turned, u: usize, slot: usize, symbol: usize) -> bool
     is_carried(slot, symbol) && u + USEFUL_LENGTH <= turned.len()
 }
 
-// Returns the sum for the last nine samples in the cyclic prefix before `u`.
+// Returns the sum of the products for the last nine samples in the cyclic prefix before `u`.
 fn repeat_sum(turned: &Turned, u: usize) -> Cpx
     requires first { 9 ≤ u }
     requires few { u < 170000 }
@@ -146,7 +147,7 @@ fn repeat_sum(turned: &Turned, u: usize) -> Cpx
     sum
 }
 
-// Returns the product for one sample in a cyclic prefix.
+// Returns the conjugate of sample `i` among the last nine in the cyclic prefix before `u`, times the sample 128 later.
 fn repeat_term(turned: &Turned, u: usize, i: usize) -> Cpx
     requires first { 9 ≤ u }
     requires few { u < 170000 }

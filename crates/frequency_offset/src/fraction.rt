@@ -11,16 +11,16 @@ use pss_search::signal_power;
 /// The fraction `peak / (energy * power)` of a hit. (own)
 #[derive(Clone, Copy, Debug, PartialEq, Eq)]
 pub struct Fraction {
-    /// The squared magnitude of the correlation with the signal.
+    /// The squared magnitude of the correlation with the PSS.
     pub peak: u64,
     /// The energy of the hit's 128 samples.
     pub energy: u64,
-    /// The signal's power.
+    /// The power of the PSS.
     pub power: u64,
 }
 
 impl Fraction {
-    // Returns the denominator.
+    // Returns the fraction's denominator, `energy * power`.
     fn whole(&self) -> u64
         requires { IsSmall self.now }
         ensures { result ≡ whole_of self.now }
@@ -29,7 +29,7 @@ impl Fraction {
     }
 }
 
-// Returns whether the first fraction is less than the second.
+// Returns whether fraction `a` is less than fraction `b`.
 pub(crate) fn is_less(a: &Fraction, b: &Fraction) -> bool
     requires first { IsSmall a.now }
     requires second { IsSmall b.now }
@@ -39,7 +39,7 @@ pub(crate) fn is_less(a: &Fraction, b: &Fraction) -> bool
     here < (b.peak as u128) * (a.whole() as u128)
 }
 
-// Returns how much of the energy at a hit belongs to the PSS.
+// Returns the fraction of the hit's energy that belongs to the PSS.
 pub(crate) fn fraction_of(hit: &Hit) -> Fraction
     requires { IsSmallHit hit.now }
     ensures value { result ≡ fraction_of_hit hit.now }
@@ -52,7 +52,7 @@ pub(crate) fn fraction_of(hit: &Hit) -> Fraction
     }
 }
 
-// Returns the hit with the largest fraction; on a tie, the first.
+// Returns the hit with the largest fraction; the earliest on a tie, none if `hits` is empty.
 pub(crate) fn best_hit(hits: &[Hit]) -> Option<Hit>
     requires { All IsSmallHit hits.now }
     ensures { result ≡ greatest fraction_of_hit hits.now }
@@ -63,7 +63,7 @@ pub(crate) fn best_hit(hits: &[Hit]) -> Option<Hit>
     }
 }
 
-// Folds to the hit with the largest fraction; on a tie, the first stays.
+// Returns the hit with the largest fraction among `first` and `rest`; the earliest on a tie.
 fn best_of(first: &Hit, rest: &[Hit]) -> Hit
     requires first { IsSmallHit first.now }
     requires rest { All IsSmallHit rest.now }
@@ -76,7 +76,7 @@ fn best_of(first: &Hit, rest: &[Hit]) -> Hit
     best
 }
 
-// Returns the hit with the larger fraction; on a tie, the first.
+// Returns whichever hit has the larger fraction; `first` on a tie.
 fn stronger_hit(first: &Hit, second: &Hit) -> Hit
     requires first { IsSmallHit first.now }
     requires second { IsSmallHit second.now }

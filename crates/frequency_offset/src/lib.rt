@@ -2,9 +2,9 @@
 //! the cell list, and corrects it, in whole numbers. Offsets are in steps of 117.1875 Hz unless stated otherwise.
 //!
 //! A candidate is computed for each of 33 coarse offsets, up to 60 kHz, at which the recording has hits (PSS
-//! detections). At most four are selected, in order: the one whose PSS has the largest energy fraction, then the best
-//! one among those more than 64 steps from it, and so on. The first that gives cells is the estimate; if none does,
-//! the first one is.
+//! detections). At most four candidates are selected: the one whose PSS has the largest energy fraction, then the best
+//! candidate more than 64 steps from that one, and so on. The estimate is the first selected candidate that gives
+//! cells, or the first selected one if none does.
 //!
 //! Tests: the crate `list_tests`, in `estimate.rt` and `turned.rt`.
 #![tactic(auto)]

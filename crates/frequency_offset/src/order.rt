@@ -3,7 +3,7 @@
 ghost use Rattle.std.specs.Prelude.{◌≡◌, ◌<◌, ◌≤◌, ◌+◌, ◌*◌, nat_abs};
 ghost use Rattle.frequency_offset.specs.Order.{by_magnitude as by_magnitude_of};
 
-// Returns number `k` in the order 0, -1, 1, -2, 2, ..
+// Returns integer `k` (from 0) in the order 0, -1, 1, -2, 2, ..
 pub(crate) fn by_magnitude(k: usize) -> i16
     requires { k < 128 }
     ensures value { result ≡ by_magnitude_of k }

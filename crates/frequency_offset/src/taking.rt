@@ -1,4 +1,4 @@
-//! The selected candidates.
+//! The selection among candidate offsets.
 
 ghost use Rattle.std.specs.Prelude.{◌≡◌, All, IfOk, fold, filter};
 ghost use Rattle.frequency_offset.specs.Fractions.{greater, greatest as greatest_of};
@@ -9,7 +9,7 @@ use crate::candidate::Candidate;
 use crate::fraction::is_less;
 use std::alloc::{AllocError, Global};
 
-// Returns the selected candidates, in order.
+// Returns at most four selected candidates, in order of selection.
 pub(crate) fn taken(alloc: Global, candidates: Vec<Candidate>) -> Result<Vec<Candidate>, AllocError>
     requires { All IsSmallCandidate candidates.items }
     ensures { IfOk result (λ taken. taken.items ≡ first_taken 4 candidates.items) }
@@ -28,7 +28,7 @@ pub(crate) fn taken(alloc: Global, candidates: Vec<Candidate>) -> Result<Vec<Can
     Ok(taken)
 }
 
-// Returns the candidates that are far from `best`.
+// Returns the candidates whose offsets differ from the offset of `best` by more than 64 steps.
 fn far_from(
     alloc: Global,
     best: &Candidate,
@@ -48,7 +48,7 @@ fn far_from(
     Ok(far)
 }
 
-// Returns whether the second offset is more than 64 steps from the first.
+// Returns whether the offsets of `first` and `second` differ by more than 64 steps.
 fn is_far(first: &Candidate, second: &Candidate) -> bool
     requires first { IsSmallCandidate first.now }
     requires second { IsSmallCandidate second.now }
@@ -57,7 +57,7 @@ fn is_far(first: &Candidate, second: &Candidate) -> bool
     (second.turn - first.turn).unsigned_abs() > 64
 }
 
-// Returns the candidate with the largest fraction; on a tie, the first.
+// Returns the candidate with the largest fraction; the earliest on a tie, none if `candidates` is empty.
 fn greatest(candidates: &[Candidate]) -> Option<Candidate>
     requires { All IsSmallCandidate candidates.now }
     ensures { result ≡ greatest_of (λ c. c.fraction) candidates.now }
@@ -68,7 +68,7 @@ fn greatest(candidates: &[Candidate]) -> Option<Candidate>
     }
 }
 
-// Folds to the candidate with the largest fraction; on a tie, the first stays.
+// Returns the candidate with the largest fraction among `first` and `rest`; the earliest on a tie.
 fn greatest_by(first: &Candidate, rest: &[Candidate]) -> Candidate
     requires first { IsSmallCandidate first.now }
     requires rest { All IsSmallCandidate rest.now }
@@ -81,7 +81,7 @@ fn greatest_by(first: &Candidate, rest: &[Candidate]) -> Candidate
     best
 }
 
-// Returns the candidate with the larger fraction; on a tie, the first.
+// Returns whichever candidate has the larger fraction; `first` on a tie.
 fn better_turn(first: &Candidate, second: &Candidate) -> Candidate
     requires first { IsSmallCandidate first.now }
     requires second { IsSmallCandidate second.now }
