@@ -13,7 +13,7 @@ use Rattle.hit_details.specs.declared.hits.IdentifiedHit.{IdentifiedHit}
 use Rattle.hit_details.specs.declared.hits.MeasuredHit.{MeasuredHit}
 use Rattle.hit_details.specs.declared.hits.MeasuredId.{MeasuredId}
 
--- a hit with its cell identity, half frame and frame start, given the SSS group and half frame
+-- `hit` with its cell identity, half frame and frame start, given `pair`, its SSS group and half frame
 abbrev pub identified_by : Hit → ℕ × Half → IdentifiedHit
 identified_by hit pair = record {
   hit = hit;
@@ -22,14 +22,15 @@ identified_by hit pair = record {
   start = start_by_hit hit.t pair.1;
 }
 
--- a hit in a recording with its cell identity, half frame and frame start
+-- a hit with the cell identity, half frame and frame start that the SSS in `samples` gives
 abbrev pub identified : List Sample → Hit → IdentifiedHit
 identified samples hit = identified_by hit (identity_of samples hit)
 
--- a hit with its metric's numbers
+-- a hit with the three numbers in its metric: `peak`, `energy` and `power`
 abbrev pub measured : Hit → MeasuredHit
 measured hit = record { hit = hit; peak = hit.peak; energy = hit.energy; power = wave_power hit.n2 }
 
+-- a hit with its cell identity, its SSS ranking and the three numbers in its metric
 abbrev pub measured_id : List Sample → Hit → MeasuredId
 measured_id samples hit = record {
   found = identified samples hit;

@@ -6,10 +6,11 @@ use sss_detect::Ranking;
 /// A hit with its cell identity and frame start. (own)
 #[derive(Clone, Copy, Debug, PartialEq, Eq)]
 pub struct IdentifiedHit {
+    /// The PSS detection.
     pub hit: Hit,
     /// The cell's physical identity.
     pub id: CellId,
-    /// The half frame that contains the hit.
+    /// The half frame that contains the hit's PSS.
     pub half: Half,
     /// The sample, 0 to 19,199, at which a frame of the cell begins, modulo the frame length.
     pub start: u32,
@@ -18,6 +19,7 @@ pub struct IdentifiedHit {
 /// A hit with the numbers in its metric, `peak / (energy * power)`. (own)
 #[derive(Clone, Copy, Debug, PartialEq, Eq)]
 pub struct MeasuredHit {
+    /// The PSS detection.
     pub hit: Hit,
     /// The squared magnitude of the correlation with the PSS.
     pub peak: u64,
@@ -30,8 +32,9 @@ pub struct MeasuredHit {
 /// An identified hit with its SSS ranking and its metric's numbers. (own)
 #[derive(Clone, Copy, Debug, PartialEq, Eq)]
 pub struct MeasuredId {
+    /// The hit with its cell identity, half frame and frame start.
     pub found: IdentifiedHit,
-    /// The two best pairs: group and half frame.
+    /// The two best pairs of SSS group and half frame, with their scores.
     pub ranking: Ranking,
     /// The squared magnitude of the correlation with the PSS.
     pub peak: u64,

@@ -1,4 +1,4 @@
-//! Identities for hits.
+//! Cell identities of hits.
 
 ghost use Rattle.std.specs.Prelude.{◌≡◌, ◌≤◌, All, IfOk, map};
 ghost use Rattle.sample_file.specs.Recording.{IsRecording};
@@ -11,8 +11,8 @@ use sample_file::Recording;
 use sss_detect::{cell_id, frame_start, identity};
 use std::alloc::{AllocError, Global};
 
-/// Returns a recording's `hits`, each with its cell identity and frame start, in order. Fails only if an allocation
-/// fails. (own)
+/// Returns `hits`, in order, with the cell identity and frame start that `recording` gives for each. Fails only if an
+/// allocation fails. (own)
 pub fn identified_hits(
     alloc: Global,
     recording: &Recording,
@@ -29,7 +29,7 @@ pub fn identified_hits(
     Ok(found)
 }
 
-// Returns a hit with its cell identity.
+// Returns a hit with its cell identity, half frame and frame start.
 fn identity_of(recording: &Recording, hit: &Hit) -> IdentifiedHit
     requires recording { IsRecording recording.now }
     requires span { IsInSpan hit.now }
@@ -39,7 +39,7 @@ fn identity_of(recording: &Recording, hit: &Hit) -> IdentifiedHit
     identified(hit, n1, half)
 }
 
-/// Returns a hit with its cell identity and frame start, given the SSS group and half frame.
+/// Returns `hit` with its cell identity and frame start, given the SSS group `n1` and the half frame.
 pub(crate) fn identified(hit: &Hit, n1: u16, half: Half) -> IdentifiedHit
     requires group { n1 ≤ 167 }
     requires member { hit.now.n2 ≤ 2 }

@@ -1,4 +1,4 @@
-//! Hits with their metrics' numbers.
+//! Hits with the numbers in their metrics.
 
 ghost use Rattle.std.specs.Prelude.{◌≡◌, All, IfOk, map};
 ghost use Rattle.sample_file.specs.Recording.{IsRecording};
@@ -13,7 +13,7 @@ use sample_file::Recording;
 use sss_detect::ranking_with;
 use std::alloc::{AllocError, Global};
 
-/// Returns the `hits`, each with its metric's numbers, in order. Fails only if an allocation fails. (own)
+/// Returns `hits`, in order, with the numbers in their metrics. Fails only if an allocation fails. (own)
 pub fn measured_hits(alloc: Global, hits: &[Hit]) -> Result<Vec<MeasuredHit>, AllocError>
     requires span { All IsInSpan hits.now }
     requires small { All IsSmallHit hits.now }
@@ -26,8 +26,8 @@ pub fn measured_hits(alloc: Global, hits: &[Hit]) -> Result<Vec<MeasuredHit>, Al
     Ok(list)
 }
 
-/// Returns a recording's `hits`, each with its cell identity, its ranking and its metric's numbers, in order. Fails
-/// only if an allocation fails. (own)
+/// Returns `hits`, in order, with their cell identities and SSS rankings in `recording`, and the numbers in their
+/// metrics. Fails only if an allocation fails. (own)
 pub fn measured_ids(
     alloc: Global,
     recording: &Recording,
@@ -45,7 +45,7 @@ pub fn measured_ids(
     Ok(list)
 }
 
-// Returns a hit with its metric's numbers.
+// Returns a hit with the numbers in its metric.
 fn measured(hit: &Hit) -> MeasuredHit
     requires span { IsInSpan hit.now }
     requires small { IsSmallHit hit.now }
@@ -59,7 +59,7 @@ fn measured(hit: &Hit) -> MeasuredHit
     }
 }
 
-// Returns a hit with its cell identity, its ranking and its metric's numbers.
+// Returns a hit with its cell identity, its SSS ranking and the numbers in its metric.
 fn measured_id(recording: &Recording, hit: &Hit) -> MeasuredId
     requires recording { IsRecording recording.now }
     requires span { IsInSpan hit.now }
