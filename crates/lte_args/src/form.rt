@@ -12,7 +12,7 @@ use crate::words::Words;
 use lte_types::{Carrier, CellId};
 use sample_file::SampleForm;
 
-/// A program. Each has its own command forms.
+/// A program with its own command forms.
 #[derive(Clone, Copy, Debug, PartialEq, Eq)]
 pub enum Program {
     /// `lte_cli`: searches a recording for cells, and makes recordings.
@@ -37,15 +37,15 @@ impl Program {
 /// the default is 16-bit samples.
 #[derive(Clone, Copy, Debug, PartialEq, Eq)]
 pub enum Form {
-    /// A report about a recording in this sample format.
+    /// A report about a recording in the given output and sample formats.
     Report(Report, Output, SampleForm),
-    /// `certify`: a certificate for each listed cell's MIB.
+    /// `certify`: a certificate for the MIB of each listed cell.
     Certify(Carrier, SampleForm),
     /// `check`: an answer to each certificate on the input.
     Check,
-    /// `transmit`: the described cell's samples, with load number N if `--load N` is given.
+    /// `transmit`: the samples of a described cell, with load number N if `--load N` is given.
     Transmit(Carrier, Option<u32>),
-    /// `make N`: the cell list of synthetic recording number N under this transmission scheme.
+    /// `make N`: the cell list of synthetic recording number N under a transmission scheme.
     Make(Carrier, u32),
     /// `apply`: a frequency-corrected recording, in 16-bit samples.
     Apply(Turn, SampleForm),
@@ -66,7 +66,7 @@ pub enum Report {
     Evidence(Carrier),
     /// `tell`: the frequency offset.
     Tell,
-    /// `why PCI`: why an identity is in the list of a carrier, or not.
+    /// `why PCI`: the reasons why a cell identity is in the cell list of a transmission scheme, or is not.
     Why(CellId, Carrier),
 }
 
@@ -78,7 +78,7 @@ pub enum Rule {
     Of(Carrier),
     /// `--cancel`: the cell list, and the list of the residual after each listed cell is cancelled.
     Cancel,
-    /// `--all`: one list per transmission scheme.
+    /// `--all`: one cell list per transmission scheme.
     All,
 }
 
@@ -105,7 +105,7 @@ pub enum Turn {
 pub enum Page {
     /// `help`, also `--help` and `-h`: the program's command forms.
     Help,
-    /// `version`, also `--version`: the program's version, and the list definition's.
+    /// `version`, also `--version`: the versions of the program and of the cell list's definition.
     Version,
 }
 
@@ -122,7 +122,7 @@ impl Form {
     }
 }
 
-// Returns the form of `lte_cli` that `words` select.
+// Returns the form of `lte_cli` that `words` select, if any.
 fn of_receiver(words: &[String]) -> Option<Form>
     ensures some { IfSome result (IsWordsOf Receiver (map string_bytes words.now)) }
     ensures none { IsNone result → IsNoForm Receiver (map string_bytes words.now) }
@@ -151,7 +151,7 @@ fn of_receiver(words: &[String]) -> Option<Form>
     }
 }
 
-// Returns the form of `lte_tune` that `words` select.
+// Returns the form of `lte_tune` that `words` select, if any.
 fn of_tuner(words: &[String]) -> Option<Form>
     ensures some { IfSome result (IsWordsOf Tuner (map string_bytes words.now)) }
     ensures none { IsNone result → IsNoForm Tuner (map string_bytes words.now) }

@@ -31,7 +31,7 @@ fn exactly(n: u32, text: &str) -> Option<u32>
     }
 }
 
-// The identity that is written so, without leading zero.
+// Parses a cell identity from 0 to 503 without leading zeros.
 pub(crate) fn identity_of(text: &str) -> Option<CellId>
     ensures some { IfSome result (λ id. (id ≤ 503) × (text.now ≡ decimal id)) }
     ensures none { IsNone result → (n : ℕ) → n ≤ 503 → text.now ≡ decimal n → ⊥ }

@@ -1,5 +1,5 @@
-//! Parsers for the parts of a command form. Each part is parsed from the arguments that the parts before it leave, and
-//! the last part leaves none.
+//! Parsers for the parts of a command form. Each parser reads the arguments that the previous part leaves, and no
+//! arguments may remain after the last part.
 
 ghost use Rattle.std.specs.Prelude.{◌≡◌, ◌↔◌, ◌<◌, ◌≤◌, ◌^◌, ℕ, Option, Some, List, [], ◌∷◌, ◌++◌, map, IfSome};
 ghost use Rattle.std.specs.Prelude.{IsNone, IsTrue, codes, string_bytes};
@@ -18,7 +18,7 @@ use crate::numbers::{identity_of, number_of, steps_of};
 use lte_types::{Carrier, CellId};
 use sample_file::SampleForm;
 
-// ---- parts that others follow: the value, and the remaining arguments
+// ---- parts before the last: each parser returns a value and the remaining arguments
 
 // Parses a list rule; the default is the list for one antenna port.
 fn rule_in(words: &[String]) -> (Rule, &[String])
@@ -62,9 +62,9 @@ fn output_in(words: &[String]) -> (Output, &[String])
     }
 }
 
-// ---- last parts: no arguments remain
+// ---- last parts: each parser accepts all its arguments or returns `None`
 
-// Parses a sample format.
+// Parses a sample format; the default is 16-bit samples.
 fn samples_of(words: &[String]) -> Option<SampleForm>
     ensures some { IfSome result (λ form. map string_bytes words.now ≡ samples_words form) }
     ensures none { IsNone result → (form : SampleFormValue) → map string_bytes words.now ≡ samples_words form → ⊥ }
@@ -80,7 +80,7 @@ fn samples_of(words: &[String]) -> Option<SampleForm>
     }
 }
 
-// Parses an output format and a sample format.
+// Parses an output format followed by a sample format.
 fn output_of(words: &[String]) -> Option<(Output, SampleForm)>
     ensures some { IfSome result (λ parts. map string_bytes words.now ≡ output_words parts.0 ++ samples_words parts.1) }
     ensures none { IsNone result → (output : OutputValue) (form : SampleFormValue) →
@@ -91,7 +91,7 @@ fn output_of(words: &[String]) -> Option<(Output, SampleForm)>
     Some((output, samples))
 }
 
-// Parses a transmission scheme.
+// Parses a transmission scheme that no further arguments follow.
 fn carrier_of(words: &[String]) -> Option<Carrier>
     ensures some { IfSome result (λ carrier. map string_bytes words.now ≡ carrier_words carrier) }
     ensures none { IsNone result → (carrier : CarrierValue) → map string_bytes words.now ≡ carrier_words carrier → ⊥ }
@@ -117,7 +117,7 @@ fn load_of(words: &[String]) -> Option<Option<u32>>
 
 // ---- a command's parts
 
-// Parses a report with this command: its output format and sample format.
+// Parses the report `command`: its output format and sample format.
 pub(crate) fn report_parts(words: &[String], command: &str) -> Option<(Output, SampleForm)>
     ensures some { IfSome result (λ parts.
         map string_bytes words.now ≡ command.now ∷ output_words parts.0 ++ samples_words parts.1) }
@@ -155,7 +155,7 @@ pub(crate) fn evidence_parts(words: &[String]) -> Option<(Carrier, Output, Sampl
     Some((carrier, output, samples))
 }
 
-// `why`: its identity, 0 to 503 without leading zero, its carrier, output and form of samples.
+// Parses `why`: its cell identity, transmission scheme, output format and sample format.
 pub(crate) fn why_parts(words: &[String]) -> Option<(CellId, Carrier, Output, SampleForm)>
     ensures some { IfSome result (λ parts. (parts.0 ≤ 503) × (map string_bytes words.now ≡
         codes "why" ∷ decimal parts.0 ∷ carrier_words parts.1 ++ output_words parts.2 ++ samples_words parts.3)) }
@@ -229,7 +229,7 @@ pub(crate) fn apply_parts(words: &[String]) -> Option<(Turn, SampleForm)>
     }
 }
 
-// Parses a page.
+// Parses the command of a page, or a synonym.
 pub(crate) fn page_of(words: &[String]) -> Option<Page>
     ensures some { IfSome result (λ page. ArePageWords page (map string_bytes words.now)) }
     ensures none { IsNone result → (page : PageValue) → ArePageWords page (map string_bytes words.now) → ⊥ }
@@ -252,7 +252,7 @@ fn are_none(words: &[String]) -> bool
     words.is_empty()
 }
 
-// Returns the arguments after `word` if it is the first.
+// Returns the arguments after the first if that is `word`.
 fn after<'a>(words: &'a [String], word: &str) -> Option<&'a [String]>
     ensures some { IfSome result (λ rest. map string_bytes words.now ≡ word.now ∷ map string_bytes rest.now) }
     ensures none { IsNone result → (rest : List (List ℕ)) → map string_bytes words.now ≡ word.now ∷ rest → ⊥ }
@@ -265,7 +265,7 @@ fn after<'a>(words: &'a [String], word: &str) -> Option<&'a [String]>
     }
 }
 
-// Returns the arguments after `first` and `second` if these come first.
+// Returns the arguments after the first two if those are `first` and `second`.
 fn after_two<'a>(words: &'a [String], first: &str, second: &str) -> Option<&'a [String]>
     ensures some { IfSome result (λ rest.
         map string_bytes words.now ≡ first.now ∷ second.now ∷ map string_bytes rest.now) }

@@ -40,7 +40,7 @@ impl Words {
         Ok(())
     }
 
-    // Returns the arguments.
+    // Returns the arguments as strings.
     pub(crate) fn texts(&self) -> &[String]
         ensures { map string_bytes result.now ≡ self.now }
     {
