@@ -42,7 +42,7 @@ where
     ExitCode::from(status.code())
 }
 
-// Returns the answer to these arguments.
+// Runs `program` with the process's `arguments`, and returns its answer.
 fn answer<I, O>(alloc: Global, program: Program, arguments: Args, input: I, output: O) -> Status
 where
     I: Read + Drop,
@@ -61,7 +61,7 @@ where
     }
 }
 
-// Copies the arguments after the first.
+// Copies the arguments after the first, which is the program's name.
 fn words_of(alloc: Global, arguments: Args) -> Result<Words, AllocError>
     ensures { IfOk result (λ words. words ≡ drop 1 (map string_bytes (into_iter_items arguments))) }
 {
@@ -74,7 +74,7 @@ fn words_of(alloc: Global, arguments: Args) -> Result<Words, AllocError>
     Ok(words)
 }
 
-// Returns the answer if the arguments are unavailable.
+// Returns the answer if the arguments could not be read.
 fn refusal(kind: io::ErrorKind) -> Status
     ensures { result ≡ refusal_of kind }
 {
@@ -84,7 +84,7 @@ fn refusal(kind: io::ErrorKind) -> Status
     }
 }
 
-// The line on standard error.
+// The line on standard error: the program's name and the answer's text.
 #[derive(Clone, Copy)]
 struct Line {
     program: Program,
@@ -100,7 +100,7 @@ impl fmt::Display for Line {
     }
 }
 
-// Returns the line for this answer, or `None` for `Done`.
+// Returns the line on standard error for an answer, or `None` for `Done`.
 fn answer_line(program: Program, status: Status) -> Option<Line>
     ensures { result ≡ line_of program status }
 {
