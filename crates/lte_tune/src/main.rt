@@ -1,4 +1,5 @@
-//! The program `lte_tune`: estimates and corrects a recording's frequency offset.
+//! The program `lte_tune`: estimates or corrects a recording's frequency offset, from standard input to standard
+//! output.
 #![tactic(auto)]
 
 use lte_args::Program;
