@@ -1,4 +1,4 @@
-//! The program `lte_cli`: runs a command on standard input and output.
+//! The program `lte_cli`: runs one command, from standard input to standard output.
 #![tactic(auto)]
 
 use lte_args::Program;
