@@ -1,4 +1,4 @@
-//! The program `lte_cli` on the recording that ships with the repository, so that the gate runs `search` on it.
+//! The program `lte_cli`, which the gate runs on the recording that ships with the repository to check `search`.
 #![tactic(auto)]
 
 use lte_args::Program;
