@@ -1,4 +1,4 @@
-//! The program `lte_cli` on an empty description, so that the gate runs a refusal (exit code 9).
+//! The program `lte_cli`, which the gate runs on an empty description to check a refusal (exit code 9).
 #![tactic(auto)]
 
 use lte_args::Program;
