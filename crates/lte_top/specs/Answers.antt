@@ -1,4 +1,4 @@
--- A status's exit code, and its text on standard error. (own)
+-- The exit code of a status, and its text on standard error. (own)
 use Rattle.std.specs.Prelude.{ℕ, List, codes, ◌++◌}
 use Rattle.cell_plan.specs.Words.{refusal_text}
 use Rattle.tail_cert.specs.Form.{broken_text}

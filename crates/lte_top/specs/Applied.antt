@@ -12,15 +12,16 @@ use Rattle.lte_args.specs.declared.form.Output.TheVariants.{Text}
 use Rattle.lte_args.specs.declared.form.Turn.TheVariants.{AsEstimated}
 use Rattle.lte_top.specs.Forms.{IsOutput}
 
--- the samples are a recording with as many cells as the text reports
+-- `samples` is a valid recording; if `text`, the output of `tell`, reports an estimate, `samples` has the reported
+-- number of cells
 pub record HasReportedCells (text : List ℕ) (samples : List Sample) : Type 0 where
   pub estimate : Option OffsetEstimate
   pub text_is : text ≡ offset_text estimate
   pub recording : IsRecording samples
   pub cells : IfSome estimate (λ estimate. HasCells samples estimate.cells)
 
--- a law: the output of `apply`, for input in either sample format, is a 16-bit recording with as many cells as `tell`
--- reports
+-- a law: for the same input in either sample format, `apply` writes a valid 16-bit recording with as many cells as
+-- `tell` reports
 abbrev pub WhatIsAppliedIsEstimated : Type 0
 WhatIsAppliedIsEstimated = (form : SampleForm) (bytes text applied : List ℕ) → IsRecording (samples_in form bytes) →
     IsOutput (Reports Tell Text form) bytes text → IsOutput (Apply AsEstimated form) bytes applied →

@@ -11,7 +11,7 @@ use Rattle.report_text.specs.Answers.{check_text}
 use Rattle.evidence.specs.Receivers.{receiver_of}
 use Rattle.lte_top.specs.Searching.{IsListOf}
 
--- the output is one certificate per entry of the cell list, in order
+-- `output` is one certificate per entry of the recording's cell list, in listing order
 pub record IsCertified (carrier : Carrier) (samples : List Sample) (output : List ℕ) : Type 0 where
   pub entries : List Entry
   pub is_list : IsListOf carrier samples entries
@@ -19,7 +19,7 @@ pub record IsCertified (carrier : Carrier) (samples : List Sample) (output : Lis
   pub each : AllZip (Certifies (receiver_of carrier) samples) entries certificates
   pub bytes : output ≡ all_bytes certificates
 
--- the input is certificates, and the output the text of the answers to them
+-- `input` is a sequence of certificates, and `output` the text of the answers to them, in order
 pub record IsChecked (input output : List ℕ) : Type 0 where
   pub answers : List Bool
   pub are_answers : AreAnswers input answers

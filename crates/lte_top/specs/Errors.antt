@@ -1,4 +1,4 @@
--- The status that each error ends the run with. (own)
+-- The status of a run that an error ends. (own)
 use Rattle.cs_outside.specs.declared.streams.ReadError.{ReadError}
 use Rattle.cs_outside.specs.declared.streams.ReadError.TheVariants.{TooLong as PastLimit, ReadFault as Failed}
 use Rattle.cs_outside.specs.declared.streams.ReadError.TheVariants.{OutOfMemory as NoMemory}

@@ -1,4 +1,4 @@
--- What a command form reads, which inputs it refuses, and what it writes. (own)
+-- The input of a command form, the inputs that it refuses, and its output. (own)
 use Rattle.std.specs.Prelude.{◌≡◌, ℕ, ◌%◌, ◌<◌, ◌≤◌, Option, Some, None, List, length, nat_lt, not, ◌==◌, if◌then◌else◌}
 use Rattle.sample_file.specs.declared.form.SampleForm.{SampleForm}
 use Rattle.sample_file.specs.Recording.{width, samples_in}
@@ -20,8 +20,8 @@ use Rattle.lte_top.specs.Pages.{page_text}
 
 -- ---- inputs
 
--- a form's input: nothing, a recording in a sample format, a sequence of certificates, or a description under a
--- transmission scheme
+-- the input of a command form: nothing, a recording in a sample format, a sequence of certificates, or a cell
+-- description under a transmission scheme
 pub data Input : Type 0 where
   nothing : Input
   recording : SampleForm → Input
@@ -37,26 +37,27 @@ input_of (Make carrier n) = nothing
 input_of (Apply turn form) = recording form
 input_of (Print program page) = nothing
 
--- the maximum input length in bytes
+-- the maximum length of an input in bytes
 abbrev pub limit_of : Input → ℕ
 limit_of nothing = 0
 limit_of (recording form) = most_bytes form
 limit_of certificates = most_certificate_bytes
 limit_of (description carrier) = most_description_bytes
 
--- the refusal of a recording, if any: it must consist of whole samples, and be long enough
+-- the refusal of a recording with content `bytes`, if any: `Ragged` if the last sample is incomplete, otherwise
+-- `TooShort` if there are fewer than 57,600 samples
 abbrev pub recording_refusal : SampleForm → List ℕ → Option Status
 recording_refusal form bytes =
     if not (length bytes % width form == 0) then Some Ragged
     else if nat_lt (length bytes) (least_bytes form) then Some TooShort
     else None
 
--- a recording within the limit has this refusal
+-- `bytes` is within the limit of a recording, and is refused with `status`
 abbrev pub RefusesRecording : SampleForm → List ℕ → Status → Type 0
 RefusesRecording form bytes status = (length bytes ≤ most_bytes form) × (recording_refusal form bytes ≡ Some status)
 
--- certificates are refused at the first byte within the limit that breaks their format, or at the end of an input that
--- ends within a certificate
+-- certificates are refused at the first byte that breaks their format, if that byte is within the limit, or at the end
+-- of an input within the limit that ends inside a certificate
 abbrev pub RefusesCertificates : List ℕ → Status → Type 0
 RefusesCertificates bytes (BadCertificate place) = IsBrokenAt bytes place
 RefusesCertificates bytes status = ⊥
@@ -67,26 +68,26 @@ RefusesDescription carrier bytes (BadCell cause) =
     (length bytes ≤ most_description_bytes) × (refusal_by carrier bytes ≡ Some cause)
 RefusesDescription carrier bytes status = ⊥
 
--- the input has this refusal
+-- an input with content `bytes` is refused with `status`
 abbrev pub Refuses : Input → List ℕ → Status → Type 0
 Refuses nothing bytes status = ⊥
 Refuses (recording form) bytes status = RefusesRecording form bytes status
 Refuses certificates bytes status = RefusesCertificates bytes status
 Refuses (description carrier) bytes status = RefusesDescription carrier bytes status
 
--- the input is longer than the limit, and nothing within the limit was refused
+-- `bytes` is longer than the limit of `input`, and is not refused
 pub record IsTooLong (input : Input) (bytes : List ℕ) : Type 0 where
   pub past : limit_of input < length bytes
   pub unrefused : (status : Status) → Refuses input bytes status → ⊥
 
--- the input is within the limit, and is not refused
+-- `bytes` is within the limit of `input`, and is not refused
 pub record IsValid (input : Input) (bytes : List ℕ) : Type 0 where
   pub within : length bytes ≤ limit_of input
   pub unrefused : (status : Status) → Refuses input bytes status → ⊥
 
 -- ---- outputs
 
--- the output of a form for a valid input
+-- `written` is the output of a command form for the valid input `bytes`
 abbrev pub IsOutput : Form → List ℕ → List ℕ → Type 0
 IsOutput (Reports report output form) bytes written = IsReport report output (samples_in form bytes) written
 IsOutput (Certify carrier form) bytes written = IsCertified carrier (samples_in form bytes) written

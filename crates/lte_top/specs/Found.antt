@@ -21,20 +21,20 @@ use Rattle.lte_args.specs.declared.form.Rule.TheVariants.{Of}
 use Rattle.lte_args.specs.declared.form.Output.TheVariants.{Text}
 use Rattle.lte_top.specs.Forms.{IsOutput}
 
--- a sent cell's line: its identity, its first frame's start and number, its antenna port count, and its MIB
+-- the list line of a sent cell: its identity, its first frame's start and number, its antenna port count, and its MIB
 abbrev pub sent_line : Carrier → CellPlan → ℕ → ℕ → List ℕ
 sent_line carrier plan first number =
     place_part plan.identity first number (ports_of carrier)
     ++ block_part (codes "n6") (duration_word plan.duration) (resource_word plan.resource)
     (plan.spare / 32) (plan.spare % 32)
 
--- a sent cell's line, followed by its system information, which is not sent with the extended cyclic prefix or four
--- antenna ports
+-- the list lines of a sent cell: its own line, then its system information, or the reason why there is none with the
+-- extended cyclic prefix or four antenna ports
 abbrev pub sent_lines : Carrier → CellPlan → ℕ → ℕ → List ℕ
 sent_lines carrier plan first number =
     sent_line carrier plan first number ++ system_lines (system_of_carrier carrier plan.sib1)
 
--- the described cell is clean in the samples, and its lines appear consecutively in the text
+-- `samples` is clean for the cell that `description` describes, and that cell's lines appear consecutively in `text`
 pub record IsFoundIn (carrier : Carrier) (load : Option ℕ) (description : List ℕ) (samples : List Sample)
     (text : List ℕ) : Type 0 where
   pub e : Emission
@@ -43,12 +43,13 @@ pub record IsFoundIn (carrier : Carrier) (load : Option ℕ) (description : List
   pub lines :
       IsPiece (sent_lines carrier e.cell (start_of e.timing.offset) (number_at_start e.timing.sfn e.timing.offset)) text
 
--- no pair of antenna ports is weak: with four ports each pair has at least three eighths of the power
+-- no pair of the described cell's antenna ports is weak: with four ports, each pair has at least three eighths of the
+-- power
 abbrev pub DescribesPaired : Carrier → List ℕ → Type 0
 DescribesPaired carrier description = (e : Emission) → DescribesBy carrier description e → ArePairedBy carrier e.gains
 
--- a law: `transmit` under any transmission scheme, with or without a load, writes a recording in which the described
--- cell is clean, and `search` under that scheme lists its lines
+-- a law: `transmit` under any transmission scheme, with or without a load, writes a recording that is clean for the
+-- described cell, and `search` under that scheme writes the cell's lines
 abbrev pub WhatIsSentIsFound : Type 0
 WhatIsSentIsFound =
     (carrier : Carrier) (load : Option ℕ) (description sent text : List ℕ) →

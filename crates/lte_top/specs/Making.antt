@@ -15,14 +15,14 @@ use Rattle.lte_types.specs.declared.carrier.Carrier.{Carrier}
 use Rattle.lte_types.specs.Carrier.{ports_of}
 use Rattle.lte_top.specs.Searching.{IsListOf}
 
--- the count of list members with a property
+-- a list has exactly the given number of members with property `P`
 unfoldable pub Counts : {A : Type 0} → (A → Type 0) → List A → ℕ → Type 0
 Counts P [] n = n ≡ 0
 Counts P (x ∷ xs) n = (P x × ((m : ℕ) × (n ≡ m + 1) × Counts P xs m)) ⊎ ((P x → ⊥) × Counts P xs n)
 
 -- ---- the sent cell
 
--- the entry matches this cell
+-- `entry` matches the sent `cell` in every field
 pub record IsSentCell (cell : SentCell) (entry : Entry) : Type 0 where
   pub id : entry.id ≡ cell.identity
   pub start : entry.start ≡ cell.first
@@ -31,7 +31,7 @@ pub record IsSentCell (cell : SentCell) (entry : Entry) : Type 0 where
   pub block : HasFields entry.mib N6 cell.duration cell.resource (cell.number / 4) cell.spare
   pub sib1 : entry.sib1 ≡ cell.sib1
 
--- the output is a sent cell's line with the count of entries that match it, and the text of the list
+-- `output` is the line of the sent `cell`, with the number of `entries` that match it, followed by the text of the list
 pub record IsMadeOutput (cell : SentCell) (entries : List Entry) (output : List ℕ) : Type 0 where
   pub held : ℕ
   pub counts : Counts (IsSentCell cell) entries held
@@ -39,14 +39,14 @@ pub record IsMadeOutput (cell : SentCell) (entries : List Entry) (output : List 
 
 -- ---- synthetic recording n
 
--- the start and the number of the cell's first frame in synthetic recording n
+-- the start and the number of the cell's first frame in synthetic recording `n`
 abbrev pub first_start : ℕ → ℕ
 first_start n = start_of (offset n)
 
 abbrev pub first_number : ℕ → ℕ
 first_number n = number_at_start (number n) (offset n)
 
--- the cell of synthetic recording n, as it should be listed
+-- the cell of synthetic recording `n`, as it should be listed
 abbrev pub cell_of : Carrier → ℕ → SentCell
 cell_of carrier n = record {
   identity = (plan n).identity;
@@ -59,19 +59,19 @@ cell_of carrier n = record {
   sib1 = system_of_carrier carrier (plan n).sib1;
 }
 
--- the samples are synthetic recording n under this transmission scheme
+-- `samples` is synthetic recording `n` under transmission scheme `carrier`
 pub record AreSamplesOf (carrier : Carrier) (n : ℕ) (samples : List Sample) : Type 0 where
   pub made : MadeBy
   pub is : IsMadeBy carrier n made
   pub are : samples ≡ made.recording
 
--- the cell list of synthetic recording n
+-- `entries` is the cell list of synthetic recording `n`
 pub record IsMadeList (carrier : Carrier) (n : ℕ) (entries : List Entry) : Type 0 where
   pub samples : List Sample
   pub made : AreSamplesOf carrier n samples
   pub is_list : IsListOf carrier samples entries
 
--- the output is the line of synthetic recording n, and the text of its cell list
+-- `output` is the line of synthetic recording `n`, followed by the text of its cell list
 pub record IsMadeText (carrier : Carrier) (n : ℕ) (output : List ℕ) : Type 0 where
   pub entries : List Entry
   pub listed : IsMadeList carrier n entries
@@ -79,7 +79,7 @@ pub record IsMadeText (carrier : Carrier) (n : ℕ) (output : List ℕ) : Type 0
 
 -- ---- the sent cell is listed
 
--- the line of synthetic recording n ends in `held 1`, and the text of a list follows
+-- `output` is the line of synthetic recording `n`, which ends in `held 1`, followed by the text of a list
 pub record IsHeldOnce (n : ℕ) (output : List ℕ) : Type 0 where
   pub entries : List Entry
   pub once : output ≡ made_line (plan n).identity (first_start n) (first_number n) 1 ++ report_text entries

@@ -6,18 +6,18 @@ use Rattle.lte_args.specs.declared.form.Page.{Page}
 use Rattle.lte_args.specs.declared.form.Page.TheVariants.{Help, Version}
 use Rattle.lte_args.specs.Words.{name_of}
 
--- the version of the programs, and of the cell list's definition
+-- the version of the programs, and the version of the cell list's definition
 abbrev pub version : List ℕ
 version = codes "0.9.0"
 
 abbrev pub definition : List ℕ
 definition = codes "2"
 
--- the program's name and version, and the definition's version
+-- the version page of the program `name`: its name and version, then the version of the cell list's definition
 abbrev pub version_after : List ℕ → List ℕ
 version_after name = name ++ codes " " ++ version ++ codes "\ndefinition " ++ definition ++ codes "\n"
 
--- each command form, and what it writes
+-- a program's help page: each command form, with its output
 abbrev pub help_text : Program → List ℕ
 help_text Receiver =
     codes "usage: lte_cli COMMAND [RULE] [--json] [--format cu8] < INPUT > OUTPUT\n"

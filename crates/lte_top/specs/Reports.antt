@@ -38,7 +38,7 @@ abbrev pub IsIds : Output → List Sample → List ℕ → Type 0
 IsIds Text samples text = text ≡ ids_text (map (identified samples) (hits_of samples))
 IsIds Json samples text = text ≡ as_line (ids_json (map (measured_id samples) (hits_of samples)))
 
--- the evidence for each listed cell, in order, as text
+-- `text` is the evidence for each listed cell, in listing order, as lines of text
 pub record IsEvidenceText (carrier : Carrier) (samples : List Sample) (text : List ℕ) : Type 0 where
   pub entries : List Entry
   pub is_list : IsListOf carrier samples entries
@@ -46,7 +46,8 @@ pub record IsEvidenceText (carrier : Carrier) (samples : List Sample) (text : Li
   pub each : AllZip (IsEvidenceFor (receiver_of carrier) samples) entries numbers
   pub text_is : text ≡ evidence_text numbers
 
--- the evidence for each listed cell, with the contents of its slot, as JSON
+-- `text` is the evidence for each listed cell, with the pilots and soft values of its slot and the bits in its blocks,
+-- as JSON
 pub record IsEvidenceJson (carrier : Carrier) (samples : List Sample) (text : List ℕ) : Type 0 where
   pub entries : List Entry
   pub is_list : IsListOf carrier samples entries
@@ -58,12 +59,12 @@ abbrev pub IsEvidence : Carrier → Output → List Sample → List ℕ → Type
 IsEvidence carrier Text samples text = IsEvidenceText carrier samples text
 IsEvidence carrier Json samples text = IsLine (IsEvidenceJson carrier samples) text
 
--- the report on the frequency offset
+-- `text` is the report on the recording's frequency offset
 abbrev pub IsTellReport : Output → List Sample → List ℕ → Type 0
 IsTellReport Text samples text = IsTellText samples text
 IsTellReport Json samples text = IsLine (IsTellJson samples) text
 
--- the text of a report
+-- `text` is the report about the recording `samples`
 abbrev pub IsReport : Report → Output → List Sample → List ℕ → Type 0
 IsReport Hits output samples text = IsHits output samples text
 IsReport Ids output samples text = IsIds output samples text
@@ -72,13 +73,14 @@ IsReport (Evidence carrier) output samples text = IsEvidence carrier output samp
 IsReport Tell output samples text = IsTellReport output samples text
 IsReport (Why identity carrier) output samples text = IsWhy identity carrier output samples text
 
--- how many samples from the start a cell list needs: a list depends on the first 17 frames only
+-- the number of leading samples that a cell list needs: without cancellation, a list depends only on the first 17
+-- frames
 abbrev pub kept_for_list : Rule → ℕ
 kept_for_list (Of carrier) = deciding_length
 kept_for_list Cancel = most_samples
 kept_for_list All = deciding_length
 
--- how many samples from the start a report needs: PSS detections start in the first frame or just after it
+-- the number of leading samples that a report needs: PSS detections start in the first frame or just after it
 abbrev pub kept_for : Report → ℕ
 kept_for Hits = least_samples
 kept_for Ids = least_samples

@@ -1,5 +1,5 @@
--- A run: the condition of each answer, and the answer that an input has. (own)
--- A moment is a pair of reports: the source's, then the sink's.
+-- A run: the condition for each answer, and the answer to each input. (own) A moment (`Outside`) is a pair of states:
+-- the source's, then the sink's.
 use Rattle.std.specs.Prelude.{◌≡◌, ◌≢◌, ◌⊎◌, ℕ, ◌+◌, ◌≤◌, ◌++◌, Some, List, [], length}
 use Rattle.cs_outside.specs.Counts.{Rose}
 use Rattle.cs_outside.specs.Outside.{SourceState, Outside, NothingRead, NothingWritten}
@@ -14,31 +14,31 @@ use Rattle.lte_args.specs.Words.{IsWordsOf, IsNoForm}
 use Rattle.lte_top.specs.Forms.{Input, nothing, recording, certificates, description, input_of}
 use Rattle.lte_top.specs.Forms.{limit_of, Refuses, IsTooLong, IsValid, IsOutput}
 
--- ---- reading: the source's reports before and now
+-- ---- reading: the source's state before the run and now
 
--- a form has an input
+-- every form reads the source, except a form whose input is `nothing`
 abbrev pub IsRead : Input → Type 0
 IsRead nothing = ⊥
 IsRead (recording form) = Unit {0}
 IsRead certificates = Unit {0}
 IsRead (description carrier) = Unit {0}
 
--- the bytes are the whole input, read to its end; a form without input reads nothing
+-- `bytes` is the complete input, read to its end; a form without input reads nothing
 abbrev pub HasReadInput : Input → List ℕ → SourceState → SourceState → Type 0
 HasReadInput nothing bytes before now = (bytes ≡ []) × NothingRead before now
 HasReadInput (recording form) bytes before now = HasReadAll (limit_of (recording form)) bytes before now
 HasReadInput certificates bytes before now = HasReadAll (limit_of certificates) bytes before now
 HasReadInput (description carrier) bytes before now = HasReadAll (limit_of (description carrier)) bytes before now
 
--- a valid input was read to its end, and this is its output
+-- a valid input was read to its end, and `output` is the form's output for that input
 pub record HasOutput (form : Form) (output : List ℕ) (before now : SourceState) : Type 0 where
   pub bytes : List ℕ
   pub whole : HasReadInput (input_of form) bytes before now
   pub unrefused : (status : Status) → Refuses (input_of form) bytes status → ⊥
   pub is_output : IsOutput form bytes output
 
--- the bytes read, at most one past the limit, have this refusal; and the input ended there, or has the refusal however
--- it continues
+-- the bytes read, at most one more than the limit, are refused with `status`, and either the input ended there or every
+-- continuation of those bytes is refused with `status` too
 pub record HasRefusal (input : Input) (status : Status) (before now : SourceState) : Type 0 where
   pub bytes : List ℕ
   pub read : HasRead bytes before now
@@ -46,7 +46,7 @@ pub record HasRefusal (input : Input) (status : Status) (before now : SourceStat
   pub refused : Refuses input bytes status
   pub settled : IsAtEnd now ⊎ ((rest : List ℕ) → Refuses input (bytes ++ rest) status)
 
--- one byte past the limit was read, and no continuation of these bytes is refused
+-- one byte past the limit was read, and no continuation of the bytes read is refused
 pub record IsReadTooLong (input : Input) (before now : SourceState) : Type 0 where
   pub is_read : IsRead input
   pub front : List ℕ
@@ -54,28 +54,28 @@ pub record IsReadTooLong (input : Input) (before now : SourceState) : Type 0 whe
   pub past : length front ≡ limit_of input + 1
   pub unrefused : (rest : List ℕ) (status : Status) → Refuses input (front ++ rest) status → ⊥
 
--- nothing in these bytes is refused yet: certificates are judged byte by byte, other inputs at their end
+-- nothing in `bytes` is refused yet: certificates are judged byte by byte, other inputs at their end
 abbrev pub NothingMet : Input → List ℕ → Type 0
 NothingMet nothing bytes = Unit {0}
 NothingMet (recording form) bytes = Unit {0}
 NothingMet certificates bytes = IsUnbroken bytes
 NothingMet (description carrier) bytes = Unit {0}
 
--- a read failed after at most the limit was read, and nothing was refused before
+-- a read failed when at most the limit had been read, and nothing read by then was refused
 pub record IsReadFault (input : Input) (before now : SourceState) : Type 0 where
   pub is_read : IsRead input
   pub front : List ℕ
   pub failed : HasFailedAfter (limit_of input) front before now
   pub unmet : NothingMet input front
 
--- a form without input left the source untouched; otherwise nothing is claimed
+-- a form without input left the source untouched; for other forms nothing is stated
 abbrev pub IsLeft : Input → SourceState → SourceState → Type 0
 IsLeft nothing before now = NothingRead before now
 IsLeft (recording form) before now = Unit {0}
 IsLeft certificates before now = Unit {0}
 IsLeft (description carrier) before now = Unit {0}
 
--- why an input was not read to its end and answered
+-- the cause of a status other than `Done`, `Usage` and `WriteFault`, from the source's state before and now
 abbrev pub Cause : Input → SourceState → SourceState → Status → Type 0
 Cause input before now Done = ⊥
 Cause input before now Usage = ⊥
@@ -87,14 +87,14 @@ Cause input before now refusal = HasRefusal input refusal before now
 
 -- ---- the condition of each answer
 
--- Done: a valid input was read to its end, the whole output was written, and no call failed
+-- `Done`: a valid input was read to its end, the complete output was written, and no call failed
 pub record IsDone (form : Form) (before now : Outside) : Type 0 where
   pub output : List ℕ
   pub has_output : HasOutput form output before.0 now.0
   pub written : HasWritten output before.1 now.1
 
--- WriteFault: a valid input was read to its end, a prefix of the output was written, the sink counted a fault, and it
--- reported no room or too little for the whole output
+-- `WriteFault`: a valid input was read to its end, a prefix of the output was written, and the sink counted a fault; if
+-- the sink reported its room, the room was too small for the complete output
 pub record IsWriteFault (form : Form) (before now : Outside) : Type 0 where
   pub output : List ℕ
   pub has_output : HasOutput form output before.0 now.0
@@ -102,7 +102,7 @@ pub record IsWriteFault (form : Form) (before now : Outside) : Type 0 where
   pub counted : Rose before.1.faults now.1.faults
   pub full : IsShortOf (length output) before.1
 
--- any other answer: it has its cause, and nothing was written
+-- any other status of a form's run: the status has its cause, and nothing was written
 pub record IsRefused (form : Form) (status : Status) (before now : Outside) : Type 0 where
   pub cause : Cause (input_of form) before.0 now.0 status
   pub unwritten : NothingWritten before.1 now.1
@@ -113,74 +113,76 @@ Ends form before now Done = IsDone form before now
 Ends form before now WriteFault = IsWriteFault form before now
 Ends form before now status = IsRefused form status before now
 
--- the arguments select a form of the program, whose run ended with this status
+-- `words` selects a form of `program`, whose run ended with `status`
 pub record RunsForm (program : Program) (words : List (List ℕ)) (before now : Outside) (status : Status) : Type 0 where
   pub form : Form
   pub is_of : IsWordsOf program words form
   pub ends : Ends form before now status
 
--- Usage: the arguments select no form of the program, and nothing was read or written
+-- `Usage`: `words` selects no form of `program`, and nothing was read or written
 pub record IsUsage (program : Program) (words : List (List ℕ)) (before now : Outside) : Type 0 where
   pub no_form : IsNoForm program words
   pub unread : NothingRead before.0 now.0
   pub unwritten : NothingWritten before.1 now.1
 
+-- how a program's run ends: with `Usage` if the arguments select no form, otherwise as the selected form's run
 abbrev pub Outcome : Program → List (List ℕ) → Outside → Outside → Status → Type 0
 Outcome program words before now Usage = IsUsage program words before now
 Outcome program words before now status = RunsForm program words before now status
 
 -- ---- the answer that an input has
 
--- the answer if no allocation, read or write fails: Done for a valid input, TooLong past the limit, otherwise the
--- refusal
+-- the answer to an input if no allocation, read or write fails: `Done` if the input is valid, `TooLong` if it is longer
+-- than the limit and not refused, otherwise the input's refusal
 abbrev pub IsAnswerTo : Input → List ℕ → Status → Type 0
 IsAnswerTo input bytes Done = IsValid input bytes
 IsAnswerTo input bytes TooLong = IsTooLong input bytes
 IsAnswerTo input bytes status = Refuses input bytes status
 
--- an input has one answer
+-- a law: an input has at most one answer
 abbrev pub HasOneAnswer : Type 0
 HasOneAnswer = (input : Input) (bytes : List ℕ) (first second : Status) → IsAnswerTo input bytes first →
     IsAnswerTo input bytes second → first ≡ second
 
--- the answers that an input may get: a failed allocation, a counted fault, or its own
+-- the answers that a run may give to an input: `OutOfMemory`, a fault that the source or the sink counted, or the
+-- input's own answer
 abbrev pub MayAnswer : Input → List ℕ → Outside → Outside → Status → Type 0
 MayAnswer input bytes before now OutOfMemory = Unit {0}
 MayAnswer input bytes before now ReadFault = Rose before.0.faults now.0.faults
 MayAnswer input bytes before now WriteFault = IsValid input bytes × Rose before.1.faults now.1.faults
 MayAnswer input bytes before now status = IsAnswerTo input bytes status
 
--- the source reports these bytes as remaining; a form without input has none
+-- the source reports `bytes` as its remaining bytes; for a form without input `bytes` is empty
 abbrev pub IsGiven : Input → List ℕ → SourceState → Type 0
 IsGiven nothing bytes before = bytes ≡ []
 IsGiven (recording form) bytes before = before.left ≡ Some bytes
 IsGiven certificates bytes before = before.left ≡ Some bytes
 IsGiven (description carrier) bytes before = before.left ≡ Some bytes
 
--- arguments that select a form, and the bytes of its input, if the source reports them
+-- `words` selects `form` of `program`, and the source reports that `bytes` is the form's input
 pub record IsAsked (program : Program) (words : List (List ℕ)) (before : Outside) (form : Form) (bytes : List ℕ) :
     Type 0 where
   pub is_of : IsWordsOf program words form
   pub given : IsGiven (input_of form) bytes before.0
 
--- the answer is one that the input may get
+-- `status` is an answer that the run may give to its input, if the source reports the input's bytes
 abbrev pub IsAnswered : Program → List (List ℕ) → Outside → Outside → Status → Type 0
 IsAnswered program words before now status = (form : Form) (bytes : List ℕ) →
     IsAsked program words before form bytes → MayAnswer (input_of form) bytes before now status
 
--- a valid input is answered Done, or OutOfMemory, if no fault was counted
+-- a valid input is answered with `Done` or `OutOfMemory` if neither the source nor the sink counted a fault
 abbrev pub IsComplete : Program → List (List ℕ) → Outside → Outside → Status → Type 0
 IsComplete program words before now status =
     (form : Form) (bytes : List ℕ) → IsAsked program words before form bytes → IsValid (input_of form) bytes →
     ¬ Rose before.0.faults now.0.faults → ¬ Rose before.1.faults now.1.faults → (status ≡ Done) ⊎ (status ≡ OutOfMemory)
 
--- a sink that reports room for the whole output has no fault
+-- if the sink reports room for the complete output, the answer is not `WriteFault`
 abbrev pub HasRoom : Program → List (List ℕ) → Outside → Status → Type 0
 HasRoom program words before status =
     (form : Form) (bytes output : List ℕ) (room : ℕ) → IsAsked program words before form bytes →
     before.1.room ≡ Some room → IsOutput form bytes output → length output ≤ room → status ≢ WriteFault
 
--- a run of a program with these arguments, between two moments
+-- a run of `program` with the arguments `words`, from moment `before` to moment `now`, ended with `status`
 pub record Runs (program : Program) (words : List (List ℕ)) (before now : Outside) (status : Status) : Type 0 where
   pub outcome : Outcome program words before now status
   pub answered : IsAnswered program words before now status

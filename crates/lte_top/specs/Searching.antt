@@ -20,9 +20,9 @@ use Rattle.lte_top.specs.Line.{as_line, IsLine}
 
 -- ---- one transmission scheme
 
--- the list of cells with one transmission scheme: it holds every cell that is heard, also one that the recording
--- carries faithfully, or clean whatever else the antenna ports send, and, for one antenna port, through a varying
--- channel
+-- the cell list for one transmission scheme, as defined by the scheme's receiver. The list contains every cell that is
+-- detected, among them each cell that is received through channels, and each cell for which the recording is faithful
+-- or clean
 abbrev pub IsListOf : Carrier → List Sample → List Entry → Type 0
 IsListOf carrier = IsListBy (receiver_of carrier)
 
@@ -36,7 +36,7 @@ abbrev pub list_text : Output → List Entry → List ℕ
 list_text Text entries = report_text entries
 list_text Json entries = as_line (json_text entries)
 
--- the text of the cell list for one transmission scheme
+-- `text` is the cell list of `samples` for one transmission scheme
 pub record IsListText (carrier : Carrier) (output : Output) (samples : List Sample) (text : List ℕ) : Type 0 where
   pub entries : List Entry
   pub is_list : IsListOf carrier samples entries
@@ -44,12 +44,12 @@ pub record IsListText (carrier : Carrier) (output : Output) (samples : List Samp
 
 -- ---- all transmission schemes
 
--- the text of one cell list per transmission scheme
+-- the text of one cell list per transmission scheme, in the order of `carriers`
 abbrev pub lists_text : Output → (Carrier → List Entry) → List ℕ
 lists_text Text lists = all_text lists
 lists_text Json lists = as_line (all_json lists)
 
--- the text of one cell list per transmission scheme; no clean cell is missing from its list (`IsListOf`)
+-- `text` is one cell list of `samples` per transmission scheme
 pub record IsTextOfAll (output : Output) (samples : List Sample) (text : List ℕ) : Type 0 where
   pub lists : Carrier → List Entry
   pub are_lists : (carrier : Carrier) → IsListOf carrier samples (lists carrier)
@@ -57,7 +57,7 @@ pub record IsTextOfAll (output : Output) (samples : List Sample) (text : List �
 
 -- ---- every rule
 
--- the cell list, and the lists of the residuals after each of its cells is cancelled
+-- `text` is the cell list of `samples`, followed by each round of cancellation with the list of its residual
 abbrev pub IsCancelled : Output → List Sample → List ℕ → Type 0
 IsCancelled Text samples text = IsCancelText samples text
 IsCancelled Json samples text = IsLine (IsCancelJson samples) text

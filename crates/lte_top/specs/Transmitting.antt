@@ -1,4 +1,4 @@
--- A described cell's samples as bytes. (own)
+-- The samples of a described cell, as bytes. (own)
 use Rattle.std.specs.Prelude.{◌≡◌, ℕ, Option, List}
 use Rattle.finite.specs.Lists.{values_below}
 use Rattle.cs_num.specs.declared.Sample.{Sample}
@@ -15,19 +15,19 @@ use Rattle.cell_json.specs.Reading.{DescribesBy}
 abbrev pub most_description_bytes : ℕ
 most_description_bytes = 65536
 
--- an emission's samples, with or without a load
+-- the samples of emission `e`, with load number `load` if there is one
 unfoldable pub sent_samples : Option ℕ → Emission → List Sample
 sent_samples load e =
     values_below e.samples
     (λ i. sample_of (received_by e.carrier load e.cell e.timing.sfn e.timing.offset e.gains i))
 
--- the output is the samples, with or without a load, of the emission that the bytes describe
+-- `output` is the samples of the emission that `bytes` describes, with load number `load` if there is one
 pub record IsTransmitted (carrier : Carrier) (load : Option ℕ) (bytes output : List ℕ) : Type 0 where
   pub emission : Emission
   pub describes : DescribesBy carrier bytes emission
   pub sent : output ≡ bytes_of (sent_samples load emission)
 
--- a description of this emission was read to the end of the input
+-- a description of emission `e` was read to the end of the input
 pub record HasDescription (carrier : Carrier) (e : Emission) (before now : SourceState) : Type 0 where
   pub bytes : List ℕ
   pub whole : HasReadAll most_description_bytes bytes before now

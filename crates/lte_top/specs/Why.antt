@@ -1,4 +1,4 @@
--- Why an identity is in the list of a carrier, or not. (own)
+-- Why a cell identity is in the list for a transmission scheme, or is not. (own)
 use Rattle.std.specs.Prelude.{◌≡◌, ℕ, List}
 use Rattle.cs_num.specs.declared.Sample.{Sample}
 use Rattle.lte_types.specs.declared.carrier.Carrier.{Carrier}
@@ -15,7 +15,7 @@ abbrev pub why_text : Output → ℕ → Carrier → List Reason → List ℕ
 why_text Text identity carrier reasons = reasons_text identity carrier reasons
 why_text Json identity carrier reasons = as_line (reasons_json identity carrier reasons)
 
--- the reasons for an identity in the list of a carrier, as this text
+-- `text` reports why `identity` is in the list for transmission scheme `carrier`, or is not
 pub record IsWhy (identity : ℕ) (carrier : Carrier) (output : Output) (samples : List Sample) (text : List ℕ) :
     Type 0 where
   pub reasons : List Reason

@@ -22,7 +22,7 @@ use report_text::text_of_answers;
 use sample_file::{Recording, SampleForm};
 use std::alloc::{AllocError, Global};
 
-// The memory for certifying a list: the search, its list, and the certificates.
+// The memory for certifying a cell list: for the search, its list, and the certificates.
 #[derive(Drop)]
 struct Rooms {
     search: Workspace,
@@ -30,7 +30,8 @@ struct Rooms {
     work: CertificateWork,
 }
 
-// Writes one certificate per entry of a recording's list, in order. All memory is allocated before the first write.
+// Reads a recording to its end, and writes one certificate per entry of its cell list, in order. All memory is
+// allocated before the first write.
 #[inline(never)]
 pub(crate) fn certify_recording<S: Source, K: Sink>(
     alloc: Global,
@@ -54,7 +55,7 @@ pub(crate) fn certify_recording<S: Source, K: Sink>(
     }
 }
 
-// Allocates everything that a list and its certificates need.
+// Allocates the memory for a cell list and its certificates.
 fn rooms_of(alloc: Global) -> Result<Rooms, AllocError> {
     let (search, list) = room_for_list(alloc)?;
     let work = CertificateWork::new(alloc)?;

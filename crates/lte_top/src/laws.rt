@@ -9,14 +9,13 @@ ghost use Rattle.lte_top.specs.Run.{HasOneAnswer};
 use capture_make::numbers_are_clean;
 use cell_tx::sum_is_clean;
 
-/// A law: an input has at most one answer, so the answer of a run is determined, except for failed allocations and
-/// counted faults.
+/// A law: an input has at most one answer. Only failed allocations and counted faults give a run another answer.
 pub fn an_input_has_one_answer()
     ensures { HasOneAnswer }
 {}
 
-/// A law: `search` lists every cell that `transmit` sends, with its system information if the scheme carries it. With
-/// four gains, ports 0 and 2, and 1 and 3, must each have at least three eighths of the power.
+/// A law: `search` lists every cell that `transmit` sends, with SIB1 if the scheme carries it. With four antenna ports,
+/// each of the pairs 0, 2 and 1, 3 must have at least three eighths of the power.
 pub fn what_is_sent_is_found()
     ensures { WhatIsSentIsFound }
 {
@@ -31,8 +30,8 @@ pub fn what_is_made_is_held()
     numbers_are_clean();
 }
 
-/// A law: two recordings that agree in their first 326,400 samples (17 frames) have the same lists, so `search` keeps
-/// no later sample.
+/// A law: two recordings that agree in their first 326,400 samples (17 frames) have the same list under each
+/// transmission scheme. `search` without `--cancel` therefore keeps no later sample.
 pub fn the_first_frames_decide_each_list()
     ensures { FirstFramesDecideEach }
 {}

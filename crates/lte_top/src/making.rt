@@ -13,7 +13,8 @@ use lte_types::{
 use report_text::{line_of_made, text};
 use std::alloc::{AllocError, Global};
 
-// A sent cell: the start and the number of its first frame, and the values that its list entry must have.
+// A sent cell: the start (`first`) and the frame number (`number`) of its first frame, and the other values that its
+// list entry must have.
 #[derive(Drop)]
 pub(crate) struct SentCell {
     pub identity: u16,
@@ -60,7 +61,7 @@ fn sent_cell(carrier: Carrier, n: u32) -> SentCell
     }
 }
 
-// Returns what a listed cell reports as its system information.
+// Returns the SIB1 result of a cell that sends `sib1`: SIB1 itself, or the reason why it is not read under `carrier`.
 fn decoded_by(carrier: Carrier, sib1: Sib1) -> Result<Sib1, Sib1Reason>
     ensures { result ≡ system_of_carrier carrier sib1 }
 {

@@ -60,7 +60,7 @@ fn help(program: Program) -> &'static str
     }
 }
 
-// Returns the versions, after the program's name.
+// Returns the version page: the program's name and version, then the definition's version.
 fn version_text(alloc: Global, name: &str) -> Result<String, AllocError>
     ensures { IfOk result (λ text. string_bytes text ≡ version_after name.now) }
 {

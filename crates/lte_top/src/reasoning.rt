@@ -1,4 +1,4 @@
-//! Why an identity is in a list, or not.
+//! Why a cell identity is in a cell list, or is not.
 
 ghost use Rattle.std.specs.Prelude.{◌≡◌, IfOk, string_bytes};
 ghost use Rattle.evidence.specs.Receivers.{receiver_of};
@@ -17,7 +17,7 @@ use sample_file::Recording;
 use std::alloc::{AllocError, Global};
 use two_ports::TwoPorts;
 
-// The text of why an identity is in the list of a carrier, or not.
+// Returns the report on why identity `id` is in the list for transmission scheme `carrier`, or is not.
 pub(crate) fn why_text(
     alloc: Global,
     id: CellId,
@@ -31,7 +31,7 @@ pub(crate) fn why_text(
     written(alloc, id, carrier, output, &reasons)
 }
 
-// The reasons for an identity in the list of a carrier.
+// Returns the reasons why identity `id` is in the list for transmission scheme `carrier`, or is not.
 fn reasons_of(
     alloc: Global,
     carrier: Carrier,
@@ -48,7 +48,7 @@ fn reasons_of(
     }
 }
 
-// The text of reasons.
+// Returns the reasons as text or as a line of JSON.
 fn written(
     alloc: Global,
     id: CellId,

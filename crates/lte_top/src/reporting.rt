@@ -48,7 +48,7 @@ pub(crate) fn report_text<S: Source>(
     Ok(text)
 }
 
-// Returns how many samples from the start a report needs.
+// Returns the number of leading samples that a report needs.
 fn kept_for(report: &Report) -> usize
     ensures value { result ≡ kept_in report.now }
     ensures some { least_samples ≤ result }
@@ -64,7 +64,7 @@ fn kept_for(report: &Report) -> usize
     }
 }
 
-// Returns how many samples from the start a cell list needs.
+// Returns the number of leading samples that a cell list needs.
 fn kept_for_list(rule: Rule) -> usize
     ensures value { result ≡ kept_in_list rule }
     ensures some { least_samples ≤ result }
@@ -77,7 +77,7 @@ fn kept_for_list(rule: Rule) -> usize
     }
 }
 
-// Reads a recording to the end of its source, and keeps its first samples.
+// Reads a recording to the end of its source, and keeps its first `most` samples.
 fn front_of<S: Source>(
     alloc: Global,
     form: SampleForm,
@@ -95,7 +95,7 @@ fn front_of<S: Source>(
     Ok(front)
 }
 
-// Reads a recording to the end of its source.
+// Reads a recording to the end of its source, and keeps all its samples.
 pub(crate) fn recording_of<S: Source>(
     alloc: Global,
     form: SampleForm,
@@ -132,7 +132,7 @@ fn text_of_report(
 
 // ---- hits
 
-// Returns the text of a recording's PSS detections.
+// Returns the report on a recording's PSS detections.
 fn hits_text(alloc: Global, output: Output, recording: &Recording) -> Result<String, AllocError>
     requires { IsRecording recording.now }
     ensures { IfOk result (λ text. IsHits output recording.now (string_bytes text)) }
@@ -147,7 +147,7 @@ fn hits_text(alloc: Global, output: Output, recording: &Recording) -> Result<Str
     }
 }
 
-// Returns the text of a recording's PSS detections with their cell identities.
+// Returns the report on a recording's PSS detections and their cell identities.
 fn ids_text(alloc: Global, output: Output, recording: &Recording) -> Result<String, AllocError>
     requires { IsRecording recording.now }
     ensures { IfOk result (λ text. IsIds output recording.now (string_bytes text)) }
@@ -179,7 +179,7 @@ pub(crate) fn hits_of(alloc: Global, recording: &Recording) -> Result<HitList, A
 
 // ---- evidence
 
-// Returns the evidence for each listed cell.
+// Returns the report on the evidence for each listed cell, as text or JSON.
 fn evidence_report(
     alloc: Global,
     carrier: Carrier,
@@ -208,7 +208,8 @@ fn evidence_text(
     text_of_evidence(alloc, &numbers)
 }
 
-// Returns the evidence for each listed cell as JSON, which also has the slot's contents.
+// Returns the evidence for each listed cell as JSON, with the pilots and soft values of its slot and the bits in its
+// blocks.
 fn evidence_json(
     alloc: Global,
     carrier: Carrier,
@@ -224,7 +225,7 @@ fn evidence_json(
 
 // ---- the frequency offset
 
-// Returns the text of a recording's frequency offset.
+// Returns the report on a recording's frequency offset.
 fn offset_text(alloc: Global, output: Output, recording: &Recording) -> Result<String, AllocError>
     ensures { IfOk result (λ text. IsTellReport output recording.now (string_bytes text)) }
 {
@@ -236,7 +237,7 @@ fn offset_text(alloc: Global, output: Output, recording: &Recording) -> Result<S
 
 // ---- lines
 
-// Appends a line feed.
+// Returns `text` followed by a line feed.
 pub(crate) fn line_of(text: String) -> Result<String, AllocError>
     ensures { IfOk result (λ line. string_bytes line ≡ as_line (string_bytes text)) }
 {

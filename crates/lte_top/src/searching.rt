@@ -23,7 +23,7 @@ use sample_file::Recording;
 use std::alloc::{AllocError, Global};
 use two_ports::TwoPorts;
 
-// Returns the text of the cell list under a rule.
+// Returns the output of `search`: a recording's cell list or lists under `rule`.
 pub(crate) fn search_text(
     alloc: Global,
     rule: Rule,
@@ -85,7 +85,8 @@ pub(crate) fn room_for_list(alloc: Global) -> Result<(Workspace, EntryList), All
     Ok((work, list))
 }
 
-// Searches for the cells with one transmission scheme, and keeps how each entry was decoded.
+// Lists the cells with one transmission scheme, and leaves a reading (how the cell was decoded) of each entry in
+// `work`.
 pub(crate) fn read_list(
     recording: &Recording,
     carrier: Carrier,
@@ -98,8 +99,8 @@ pub(crate) fn read_list(
     read_list_by(recording, carrier, None, work, list);
 }
 
-// Searches with the receiver for `carrier`. This is the only place that chooses a receiver. `hits` are the recording's
-// PSS detections, if already computed.
+// Lists the cells with the receiver for `carrier`, which is chosen only here. `hits` are the recording's PSS
+// detections, if already computed.
 fn read_list_by(
     recording: &Recording,
     carrier: Carrier,
@@ -119,7 +120,7 @@ fn read_list_by(
     }
 }
 
-// ---- further rules
+// ---- all transmission schemes, and cancellation
 
 // Returns the text of the cell lists for every transmission scheme.
 fn text_of_each(alloc: Global, output: Output, recording: &Recording) -> Result<String, AllocError>
@@ -173,7 +174,7 @@ fn lists_text(alloc: Global, output: Output, lists: &[EntryList]) -> Result<Stri
     }
 }
 
-// Returns the text of the cell list, and of the lists of the residuals after each cell is cancelled.
+// Returns the text of the cell list, and of each round of cancellation with the list of its residual.
 fn text_of_rounds(
     alloc: Global,
     output: Output,

@@ -13,10 +13,10 @@ use sample_file::FileError;
 use std::alloc::AllocError;
 use std::fmt;
 
-/// How a run ended. Every status except `Done` is a refusal, a fault or a failed allocation.
+/// How a run ended: `Done`, a refusal of the arguments or the input, a fault, or a failed allocation.
 #[derive(Clone, Copy, Debug, PartialEq, Eq)]
 pub enum Status {
-    /// The input was read to its end, and the whole output was written.
+    /// The input was read to its end, and the complete output was written.
     Done,
     /// The arguments select no command form.
     Usage,
@@ -26,20 +26,21 @@ pub enum Status {
     TooShort,
     /// The input is longer than its limit, and no byte within the limit was refused.
     TooLong,
-    /// The source counted a fault.
+    /// A read failed, and the source counted a fault.
     ReadFault,
-    /// The sink counted a fault.
+    /// A write failed, and the sink counted a fault.
     WriteFault,
     /// An allocation failed.
     OutOfMemory,
-    /// The description's first failed condition.
+    /// The description fails a condition: the first one in the order of `CellError`.
     BadCell(CellError),
-    /// The byte offset at which the input breaks the certificate format; its length if it ends within a certificate.
+    /// The input breaks the certificate format at a byte offset, which is the input's length if the input ends within a
+    /// certificate.
     BadCertificate(u64),
 }
 
 impl Status {
-    /// Returns the exit code: 0 for `Done`, and 2 to 10 for the others in their order.
+    /// Returns the exit code: 0 for `Done`, and 2 to 10 for the other statuses in order of declaration.
     pub fn code(&self) -> u8
         ensures { result ≡ code_of self.now }
     {
@@ -116,7 +117,7 @@ impl From<AllocError> for Status {
     }
 }
 
-/// The text on standard error, after the program's name.
+/// Writes the text that follows the program's name on standard error.
 impl fmt::Display for Status {
     ghost output = { λ status. Some (text_of status) };
 

@@ -1,7 +1,7 @@
 //! The top-level calls.
 //!
-//! A run reads at most one byte past the input's limit. If the source reports its bytes, they alone decide the answer,
-//! except for failed allocations and counted faults.
+//! A run reads at most one byte past the input's limit. If the source reports its bytes, the answer depends only on
+//! those bytes, except for failed allocations and counted faults.
 
 ghost use Rattle.std.specs.Prelude.{◌≡◌, ◌≤◌, length, IfErr, OnOk, OnErr};
 ghost use Rattle.cs_outside.specs.Counts.{Rose};
@@ -23,8 +23,8 @@ use cs_outside::{Failed, MemSink, MemSource, Sink, Source, write_whole};
 use lte_args::{Form, Program, Words};
 use std::alloc::Global;
 
-/// Runs the command that `words` select. After `Done` the sink has the whole output, after `WriteFault` a prefix of it,
-/// and after any other answer nothing.
+/// Runs the command that `words` select. The sink receives the complete output if the status is `Done`, a prefix of the
+/// output if it is `WriteFault`, and nothing otherwise.
 pub fn run_program<S: Source, K: Sink>(
     alloc: Global,
     program: Program,
@@ -46,8 +46,7 @@ pub fn run<S: Source, K: Sink>(alloc: Global, words: &Words, source: &mut S, sin
     run_program(alloc, Program::Receiver, words, source, sink)
 }
 
-/// Runs a command of `lte_cli` on a source and a sink in memory, whose remaining bytes, room and fault counts are
-/// visible in the contract.
+/// Runs a command of `lte_cli`, as `run_program` does, on a source and a sink in memory.
 pub fn run_in_memory(
     alloc: Global,
     words: &Words,
@@ -60,7 +59,7 @@ pub fn run_in_memory(
     run(alloc, words, source, sink)
 }
 
-// Runs either program. The contracts of the published calls follow from these clauses.
+// Runs either program. The contracts of the published calls follow from this contract.
 fn run_words<S: Source, K: Sink>(
     alloc: Global,
     program: Program,
@@ -82,7 +81,7 @@ fn run_words<S: Source, K: Sink>(
     }
 }
 
-// Runs a command form. The calls are not inlined, so a run needs no stack for other forms.
+// Runs a command form. The forms' functions are not inlined, to limit a run's stack to its own form.
 fn run_form<S: Source, K: Sink>(
     alloc: Global,
     form: Form,
@@ -119,7 +118,7 @@ fn run_form<S: Source, K: Sink>(
     }
 }
 
-// Writes the whole output.
+// Writes the complete output, or returns `WriteFault` after a prefix of it.
 fn write_output<K: Sink>(sink: &mut K, output: &[u8]) -> Result<(), Status>
     ensures ok { OnOk result (HasWritten output.now (K.state sink.old) (K.state sink.new)) }
     ensures status { IfErr result (λ status. status ≡ WriteFault) }

@@ -47,7 +47,7 @@ pub(crate) fn transmit<S: Source, K: Sink>(
     }
 }
 
-// Reads a description to the end of its source.
+// Reads a description to the end of its source, and returns the described emission.
 fn emission_of<S: Source>(
     alloc: Global,
     carrier: Carrier,
@@ -62,7 +62,7 @@ fn emission_of<S: Source>(
     Ok(emission)
 }
 
-// Sets the load number.
+// Returns `emission` with its load number set to `load`.
 fn with_load(mut emission: Emission, load: Option<u32>) -> Emission
     ensures { emitted_samples result ≡ sent_samples load emission }
 {
@@ -70,7 +70,7 @@ fn with_load(mut emission: Emission, load: Option<u32>) -> Emission
     emission
 }
 
-// Writes an emission's samples, generated frame by frame, in pieces of one length.
+// Writes an emission's samples, which are generated frame by frame, in pieces of equal length.
 fn write_emission<K: Sink>(emission: &Emission, sink: &mut K) -> Result<(), Failed>
     ensures ok { OnOk result (HasWritten (bytes_of (emitted_samples emission.now))
         (K.state sink.old) (K.state sink.new)) }

@@ -14,8 +14,8 @@ use lte_args::Turn;
 use sample_file::{Recording, SampleForm, write_samples};
 use std::alloc::{AllocError, Global};
 
-// Reads a recording to the end of its source, and writes it corrected, in 16-bit samples. All memory is allocated
-// before the first write.
+// Reads a recording to the end of its source, and writes the corrected recording in 16-bit samples. All memory is
+// allocated before the first write.
 #[inline(never)]
 pub(crate) fn apply_turn<S: Source, K: Sink>(
     alloc: Global,
@@ -39,7 +39,7 @@ pub(crate) fn apply_turn<S: Source, K: Sink>(
     }
 }
 
-// Returns the corrected recording.
+// Returns `recording` corrected by its estimated frequency offset or by a given one.
 fn turned_by(alloc: Global, turn: Turn, recording: &Recording) -> Result<Recording, AllocError>
     ensures { IfOk result (IsTurned turn recording.now) }
 {

@@ -1,4 +1,4 @@
-//! The version numbers.
+//! The version numbers of the programs and of the cell list's definition.
 
 /// The programs' version.
 pub const VERSION: &str = "0.9.0";
