@@ -10,7 +10,7 @@ answer_word false = codes "no"
 abbrev pub answer_line : ℕ → Bool → List ℕ
 answer_line number answer = decimal number ++ codes " " ++ answer_word answer ++ codes "\n"
 
--- the lines of answers, starting with this index
+-- the lines of answers to consecutive certificates, the first of which has index `number`
 unfoldable pub answer_lines : ℕ → List Bool → List ℕ
 answer_lines number [] = []
 answer_lines number (answer ∷ rest) = answer_line number answer ++ answer_lines (suc number) rest

@@ -5,7 +5,7 @@ use Rattle.std.specs.Fmt.{decimal}
 use Rattle.lte_types.specs.declared.evidence.Evidence.{Evidence}
 use Rattle.report_parts.specs.Numbers.{numbers_in}
 
--- the cell identity, frame start and frame number
+-- the part with the cell identity, frame start and frame number
 abbrev pub entry_part : ℕ → ℕ → ℕ → List ℕ
 entry_part id start sfn = decimal id ++ codes " " ++ decimal start ++ codes " " ++ decimal sfn
 
@@ -13,15 +13,15 @@ entry_part id start sfn = decimal id ++ codes " " ++ decimal start ++ codes " " 
 abbrev pub number_part : List ℕ × ℕ → List ℕ
 number_part named = codes " " ++ named.0 ++ codes " " ++ decimal named.1
 
--- an entry's line: the cell, and each number that supports it
+-- an entry's line: the numbers that identify the entry, then each number that supports it, after its name
 abbrev pub evidence_line : Evidence → List ℕ
 evidence_line entry =
     entry_part entry.id entry.start entry.sfn ++ flat_map number_part (numbers_in entry) ++ codes "\n"
 
--- the first line, with the number of entries
+-- the first line of the evidence, with the number of entries
 abbrev pub evidence_head : ℕ → List ℕ
 evidence_head count = codes "evidence " ++ decimal count ++ codes "\n"
 
--- the first line, followed by a line for each entry
+-- the text of the evidence: the line with the number of entries, then a line for each entry
 unfoldable pub evidence_text : List Evidence → List ℕ
 evidence_text list = evidence_head (length list) ++ flat_map evidence_line list

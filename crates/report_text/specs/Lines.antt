@@ -16,13 +16,13 @@ use Rattle.report_text.specs.Words.{or_dash, bit_word, barred_word, intra_word, 
 use Rattle.report_parts.specs.Words.{digits_word}
 use Rattle.report_text.specs.Words.{tdd_word, sibs_word}
 
--- a cell's identity, frame start, frame number and antenna port count
+-- the part with a cell's identity, frame start, frame number and antenna port count
 abbrev pub place_part : ℕ → ℕ → ℕ → ℕ → List ℕ
 place_part id start sfn ports =
     codes "cell " ++ decimal id ++ codes " at " ++ decimal start ++ codes " sfn " ++ decimal sfn ++ codes " ports "
     ++ decimal ports
 
--- a cell's MIB; schedulingInfoSIB1-BR precedes the bits that are still spare
+-- the part with a cell's MIB; schedulingInfoSIB1-BR (`br`) precedes the bits that are still spare
 abbrev pub block_part : List ℕ → List ℕ → List ℕ → ℕ → ℕ → List ℕ
 block_part bandwidth duration resource br spare =
     codes " " ++ bandwidth ++ codes " phich " ++ duration ++ codes " " ++ resource ++ codes " br " ++ decimal br
@@ -42,7 +42,8 @@ none_line reason = codes "sib1 none " ++ reason_words reason ++ codes "\n"
 
 -- ---- system information
 
--- the cell's tracking area and identity, and whether a terminal may camp on it and on others on its frequency
+-- the part with the cell's tracking area code and identity, whether the cell is barred, and whether a terminal may
+-- reselect other cells on its frequency
 abbrev pub access_part : ℕ → ℕ → List ℕ → List ℕ → List ℕ
 access_part tac cell barred intra =
     codes "sib1 tac " ++ decimal tac ++ codes " cell " ++ decimal cell ++ codes " " ++ barred ++ codes " " ++ intra
@@ -50,14 +51,14 @@ access_part tac cell barred intra =
 abbrev pub access_part_of : Sib1 → List ℕ
 access_part_of sib1 = access_part sib1.tac sib1.cell (barred_word sib1.barred) (intra_word sib1.intra)
 
--- the cell's closed subscriber group
+-- the part with the cell's closed subscriber group: csg-Indication and csg-Identity
 abbrev pub group_part : List ℕ → List ℕ → List ℕ
 group_part csg identity = codes " csg " ++ csg ++ codes " " ++ identity
 
 abbrev pub group_part_of : Sib1 → List ℕ
 group_part_of sib1 = group_part (bit_word sib1.csg) (or_dash decimal sib1.csg_identity)
 
--- the levels for cell selection, and the band
+-- the part with the levels for cell selection (q-RxLevMin, q-RxLevMinOffset, p-Max) and the frequency band
 abbrev pub level_part : ℤ → List ℕ → List ℕ → ℕ → List ℕ
 level_part level offset power band =
     codes " rx " ++ signed_decimal level ++ codes " offset " ++ offset ++ codes " pmax " ++ power ++ codes " band "
@@ -67,7 +68,8 @@ abbrev pub level_part_of : Sib1 → List ℕ
 level_part_of sib1 =
     level_part sib1.q_rx (or_dash decimal sib1.q_offset) (or_dash signed_decimal sib1.p_max) sib1.band
 
--- the window for system information, systemInfoValueTag, the TDD configuration, and whether an extension follows
+-- the part with the window for system information, systemInfoValueTag, the TDD configuration, and whether an extension
+-- follows
 abbrev pub window_part : List ℕ → ℕ → List ℕ → List ℕ → List ℕ
 window_part window tag tdd extension =
     codes " window " ++ window ++ codes " tag " ++ decimal tag ++ codes " tdd " ++ tdd
@@ -80,14 +82,14 @@ window_part_of sib1 =
 abbrev pub sib1_line : Sib1 → List ℕ
 sib1_line sib1 = access_part_of sib1 ++ group_part_of sib1 ++ level_part_of sib1 ++ window_part_of sib1
 
--- a network's line
+-- the line of a network: its country code, its network code, and whether the cell is reserved for operator use
 abbrev pub network_line : List ℕ → List ℕ → List ℕ → List ℕ
 network_line mcc mnc reserved = codes "plmn " ++ mcc ++ codes " " ++ mnc ++ codes " " ++ reserved ++ codes "\n"
 
 abbrev pub plmn_line : Plmn → List ℕ
 plmn_line plmn = network_line (or_dash digits_word plmn.mcc) (mnc_word plmn.mnc) (reserved_word plmn.reserved)
 
--- a schedule entry's line
+-- the line of a schedule entry: the period and the block codes of a system information message
 abbrev pub schedule_line : List ℕ → List ℕ → List ℕ
 schedule_line period sibs = codes "si " ++ period ++ codes " " ++ sibs ++ codes "\n"
 
@@ -99,25 +101,26 @@ sib1_lines sib1 = sib1_line sib1 ++ flat_map plmn_line sib1.plmns ++ flat_map me
 
 -- ---- the cell list
 
--- the lines for system information, or the reason why there is none
+-- the lines for system information, or the line with the reason why there is none
 abbrev pub system_lines : Result Sib1 Sib1Reason → List ℕ
 system_lines (Ok sib1) = sib1_lines sib1
 system_lines (Err reason) = none_line reason
 
--- a cell's lines
+-- the lines of a list entry: the cell's own line, then those for its system information
 abbrev pub entry_lines : Entry → List ℕ
 entry_lines entry = cell_line entry ++ system_lines entry.sib1
 
 abbrev pub head_line : ℕ → List ℕ
 head_line count = codes "cells " ++ decimal count ++ codes "\n"
 
--- the number of cells, followed by the lines of each
+-- the text of a cell list: the line with the number of cells, then the lines of each cell
 unfoldable pub report_text : List Entry → List ℕ
 report_text entries = head_line (length entries) ++ flat_map entry_lines entries
 
 -- ---- synthetic recordings
 
--- the transmitted cell, its first frame's start and number, and how many list entries equal it
+-- the line of a synthetic recording: the sent cell's identity, its first frame's start and number, and the number of
+-- list entries that match it
 abbrev pub made_line : ℕ → ℕ → ℕ → ℕ → List ℕ
 made_line id start sfn held =
     codes "made " ++ decimal id ++ codes " at " ++ decimal start ++ codes " sfn " ++ decimal sfn ++ codes " held "

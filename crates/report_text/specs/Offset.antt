@@ -7,16 +7,16 @@ use Rattle.frequency_offset.specs.Estimation.{IsEstimated}
 use Rattle.report_text.specs.Hits.{hits_head}
 use Rattle.report_text.specs.Lines.{head_line}
 
--- the frequency offset, as `turn`
+-- the line with the frequency offset, in steps of 117.1875 Hz, as `turn`
 abbrev pub turn_line : ℤ → List ℕ
 turn_line turn = codes "turn " ++ signed_decimal turn ++ codes "\n"
 
--- the number of hits, the frequency offset, and the number of cells; no hits without an estimate
+-- the lines with the number of hits, the frequency offset, and the number of cells; without an estimate only `hits 0`
 abbrev pub offset_text : Option OffsetEstimate → List ℕ
 offset_text None = hits_head 0
 offset_text (Some estimate) = hits_head estimate.hits ++ turn_line estimate.turn ++ head_line estimate.cells
 
--- the text of a recording's estimate
+-- `text` reports the frequency offset estimate of `recording`
 pub record IsTellText (recording : List Sample) (text : List ℕ) : Type 0 where
   pub estimate : Option OffsetEstimate
   pub is_estimated : IsEstimated recording estimate

@@ -1,4 +1,4 @@
-//! A recording's lists by every rule, as text.
+//! A recording's cell lists for all transmission schemes, as text.
 
 ghost use Rattle.std.specs.Prelude.{◌≡◌, IfOk, List, length, map, string_bytes};
 ghost use Rattle.lte_types.specs.Carrier.{carriers};
@@ -11,8 +11,8 @@ use report_parts::rule_word;
 use std::alloc::{AllocError, Global};
 use std::fmt::Write;
 
-/// Returns the text of the lists for all transmission schemes, in the order of `Carrier::ALL`, each as `text` writes
-/// it under a line with its rule. Fails only if an allocation fails. (own)
+/// Returns the text of the `lists` for all transmission schemes, in the order of `Carrier::ALL`: for each a line with
+/// its rule, then the list as in `text`. Fails only if an allocation fails. (own)
 pub fn text_of_all(alloc: Global, lists: &[EntryList]) -> Result<String, AllocError>
     requires { length lists.now ≡ length carriers }
     ensures { (of : Carrier → List Entry) → lists.now ≡ map of carriers →
@@ -26,7 +26,7 @@ pub fn text_of_all(alloc: Global, lists: &[EntryList]) -> Result<String, AllocEr
     Ok(all)
 }
 
-// Returns a list's text under its rule.
+// Returns a cell list's text under a line with its rule.
 fn ruled_text(alloc: Global, rule: Carrier, entries: &[Entry]) -> Result<String, AllocError>
     ensures { IfOk result (λ text. string_bytes text ≡ text_of rule entries.now) }
 {

@@ -6,8 +6,8 @@ ghost use Rattle.report_text.specs.Answers.{answer_line, check_text};
 use std::alloc::{AllocError, Global};
 use std::fmt::Write;
 
-/// Returns the text of the `answers` to certificates: their count, then a line for each with its index from 0 and
-/// `yes` or `no`. Fails only if an allocation fails. (own)
+/// Returns the text of the `answers` to certificates: a line with their number, then a line for each with the
+/// certificate's index from 0 and `yes` or `no`. Fails only if an allocation fails. (own)
 pub fn text_of_answers(alloc: Global, answers: &[bool]) -> Result<String, AllocError>
     ensures { IfOk result (λ text. string_bytes text ≡ check_text answers.now) }
 {
@@ -19,7 +19,7 @@ pub fn text_of_answers(alloc: Global, answers: &[bool]) -> Result<String, AllocE
     Ok(text)
 }
 
-// Returns a certificate's line.
+// Returns the line with a certificate's index and the answer to it.
 fn line_of_answer(alloc: Global, number: usize, answer: bool) -> Result<String, AllocError>
     ensures { IfOk result (λ line. string_bytes line ≡ answer_line number answer) }
 {

@@ -8,8 +8,8 @@ use cs_num::Gain;
 use std::alloc::{AllocError, Global};
 use std::fmt::Write;
 
-/// Returns the two lines for a cancelled cell: identity, gain and `greatest`, the largest component magnitude of the
-/// residual; and the power before and after. Fails only if an allocation fails. (own)
+/// Returns the two lines for a cancelled cell. `greatest` is the largest component magnitude of the residual, and
+/// `powers` are the recording's power before and after cancellation. Fails only if an allocation fails. (own)
 pub fn text_of_cancelled(
     alloc: Global,
     id: u16,
@@ -44,7 +44,7 @@ fn gain_part(alloc: Global, gain: Gain) -> Result<String, AllocError>
     format!(in alloc; " gain {re} {im}")
 }
 
-// Returns the line with the power before and after.
+// Returns the line with the recording's power before and after cancellation.
 fn power_line(alloc: Global, before: u64, after: u64) -> Result<String, AllocError>
     ensures { IfOk result (λ line. string_bytes line ≡ power_of before after) }
 {

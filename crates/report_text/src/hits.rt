@@ -1,4 +1,4 @@
-//! The text of hits.
+//! The text of PSS detections (hits).
 
 ghost use Rattle.std.specs.Prelude.{◌≡◌, ℕ, List, IfOk, string_bytes};
 ghost use Rattle.report_text.specs.Hits.{hits_text, hit_line, root_line, place_line, id_line, ids_text};
@@ -9,8 +9,8 @@ use lte_types::Hit;
 use std::alloc::{AllocError, Global};
 use std::fmt::Write;
 
-/// Returns the text of `hits`: their count, then a line for each with its sample and identity within the group. Fails
-/// only if an allocation fails. (own)
+/// Returns the text of `hits`: a line with their number, then a line for each with its sample and identity within the
+/// group. Fails only if an allocation fails. (own)
 pub fn text_of_hits(alloc: Global, hits: &[Hit]) -> Result<String, AllocError>
     ensures { IfOk result (λ text. string_bytes text ≡ hits_text hits.now) }
 {
@@ -19,8 +19,8 @@ pub fn text_of_hits(alloc: Global, hits: &[Hit]) -> Result<String, AllocError>
     Ok(text)
 }
 
-/// Returns the text of identified `hits`: their count, then a line for each with its sample, cell identity, subframe 0
-/// or 5, and frame start. Fails only if an allocation fails. (own)
+/// Returns the text of identified `hits`: a line with their number, then a line for each with its sample, cell
+/// identity, subframe (0 or 5) and frame start. Fails only if an allocation fails. (own)
 pub fn text_of_ids(alloc: Global, hits: &[IdentifiedHit]) -> Result<String, AllocError>
     ensures { IfOk result (λ text. string_bytes text ≡ ids_text hits.now) }
 {
@@ -29,7 +29,7 @@ pub fn text_of_ids(alloc: Global, hits: &[IdentifiedHit]) -> Result<String, Allo
     Ok(text)
 }
 
-// A hit's line.
+// The line of a hit.
 impl ToLines for Hit {
     ghost lines_of = { hit_line };
 
@@ -38,7 +38,7 @@ impl ToLines for Hit {
     }
 }
 
-// An identified hit's line.
+// The line of an identified hit.
 impl ToLines for IdentifiedHit {
     ghost lines_of = { id_line };
 
@@ -49,14 +49,14 @@ impl ToLines for IdentifiedHit {
     }
 }
 
-// Returns a line with two numbers.
+// Returns a line with a hit's sample and its identity within the group.
 fn line_of_root(alloc: Global, t: u32, n2: u8) -> Result<String, AllocError>
     ensures { IfOk result (λ line. string_bytes line ≡ root_line t n2) }
 {
     format!(in alloc; "{t} {n2}\n")
 }
 
-// Returns a line with four numbers.
+// Returns a line with a hit's sample, cell identity, subframe and frame start.
 fn line_of_place(
     alloc: Global,
     t: u32,

@@ -3,13 +3,12 @@
 ghost use Rattle.report_text.specs.Pieces.{ListedLinesStand};
 ghost use Rattle.report_text.specs.Rounds.{IsOneCancelText};
 
-/// A law: each listed cell's lines, its own and those for its system information, are one contiguous piece of the
-/// list's text.
+/// A law: the lines of each listed cell, system information included, are one contiguous part of the list's text.
 pub fn listed_lines_stand()
     ensures { ListedLinesStand }
 {}
 
-/// A law: the text of a recording's rounds is unique.
+/// A law: the text of a recording's interference cancellation is unique.
 pub fn one_cancel_text()
     ensures { IsOneCancelText }
 {}

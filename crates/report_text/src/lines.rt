@@ -17,7 +17,7 @@ use report_parts::mnc_word;
 use std::alloc::{AllocError, Global};
 use std::fmt::Write;
 
-/// Returns the line with a cell's identity, timing and MIB.
+/// Returns the line with a cell's identity, timing, antenna port count and MIB.
 pub(crate) fn cell_line(alloc: Global, entry: &Entry) -> Result<String, AllocError>
     ensures { IfOk result (λ line. string_bytes line ≡ cell_line_of entry.now) }
 {
@@ -101,7 +101,7 @@ fn timing_of_cell(alloc: Global, sib1: &Sib1) -> Result<String, AllocError>
     window_part(alloc, window, sib1.tag, tdd.as_str(), extension)
 }
 
-// A network's line.
+// The line of a network.
 impl ToLines for Plmn {
     ghost lines_of = { plmn_line_of };
 
@@ -113,7 +113,7 @@ impl ToLines for Plmn {
     }
 }
 
-// A schedule entry's line.
+// The line of a schedule entry.
 impl ToLines for SiMessage {
     ghost lines_of = { message_line_of };
 

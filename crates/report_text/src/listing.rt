@@ -1,4 +1,4 @@
-//! The cell list.
+//! The text of the cell list.
 
 ghost use Rattle.std.specs.Prelude.{◌≡◌, ℕ, List, IfOk, string_bytes};
 ghost use Rattle.report_text.specs.Lines.{report_text, entry_lines, system_lines as system_lines_of};
@@ -19,7 +19,7 @@ pub fn text(alloc: Global, entries: &[Entry]) -> Result<String, AllocError>
     Ok(text)
 }
 
-// A cell's lines.
+// The lines of a list entry.
 impl ToLines for Entry {
     ghost lines_of = { entry_lines };
 
@@ -31,7 +31,7 @@ impl ToLines for Entry {
     }
 }
 
-// Returns the lines for a cell's system information.
+// Returns the lines for a cell's system information, or the line with the reason why there is none.
 fn system_lines(alloc: Global, entry: &Entry) -> Result<String, AllocError>
     ensures { IfOk result (λ text. string_bytes text ≡ system_lines_of entry.now.sib1) }
 {

@@ -6,8 +6,8 @@ ghost use Rattle.report_text.specs.Lines.{made_line};
 use std::alloc::{AllocError, Global};
 use std::fmt::Write;
 
-/// Returns a synthetic recording's line: the transmitted cell's identity, its first frame's start and number, and how
-/// many list entries equal it. Fails only if an allocation fails. (own)
+/// Returns a synthetic recording's line: the sent cell's identity, its first frame's start and number, and `held`, the
+/// number of list entries that match it. Fails only if an allocation fails. (own)
 pub fn line_of_made(
     alloc: Global,
     id: u16,

@@ -10,8 +10,8 @@ use sample_file::Recording;
 use std::alloc::{AllocError, Global};
 use std::fmt::Write;
 
-/// Returns the text of a recording's frequency offset estimate: hit count at the coarse offset, offset, and cell count
-/// after correction. Without an estimate it is `hits 0`. Fails only if an allocation fails. (own)
+/// Returns the text of a recording's frequency offset estimate: the hit count at the coarse offset, the offset, and the
+/// cell count after correction; without an estimate, `hits 0`. Fails only if an allocation fails. (own)
 pub fn tell_text(alloc: Global, recording: &Recording) -> Result<String, AllocError>
     ensures { IfOk result (λ text. IsTellText recording.now (string_bytes text)) }
 {
@@ -19,7 +19,7 @@ pub fn tell_text(alloc: Global, recording: &Recording) -> Result<String, AllocEr
     text_of(alloc, &estimate)
 }
 
-// Returns the text of an estimate.
+// Returns the text of an estimate, or `hits 0` without one.
 fn text_of(alloc: Global, estimate: &Option<OffsetEstimate>) -> Result<String, AllocError>
     ensures { IfOk result (λ text. string_bytes text ≡ offset_text estimate.now) }
 {

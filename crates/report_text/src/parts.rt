@@ -8,7 +8,7 @@ ghost use Rattle.report_text.specs.Lines.{network_line as network_of, schedule_l
 use std::alloc::{AllocError, Global};
 use std::fmt::Write;
 
-/// Returns a cell's identity, frame start, frame number and antenna port count.
+/// Returns the part with a cell's identity, frame start, frame number and antenna port count.
 pub(crate) fn place_part(
     alloc: Global,
     id: u16,
@@ -21,7 +21,7 @@ pub(crate) fn place_part(
     format!(in alloc; "cell {id} at {start} sfn {sfn} ports {ports}")
 }
 
-/// Returns a cell's MIB.
+/// Returns the part with a cell's MIB, from the words and numbers of its fields.
 pub(crate) fn block_part(
     alloc: Global,
     bandwidth: &str,
@@ -36,8 +36,8 @@ pub(crate) fn block_part(
     format!(in alloc; " {bandwidth} phich {duration} {resource} br {br} spare {spare}\n")
 }
 
-/// Returns the cell's tracking area and identity, and whether a terminal may camp on it and on others on its
-/// frequency.
+/// Returns the part with the cell's tracking area code and identity, whether the cell is barred, and whether a terminal
+/// may reselect other cells on its frequency.
 pub(crate) fn access_part(
     alloc: Global,
     tac: u16,
@@ -50,14 +50,14 @@ pub(crate) fn access_part(
     format!(in alloc; "sib1 tac {tac} cell {cell} {barred} {intra}")
 }
 
-/// Returns the cell's closed subscriber group.
+/// Returns the part with the cell's closed subscriber group: csg-Indication and csg-Identity.
 pub(crate) fn group_part(alloc: Global, csg: &str, identity: &str) -> Result<String, AllocError>
     ensures { IfOk result (λ part. string_bytes part ≡ group_of csg.now identity.now) }
 {
     format!(in alloc; " csg {csg} {identity}")
 }
 
-/// Returns the levels for cell selection, and the band.
+/// Returns the part with the levels for cell selection and the frequency band.
 pub(crate) fn level_part(
     alloc: Global,
     level: i8,
@@ -70,8 +70,8 @@ pub(crate) fn level_part(
     format!(in alloc; " rx {level} offset {offset} pmax {power} band {band}")
 }
 
-/// Returns the window for system information, systemInfoValueTag, the TDD configuration, and whether an extension
-/// follows.
+/// Returns the part with the window for system information, systemInfoValueTag, the TDD configuration, and whether an
+/// extension follows.
 pub(crate) fn window_part(
     alloc: Global,
     window: &str,
@@ -84,7 +84,8 @@ pub(crate) fn window_part(
     format!(in alloc; " window {window} tag {tag} tdd {tdd} extension {extension}\n")
 }
 
-/// Returns a network's line.
+/// Returns the line of a network: its country code, its network code, and whether the cell is reserved for operator
+/// use.
 pub(crate) fn network_line(
     alloc: Global,
     mcc: &str,
@@ -96,7 +97,7 @@ pub(crate) fn network_line(
     format!(in alloc; "plmn {mcc} {mnc} {reserved}\n")
 }
 
-/// Returns a schedule entry's line.
+/// Returns the line of a schedule entry: the period and the block codes of a system information message.
 pub(crate) fn schedule_line(alloc: Global, period: &str, sibs: &str) -> Result<String, AllocError>
     ensures { IfOk result (λ line. string_bytes line ≡ schedule_of period.now sibs.now) }
 {

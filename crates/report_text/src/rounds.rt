@@ -12,8 +12,8 @@ use sample_file::Recording;
 use std::alloc::{AllocError, Global};
 use successive_cancel::{Round, Rounds, cancel_rounds};
 
-/// Returns the text of interference cancellation: the recording's list, each round's lines and list, and `cancelled
-/// none` if the last round cancels no cell. Fails only if an allocation fails. (own)
+/// Returns the text of interference cancellation: the recording's cell list, each round's lines and list, and
+/// `cancelled none` if the last round found no cell to cancel. Fails only if an allocation fails. (own)
 pub fn cancel_text(alloc: Global, recording: &Recording) -> Result<String, AllocError>
     ensures { IfOk result (λ text. IsCancelText recording.now (string_bytes text)) }
 {
@@ -35,7 +35,7 @@ pub fn text_of_rounds(alloc: Global, rounds: &Rounds) -> Result<String, AllocErr
     Ok(all)
 }
 
-// The lines for the cancelled cell, and the residual's list.
+// The lines for the cancelled cell, then the cell list of the residual.
 impl ToLines for Round {
     ghost lines_of = { round_text };
 

@@ -1,4 +1,4 @@
-//! The text of the evidence for a list.
+//! The text of the evidence for a cell list.
 
 ghost use Rattle.std.specs.Prelude.{◌≡◌, ℕ, List, IfOk, string_bytes};
 ghost use Rattle.report_text.specs.Evidence.{evidence_text, evidence_line, entry_part as entry_of, number_part};
@@ -9,8 +9,8 @@ use report_parts::{Named, numbers_in};
 use std::alloc::{AllocError, Global};
 use std::fmt::Write;
 
-/// Returns the text of a list's evidence: the number of entries, then a line for each with its identity, start, frame
-/// number and `numbers_in`. Fails only if an allocation fails. (own)
+/// Returns the text of a cell list's evidence: a line with the number of entries, then a line for each with its
+/// identity, frame start, frame number and `numbers_in`. Fails only if an allocation fails. (own)
 pub fn text_of_evidence(alloc: Global, list: &[Evidence]) -> Result<String, AllocError>
     ensures { IfOk result (λ text. string_bytes text ≡ evidence_text list.now) }
 {
@@ -19,7 +19,7 @@ pub fn text_of_evidence(alloc: Global, list: &[Evidence]) -> Result<String, Allo
     Ok(text)
 }
 
-// An entry's line.
+// The evidence line of a list entry.
 impl ToLines for Evidence {
     ghost lines_of = { evidence_line };
 
@@ -46,7 +46,7 @@ fn after_name(alloc: Global, name: &str, value: u64) -> Result<String, AllocErro
     format!(in alloc; " {name} {value}")
 }
 
-// Returns the cell identity, frame start and frame number.
+// Returns the part with the cell identity, frame start and frame number.
 fn entry_part(alloc: Global, id: u16, start: u32, sfn: u16) -> Result<String, AllocError>
     ensures { IfOk result (λ part. string_bytes part ≡ entry_of id start sfn) }
 {

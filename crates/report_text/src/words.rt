@@ -9,14 +9,14 @@ use report_parts::digits_word;
 use std::alloc::{AllocError, Global};
 use std::fmt::{Display, Write};
 
-/// Returns one word or the other.
+/// Returns `yes` if `flag` is true, otherwise `no`.
 pub(crate) fn either(flag: bool, yes: &'static str, no: &'static str) -> &'static str
     ensures { result.now ≡ either_of flag yes.now no.now }
 {
     if flag { yes } else { no }
 }
 
-/// Returns the value, or a dash.
+/// Returns the text of a value, or a dash if it is absent.
 pub(crate) fn or_dash<T: Display + Drop>(
     alloc: Global,
     value: Option<T>,
@@ -30,7 +30,7 @@ pub(crate) fn or_dash<T: Display + Drop>(
     }
 }
 
-/// Returns both numbers of a TDD configuration, or a dash.
+/// Returns the two numbers of a TDD configuration, separated by a slash, or a dash if it is absent.
 pub(crate) fn tdd_or_dash(alloc: Global, tdd: Option<(u8, u8)>) -> Result<String, AllocError>
     ensures { IfOk result (λ text. string_bytes text ≡ word_or_dash config_of tdd) }
 {
@@ -40,7 +40,7 @@ pub(crate) fn tdd_or_dash(alloc: Global, tdd: Option<(u8, u8)>) -> Result<String
     }
 }
 
-/// Returns three digits, or a dash.
+/// Returns the three digits of a mobile country code, or a dash if it is absent.
 pub(crate) fn mcc_or_dash(alloc: Global, mcc: &Option<[u8; 3]>) -> Result<String, AllocError>
     ensures { IfOk result (λ text. string_bytes text ≡ word_or_dash digits_of mcc.now) }
 {
@@ -50,7 +50,7 @@ pub(crate) fn mcc_or_dash(alloc: Global, mcc: &Option<[u8; 3]>) -> Result<String
     }
 }
 
-/// Returns block codes separated by commas, or a dash if there are none.
+/// Returns system information block codes separated by commas, or a dash if there are none.
 pub(crate) fn sibs_word(alloc: Global, sibs: &[u8]) -> Result<String, AllocError>
     ensures { IfOk result (λ text. string_bytes text ≡ sibs_of sibs.now) }
 {
@@ -60,7 +60,7 @@ pub(crate) fn sibs_word(alloc: Global, sibs: &[u8]) -> Result<String, AllocError
     }
 }
 
-// Returns a code and those that follow it, separated by commas.
+// Returns the block codes `first` and `rest`, separated by commas.
 fn joined(alloc: Global, first: u8, rest: &[u8]) -> Result<String, AllocError>
     ensures { IfOk result (λ text. string_bytes text ≡ sibs_of (first ∷ rest.now)) }
 {
