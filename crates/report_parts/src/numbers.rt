@@ -20,21 +20,21 @@ impl Model for Named {
 }
 
 impl Named {
-    /// Creates a named number.
+    /// Creates a number named `name`.
     pub fn new(name: &'static str, value: u64) -> Named
         ensures { result ≡ (name.now, value) }
     {
         Named { name, value }
     }
 
-    /// Returns the name.
+    /// Returns the number's name in reports.
     pub fn name(&self) -> &'static str
         ensures { result.now ≡ self.now.0 }
     {
         self.name
     }
 
-    /// Returns the number.
+    /// Returns the number without its name.
     pub fn value(&self) -> u64
         ensures { result ≡ self.now.1 }
     {
@@ -42,7 +42,7 @@ impl Named {
     }
 }
 
-/// Returns the cell identity, frame start and frame number. (own)
+/// Returns the numbers that identify the entry: cell identity, frame start and frame number. (own)
 pub fn place_in(evidence: &Evidence) -> [Named; 3]
     ensures { result ≡ place_of evidence.now }
 {
@@ -53,7 +53,7 @@ pub fn place_in(evidence: &Evidence) -> [Named; 3]
     ]
 }
 
-/// Returns the numbers that support the entry, in the order of its line. (own)
+/// Returns the numbers that support the entry, in the order of the entry's line in `evidence`. (own)
 pub fn numbers_in(evidence: &Evidence) -> [Named; 9]
     ensures { result ≡ numbers_of evidence.now }
 {

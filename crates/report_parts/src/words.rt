@@ -32,8 +32,8 @@ pub fn mnc_word(alloc: Global, mnc: &Mnc) -> Result<String, AllocError>
     }
 }
 
-/// Returns `bits` in hexadecimal, one digit for four bits, padded with zeros to a whole byte. Fails only if an
-/// allocation fails.
+/// Returns `bits` in hexadecimal, one digit for four bits, padded with zeros to a multiple of eight bits. Fails only if
+/// an allocation fails.
 pub fn hex_word(alloc: Global, bits: &[bool]) -> Result<String, AllocError>
     ensures { IfOk result (λ text. string_bytes text ≡ hex_of bits.now) }
 {
@@ -44,7 +44,7 @@ pub fn hex_word(alloc: Global, bits: &[bool]) -> Result<String, AllocError>
     Ok(text)
 }
 
-// Returns a hexadecimal digit.
+// Returns the hexadecimal digit for a number up to 15, in lower case; empty for larger numbers.
 fn hex_digit(number: u8) -> &'static str
     ensures { result.now ≡ hex_digit_of number }
 {
@@ -69,7 +69,7 @@ fn hex_digit(number: u8) -> &'static str
     }
 }
 
-// Returns four bits from index 4 `i` as a number.
+// Returns four bits from index `4 * i` as a number; bits past the end are 0.
 fn nibble(bits: &[bool], i: usize) -> u8
     requires { i < 2 * ((length bits.now + 7) / 8) }
     ensures { result ≡ nibble_of bits.now i }
@@ -83,14 +83,14 @@ fn nibble(bits: &[bool], i: usize) -> u8
     number_of(&four) as u8
 }
 
-// Returns a bit, or 0 past the end.
+// Returns bit `i`, or false past the end.
 fn bit(bits: &[bool], i: usize) -> bool
     ensures { result ≡ slice_index_or bits.now i false }
 {
     i < bits.len() && bits[i]
 }
 
-/// Returns the name of the rule that produces a list. (own)
+/// Returns the published name of the list rule for a transmission scheme. (own)
 pub fn rule_word(rule: Carrier) -> &'static str
     ensures { result.now ≡ rule_of rule }
 {
@@ -102,7 +102,7 @@ pub fn rule_word(rule: Carrier) -> &'static str
     }
 }
 
-/// Returns a power in 64 bits; every recording's power fits. (own)
+/// Returns a power as reported: at most 2^64 - 1, which no recording's power exceeds. (own)
 pub fn power_word(power: u128) -> u64
     ensures { result ≡ power_of power }
 {
