@@ -1,4 +1,4 @@
--- A recording's lists by every rule, as JSON. (own)
+-- A recording's cell lists for all transmission schemes, as JSON. (own)
 use Rattle.std.specs.Prelude.{ℕ, List, map, codes}
 use Rattle.std.specs.List.{flat_map}
 use Rattle.serde_json.specs.Data.{Data, string, array, object, put}
@@ -10,14 +10,15 @@ use Rattle.lte_types.specs.Carrier.{carriers}
 use Rattle.report_parts.specs.Words.{rule_word}
 use Rattle.report_json.specs.Cells.{entry_members}
 
--- the object for a cell, with its rule
+-- the object for a cell, with the rule of its list
 abbrev pub ruled_value : Carrier → Entry → Data
 ruled_value carrier entry = object (put (codes "rule") (string (rule_word carrier)) (entry_members entry))
 
+-- the objects for the cells in a list, each with the rule of the list
 abbrev pub ruled_values : Carrier → List Entry → List Data
 ruled_values carrier entries = map (ruled_value carrier) entries
 
--- an array with the cells in the lists for all transmission schemes
+-- the array of the cells in the lists for all transmission schemes, in the order of `carriers`
 abbrev pub all_value : (Carrier → List Entry) → Data
 all_value lists = array (items_of (flat_map (λ carrier. ruled_values carrier (lists carrier)) carriers))
 

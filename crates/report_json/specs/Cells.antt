@@ -16,23 +16,24 @@ use Rattle.report_parts.specs.Words.{mnc_word}
 use Rattle.report_json.specs.Values.{natural, integer, or_null, list_of}
 use Rattle.report_parts.specs.Words.{digits_word}
 
--- a network identity; its digits are strings, to keep leading zeros
+-- the object for a network identity (PLMN); its digits are strings, to keep leading zeros
 abbrev pub plmn_value : Plmn → Data
 plmn_value plmn = object (
     member (codes "mcc") (or_null (λ digits. string (digits_word digits)) plmn.mcc) (
     member (codes "mnc") (string (mnc_word plmn.mnc)) (
     member (codes "reserved") (boolean plmn.reserved) no_members)))
 
--- a schedule entry: its period in frames, and its block codes
+-- the object for a schedule entry: its period in frames, and its block codes
 abbrev pub message_value : SiMessage → Data
 message_value message = object (
     member (codes "period") (natural (period_frames message.period)) (
     member (codes "sibs") (list_of natural message.sibs) no_members))
 
+-- the array for a TDD configuration: subframeAssignment and specialSubframePatterns
 abbrev pub tdd_value : ℕ × ℕ → Data
 tdd_value config = list_of natural (config.0 ∷ config.1 ∷ [])
 
--- other members with a cell's networks and identities added
+-- `members`, with a cell's networks, tracking area code, identity and closed subscriber group added
 abbrev pub identity_members : Sib1 → Members → Members
 identity_members sib1 members =
     put (codes "csg_identity") (or_null natural sib1.csg_identity) (
@@ -41,7 +42,7 @@ identity_members sib1 members =
     put (codes "tac") (natural sib1.tac) (
     put (codes "plmns") (list_of plmn_value sib1.plmns) members))))
 
--- other members with the access fields, the levels for cell selection and the band added
+-- `members`, with the access fields, the levels for cell selection and the band added
 abbrev pub access_members : Sib1 → Members → Members
 access_members sib1 members =
     put (codes "band") (natural sib1.band) (
@@ -51,8 +52,8 @@ access_members sib1 members =
     put (codes "intra") (boolean sib1.intra) (
     put (codes "barred") (boolean sib1.barred) members)))))
 
--- other members with the schedule for system information added: the window in milliseconds, and whether an extension
--- follows
+-- `members`, with the schedule for system information, the window in milliseconds, systemInfoValueTag, the TDD
+-- configuration and the extension flag added
 abbrev pub schedule_members : Sib1 → Members → Members
 schedule_members sib1 members =
     put (codes "extension") (boolean sib1.extended) (
@@ -61,16 +62,16 @@ schedule_members sib1 members =
     put (codes "window") (natural (window_length sib1.window)) (
     put (codes "scheduling") (list_of message_value sib1.scheduling) members))))
 
--- all fields in system information
+-- the object with all fields of SIB1
 abbrev pub sib1_value : Sib1 → Data
 sib1_value sib1 = object (schedule_members sib1 (access_members sib1 (identity_members sib1 no_members)))
 
--- the fields in system information, or the reason why there is none
+-- the object with all fields of SIB1, or with the reason why SIB1 was not read
 abbrev pub system_value : Result Sib1 Sib1Reason → Data
 system_value (Ok sib1) = sib1_value sib1
 system_value (Err reason) = object (member (codes "none") (string (reason_words reason)) no_members)
 
--- other members with a cell's identity, timing and antenna ports added
+-- `members`, with a cell's identity, frame start, frame number and antenna port count added
 abbrev pub cell_members : Entry → Members → Members
 cell_members entry members =
     put (codes "ports") (natural entry.ports) (
@@ -78,7 +79,7 @@ cell_members entry members =
     put (codes "at") (natural entry.start) (
     put (codes "identity") (natural entry.id) members)))
 
--- other members with a cell's MIB added
+-- `members`, with the fields of a cell's MIB added
 abbrev pub block_members : Mib → Members → Members
 block_members mib members =
     put (codes "spare") (natural (rest mib)) (
@@ -87,7 +88,7 @@ block_members mib members =
     put (codes "duration") (string (duration_word mib.duration)) (
     put (codes "bandwidth") (string (bandwidth_word mib.bandwidth)) members))))
 
--- a cell: its identity, timing and MIB, and its system information
+-- the members of a cell's object: its identity, timing, antenna port count, MIB and SIB1
 abbrev pub entry_members : Entry → Members
 entry_members entry =
     put (codes "sib1") (system_value entry.sib1) (block_members entry.mib (cell_members entry no_members))
@@ -98,6 +99,6 @@ entry_value entry = object (entry_members entry)
 abbrev pub report_value : List Entry → Data
 report_value entries = list_of entry_value entries
 
--- the JSON of a list, without spaces
+-- the JSON of a cell list, without spaces
 unfoldable pub json_text : List Entry → List ℕ
 json_text entries = compact_text (report_value entries)

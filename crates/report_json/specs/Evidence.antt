@@ -1,5 +1,5 @@
--- A list's evidence as JSON: an array with an object for each entry, with its numbers by name, its slot, and the bits
--- in its blocks, with its keys in byte order. (own)
+-- A cell list's evidence as JSON: an array with an object for each entry, which has the entry's numbers by name, the
+-- pilots and soft values of its slot, and the bits in its blocks. Keys are in byte order. (own)
 use Rattle.std.specs.Prelude.{ℕ, ◌/◌, Bool, List, [], ◌∷◌, length, codes, ℤ}
 use Rattle.std.specs.Simd.{first_chunks}
 use Rattle.serde_json.specs.Data.{Data, null, string, object, Members, no_members, put}
@@ -14,42 +14,42 @@ use Rattle.report_parts.specs.Words.{hex_word}
 
 -- ---- an entry's slot
 
--- a complex number as a pair
+-- the array with the real and the imaginary part of a complex number
 abbrev pub complex_value : Cpx → Data
 complex_value z = list_of integer (z.re ∷ z.im ∷ [])
 
--- an antenna port's pilots
+-- the array of an antenna port's pilots
 abbrev pub port_value : SeenLine → Data
 port_value line = list_of complex_value line.pilots
 
--- soft values in pairs, one for each resource element
+-- the array of soft values in pairs, one pair for each resource element
 abbrev pub pairs_value : List ℤ → Data
 pairs_value values = list_of (list_of integer) (first_chunks 2 (length values / 2) values)
 
--- other members with each port's pilots and the PBCH soft values added
+-- `members`, with each antenna port's pilots and the PBCH soft values of a slot added
 abbrev pub slot_members : SlotShown → Members → Members
 slot_members slot members =
     put (codes "values") (pairs_value slot.values) (put (codes "channel") (list_of port_value slot.channel) members)
 
 -- ---- the bits in an entry's blocks
 
--- bits in hexadecimal, or null if there are none
+-- the JSON string with bits in hexadecimal, or null if there are none
 abbrev pub bits_value : List Bool → Data
 bits_value [] = null
 bits_value (bit ∷ bits) = string (hex_word (bit ∷ bits))
 
--- other members with the MIB bits and the bits that SIB1 was read from added
+-- `members`, with the MIB bits `master`, and `block`, the bits that SIB1 was read from, added
 abbrev pub block_members : List Bool → List Bool → Members → Members
 block_members master block members =
     put (codes "sib1_block") (bits_value block) (put (codes "mib") (string (hex_word master)) members)
 
--- an entry: the numbers that identify and support it, its slot, and its blocks
+-- the object for a list entry: the numbers that identify and support the entry, its slot, and the bits in its blocks
 abbrev pub support_value : Shown → Data
 support_value shown = object (
     block_members shown.master shown.block (
     slot_members shown.slot (
     put_each (numbers_in shown.numbers) (put_each (place_in shown.numbers) no_members))))
 
--- the JSON of a list's evidence, without spaces
+-- the JSON of a cell list's evidence, without spaces
 unfoldable pub evidence_json : List Shown → List ℕ
 evidence_json list = compact_text (list_of support_value list)

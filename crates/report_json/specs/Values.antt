@@ -5,30 +5,32 @@ use Rattle.serde_json.specs.Find.{of_integer}
 use Rattle.serde_json.specs.View.{items_of}
 use Rattle.serde_json.specs.Written.{compact_text, has_float}
 
--- a whole number that is not negative
+-- the JSON number for a natural number
 abbrev pub natural : ℕ → Data
 natural n = number (unsigned n)
 
+-- the JSON number for an integer
 abbrev pub integer : ℤ → Data
 integer z = number (of_integer z)
 
--- the value, or null if it is absent
+-- the JSON of a value, or null if it is absent
 abbrev pub or_null : {A : Type 0} → (A → Data) → Option A → Data
 or_null value None = null
 or_null value (Some x) = value x
 
+-- the JSON array of a list, with `value` applied to each item
 abbrev pub list_of : {A : Type 0} → (A → Data) → List A → Data
 list_of value xs = array (items_of (map value xs))
 
--- other members with each named number added
+-- `members`, with each named number added under its name
 abbrev pub put_each : List (List ℕ × ℕ) → Members → Members
 put_each [] members = members
 put_each (named ∷ rest) members = put_each rest (put named.0 (natural named.1) members)
 
--- no item's value contains a float
+-- the JSON value of every `x` is free of floating-point numbers
 abbrev pub HasNoFloat : {A : Type 0} → (A → Data) → Type 0
 HasNoFloat {A} value = (x : A) → has_float (value x) ≡ false
 
--- an item's text preceded by a comma
+-- the JSON text of item `x`, preceded by a comma
 abbrev pub after_comma : {A : Type 0} → (A → Data) → A → List ℕ
 after_comma value x = codes "," ++ compact_text (value x)

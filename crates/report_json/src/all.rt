@@ -1,4 +1,4 @@
-//! A recording's lists by every rule, as JSON.
+//! A recording's cell lists for all transmission schemes, as JSON.
 
 ghost use Rattle.std.specs.Prelude.{◌≡◌, ◌++◌, IfOk, OnOk, List, length, map, string_bytes};
 ghost use Rattle.serde_json.specs.View.{view};
@@ -12,8 +12,8 @@ use report_parts::rule_word;
 use serde_json::{ToValue, Value, put};
 use std::alloc::{AllocError, Global};
 
-/// Returns the lists for all transmission schemes, in the order of `Carrier::ALL`, as one JSON array; each cell's
-/// object is as in `json`, with a key for its rule. Fails only if an allocation fails. (own)
+/// Returns the cell `lists` for all transmission schemes, in the order of `Carrier::ALL`, as one JSON array of cell
+/// objects as in `json`, with a key for the rule. Fails only if an allocation fails. (own)
 pub fn json_of_all(alloc: Global, lists: &[EntryList]) -> Result<String, AllocError>
     requires { length lists.now ≡ length carriers }
     ensures { (of : Carrier → List Entry) → lists.now ≡ map of carriers →
@@ -23,7 +23,7 @@ pub fn json_of_all(alloc: Global, lists: &[EntryList]) -> Result<String, AllocEr
     all.to_string(alloc)
 }
 
-// Returns an array with the cells in the lists for all transmission schemes.
+// Returns the array of the cells in the lists for all transmission schemes.
 fn value_of_all(alloc: Global, lists: &[EntryList]) -> Result<Value, AllocError>
     ensures { (of : Carrier → List Entry) → lists.now ≡ map of carriers →
         IfOk result (λ value. view value ≡ all_value of) }
@@ -35,7 +35,7 @@ fn value_of_all(alloc: Global, lists: &[EntryList]) -> Result<Value, AllocError>
     Ok(Value::from(values))
 }
 
-// Adds the values of a list's cells with their rule.
+// Appends to `list` the objects for the cells in `entries`, each with `rule`.
 fn add_ruled(
     alloc: Global,
     rule: Carrier,
@@ -50,7 +50,7 @@ fn add_ruled(
     Ok(())
 }
 
-// Returns the value of a cell with its rule.
+// Returns the object for a cell, with the rule of its list.
 fn ruled_value(alloc: Global, rule: Carrier, entry: &Entry) -> Result<Value, AllocError>
     ensures { IfOk result (λ value. view value ≡ value_of rule entry.now) }
 {

@@ -17,8 +17,8 @@ use serde_json::{Map, ToValue, Value, json, put};
 use std::alloc::{AllocError, Global};
 use std::fmt::Write;
 
-/// Returns the cell list as JSON in one line, without a line feed: an array with one object for each cell, with its
-/// keys in byte order. Fails only if an allocation fails. (own)
+/// Returns a cell list as JSON in one line, without a line feed: an array with one object for each cell, whose keys are
+/// in byte order. Fails only if an allocation fails. (own)
 pub fn json(alloc: Global, entries: &[Entry]) -> Result<String, AllocError>
     ensures { IfOk result (λ text. string_bytes text ≡ json_text entries.now) }
 {
@@ -47,7 +47,7 @@ pub(crate) fn members_of(alloc: Global, entry: &Entry) -> Result<Map<String, Val
     Ok(members)
 }
 
-// Adds a cell's identity, timing and antenna ports.
+// Adds a cell's identity, frame start, frame number and antenna port count.
 fn put_cell(
     alloc: Global,
     entry: &Entry,
@@ -62,7 +62,7 @@ fn put_cell(
     put(members, alloc, "ports", Value::from(entry.ports))
 }
 
-// Adds a cell's MIB.
+// Adds the fields of a cell's MIB.
 fn put_block(alloc: Global, mib: &Mib, members: &mut Map<String, Value>) -> Result<(), AllocError>
     ensures { OnOk result (members_view members.new.entries
         ≡ block_members mib.now (members_view members.old.entries)) }
@@ -89,7 +89,7 @@ fn put_block(alloc: Global, mib: &Mib, members: &mut Map<String, Value>) -> Resu
     put(members, alloc, "spare", Value::from(mib.rest()))
 }
 
-// Returns the value of system information, or of the reason why there is none.
+// Returns the object with all fields of SIB1, or with the reason why SIB1 was not read.
 fn system_value(alloc: Global, sib1: &Result<Sib1, Sib1Reason>) -> Result<Value, AllocError>
     ensures { IfOk result (λ value. view value ≡ system_of sib1.now) }
 {
@@ -102,7 +102,7 @@ fn system_value(alloc: Global, sib1: &Result<Sib1, Sib1Reason>) -> Result<Value,
     }
 }
 
-// Returns the value of system information.
+// Returns the object with all fields of SIB1.
 fn sib1_value(alloc: Global, sib1: &Sib1) -> Result<Value, AllocError>
     ensures { IfOk result (λ value. view value ≡ sib1_of sib1.now) }
 {
@@ -113,7 +113,7 @@ fn sib1_value(alloc: Global, sib1: &Sib1) -> Result<Value, AllocError>
     Ok(Value::from(members))
 }
 
-// Adds a cell's networks and identities.
+// Adds a cell's networks, tracking area code, identity and closed subscriber group.
 fn put_identities(
     alloc: Global,
     sib1: &Sib1,
@@ -152,7 +152,8 @@ fn put_access(
     put(members, alloc, "band", Value::from(sib1.band))
 }
 
-// Adds the schedule for system information.
+// Adds the schedule for system information, the window in milliseconds, systemInfoValueTag, the TDD configuration and
+// the extension flag.
 fn put_schedule(
     alloc: Global,
     sib1: &Sib1,
@@ -175,7 +176,7 @@ fn put_schedule(
     put(members, alloc, "extension", Value::from(sib1.extended))
 }
 
-// The object for a network.
+// The object for a network identity (PLMN).
 impl ToJson for Plmn {
     ghost json_of = { plmn_of };
 
@@ -186,7 +187,7 @@ impl ToJson for Plmn {
     }
 }
 
-// Returns three digits as a string, or null.
+// Returns the three digits of a mobile country code as a string, or null if it is absent.
 fn mcc_value(alloc: Global, mcc: &Option<[u8; 3]>) -> Result<Value, AllocError>
     ensures { IfOk result (λ value. view value ≡ or_null (λ digits. string (digits_of digits)) mcc.now) }
 {
@@ -206,7 +207,7 @@ impl ToJson for SiMessage {
     }
 }
 
-// Returns both numbers of a TDD configuration, or null.
+// Returns the array with the two numbers of a TDD configuration, or null if it is absent.
 fn tdd_value(alloc: Global, tdd: Option<(u8, u8)>) -> Result<Value, AllocError>
     ensures { IfOk result (λ value. view value ≡ or_null tdd_of tdd) }
 {

@@ -1,4 +1,4 @@
-//! Hits as JSON.
+//! PSS detections (hits) as JSON.
 
 ghost use Rattle.std.specs.Prelude.{◌≡◌, IfOk, OnOk, string_bytes};
 ghost use Rattle.serde_json.specs.View.{view, members_view};
@@ -12,7 +12,7 @@ use serde_json::{Map, Value, put};
 use sss_detect::{Choice, Ranking};
 use std::alloc::{AllocError, Global};
 
-/// Returns `hits` as JSON in one line, without a line feed: an array with one object for each hit, with its keys in
+/// Returns `hits` as JSON in one line, without a line feed: an array with one object for each hit, whose keys are in
 /// byte order. Fails only if an allocation fails. (own)
 pub fn json_of_hits(alloc: Global, hits: &[MeasuredHit]) -> Result<String, AllocError>
     ensures { IfOk result (λ text. string_bytes text ≡ hits_json hits.now) }
@@ -20,8 +20,8 @@ pub fn json_of_hits(alloc: Global, hits: &[MeasuredHit]) -> Result<String, Alloc
     list_text(alloc, hits)
 }
 
-/// Returns identified `hits` as JSON, in the form of `json_of_hits`; the two best pairs for a hit are under
-/// `secondary`. Fails only if an allocation fails. (own)
+/// Returns identified `hits` as JSON, in the form of `json_of_hits`; `secondary` has a hit's two best pairs of SSS
+/// group and half frame. Fails only if an allocation fails. (own)
 pub fn json_of_ids(alloc: Global, hits: &[MeasuredId]) -> Result<String, AllocError>
     ensures { IfOk result (λ text. string_bytes text ≡ ids_json hits.now) }
 {
@@ -53,7 +53,7 @@ impl ToJson for MeasuredId {
     }
 }
 
-// The object for a group and a half frame with their score.
+// The object for an SSS group and a half frame, with the score of the pair.
 impl ToJson for Choice {
     ghost json_of = { choice_value };
 
@@ -67,7 +67,7 @@ impl ToJson for Choice {
     }
 }
 
-// The object for the two best pairs.
+// The object for the two best pairs of SSS group and half frame.
 impl ToJson for Ranking {
     ghost json_of = { ranking_value };
 
@@ -109,7 +109,7 @@ fn put_identity(
     put(members, alloc, "at", Value::from(found.start))
 }
 
-// Adds the numbers of a hit's metric.
+// Adds the three numbers of a hit's metric.
 fn put_metric(
     alloc: Global,
     peak: u64,

@@ -1,5 +1,5 @@
 //! JSON reports: the cell list, PSS detections (hits), evidence, interference cancellation, and the frequency offset
-//! estimate. Each is one line without a line feed, and an object's keys are in byte order.
+//! estimate. Each report is one line without a line feed, and the keys of each object are in byte order.
 //!
 //! Tests: the crates `sent_tests`, in `texts.rt`, and `top_tests`, where commands have `--json`.
 #![tactic(auto)]

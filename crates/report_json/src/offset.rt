@@ -1,8 +1,8 @@
 //! The frequency offset estimate as JSON, an object with these keys:
 //!
-//! - `candidates`: an array with one object for each selected candidate, in order: `coarse`, the coarse offset in
-//!   steps of 3.75 kHz; `turn`, the offset; and `peak`, `energy` and `power`, the numbers of its best hit's fraction
-//!   `peak / (energy * power)`.
+//! - `candidates`: an array with one object for each selected candidate, in order of selection: `coarse`, the coarse
+//!   offset in steps of 3.75 kHz; `turn`, the offset in steps of 117.1875 Hz; and `peak`, `energy` and `power`, the
+//!   numbers of its best hit's fraction `peak / (energy * power)`.
 //! - `told`: an object with `cells`, `hits` and `turn` as in `tell_text`, or null.
 
 ghost use Rattle.std.specs.Prelude.{◌≡◌, IfOk, string_bytes};

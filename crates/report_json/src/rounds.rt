@@ -1,10 +1,10 @@
 //! Interference cancellation as JSON, an object with these keys:
 //!
-//! - `cells`: the recording's list, as `json` writes it.
-//! - `ended`: whether the last round cancels no cell.
+//! - `cells`: the recording's cell list, in the form of `json`.
+//! - `ended`: whether the last round found no cell to cancel.
 //! - `rounds`: an array with one object for each cancelled cell: `identity`; `gain`, an array with both components;
 //!   `residue`, the residual's largest component magnitude; `power`, an array with the power before and after; and
-//!   `cells`, the residual's list.
+//!   `cells`, the residual's cell list.
 
 ghost use Rattle.std.specs.Prelude.{◌≡◌, IfOk, string_bytes};
 ghost use Rattle.serde_json.specs.View.{view};
@@ -18,8 +18,8 @@ use serde_json::{Value, json};
 use std::alloc::{AllocError, Global};
 use successive_cancel::{Round, Rounds, cancel_rounds};
 
-/// Returns the rounds of interference cancellation in `recording` as JSON in one line, without a line feed: an object
-/// with `cells`, `ended` and `rounds`. Fails only if an allocation fails. (own)
+/// Returns the interference cancellation in `recording` as JSON in one line, without a line feed: an object with
+/// `cells`, `ended` and `rounds`. Fails only if an allocation fails. (own)
 pub fn cancel_json(alloc: Global, recording: &Recording) -> Result<String, AllocError>
     ensures { IfOk result (λ text. IsCancelJson recording.now (string_bytes text)) }
 {
@@ -36,7 +36,7 @@ pub fn json_of_rounds(alloc: Global, rounds: &Rounds) -> Result<String, AllocErr
     all.to_string(alloc)
 }
 
-// Returns the value of rounds.
+// Returns the object with a recording's cell list and its rounds.
 fn rounds_value(alloc: Global, rounds: &Rounds) -> Result<Value, AllocError>
     ensures { IfOk result (λ value. view value ≡ rounds_of rounds.now) }
 {
@@ -65,7 +65,7 @@ impl ToJson for Round {
     }
 }
 
-// Returns the power before and after as a pair.
+// Returns the array with a recording's power before and after cancellation.
 fn power_value(alloc: Global, before: u64, after: u64) -> Result<Value, AllocError>
     ensures { IfOk result (λ value. view value ≡ powers_value before after) }
 {

@@ -1,4 +1,4 @@
-//! A list's evidence as JSON, an array with one object for each entry. Its keys, in byte order, are:
+//! A cell list's evidence as JSON: an array with one object for each entry. The keys of an object, in byte order, are:
 //!
 //! - the names in `place_in` and `numbers_in`;
 //! - `channel` and `values`: the pilots and the soft values of the entry's slot;
@@ -20,8 +20,8 @@ use serde_json::{Map, Value, put};
 use soft_bits::Pilots;
 use std::alloc::{AllocError, Global};
 
-/// Returns a list's evidence as JSON in one line, without a line feed: an array with one object for each entry. Fails
-/// only if an allocation fails. (own)
+/// Returns a cell list's evidence as JSON in one line, without a line feed: an array with one object for each entry.
+/// Fails only if an allocation fails. (own)
 pub fn json_of_evidence(alloc: Global, list: &[Support]) -> Result<String, AllocError>
     ensures { IfOk result (λ text. string_bytes text ≡ evidence_json list.now) }
 {
@@ -42,7 +42,7 @@ impl ToJson for Support {
     }
 }
 
-// A complex number as a pair.
+// The array with the real and the imaginary part.
 impl ToJson for Cpx {
     ghost json_of = { complex_value };
 
@@ -51,7 +51,7 @@ impl ToJson for Cpx {
     }
 }
 
-// An antenna port's pilots.
+// The array of an antenna port's pilots.
 impl ToJson for Pilots {
     ghost json_of = { port_value };
 
@@ -60,7 +60,7 @@ impl ToJson for Pilots {
     }
 }
 
-// A soft value as a number.
+// The JSON number for a soft value.
 impl ToJson for i16 {
     ghost json_of = { integer };
 
@@ -69,7 +69,7 @@ impl ToJson for i16 {
     }
 }
 
-// A resource element's soft values.
+// The array with the two soft values of a resource element.
 impl ToJson for [i16; 2] {
     ghost json_of = { list_of integer };
 
@@ -78,7 +78,7 @@ impl ToJson for [i16; 2] {
     }
 }
 
-// Adds the pilots and the soft values of an entry's slot.
+// Adds each antenna port's pilots and the PBCH soft values of an entry's slot.
 fn put_slot(
     alloc: Global,
     slot: &SlotShown,
@@ -93,7 +93,7 @@ fn put_slot(
     put(members, alloc, "values", list_value(alloc, pairs)?)
 }
 
-// Adds the bits in an entry's blocks.
+// Adds the MIB bits `master`, and `block`, the bits that SIB1 was read from.
 fn put_blocks(
     alloc: Global,
     master: &[bool],
@@ -112,7 +112,7 @@ fn put_blocks(
     put(members, alloc, "sib1_block", bits_value(alloc, block)?)
 }
 
-// Returns bits in hexadecimal, or null if there are none.
+// Returns the JSON string with `bits` in hexadecimal, or null if there are none.
 fn bits_value(alloc: Global, bits: &[bool]) -> Result<Value, AllocError>
     ensures { IfOk result (λ value. view value ≡ bits_value_of bits.now) }
 {

@@ -19,7 +19,7 @@ pub(crate) trait ToJson {
         ensures { IfOk result (λ value. view value ≡ json_of self.now) };
 }
 
-/// Returns the array with the values of a list. Fails only if an allocation fails. (own)
+/// Returns the JSON array of a list's items. Fails only if an allocation fails. (own)
 pub(crate) fn list_value<T: ToJson>(alloc: Global, items: &[T]) -> Result<Value, AllocError>
     ensures { IfOk result (λ value. view value ≡ list_of T.json_of items.now) }
 {
@@ -30,8 +30,8 @@ pub(crate) fn list_value<T: ToJson>(alloc: Global, items: &[T]) -> Result<Value,
     Ok(Value::from(list))
 }
 
-/// Returns the JSON of a list, without spaces, and holds one item's value at a time. Fails only if an allocation
-/// fails. (own)
+/// Returns the JSON text of a list, without spaces. Only one item's JSON value is in memory at a time. Fails only if an
+/// allocation fails. (own)
 pub(crate) fn list_text<T: ToJson>(alloc: Global, items: &[T]) -> Result<String, AllocError>
     ensures { HasNoFloat T.json_of →
         IfOk result (λ text. string_bytes text ≡ compact_text (list_of T.json_of items.now)) }
@@ -42,7 +42,7 @@ pub(crate) fn list_text<T: ToJson>(alloc: Global, items: &[T]) -> Result<String,
     }
 }
 
-// Returns the JSON of a list that is not empty.
+// Returns the JSON text of the list with the items `first` and `rest`.
 fn some_text<T: ToJson>(alloc: Global, first: &T, rest: &[T]) -> Result<String, AllocError>
     ensures { HasNoFloat T.json_of →
         IfOk result (λ text. string_bytes text ≡ compact_text (list_of T.json_of (first.now ∷ rest.now))) }
@@ -54,7 +54,7 @@ fn some_text<T: ToJson>(alloc: Global, first: &T, rest: &[T]) -> Result<String, 
     Ok(text)
 }
 
-// Appends the JSON of items, each preceded by a comma.
+// Appends the JSON text of each item, preceded by a comma.
 fn add_rest<T: ToJson>(alloc: Global, items: &[T], text: &mut String) -> Result<(), AllocError>
     ensures { HasNoFloat T.json_of →
         OnOk result (string_bytes text.new ≡ string_bytes text.old ++ flat_map (after_comma T.json_of) items.now) }
@@ -66,7 +66,7 @@ fn add_rest<T: ToJson>(alloc: Global, items: &[T], text: &mut String) -> Result<
     Ok(())
 }
 
-// Appends the JSON of an item.
+// Appends the JSON text of an item.
 fn add_text<T: ToJson>(alloc: Global, item: &T, text: &mut String) -> Result<(), AllocError>
     ensures { HasNoFloat T.json_of →
         OnOk result (string_bytes text.new ≡ string_bytes text.old ++ compact_text (T.json_of item.now)) }
@@ -76,14 +76,14 @@ fn add_text<T: ToJson>(alloc: Global, item: &T, text: &mut String) -> Result<(),
     text.push_str(&json)
 }
 
-/// Returns the array with two values. Fails only if an allocation fails. (own)
+/// Returns the JSON array with two values. Fails only if an allocation fails. (own)
 pub(crate) fn pair_value(alloc: Global, first: Value, second: Value) -> Result<Value, AllocError>
     ensures { IfOk result (λ value. view value ≡ array (item (view first) (item (view second) no_items))) }
 {
     json!(in alloc; [first, second])
 }
 
-// A block code as a number.
+// The JSON number for a system information block code.
 impl ToJson for u8 {
     ghost json_of = { natural };
 
