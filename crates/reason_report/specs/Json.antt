@@ -1,4 +1,5 @@
--- The reasons for an identity as JSON: one object, without spaces, whose keys are in the order of their bytes. (own)
+-- The reasons why a cell identity is in a cell list, or is not, as JSON: one object, without spaces, whose keys are in
+-- byte order. (own)
 use Rattle.std.specs.Prelude.{ℕ, ℤ, List, [], ◌∷◌, ◌++◌, codes, unwrap_or}
 use Rattle.std.specs.List.{flat_map}
 use Rattle.std.specs.Fmt.{decimal, signed_decimal}
@@ -12,16 +13,21 @@ use Rattle.reason_report.specs.Words.{no_hit_word, unread_word}
 
 -- ---- objects
 
+-- the object for a listed cell: its first frame's start and number, and its antenna port count
 abbrev pub listed_json : ℕ → ℕ → ℕ → List ℕ
 listed_json start sfn ports =
     codes "{\"at\":" ++ decimal start ++ codes ",\"ports\":" ++ decimal ports ++ codes ",\"rule\":\"listed\",\"sfn\":"
     ++ decimal sfn ++ codes "}"
 
+-- the object for an identity without a hit: the sample where the PSS is strongest, and its energy fraction in
+-- thousandths; a hit has at least 250
 abbrev pub strongest_json : List ℕ → ℕ → ℕ → List ℕ
 strongest_json word t ratio =
     codes "{\"best\":" ++ decimal t ++ codes ",\"needs\":250,\"ratio\":" ++ decimal ratio ++ codes ",\"rule\":\""
     ++ word ++ codes "\"}"
 
+-- the object for a hit too early for an SSS: its sample and energy fraction, and `step`, the first sample with room for
+-- an SSS
 abbrev pub room_json : ℕ → ℕ → ℕ → List ℕ
 room_json t ratio step =
     codes "{\"hit\":" ++ decimal t ++ codes ",\"needs\":" ++ decimal step ++ codes ",\"ratio\":" ++ decimal ratio
@@ -54,7 +60,7 @@ unread_json cell =
     cost_part cell.start cell.attempt.cost cell.t cell.attempt.phase (unwrap_or cell.attempt.ports 0)
     ++ total_part cell.ratio (unread_word cell.attempt) cell.attempt.total
 
--- the object of a reason
+-- the JSON object for a reason
 abbrev pub reason_json : Reason → List ℕ
 reason_json (Listed cell) = listed_json cell.start cell.sfn cell.ports
 reason_json (NoHit place) = strongest_json (no_hit_word place.ratio) place.t place.ratio
@@ -62,17 +68,18 @@ reason_json (NoRoom hit) = room_json hit.t hit.ratio hit.step
 reason_json (OtherIdentity cell) = other_json cell
 reason_json (NoMib cell) = unread_json cell
 
--- ---- the text
+-- ---- the complete JSON
 
--- objects with commas between them
+-- the JSON objects for reasons, separated by commas
 abbrev pub objects_json : List Reason → List ℕ
 objects_json [] = []
 objects_json (first ∷ rest) = reason_json first ++ flat_map (λ reason. codes "," ++ reason_json reason) rest
 
--- what stands before the objects: the identity, and the rule of the list
+-- the JSON before the objects: the cell identity and the rule of the list
 abbrev pub front_json : ℕ → List ℕ → List ℕ
 front_json id rule =
     codes "{\"identity\":" ++ decimal id ++ codes ",\"list\":\"" ++ rule ++ codes "\",\"reasons\":["
 
+-- the JSON of the reasons why identity `id` is in the list for transmission scheme `carrier`, or is not
 unfoldable pub reasons_json : ℕ → Carrier → List Reason → List ℕ
 reasons_json id carrier reasons = front_json id (rule_word carrier) ++ objects_json reasons ++ codes "]}"

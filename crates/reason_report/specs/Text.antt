@@ -1,4 +1,5 @@
--- The text of the reasons for an identity. Numbers are decimal, and every line ends with a line feed. (own)
+-- The text of the reasons why a cell identity is in a cell list, or is not. Numbers are decimal, and every line ends
+-- with a line feed. (own)
 use Rattle.std.specs.Prelude.{ℕ, ℤ, List, ◌++◌, length, codes, unwrap_or}
 use Rattle.std.specs.List.{flat_map}
 use Rattle.std.specs.Fmt.{decimal, signed_decimal}
@@ -12,16 +13,19 @@ use Rattle.reason_report.specs.Words.{no_hit_word, unread_word}
 
 -- ---- lines
 
+-- the line for a listed cell: its first frame's start and number, and its antenna port count
 abbrev pub listed_line : ℕ → ℕ → ℕ → List ℕ
 listed_line start sfn ports =
     codes "listed at " ++ decimal start ++ codes " sfn " ++ decimal sfn
     ++ codes " ports " ++ decimal ports ++ codes "\n"
 
+-- the line for an identity without a hit: the sample where the PSS is strongest, and its energy fraction in
+-- thousandths; a hit has at least 250
 abbrev pub strongest_line : List ℕ → ℕ → ℕ → List ℕ
 strongest_line word t ratio =
     word ++ codes " best " ++ decimal t ++ codes " ratio " ++ decimal ratio ++ codes " needs 250\n"
 
--- a rule, and the hit that it fails at
+-- the part with the rule that a hit fails, the hit's sample, and its energy fraction in thousandths
 abbrev pub hit_part : List ℕ → ℕ → ℕ → List ℕ
 hit_part word t ratio = word ++ codes " hit " ++ decimal t ++ codes " ratio " ++ decimal ratio
 
@@ -47,7 +51,7 @@ unread_line cell =
     hit_part (unread_word cell.attempt) cell.t cell.ratio
     ++ attempt_part cell.start cell.attempt.phase cell.attempt.cost cell.attempt.total (unwrap_or cell.attempt.ports 0)
 
--- the line of a reason
+-- the line for a reason
 abbrev pub reason_line : Reason → List ℕ
 reason_line (Listed cell) = listed_line cell.start cell.sfn cell.ports
 reason_line (NoHit place) = strongest_line (no_hit_word place.ratio) place.t place.ratio
@@ -57,10 +61,11 @@ reason_line (NoMib cell) = unread_line cell
 
 -- ---- the text
 
--- the first line: the identity, the rule of the list, and the count of reasons
+-- the first line: the cell identity, the rule of the list, and the number of reasons
 abbrev pub reasons_head : ℕ → List ℕ → ℕ → List ℕ
 reasons_head id rule count =
     codes "why " ++ decimal id ++ codes " " ++ rule ++ codes " " ++ decimal count ++ codes "\n"
 
+-- the text of the reasons why identity `id` is in the list for transmission scheme `carrier`, or is not
 unfoldable pub reasons_text : ℕ → Carrier → List Reason → List ℕ
 reasons_text id carrier reasons = reasons_head id (rule_word carrier) (length reasons) ++ flat_map reason_line reasons

@@ -1,4 +1,4 @@
-//! The JSON of reasons.
+//! The reasons for a cell identity as JSON.
 
 ghost use Rattle.std.specs.Prelude.{◌≡◌, ◌++◌, IfOk, OnOk, codes, string_bytes};
 ghost use Rattle.std.specs.List.{flat_map};
@@ -14,8 +14,8 @@ use report_parts::rule_word;
 use std::alloc::{AllocError, Global};
 use std::fmt::Write;
 
-/// Returns the `reasons` for `id` in the list of `carrier` as JSON in one line, without a line feed: an object with
-/// both and an array of objects. Fails only if an allocation fails. (own)
+/// Returns the `reasons` why identity `id` is in the list for `carrier`, or is not, as a JSON object in one line,
+/// without a line feed. Fails only if an allocation fails. (own)
 pub fn json_of_reasons(
     alloc: Global,
     id: CellId,
@@ -36,7 +36,7 @@ fn front_json(alloc: Global, id: u16, rule: &str) -> Result<String, AllocError>
     format!(in alloc; "{{\"identity\":{id},\"list\":\"{rule}\",\"reasons\":[")
 }
 
-// Appends the objects, with commas between them.
+// Appends the JSON object for each reason, separated by commas.
 fn add_objects(alloc: Global, reasons: &[Reason], text: &mut String) -> Result<(), AllocError>
     ensures { OnOk result (string_bytes text.new ≡ string_bytes text.old ++ objects_json reasons.now) }
 {
@@ -50,7 +50,7 @@ fn add_objects(alloc: Global, reasons: &[Reason], text: &mut String) -> Result<(
     }
 }
 
-// Appends objects, each after a comma.
+// Appends the JSON object for each reason, preceded by a comma.
 fn add_rest(alloc: Global, reasons: &[Reason], text: &mut String) -> Result<(), AllocError>
     ensures { OnOk result (string_bytes text.new
         ≡ string_bytes text.old ++ flat_map (λ reason. codes "," ++ reason_of reason) reasons.now) }
@@ -63,7 +63,7 @@ fn add_rest(alloc: Global, reasons: &[Reason], text: &mut String) -> Result<(), 
     Ok(())
 }
 
-// The object of a reason.
+// Returns the JSON object for a reason.
 fn reason_json(alloc: Global, reason: &Reason) -> Result<String, AllocError>
     ensures { IfOk result (λ object. string_bytes object ≡ reason_of reason.now) }
 {

@@ -1,4 +1,6 @@
-//! The reasons for an identity, as text and as JSON.
+//! The reasons why a cell identity is in a cell list, or is not, as text and as JSON.
+//!
+//! Tests: the crate `top_tests`, in `why.rt`.
 #![tactic(auto)]
 
 mod json;

@@ -1,4 +1,4 @@
-//! The text of reasons.
+//! The reasons for a cell identity as text.
 
 ghost use Rattle.std.specs.Prelude.{◌≡◌, ◌++◌, IfOk, OnOk, string_bytes};
 ghost use Rattle.std.specs.List.{flat_map};
@@ -15,8 +15,8 @@ use report_parts::rule_word;
 use std::alloc::{AllocError, Global};
 use std::fmt::Write;
 
-/// Returns the text of the `reasons` for `id` in the list of `carrier`: a line with both and the count of reasons, and
-/// a line for each. Fails only if an allocation fails. (own)
+/// Returns the text of the `reasons` why identity `id` is in the list for `carrier`, or is not: a heading, then a line
+/// for each reason. Fails only if an allocation fails. (own)
 pub fn text_of_reasons(
     alloc: Global,
     id: CellId,
@@ -36,7 +36,7 @@ fn reasons_head(alloc: Global, id: u16, rule: &str, count: usize) -> Result<Stri
     format!(in alloc; "why {id} {rule} {count}\n")
 }
 
-// Appends the line of each reason.
+// Appends the line for each reason.
 fn add_lines(alloc: Global, reasons: &[Reason], text: &mut String) -> Result<(), AllocError>
     ensures { OnOk result (string_bytes text.new ≡ string_bytes text.old ++ flat_map reason_of reasons.now) }
 {
@@ -47,7 +47,7 @@ fn add_lines(alloc: Global, reasons: &[Reason], text: &mut String) -> Result<(),
     Ok(())
 }
 
-// The line of a reason.
+// Returns the line for a reason.
 fn reason_line(alloc: Global, reason: &Reason) -> Result<String, AllocError>
     ensures { IfOk result (λ line. string_bytes line ≡ reason_of reason.now) }
 {
