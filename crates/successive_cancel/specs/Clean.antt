@@ -18,27 +18,27 @@ use Rattle.successive_cancel.specs.declared.round.Round.{Round}
 use Rattle.successive_cancel.specs.declared.round.Rounds.{Rounds}
 use Rattle.successive_cancel.specs.Rounds.{IsTakenOff, NoneIsTakenOff, AreRounds, IsCancelled}
 
--- the entry belongs to the cell that has a frame with this number at this sample
+-- `entry` belongs to the cell of `plan`, whose first frame starts at sample `first` with frame number `number`
 pub record IsOfCell (plan : CellPlan) (first number : ℕ) (entry : Entry) : Type 0 where
   pub id : entry.id ≡ plan.identity
   pub start : entry.start ≡ first
   pub sfn : entry.sfn ≡ number
 
--- a round cancels the cell, and no component of the residual is larger than `most`
+-- `round` cancels the cell of `plan`, and no component of the residual exceeds `most` in magnitude
 pub record TakesCell (recording : List Sample) (plan : CellPlan) (start number most : ℕ) (round : Round) : Type 0 where
   pub id : round.id ≡ plan.identity
   pub subtracted : IsSubtracted recording plan start number round.taken
   pub left : IsLeftWithin most round.taken
 
--- a round cancels the cell of one of these entries
+-- `round` cancels the cell of one of `entries`
 pub record TakesOneOf (recording : List Sample) (entries : List Entry) (round : Round) : Type 0 where
   pub entry : Entry
   pub inside : Contains entries entry
   pub id : round.id ≡ entry.id
   pub taken : IsTakenOff recording entry round.taken
 
--- the list has an entry for the cell, and the first round cancels the cell or one listed before it; if no cell before
--- it can be cancelled, the round cancels the cell
+-- `list` has an entry for the cell of `plan`, and the first of `rounds` cancels that cell or one listed before it; if
+-- no cell listed before it can be cancelled, the round cancels the cell of `plan`
 pub record IsTakenFirst (recording : List Sample) (list : List Entry) (rounds : List Round) (plan : CellPlan)
     (start number most : ℕ) : Type 0 where
   pub before : List Entry
@@ -54,8 +54,8 @@ pub record IsTakenFirst (recording : List Sample) (list : List Entry) (rounds : 
 
 -- ---- laws
 
--- if the recording is clean and its cell can be sent, the first round cancels it and leaves at most the errors, unless
--- it cancels a cell listed before it
+-- if a recording is clean for a cell that can be sent, the first round cancels that cell or one listed before it; if it
+-- cancels that cell, no component of the residual exceeds the noise bound `eps`
 abbrev pub CleanCellIsTakenFirst : Type 0
 CleanCellIsTakenFirst =
     (recording : List Sample) (rounds : Rounds) (plan : CellPlan) (sfn offset : ℕ) (gain : Cpx) (eps : ℕ) →
@@ -63,7 +63,9 @@ CleanCellIsTakenFirst =
     IsClean recording plan sfn offset gain eps →
     IsTakenFirst recording rounds.first rounds.taken.items plan (start_of offset) (number_at_start sfn offset) eps
 
--- if the cell also carries load, the round leaves at most the residual for the true gain, if that is at most 32,767
+-- if a recording is clean except for load, for a cell that can be sent, the first round cancels that cell or one listed
+-- before it; if it cancels that cell, the residual does not exceed `most`, any bound up to 32,767 on the residual for
+-- the true gain
 abbrev pub LoadedCellIsTakenFirst : Type 0
 LoadedCellIsTakenFirst =
     (recording : List Sample) (rounds : Rounds) (plan : CellPlan) (grid : Elements) (sfn offset : ℕ) (gain : Cpx)
@@ -73,7 +75,8 @@ LoadedCellIsTakenFirst =
     IsWithin most (left_at recording plan (start_of offset) (number_at_start sfn offset) gain i)) →
     IsTakenFirst recording rounds.first rounds.taken.items plan (start_of offset) (number_at_start sfn offset) most
 
--- each later round does the same if the previous residual is clean
+-- if a residual is clean for a cell that can be sent, the next round cancels that cell or one listed before it; if it
+-- cancels that cell, no component of the new residual exceeds `eps`
 abbrev pub CleanCellIsTakenNext : Type 0
 CleanCellIsTakenNext =
     (most : ℕ) (recording : List Sample) (list : List Entry) (rounds : List Round) (ended : Bool) (plan : CellPlan)

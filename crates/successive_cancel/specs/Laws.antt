@@ -1,4 +1,4 @@
--- Laws of rounds. (own)
+-- Laws of cancellation rounds. (own)
 use Rattle.std.specs.Prelude.{◌≡◌, ◌↔◌, ℕ, zero, suc, ◌<◌, ◌≤◌, Bool, true, List, [], ◌∷◌, length}
 use Rattle.std.specs.List.{Contains}
 use Rattle.cs_num.specs.declared.Sample.{Sample}
@@ -8,18 +8,19 @@ use Rattle.successive_cancel.specs.declared.round.Round.{Round}
 use Rattle.successive_cancel.specs.declared.round.Rounds.{Rounds}
 use Rattle.successive_cancel.specs.Rounds.{IsTakenOff, NoneIsTakenOff, IsCancelled}
 
--- the residual and its list after a number of rounds
+-- the residual after the given number of rounds, or after all rounds if there are fewer
 abbrev pub recording_after : ℕ → List Sample → List Round → List Sample
 recording_after zero recording rounds = recording
 recording_after (suc n) recording [] = recording
 recording_after (suc n) recording (round ∷ rest) = recording_after n round.taken.residue rest
 
+-- the cell list after the given number of rounds, or after all rounds if there are fewer
 abbrev pub list_after : ℕ → List Entry → List Round → List Entry
 list_after zero list rounds = list
 list_after (suc n) list [] = list
 list_after (suc n) list (round ∷ rest) = list_after n round.list rest
 
--- round n cancels the cell of an entry in the previous list, and holds the residual's list
+-- round `n` cancels the cell of an entry in the previous list, and contains the residual and the residual's cell list
 pub record IsRoundIn (recording : List Sample) (list : List Entry) (rounds : List Round) (n : ℕ) : Type 0 where
   pub entry : Entry
   pub round : Round
@@ -28,8 +29,8 @@ pub record IsRoundIn (recording : List Sample) (list : List Entry) (rounds : Lis
   pub residue : recording_after (suc n) recording rounds ≡ round.taken.residue
   pub listed : IsListOfCells round.taken.residue (list_after (suc n) list rounds)
 
--- the rounds in plain words: at most `most` rounds cancel a cell. They are fewer exactly if the next round cancels
--- none, because no entry in the last list can be cancelled
+-- the rounds in plain words: at most `most` rounds cancel a cell. There are fewer than `most` exactly if `ended` is
+-- true, and then no entry in the last list can be cancelled
 pub record AreInPlainWords (most : ℕ) (recording : List Sample) (list : List Entry) (rounds : List Round)
     (ended : Bool) : Type 0 where
   pub few : length rounds ≤ most
@@ -38,6 +39,7 @@ pub record AreInPlainWords (most : ℕ) (recording : List Sample) (list : List E
   pub last : ended ≡ true →
       NoneIsTakenOff (recording_after (length rounds) recording rounds) (list_after (length rounds) list rounds)
 
+-- a law: the rounds of every recording satisfy `AreInPlainWords`, with a maximum of four rounds
 abbrev pub RoundsInPlainWords : Type 0
 RoundsInPlainWords = (recording : List Sample) (rounds : Rounds) → IsCancelled recording rounds →
     AreInPlainWords 4 recording rounds.first rounds.taken.items rounds.ended

@@ -11,19 +11,19 @@ use Rattle.cancel.specs.Residue.{IsSubtracted}
 use Rattle.successive_cancel.specs.declared.round.Round.{Round}
 use Rattle.successive_cancel.specs.declared.round.Rounds.{Rounds}
 
--- an entry's cell is cancelled: the entry has a plan, and the plan's cell is subtracted where its first frame begins,
--- with that frame's number
+-- the cell of `entry` is cancelled: `entry` has a plan, and the plan's cell is subtracted from `recording`, with the
+-- start and the number of the entry's first frame
 pub record IsTakenOff (recording : List Sample) (entry : Entry) (taken : Subtracted) : Type 0 where
   pub plan : CellPlan
   pub planned : IsPlanned recording entry plan
   pub subtracted : IsSubtracted recording plan entry.start entry.sfn taken
 
--- no entry in the list has a cell that can be cancelled
+-- no entry in a list has a cell that can be cancelled
 abbrev pub NoneIsTakenOff : List Sample → List Entry → Type 0
 NoneIsTakenOff recording entries =
     (entry : Entry) (taken : Subtracted) → Contains entries entry → IsTakenOff recording entry taken → ⊥
 
--- a round: it cancels the first entry whose cell can be cancelled, and lists the residual
+-- `round` cancels the first entry in `list` whose cell can be cancelled, and contains the cell list of the residual
 pub record IsRound (recording : List Sample) (list : List Entry) (round : Round) : Type 0 where
   pub before : List Entry
   pub entry : Entry
@@ -34,15 +34,15 @@ pub record IsRound (recording : List Sample) (list : List Entry) (round : Round)
   pub id : round.id ≡ entry.id
   pub listed : IsListOfCells round.taken.residue round.list
 
--- at most `most` rounds, each on the previous residual and its list. A round without an entry that can be cancelled is
--- the last, and sets `ended`
+-- a sequence of rounds, at most the given number, each on the previous residual and its list. The sequence ends early,
+-- and `ended` is true, if no entry can be cancelled
 abbrev pub AreRounds : ℕ → List Sample → List Entry → List Round → Bool → Type 0
 AreRounds zero recording list rounds ended = (rounds ≡ []) × (ended ≡ false)
 AreRounds (suc most) recording list [] ended = (ended ≡ true) × NoneIsTakenOff recording list
 AreRounds (suc most) recording list (round ∷ rest) ended =
     IsRound recording list round × AreRounds most round.taken.residue round.list rest ended
 
--- a recording's list and its rounds: at most four
+-- `rounds` is the cell list of `recording` and at most four rounds
 pub record IsCancelled (recording : List Sample) (rounds : Rounds) : Type 0 where
   pub listed : IsListOfCells recording rounds.first
   pub follow : AreRounds 4 recording rounds.first rounds.taken.items rounds.ended

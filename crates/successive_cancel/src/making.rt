@@ -1,4 +1,4 @@
-//! A recording's rounds.
+//! The cancellation rounds of a recording.
 
 ghost use Rattle.std.specs.Prelude.{◌≡◌, IfOk, IfSome};
 ghost use Rattle.std.specs.List.{AllZip};
@@ -22,8 +22,8 @@ use std::alloc::{AllocError, Global};
 // The maximum number of rounds.
 const MOST_ROUNDS: u8 = 4;
 
-/// Returns the cell list of `recording` and at most four rounds. Each cancels the first cell that can be cancelled and
-/// lists the residual; without such a cell they end early. Fails only if an allocation fails. (own)
+/// Returns the cell list of `recording` and at most four rounds, each of which cancels the first cell that can be
+/// cancelled and lists the residual. Fails only if an allocation fails. (own)
 pub fn cancel_rounds(
     alloc: Global,
     recording: &Recording,
@@ -41,7 +41,7 @@ pub fn cancel_rounds(
     })
 }
 
-// Lists a recording's cells, and leaves the readings of the entries in the workspace.
+// Returns a recording's cell list, and leaves a reading (how the cell was decoded) of each entry in `work`.
 fn list_of(
     alloc: Global,
     recording: &Recording,
@@ -55,8 +55,8 @@ fn list_of(
     Ok(list)
 }
 
-// Runs at most `most` rounds from this power and list, and returns whether the last found no entry. The workspace
-// holds the readings of the list's entries.
+// Runs at most `most` rounds on a recording with power `power` and cell list `list`, whose readings are in `work`. Also
+// returns whether no entry of the last list can be cancelled.
 fn rounds_on(
     alloc: Global,
     most: u8,
@@ -90,8 +90,8 @@ fn rounds_on(
     }
 }
 
-// Runs a round from this power and list, or returns `None` if no cell can be cancelled. The workspace holds the
-// readings of the list's entries, afterwards of the new list's.
+// Runs a round on a recording with power `power` and cell list `list`, or returns `None` if no cell can be cancelled.
+// Replaces the list's readings in `work` by those of the new list.
 fn round_on(
     alloc: Global,
     recording: &Recording,
@@ -123,7 +123,7 @@ fn round_on(
     Ok(None)
 }
 
-// Cancels an entry's cell in a recording with this power, or returns `None` if it cannot be cancelled.
+// Cancels an entry's cell in a recording with power `power`, or returns `None` if the cell cannot be cancelled.
 fn taken_off(
     alloc: Global,
     recording: &Recording,

@@ -1,4 +1,4 @@
-//! One round, and all rounds of a recording.
+//! One cancellation round, and all rounds of a recording.
 
 use cancel::Subtracted;
 use explain::EntryList;
@@ -9,7 +9,7 @@ use lte_types::CellId;
 pub struct Round {
     /// The identity of the cancelled cell.
     pub id: CellId,
-    /// The gain of the cell, and the residual.
+    /// The gain of the cancelled cell, the residual, and the power before and after.
     pub taken: Subtracted,
     /// The cell list of the residual.
     pub list: EntryList,
@@ -22,6 +22,6 @@ pub struct Rounds {
     pub first: EntryList,
     /// The rounds that cancelled a cell, in order: at most four.
     pub taken: Vec<Round>,
-    /// Whether a further round found no cell to cancel. If not, there were four.
+    /// Whether no cell in the last list can be cancelled. If false, there are four rounds.
     pub ended: bool,
 }
