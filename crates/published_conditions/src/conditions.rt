@@ -55,7 +55,7 @@ pub fn later_group(id: CellId, symbol: u8, n: u8) -> [Place; 4]
     grid_map::reg_places(id, Reg { symbol, first })
 }
 
-/// Calls `grid_map::quadruplet` with up to 66 resource-element groups.
+/// Calls `grid_map::quadruplet` for group `r` of up to 66 resource-element groups.
 pub fn carried(id: CellId, count: u8, r: u8) -> u8
     requires inside { r < count }
     requires most { count ≤ 66 }
@@ -71,7 +71,7 @@ pub fn slot_of(seen: [[Cpx; 72]; 7], number: u8, id: CellId) -> Slot
     Slot::new(seen, number, id)
 }
 
-/// Calls `dci::riv` with 1 to 6 resource blocks.
+/// Calls `dci::riv` with 1 to 6 resource blocks, all within the carrier's six.
 pub fn indication(start: u8, blocks: u8) -> u8
     requires some { 1 ≤ blocks }
     requires inside { start + blocks ≤ 6 }
@@ -79,7 +79,7 @@ pub fn indication(start: u8, blocks: u8) -> u8
     dci::riv(start, blocks)
 }
 
-/// Calls `dci::write` with any grant whose transport block size is in the two columns.
+/// Calls `dci::write` with any grant whose transport block size is in column 2 or 3.
 pub fn written(grant: &Grant) -> Bits<21>
     requires some { 1 ≤ grant.now.blocks }
     requires inside { grant.now.start + grant.now.blocks ≤ 6 }
@@ -130,7 +130,7 @@ const ROWS: [Row; 31] = rows![
     (1024, 31, 64)
 ];
 
-/// Returns row `n` of the 31 rows that are used in TS 36.212 table 5.1.3-3.
+/// Returns row `n` of the 31 interleaver rows used from TS 36.212 table 5.1.3-3.
 pub fn row_at(n: usize) -> Row
     requires { n < 31 }
     ensures { IsRow result }
@@ -138,7 +138,7 @@ pub fn row_at(n: usize) -> Row
     ROWS[n]
 }
 
-/// Calls `turbo_code::encode` with a block of row `n`'s size, or returns `None` for another size.
+/// Calls `turbo_code::encode` if `bits` has the block size of row `n`; otherwise returns `None`.
 pub fn coded(bits: &[bool], n: usize) -> Option<Coded>
     requires { n < 31 }
 {
@@ -150,7 +150,8 @@ pub fn coded(bits: &[bool], n: usize) -> Option<Coded>
     }
 }
 
-/// Calls `turbo_code::match_out` with a code block of row `n`'s size, up to bit 4,096.
+/// Calls `turbo_code::match_out` for output bit `i`, at most 4,096, if `coded` has the block size of row `n`; otherwise
+/// returns `None`.
 pub fn sent_bit(coded: &Coded, n: usize, rv: u8, i: usize) -> Option<bool>
     requires row { n < 31 }
     requires version { rv ≤ 3 }
@@ -172,7 +173,7 @@ pub fn combined(values: &[i16], n: usize, rv: u8) -> Combined
     turbo_code::combine(values, row_at(n), rv)
 }
 
-/// Calls `turbo_dec::half` with 1 to 1,024 values of each kind, all of magnitude up to 4,096.
+/// Calls `turbo_dec::half` with 1 to 1,024 systematic, parity and prior values of magnitude up to 4,096.
 pub fn halved(
     systematic: &[i32],
     parity: &[i32],
@@ -194,7 +195,8 @@ pub fn halved(
     turbo_dec::half(systematic, parity, tail, prior, out, work);
 }
 
-/// Calls `turbo_dec::decode` with sums of a row's size, of magnitude up to 2,047.
+/// Calls `turbo_dec::decode` with sums of magnitude up to 2,047 if they have the block size of row `n`; otherwise
+/// returns `None`.
 pub fn decoded(sums: &Combined, n: usize, work: &mut Work) -> Option<Block>
     requires row { n < 31 }
     requires small { All (All (IsAtMost 2047)) sums.now.d }
@@ -207,7 +209,8 @@ pub fn decoded(sums: &Combined, n: usize, work: &mut Work) -> Option<Block>
     }
 }
 
-/// Calls `erasure::fills` with as many bits as the row has, of which up to 1,224 coded ones are sent.
+/// Calls `erasure::fills` for up to 1,224 sent coded bits if `bits` has the block size of row `n`; otherwise returns
+/// `None`.
 pub fn resolved(bits: &[bool], n: usize, sent: u16) -> Option<bool>
     requires row { n < 31 }
     requires sent { sent ≤ 1224 }

@@ -1,5 +1,6 @@
-//! Checks that published preconditions do not become stronger and that the order of published variants does not change.
-//! Calls whose precondition is a definition of their crate are made here under preconditions written as numbers.
+//! Checks that published preconditions do not become stronger, and that the order of published variants does not
+//! change. If a call's precondition is a definition of the call's crate, it is called here under a precondition written
+//! in numbers.
 //!
 //! Tests: none of its own; its proofs are the test.
 #![tactic(auto)]

@@ -1,4 +1,4 @@
-//! Calls that need an entry in a recording's cell list, each with an entry that `explain` has just listed.
+//! Calls that need an entry in a recording's cell list, made with an entry that `explain` has just listed.
 
 use dci::Grant;
 use explain::{EntryList, Workspace, explain, grant_of, values_of};

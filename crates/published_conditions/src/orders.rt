@@ -1,5 +1,5 @@
-//! The published order of variants, which callers see through `as`. Enums with data (`Status`, `Sib1Reason`, `Mnc`,
-//! `JsonError`) have no visible order.
+//! The published order of variants, which callers see if they cast with `as`. Enums with data (`Status`, `Sib1Reason`,
+//! `Mnc`, `JsonError`) have no visible order.
 
 ghost use Rattle.std.specs.Prelude.{◌≡◌, [], ◌∷◌};
 

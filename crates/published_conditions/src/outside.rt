@@ -1,4 +1,4 @@
-//! A caller's own source and sink, with only what the two traits require.
+//! A caller's own source and sink, which implement only the required members of the two traits.
 
 ghost use Rattle.std.specs.Prelude.{[], None, Some};
 
