@@ -1,4 +1,4 @@
-// Calls on values in any state, each under its own precondition alone.
+// Calls on arbitrary values, under the precondition of the call alone.
 ghost use Rattle.std.specs.Prelude.{◌≡◌, ◌+◌, ◌*◌, ◌^◌, ◌<◌, ◌≤◌, All, length, nat_abs, pos, ◌<ℤ◌, ◌≤ℤ◌};
 ghost use Rattle.cs_num.specs.Complex.{largest_part};
 ghost use Rattle.finite.specs.Sizes.{RowsWithin};
@@ -109,7 +109,7 @@ fn refill(certificate: &mut Certificate, values: &[[i32; 3]; 40], work: &mut Tre
     tail_cert::fill(certificate, values, work);
 }
 
-// Returns whether these calls give the expected numbers.
+// Returns whether `square`, `rounded` and `quotient` return the expected numbers.
 fn have_values(a: Cpx) -> bool
     requires { largest_part a ≤ 2 ^ 30 }
 {

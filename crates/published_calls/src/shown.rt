@@ -16,7 +16,7 @@ use std::fmt::Debug;
 use tail_cert::BadCertificate;
 use turbo_code::Row;
 
-// Returns whether two values are equal; both can be printed.
+// Returns whether two values of a printable type are equal.
 fn is<T: Debug + PartialEq>(value: &T, other: &T) -> bool {
     value == other
 }

@@ -17,7 +17,8 @@ use std::test::Fail;
 use tailbite::Trellis;
 use test_support::silent_recording;
 
-// Returns the soft values at a resource element of a slot, if the slot keeps its number and cell identity.
+// Returns the soft values at a resource element of a slot, or `None` if the slot does not have the given number and
+// cell identity.
 fn values_at(seen: [[Cpx; 72]; 7], number: u8, id: CellId, symbol: u8, k: u8) -> Option<[i16; 2]>
     requires number { number < 20 }
     requires small { AreSmall seen }
@@ -35,7 +36,7 @@ fn values_at(seen: [[Cpx; 72]; 7], number: u8, id: CellId, symbol: u8, k: u8) ->
     }
 }
 
-// Returns the MIB in some slots, and the first sum that it is decoded from.
+// Returns the MIB in `slots`, if there is one, and the first sum of the soft values.
 fn master_of(slots: &[Slot], phase: u8, work: &mut Trellis) -> (Option<Master>, i32)
     requires some { 0 < length slots.now }
     requires period { phase + length slots.now ≤ 4 }
@@ -56,7 +57,7 @@ fn master_with(mib: Mib) -> Master {
     }
 }
 
-// Returns the CFI, the count of control channel elements, and whether there is a PDCCH candidate.
+// Returns the CFI in `slot`, the number of control channel elements, and whether there is a PDCCH candidate.
 fn control_of(slot: &Slot, cfi: Cfi, mib: Mib) -> (u8, u8, bool)
     requires { slot.now.number ≡ 10 }
 {
@@ -66,7 +67,7 @@ fn control_of(slot: &Slot, cfi: Cfi, mib: Mib) -> (u8, u8, bool)
     (indicator.value(), count, candidate.is_some())
 }
 
-// Counts the soft values of a grant.
+// Counts the PDSCH soft values for a grant.
 fn count_of(first: &Slot, second: &Slot, cfi: Cfi, grant: &Grant, out: &mut [i16; 1224]) -> usize
     requires first { first.now.number ≡ 10 }
     requires second { second.now.number ≡ 11 }

@@ -8,7 +8,7 @@ use std::alloc::{AllocError, Global};
 use turbo_code::{Coded, Combined, Row, combine, encode, match_out, row_of};
 use turbo_dec::{Block, Work, decode, half};
 
-// Returns whether a transport block size has this table row.
+// Returns whether `row` is the interleaver table's row for a transport block size.
 fn has_row(size: u16, row: Row) -> bool {
     let found: Option<Row> = row_of(size);
     found == Some(row)
