@@ -27,7 +27,7 @@ pub fn certificate_of_zeros(alloc: Global) -> Result<Vec<u8>, AllocError>
     Ok(bytes)
 }
 
-/// Writes a sample at index `at`.
+/// Writes a 16-bit sample at sample index `at`.
 pub fn put_sample(bytes: &mut [u8], at: usize, re: i16, im: i16)
     requires { 4 * at + 4 ≤ length bytes.old }
 {
@@ -35,7 +35,7 @@ pub fn put_sample(bytes: &mut [u8], at: usize, re: i16, im: i16)
     bytes[4 * at + 2..4 * at + 4].copy_from_slice(&im.to_le_bytes());
 }
 
-/// Adds `error` to each component at even samples, and subtracts it at odd samples.
+/// Adds `error` to both components of each even sample, and subtracts `error` from those of each odd sample.
 pub fn add_errors(bytes: &mut [u8], error: i16) {
     for i in 0..bytes.len() / 2 {
         let signed = if i / 2 % 2 == 0 {
@@ -48,7 +48,7 @@ pub fn add_errors(bytes: &mut [u8], error: i16) {
     }
 }
 
-/// Subtracts `error` from each positive component, and adds it to the others.
+/// Subtracts `error` from each positive component, and adds `error` to all other components.
 pub fn oppose(bytes: &mut [u8], error: i16) {
     for i in 0..bytes.len() / 2 {
         let sent = i16::from_le_bytes([bytes[2 * i], bytes[2 * i + 1]]);

@@ -1,9 +1,9 @@
-//! The plain cell: its description, and its cell list. The last value of a key counts, so keys appended to a
-//! description override it.
+//! The plain cell: its description, and its cell list. If a description repeats a key, the last value counts, so
+//! appended keys override earlier ones.
 
 use std::alloc::{AllocError, Global};
 
-/// The plain cell without its SIB1 and without braces: identity 0, offset 0, 57,600 samples, and gain 1.
+/// The keys of the plain cell's description, without braces and SIB1: identity 0, offset 0, 57,600 samples, and gain 1.
 pub const PLAIN_KEYS: &str =
     "\"identity\": 0, \"sfn\": 0, \"offset\": 0, \"samples\": 57600, \"gain\": [1, 0], \
     \"duration\": \"normal\", \"resource\": \"one\", \"spare\": 0, \"cfi\": 2, \"start\": 0, \"blocks\": 6, \
@@ -23,7 +23,8 @@ plmn 001 01 free
 si rf8 -
 ";
 
-/// Returns the plain cell's description with `change` and its SIB1 with `block`; both start with a comma.
+/// Returns the plain cell's description, with the keys `change` appended, and the keys `block` appended to its SIB1.
+/// Each is empty or starts with a comma.
 pub fn description(alloc: Global, change: &str, block: &str) -> Result<String, AllocError> {
     format!(in alloc; "{{{PLAIN_KEYS}, \"sib1\": {{{BLOCK_KEYS}{block}}}{change}}}")
 }

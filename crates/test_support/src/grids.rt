@@ -15,8 +15,8 @@ pub type Rows = [&'static [u8; 72]; 5];
 pub const EMPTY: &[u8; 72] =
     b"........................................................................";
 
-/// Symbols 0 to 4 of slot 1 for identity 0, from the reference implementation: width n50, PHICH normal and one, upper
-/// bits 0, spare bits 0, one port, phase 0.
+/// Symbols 0 to 4 of slot 1 for identity 0, from the reference implementation: bandwidth n50, PHICH duration normal and
+/// resource one, upper frame number bits 0, spare bits 0, one antenna port, phase 0.
 pub const WIDE: Rows = [
     b"321.22230.20323.23211.31000.11321.11110.03230.33021.11103.21202.21130.33",
     b".02.03.31.20.13.22.31.02.32.01.13.02.02.11.01.13.11.22.10.12.23.32.21.30",
@@ -25,7 +25,7 @@ pub const WIDE: Rows = [
     b"...0.....3.....3.....3.....2.....2.....0.....1.....3.....3.....0.....0..",
 ];
 
-/// Returns the constellation point for `digit`.
+/// Returns the QPSK constellation point for `digit`, or 0 for any other character.
 pub fn point_of(digit: u8) -> Cpx
     ensures { IsWithin 90 result }
 {
@@ -76,7 +76,7 @@ pub fn secondary_grid() -> [Cpx; 72]
     middle(&values)
 }
 
-// Returns a grid with these values on the middle 62 subcarriers, clamped to 127.
+// Returns a grid with `values`, clamped to magnitude 127, on the middle 62 subcarriers.
 fn middle(values: &[Cpx; 62]) -> [Cpx; 72]
     ensures { All (IsWithin 127) result }
 {
@@ -94,7 +94,7 @@ fn empty() -> [Cpx; 72]
     level(bounded(Cpx::ZERO))
 }
 
-// Clamps both components to 127.
+// Clamps both components to magnitude 127.
 fn bounded(value: Cpx) -> Cpx
     ensures { IsWithin 127 result }
 {

@@ -54,7 +54,7 @@ pub fn put_rows(samples: &mut [Sample], frame: usize, rows: &Rows)
     }
 }
 
-/// Writes a symbol every 400 samples, 141 times, from sample 1000.
+/// Writes 141 copies of a symbol's useful part, one every 400 samples from sample 1000.
 pub fn send_often(samples: &mut [Sample], grid: &[Cpx; 72])
     requires room { length samples.old ≡ 57600 }
     requires small { All (IsWithin 127) grid.now }
@@ -64,7 +64,7 @@ pub fn send_often(samples: &mut [Sample], grid: &[Cpx; 72])
     }
 }
 
-/// Returns 30 ms of a cell 50 resource blocks wide, with one MIB.
+/// Returns 30 ms of a cell 50 resource blocks wide, whose MIB is in the first frame only.
 pub fn wide_cell(alloc: Global) -> Result<Vec<Sample>, AllocError> {
     let mut samples = silent(alloc, 57_600)?;
     put_signals(&mut samples[..], 0);
@@ -72,7 +72,7 @@ pub fn wide_cell(alloc: Global) -> Result<Vec<Sample>, AllocError> {
     Ok(samples)
 }
 
-/// Returns whether `at` has the sample of each row at its index.
+/// Returns whether `at` returns the sample of each row for the row's index.
 pub fn are_samples<F: Fn(u32) -> Option<Sample>>(rows: &[(u32, i16, i16)], at: F) -> bool
     requires { F.IsAlwaysCallable at }
 {

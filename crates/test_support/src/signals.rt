@@ -39,7 +39,7 @@ pub const SECONDARY: [i16; 256] = [
     -94, 86, -48, 61, 32, 68, 57, 72, 6, 46,
 ];
 
-/// Writes a signal into the bytes of a recording, from sample `at`.
+/// Writes a symbol of 128 samples into the bytes of a recording, from sample `at`.
 pub fn put_signal(bytes: &mut [u8], at: usize, components: &[i16; 256])
     requires { 4 * at + 512 ≤ length bytes.old }
 {
@@ -48,7 +48,7 @@ pub fn put_signal(bytes: &mut [u8], at: usize, components: &[i16; 256])
     }
 }
 
-/// Writes a signal into samples.
+/// Writes a symbol into 128 samples.
 pub fn write_signal(samples: &mut [Sample], components: &[i16; 256])
     requires { length samples.old ≡ 128 }
 {

@@ -11,18 +11,18 @@ pub struct Summary {
     pub count: usize,
     /// The first four samples.
     pub front: [(i16, i16); 4],
-    /// The sums.
+    /// The sums of the real and of the imaginary parts, without weights and then weighted by position.
     pub sums: [i64; 4],
 }
 
-/// Returns whether `recording` has this summary.
+/// Returns whether `summary` is the summary of `recording`.
 pub fn is_summed_up(recording: &Recording, summary: &Summary) -> bool {
     recording.len() == summary.count
         && front(recording) == summary.front
         && sums(recording) == summary.sums
 }
 
-// Returns the sums of a summary. The weights are 1 to 999 and 0, repeated.
+// Returns the four sums in a recording's summary. The weights are 1 to 999 and 0, repeated.
 fn sums(recording: &Recording) -> [i64; 4] {
     let (mut re, mut im) = (0i64, 0i64);
     let (mut far_re, mut far_im) = (0i64, 0i64);

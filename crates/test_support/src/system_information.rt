@@ -2,7 +2,7 @@
 
 use lte_types::{Mnc, Plmn, Plmns, Schedule, SiMessage, Sib1, Sibs};
 
-/// Returns a scheduling entry with this period code and these SIB codes.
+/// Returns a scheduling entry with period code `period` and SIB codes `codes`.
 pub fn message(period: u8, codes: &[u8]) -> SiMessage {
     let mut sibs = Sibs::new();
     for code in codes {
@@ -11,7 +11,8 @@ pub fn message(period: u8, codes: &[u8]) -> SiMessage {
     SiMessage { period, sibs }
 }
 
-/// Returns a SIB1 with network 001/01, no options, and one scheduling entry without SIBs and with this period code.
+/// Returns a SIB1 with network 001/01, no optional fields, and one scheduling entry, with period code `period` and no
+/// SIBs.
 pub fn information(period: u8) -> Sib1 {
     let mut plmns = Plmns::new();
     plmns.push(Plmn {
