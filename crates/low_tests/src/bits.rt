@@ -16,7 +16,7 @@ fn a_word_keeps_its_bits(rt: HostRuntime) {
     assert!(rt; is_100(&Bits::new([true, false, false])));
 }
 
-// Returns whether a word has the six bits of 38.
+// Returns whether a word's six bits are the number 38.
 fn is_38(word: &Bits<6>) -> bool {
     *word == Bits::new([true, false, false, true, true, false])
         && word.field(0, 6) == 38
@@ -81,7 +81,7 @@ fn high_bits_first(alloc: Global, bytes: &[u8]) -> Result<Vec<bool>, AllocError>
     Ok(bits)
 }
 
-// Returns whether these are the CRC-16 and the CRC-24A of `bits`.
+// Returns whether `of_16` and `of_24` are the CRC-16 and the CRC-24A of `bits`.
 fn has_remainders(bits: &[bool], of_16: u16, of_24: u32) -> bool {
     crc16(bits) == of_16 && crc24a(bits) == of_24
 }

@@ -1,6 +1,6 @@
 use lte_types::{CellId, CellPlace, Frames};
 
-// Returns whether `CellPlace` accepts this start sample, and keeps its parts.
+// Returns whether `CellPlace` accepts the start sample `start`, and returns its parts unchanged.
 fn can_stand_at(start: u32) -> bool {
     let id = CellId::of(2, 1);
     match CellPlace::new(id, start) {
@@ -16,7 +16,7 @@ fn first_frames_start_within_one_frame(rt: HostRuntime) {
     assert!(rt; !can_stand_at(19_200));
 }
 
-// Returns whether `Frames` accepts these values, and keeps them.
+// Returns whether `Frames` accepts `count`, `first` and `phase`, and returns them unchanged.
 fn can_be_looked_at(count: u8, first: u8, phase: u8) -> bool {
     match Frames::new(count, first, phase) {
         Some(frames) => {
@@ -43,7 +43,8 @@ fn frames_are_of_one_period_and_of_the_first_eight(rt: HostRuntime) {
     }
 }
 
-// Returns whether a MIB with these upper bits, decoded from one frame, gives the first frame this number.
+// Returns whether a MIB with upper frame number bits `upper`, decoded from frame `first` at `phase`, gives the first
+// frame the number `number`.
 fn is_numbered(first: u8, phase: u8, upper: u8, number: u16) -> bool {
     match Frames::new(1, first, phase) {
         Some(frames) => frames.first_number(upper).value() == number,
@@ -51,7 +52,8 @@ fn is_numbered(first: u8, phase: u8, upper: u8, number: u16) -> bool {
     }
 }
 
-// 4 * 2 + 1 = 9; three frames earlier 6; 4 * 255 + 3 = 1,023; frame 1,023 precedes frame 0.
+// The frame number is 4 times the upper bits plus the phase: 4 * 2 + 1 = 9, and 6 three frames earlier; 4 * 255 + 3 =
+// 1,023. Frame 1,023 precedes frame 0.
 #[test]
 fn the_first_frame_is_numbered_by_the_block(rt: HostRuntime) {
     assert!(rt; is_numbered(0, 1, 2, 9));

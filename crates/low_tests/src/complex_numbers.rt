@@ -71,7 +71,8 @@ fn great_numbers_are_clamped_to_samples(rt: HostRuntime) {
     assert!(rt; Cpx { re: 5, im: -6 }.nearest_sample() == Sample { re: 5, im: -6 });
 }
 
-// Returns whether `Gain` accepts these components, and keeps them and their value.
+// Returns whether `Gain` accepts the components `re` and `im`, and then has the same components and their complex
+// number.
 fn is_gain(re: i16, im: i16) -> bool {
     match Gain::new(re, im) {
         Some(gain) => {
@@ -86,7 +87,7 @@ fn is_gain(re: i16, im: i16) -> bool {
     }
 }
 
-// The squared magnitudes are 1, 784, 761 and 784.
+// The squared magnitudes of the gains are 1, 784, 761 and 784.
 #[test]
 fn gains_have_sizes_of_1_to_28(rt: HostRuntime) {
     for (re, im) in [(1, 0), (0, -28), (-20, 19), (28, 0)] {
@@ -94,7 +95,7 @@ fn gains_have_sizes_of_1_to_28(rt: HostRuntime) {
     }
 }
 
-// The squared magnitudes are 0, 785, 800 and 2^31.
+// The squared magnitudes of the refused numbers are 0, 785, 800 and 2^31.
 #[test]
 fn smaller_and_greater_numbers_are_no_gains(rt: HostRuntime) {
     for (re, im) in [(0, 0), (28, 1), (20, 20), (-32_768, -32_768)] {

@@ -17,7 +17,7 @@ fn nothing_is_read_past_the_end(rt: HostRuntime) {
     assert!(rt; ends_after_eight(&mut reader));
 }
 
-// Returns whether the field at bit 4 is out of range, and the one at bit 5 is past the end.
+// Returns whether a reader reports a field out of range at bit 4, and a field past the end at bit 5.
 fn has_bad_fields_at_4_and_5(reader: &mut Reader) -> bool {
     reader.flag() == Ok(true)
         && reader.number(3, 0, 3) == Ok(3)
@@ -38,7 +38,7 @@ fn takes_eight_more(writer: &mut Writer) -> bool {
     writer.put(0b1000_0001, 8) && !writer.put(0, 1) && writer.put(0, 0)
 }
 
-// Returns whether there are 1,000 bits, which end in 10000001.
+// Returns whether `bits` has 1,000 bits, which end in 10000001.
 fn ends_as_put(bits: &[bool]) -> bool {
     bits.len() == 1000 && bits[992] && !bits[993] && bits[999]
 }
@@ -53,7 +53,7 @@ fn no_bit_is_put_after_the_thousandth(rt: HostRuntime) {
     assert!(rt; ends_as_put(writer.bits()));
 }
 
-// Returns a sheet with 992 bits.
+// Returns a `Sheet` with 992 bits.
 fn nearly_full() -> Sheet {
     let mut sheet = Sheet::new();
     for _ in 0..31_u32 {

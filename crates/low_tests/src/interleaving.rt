@@ -1,6 +1,6 @@
 use sub_block::{Code, cell_at};
 
-// Returns whether the column permutation of `code` begins with these columns, for one row.
+// Returns whether the column permutation of `code` begins with `columns`, for one row.
 fn begins(code: Code, columns: [usize; 6]) -> bool {
     for m in 0..6_usize {
         if cell_at(code, 1, m) != columns[m] {
@@ -10,7 +10,8 @@ fn begins(code: Code, columns: [usize; 6]) -> bool {
     true
 }
 
-// Returns whether the column permutation of `code` has these columns at index 16 and at the end, for one row.
+// Returns whether the column permutation of `code` has column `middle` at index 16 and column `end` at index 31, for
+// one row.
 fn goes_on(code: Code, middle: usize, end: usize) -> bool {
     cell_at(code, 1, 16) == middle && cell_at(code, 1, 31) == end
 }
@@ -23,7 +24,8 @@ fn columns_of_both_codes(rt: HostRuntime) {
     assert!(rt; goes_on(Code::Convolutional, 0, 30));
 }
 
-// Returns whether three rows are read with `foot` at the bottom of the first column, and `head` at the top of the next.
+// Returns whether a matrix of three rows is read with index `foot` at the bottom of the first column, and `head` at the
+// top of the next.
 fn turns_to_a_column(code: Code, foot: usize, head: usize) -> bool {
     cell_at(code, 3, 2) == foot && cell_at(code, 3, 3) == head
 }

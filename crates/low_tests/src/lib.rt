@@ -1,4 +1,4 @@
-//! Tests of the crates for numbers, bits, sources and sinks, plain values, and the signals that a cell sends first:
+//! Tests of the crates for numbers, bits, sources and sinks, plain values, and synchronisation and reference signals:
 //! `cs_num`, `cs_bits`, `cs_outside`, `lte_types`, `sample_file`, `uper`, `sub_block`, `fold128`, `gold`, `crs`,
 //! `sync_seq` and `observe`.
 #![tactic(auto)]

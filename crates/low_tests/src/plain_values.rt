@@ -39,7 +39,7 @@ fn carriers_have_ports_and_a_prefix(rt: HostRuntime) {
     assert!(rt; is_sent_by(Carrier::LongPrefix, 1, Prefix::EXTENDED));
 }
 
-// Returns whether `Assignment` accepts these resource blocks, and keeps its parts.
+// Returns whether `Assignment` accepts `cfi`, `start` and `blocks`, and returns its parts unchanged.
 fn can_be_assigned(cfi: u8, start: u8, blocks: u8) -> bool {
     let Some(indicator) = Cfi::new(cfi) else {
         return false;
@@ -164,14 +164,14 @@ fn fields_reach_to_the_ends_of_their_ranges(rt: HostRuntime) {
     assert!(rt; !rare.valid());
 }
 
-// Returns whether a window has this code, this length in milliseconds and this name.
+// Returns whether the window with code `code` has the given length in milliseconds and name.
 fn is_window(code: u8, milliseconds: u8, name: &str) -> bool {
     window::milliseconds(code) == milliseconds
         && window::name(code) == name
         && window::code_of(milliseconds) == Some(code)
 }
 
-// Returns whether a period has this code, this length in frames and this name.
+// Returns whether the period with code `code` has the given length in frames and name.
 fn is_period(code: u8, frames: u16, name: &str) -> bool {
     period::frames(code) == frames
         && period::name(code) == name

@@ -14,7 +14,7 @@ fn refusal(alloc: Global, form: SampleForm, count: usize) -> Result<Option<FileE
     Ok(read_as(alloc, &mut source, form).err())
 }
 
-// Returns why `count` bytes are refused if the source returns 1,000 bytes a call and the listed calls fail.
+// Returns why `count` bytes are refused if the source returns 1,000 bytes a call and fails at the calls in `fails`.
 fn refusal_with_faults(
     alloc: Global,
     count: usize,
@@ -24,7 +24,7 @@ fn refusal_with_faults(
     Ok(read_recording(alloc, &mut source).err())
 }
 
-// Returns whether a recording that begins with these bytes, followed by zeros, has this first sample.
+// Returns whether `sample` is the first sample of a recording that begins with `bytes`, followed by zeros.
 fn begins_with(
     alloc: Global,
     form: SampleForm,
@@ -40,7 +40,7 @@ fn begins_with(
     })
 }
 
-// Returns whether exactly the first 57,600 samples are kept from `count` bytes, which count up from 0.
+// Returns whether exactly the first 57,600 samples are kept of `count` bytes. The bytes are 0 to 250, repeated.
 fn keeps_the_first(alloc: Global, count: usize) -> Result<bool, AllocError> {
     let mut input = vec![in alloc; 0u8; count]?;
     for i in 0..input.len() {
@@ -55,7 +55,7 @@ fn keeps_the_first(alloc: Global, count: usize) -> Result<bool, AllocError> {
     )
 }
 
-// Returns why `count` zero bytes are refused if the first 57,600 samples are kept.
+// Returns why `count` zero bytes are refused by `read_front`, which keeps the first 57,600 samples.
 fn refusal_of_front(alloc: Global, count: usize) -> Result<Option<FileError>, AllocError> {
     let mut source = MemSource::new(vec![in alloc; 0u8; count]?);
     Ok(read_front(alloc, &mut source, SampleForm::Ci16, 57_600).err())
@@ -109,7 +109,7 @@ fn bytes_stand_for_odd_numbers_from_minus_255_to_255(rt: HostRuntime) -> Result<
     Ok(())
 }
 
-// Returns whether a recording of samples 1 + 1j has a larger imaginary part at sample 1,000.
+// Returns whether the samples around sample 1,000 are 1 + 1j, and sample 1,000 is 1 + 255j.
 fn has_a_greater_sample_at_1000(recording: &Recording) -> bool {
     recording.len() == 57_600
         && recording.get(999) == Sample { re: 1, im: 1 }

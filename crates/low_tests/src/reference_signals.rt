@@ -6,7 +6,8 @@ use lte_types::{Carrier, CellId};
 use std::process::Abort;
 use test_support::point_of;
 
-// Returns whether the reference signals are on every sixth subcarrier from `first`, with the points of these digits.
+// Returns whether the reference signals are on every sixth subcarrier from `first`, with the constellation points of
+// `digits`.
 fn are_points(pilots: &[(u8, Cpx); 12], first: usize, digits: &[u8; 12]) -> bool
     requires { first < 6 }
 {
@@ -31,8 +32,8 @@ fn pilots_of_port_0(rt: HostRuntime) {
     assert!(rt; are_points(&pilots(id_of(&rt, 503), 19, 4), 2, b"020111000113"));
 }
 
-// Returns whether the first reference signal of port 2 or 3 is at subcarrier `first`, and symbol 1 has the points of
-// these digits.
+// Returns whether the first reference signal of port 2 or 3 is at subcarrier `first`, and symbol 1 has the
+// constellation points of `digits`.
 fn are_upper(port: u8, id: CellId, slot: u8, first: u8, digits: &[u8; 12]) -> bool
     requires { slot < 20 }
 {
@@ -51,8 +52,8 @@ fn pilots_of_ports_2_and_3_change_places(rt: HostRuntime) {
     assert!(rt; are_upper(three, last, 19, 5, b"132230211310"));
 }
 
-// Returns whether twelve values from index `from`, in symbol 4 of slot 11 for cell 77 with this many resource blocks,
-// have the points of these digits.
+// Returns whether twelve reference signals from index `from`, in symbol 4 of slot 11 for cell 77 with `blocks` resource
+// blocks, have the constellation points of `digits`.
 fn are_wide(rt: &impl Abort, blocks: u8, from: u8, digits: &[u8; 12]) -> bool
     requires blocks { blocks ≤ 110 }
     requires from { from + 12 ≤ 2 * blocks }

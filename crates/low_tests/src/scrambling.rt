@@ -2,7 +2,7 @@ ghost use Rattle.std.specs.Prelude.{◌^◌, ◌<◌};
 
 use gold::fill;
 
-// Returns whether the scrambling sequence begins with these 40 bits.
+// Returns whether the scrambling sequence for `c_init` begins with the 40 bits in `text`.
 fn begins(c_init: u32, text: &[u8; 40]) -> bool
     requires { c_init < 2 ^ 31 }
 {

@@ -5,8 +5,8 @@ use std::alloc::{AllocError, Global};
 use std::test::Fail;
 use test_support::silent;
 
-// Returns the OFDM symbol at sample 1,000, in a recording with `count` copies of `sample` from there and silence
-// elsewhere.
+// Returns the OFDM symbol at sample 1,000 of a recording that has `count` copies of `sample` from sample 1,000, and is
+// silent elsewhere.
 fn seen_of(alloc: Global, sample: Sample, count: usize) -> Result<Option<[Cpx; 72]>, AllocError> {
     let mut samples = silent(alloc, 57_600)?;
     for place in samples.iter_mut().skip(1000).take(count) {

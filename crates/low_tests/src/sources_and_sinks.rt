@@ -10,7 +10,7 @@ use std::io;
 use std::io::{ErrorKind, Read, Write};
 use std::test::Fail;
 
-// Returns a source of these bytes that returns at most `most` a call and fails at one call.
+// Returns a source of `bytes` that returns at most `most` bytes a call, and fails at call `call`.
 fn failing(alloc: Global, bytes: &[u8], call: u64, most: usize) -> Result<FailSource, AllocError>
     requires { 0 < most }
 {
@@ -124,14 +124,14 @@ fn are_written(alloc: Global, fails: u64, most: usize) -> Result<bool, AllocErro
 #[test]
 fn each_write_is_given_all_that_is_left_of_its_piece(rt: HostRuntime) -> Result<(), Fail> {
     let alloc = rt.alloc();
-    // The second call fails, so the first must get the whole piece.
+    // The second call fails, so the first must accept the complete piece.
     assert!(rt; are_written(alloc, 1, 16)?);
     // A call accepts at most five bytes, so three calls write all eleven, and the fourth is not made.
     assert!(rt; are_written(alloc, 3, 5)?);
     Ok(())
 }
 
-// A reader and a writer whose calls all fail.
+// A reader and writer whose calls all fail.
 #[derive(Drop)]
 struct Broken;
 
@@ -164,7 +164,7 @@ impl Write for Stuck {
     }
 }
 
-// A reader and a writer whose first call fails.
+// A reader and writer whose first call fails.
 #[derive(Drop)]
 struct FailsOnce {
     failed: bool,
@@ -194,13 +194,13 @@ impl Write for FailsOnce {
     }
 }
 
-// Returns whether the first read fails, and the next one returns the end.
+// Returns whether the first read fails, and the second returns the end of the input.
 fn fails_at_the_first_read(source: &mut StdSource<FailsOnce>) -> bool {
     let mut into = [0u8; 4];
     source.read(&mut into) == Err(Failed) && source.read(&mut into) == Ok(0)
 }
 
-// Returns whether the first write fails, and the next one accepts everything.
+// Returns whether the first write fails, and the second accepts everything.
 fn fails_at_the_first_write(sink: &mut StdSink<FailsOnce>) -> bool {
     sink.write(b"hello") == Err(Failed) && sink.write(b"hello") == Ok(5)
 }

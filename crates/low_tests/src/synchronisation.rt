@@ -14,7 +14,7 @@ fn the_first_values_of_each_root(rt: HostRuntime) {
     }
 }
 
-// Returns whether both values next to the middle are `middle`, and the last is 127.
+// Returns whether both PSS values next to the omitted middle one are `middle`, and the last is 127.
 fn has_middle(values: &[Cpx; 62], middle: Cpx) -> bool {
     values[30] == middle && values[31] == middle && values[61] == Cpx { re: 127, im: 0 }
 }

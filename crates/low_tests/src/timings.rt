@@ -1,7 +1,7 @@
 use lte_types::{Sfn, Timing, timings_come_back};
 
-// The frame number and offset of the first sample, then the first frame start and its frame number. A start is 19,200
-// minus the offset if that is not 0; the number is then one more, modulo 1,024.
+// Each row has the frame number and the offset of the first sample, then the start and the number of the first complete
+// frame. If the offset is not 0, the start is 19,200 minus the offset, and the number is one more, modulo 1,024.
 const ROWS: [(u16, u32, u32, u16); 5] = [
     (5, 0, 0, 5),
     (5, 1, 19_199, 6),
@@ -10,7 +10,7 @@ const ROWS: [(u16, u32, u32, u16); 5] = [
     (0, 9_600, 9_600, 1),
 ];
 
-// Returns whether a recording with this timing has its first frame start at sample `start`.
+// Returns whether the first complete frame of a recording with the given timing starts at sample `start`.
 fn starts_at(sfn: u16, offset: u32, start: u32) -> bool {
     match Timing::new(Sfn::modulo(sfn as u64), offset) {
         Some(timing) => timing.start() == start,
@@ -18,7 +18,7 @@ fn starts_at(sfn: u16, offset: u32, start: u32) -> bool {
     }
 }
 
-// Returns whether the frame at the first frame start has this number.
+// Returns whether the first complete frame of a recording with this timing has frame number `number`.
 fn is_numbered(sfn: u16, offset: u32, number: u16) -> bool {
     match Timing::new(Sfn::modulo(sfn as u64), offset) {
         Some(timing) => timing.number_at_start().value() == number,
@@ -26,7 +26,7 @@ fn is_numbered(sfn: u16, offset: u32, number: u16) -> bool {
     }
 }
 
-// Returns whether a recording with a row's timing has its first frame start and number.
+// Returns whether a recording with a row's timing has the row's first frame start and number.
 fn starts(row: (u16, u32, u32, u16)) -> bool {
     let (sfn, offset, start, number) = row;
     starts_at(sfn, offset, start) && is_numbered(sfn, offset, number)
@@ -42,7 +42,7 @@ fn comes_back(row: (u16, u32, u32, u16)) -> bool {
     timing.sfn.value() == sfn && timing.offset == offset
 }
 
-// Returns the frame number at a sample, if the first sample is sample 19,199 of frame 1,023.
+// Returns the frame number at sample `i` of a recording whose first sample is sample 19,199 of frame 1,023.
 fn number_at(i: u32) -> u16 {
     let timing = Timing {
         sfn: Sfn::modulo(1023),

@@ -4,7 +4,7 @@ ghost use Rattle.cs_num.specs.Complex.{IsWithin};
 use cs_num::{Cpx, Sample};
 use fold128::{synth, transform, w, z63};
 
-// Returns a grid with one nonzero value.
+// Returns a grid with `value` on subcarrier `k`, and 0 elsewhere.
 fn one_value(k: usize, value: Cpx) -> [Cpx; 72]
     requires k { k < 72 }
     requires small { IsWithin 127 value }
@@ -41,7 +41,7 @@ fn tables_at_the_ends_of_their_parts(rt: HostRuntime) {
     assert!(rt; z63(32) == Cpx { re: -127, im: -6 });
 }
 
-// Returns whether the phase advances by a quarter cycle every 32 samples.
+// Returns whether the phase of samples 0, 32 and 64 advances by a quarter cycle each.
 fn turns_once(samples: &[Cpx; 128]) -> bool {
     samples[0] == Cpx { re: 11, im: 11 }
         && samples[32] == Cpx { re: -11, im: 11 }
@@ -68,7 +68,7 @@ fn six_samples() -> [Sample; 128] {
     samples
 }
 
-// Returns whether one subcarrier for each residue modulo 4, and both outer ones, have the expected sums.
+// Returns whether one subcarrier for each residue modulo 4, and both outermost subcarriers, have the expected sums.
 fn has_sums_of_six_samples(seen: &[Cpx; 72]) -> bool {
     seen[0]
         == Cpx {
