@@ -9,7 +9,7 @@ use tail_cert::{
 };
 use tailbite::Trellis;
 
-// Returns a pseudorandom soft value from -6 to 6.
+// Returns the pseudorandom soft value for bit `k` of stream `t`, from -6 to 6.
 fn value(k: usize, t: usize) -> i32
     requires place { k < 40 }
     requires stream { t < 3 }
@@ -18,7 +18,7 @@ fn value(k: usize, t: usize) -> i32
     (3 * k * k + 7 * t * k + 1) as i32 % 13 - 6
 }
 
-// Returns 120 soft values: `first`, and zeros.
+// Returns 120 soft values: `first`, then zeros.
 fn values_from(first: i8) -> [[i32; 3]; 40]
     ensures { RowsWithin 2032 result }
 {
@@ -40,7 +40,7 @@ fn many_values() -> [[i32; 3]; 40]
     values
 }
 
-// Returns the bytes of the certificate for these soft values.
+// Returns the bytes of the certificate for `values`.
 fn filled(alloc: Global, values: &[[i32; 3]; 40]) -> Result<Vec<u8>, AllocError>
     requires { RowsWithin 2032 values.now }
     ensures { IfOk result (λ bytes. 10501 ≤ length bytes.items) }
@@ -81,7 +81,7 @@ fn changed(alloc: Global, at: usize, piece: &[u8]) -> Result<Vec<u8>, AllocError
     Ok(bytes)
 }
 
-// Returns whether a certificate has the minimum length; `MOST_BYTES` is the maximum.
+// Returns whether a certificate has the minimum length, and `MOST_BYTES` is the maximum length.
 fn has_least_length(certificate: &Certificate) -> bool {
     length(certificate) == 10_501 && MOST_BYTES == 665_861
 }
@@ -108,7 +108,7 @@ fn the_zero_certificate_is_accepted_and_its_changes_are_not(rt: HostRuntime) -> 
     Ok(())
 }
 
-// Returns whether `bytes` has `piece` at this offset.
+// Returns whether `bytes` has `piece` at byte offset `place`.
 fn has_at(bytes: &[u8], place: usize, piece: &[u8]) -> bool {
     match bytes.get(place..) {
         Some(rest) => rest.starts_with(piece),
@@ -116,7 +116,7 @@ fn has_at(bytes: &[u8], place: usize, piece: &[u8]) -> bool {
     }
 }
 
-// Returns whether the first soft value is -1, and the codeword has only bit 38, with cost 0.
+// Returns whether a certificate's first soft value is -1, and only bit 38 of its information word is set, with cost 0.
 fn has_value_and_word(bytes: &[u8]) -> bool {
     has_at(bytes, 0, b"LTC2\xff\xff") && has_at(bytes, 244, b"\x00\x00\x00\x00\x02\x00\x00\x00\x00")
 }
@@ -128,7 +128,8 @@ fn the_bytes_hold_values_and_word(rt: HostRuntime) -> Result<(), Fail> {
     Ok(())
 }
 
-// Returns whether the bytes have the cost, G(40, 0), G(40, 6), and tables for states 6, 11, 14, 27, 30, 31 and 35.
+// Returns whether `bytes` has the expected cost and bounds G(40, 0) and G(40, 6), and tables for states 6, 11, 14, 27,
+// 30, 31 and 35.
 fn has_tables(bytes: &[u8]) -> bool {
     bytes.len() == 82_181
         && has_at(bytes, 249, &[69])

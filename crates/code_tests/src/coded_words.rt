@@ -36,7 +36,7 @@ fn alone<const N: usize>(k: usize) -> [[bool; 3]; N] {
     coded
 }
 
-// Returns whether the streams equal these numbers.
+// Returns whether the three streams of a coded block, as numbers, are `numbers`.
 fn has_streams<const N: usize>(coded: &[[bool; 3]; N], numbers: [u64; 3]) -> bool {
     stream_of(coded, 0) == numbers[0]
         && stream_of(coded, 1) == numbers[1]
@@ -49,7 +49,8 @@ fn the_last_bit_alone_has_the_taps_of_stream_0(rt: HostRuntime) {
     assert!(rt; stream_of(&coded, 0) == 0x6c_0000_0001);
 }
 
-// Returns whether the codeword of `word` has these streams and, from some indices, these rate-matched bits.
+// Returns whether the codeword of `word` has the given streams and, in each of `readings`, the given 64 rate-matched
+// bits from an index.
 fn is_coded<const N: usize>(word: u64, streams: [u64; 3], readings: [(u32, u64); 3]) -> bool
     requires low { 6 ≤ N }
     requires high { N ≤ 64 }
@@ -95,7 +96,8 @@ fn the_first_bits_that_are_read_of_40(rt: HostRuntime) {
     }
 }
 
-// Returns whether the soft values combine into these sums at indices 0 and 17, and into sums with this digest.
+// Returns whether `values` combine into the sums `first` at index 0, `later` at index 17, and sums with digest
+// `number`.
 fn has_sums<const N: usize>(values: &[i16], first: [i32; 3], later: [i32; 3], number: i64) -> bool
     requires low { 18 ≤ N }
     requires high { N ≤ 64 }

@@ -3,12 +3,12 @@ use dci::{Grant, assignments_used_once, grants_and_bits, read, riv, size, write}
 use lte_types::Sib1Reason;
 use test_support::bits_of;
 
-// Returns the 21-bit message with these bits.
+// Returns the 21-bit message with the bits of a number.
 fn word_of(bits: u64) -> Bits<21> {
     Bits::new(bits_of(bits))
 }
 
-// Returns whether these bits are refused for this reason.
+// Returns whether the message `bits` is refused for `reason`.
 fn is_refused(bits: u64, reason: Sib1Reason) -> bool {
     match read(&word_of(bits)) {
         Ok(_) => false,
@@ -16,7 +16,7 @@ fn is_refused(bits: u64, reason: Sib1Reason) -> bool {
     }
 }
 
-// Returns whether these bits decode to `grant`, which encodes to `written`.
+// Returns whether the message `bits` decodes to `grant`, and `grant` encodes to `written`.
 fn is_read_as(bits: u64, grant: Grant, written: u64) -> bool {
     match read(&word_of(bits)) {
         Ok(read) => read == grant && write(&read) == word_of(written),
@@ -24,7 +24,7 @@ fn is_read_as(bits: u64, grant: Grant, written: u64) -> bool {
     }
 }
 
-// Returns whether these resource blocks have their indication values.
+// Returns whether four resource block assignments have the expected resource indication values.
 fn are_values() -> bool {
     riv(0, 4) == 18 && riv(0, 6) == 11 && riv(1, 5) == 16 && riv(5, 1) == 5
 }
@@ -35,7 +35,7 @@ fn values_of_blocks(rt: HostRuntime) {
     assignments_used_once();
 }
 
-// Returns whether the columns have their first and last transport block sizes, and none after the last.
+// Returns whether both columns have the expected first and last transport block sizes, and no size after the last.
 fn are_ends_of_columns() -> bool {
     size(0, 2) == Some(32)
         && size(21, 2) == Some(1000)

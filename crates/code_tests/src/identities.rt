@@ -7,7 +7,7 @@ use sss_detect::{best, cell_id, frame_start, identity};
 use std::test::Fail;
 use test_support::{PRIMARY, SECONDARY, silent, silent_recording, write_signal};
 
-// Returns a PSS detection of the first root.
+// Returns a PSS detection at sample `t` with N_ID(2) = 0.
 fn hit_at(t: u32) -> Hit
     ensures { (result.t ≡ t) × (result.n2 ≡ 0) }
 {

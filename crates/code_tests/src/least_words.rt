@@ -5,7 +5,7 @@ use crate::shared::{number_of, triple};
 use std::test::Fail;
 use tailbite::{Trellis, least, values_determine_the_word};
 
-// A linear congruential generator.
+// A linear congruential generator of soft values.
 #[derive(Drop)]
 struct Numbers {
     state: u32,
@@ -40,7 +40,7 @@ fn values_of<const N: usize>(seed: u32, spread: u8) -> [[i32; 3]; N]
     values
 }
 
-// Returns whether the Viterbi decoder finds this codeword with this cost.
+// Returns whether the Viterbi decoder returns the word `number` with cost `cost`.
 fn is_least<const N: usize>(
     values: &[[i32; 3]; N],
     number: u64,
@@ -55,7 +55,7 @@ fn is_least<const N: usize>(
     number_of(word.slice()) == number && found == cost
 }
 
-// Returns whether the decoder finds the codeword and the cost in each row, for the row's seed and spread.
+// Returns whether the decoder returns the word and the cost in each row, for the row's seed and spread.
 fn are_least<const N: usize>(rows: &[(u32, u8, u64, u32)], work: &mut Trellis) -> bool
     requires low { 6 ≤ N }
     requires high { N ≤ 64 }
@@ -76,7 +76,7 @@ fn all_values_0_give_the_zero_word(rt: HostRuntime) -> Result<(), Fail> {
     Ok(())
 }
 
-// Returns soft values with -1 first and then zeros.
+// Returns soft values of which the first is -1, and all others are 0.
 fn one_value<const N: usize>() -> [[i32; 3]; N]
     requires { 1 ≤ N }
     ensures { RowsWithin (2 ^ 20) result }

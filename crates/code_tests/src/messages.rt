@@ -61,7 +61,8 @@ fn a_block_of_120_bits_is_read(rt: HostRuntime) -> Result<(), Fail> {
     Ok(())
 }
 
-// Returns whether the first `count` bits of the plain SIB1, with these first two bytes, are refused for this reason.
+// Returns whether the first `count` bits of the plain SIB1, with its first two bytes replaced by `front`, are refused
+// for `reason`.
 fn is_refused(count: usize, front: [u8; 2], reason: Sib1Reason) -> bool
     requires { count ≤ 120 }
 {
@@ -106,7 +107,7 @@ fn five_further_networks_take_11_bits_each(rt: HostRuntime) {
     assert!(rt; size_of(&fields) == Some(168));
 }
 
-// Returns a scheduling entry with this SIB code `count` times.
+// Returns a scheduling entry with SIB code `code`, `count` times.
 fn repeated(period: u8, code: u8, count: u32) -> SiMessage {
     let mut entry = message(period, &[]);
     for _ in 0..count {
@@ -148,7 +149,7 @@ fn full_block() -> [bool; 208] {
     block_of(&FULL)
 }
 
-// Returns whether the area, cell and group fields are those of `FULL`.
+// Returns whether the tracking area, cell and subscriber group fields are those of `FULL`.
 fn has_identities_of_full(fields: &Sib1) -> bool {
     fields.tac == 0x1a2b
         && fields.cell == 0x0abcdef
@@ -158,7 +159,7 @@ fn has_identities_of_full(fields: &Sib1) -> bool {
         && fields.csg_identity == Some(0x5a5a5a5)
 }
 
-// Returns whether the levels and the remaining numbers are those of `FULL`.
+// Returns whether the levels, the band and the remaining numbers are those of `FULL`.
 fn has_levels_of_full(fields: &Sib1) -> bool {
     fields.q_rx == -61
         && fields.q_offset == Some(8)

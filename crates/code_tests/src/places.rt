@@ -8,7 +8,7 @@ use grid_map::{
 };
 use lte_types::{Assignment, Bandwidth, Carrier, CellId, Cfi, Duration, Mib, Resource};
 
-// Returns whether PBCH resource element `i` is at this symbol and subcarrier.
+// Returns whether PBCH resource element `i` is at symbol `symbol` and subcarrier `k`.
 fn is_point_of_broadcast(identity: u16, i: usize, symbol: u8, k: u8) -> bool {
     match CellId::new(identity) {
         Some(id) => i < 240 && pbch(id, i) == Place { symbol, k },
@@ -47,7 +47,7 @@ fn places_beside_the_reserved_ones_of_identities_1_and_503(rt: HostRuntime) {
     }
 }
 
-// Returns whether the four PCFICH resource-element groups begin at these subcarriers.
+// Returns whether the four PCFICH resource-element groups begin at the subcarriers `firsts`.
 fn has_pcfich(identity: u16, firsts: [u8; 4]) -> bool {
     match CellId::new(identity) {
         Some(id) => pcfich(id).map(|group| group.first) == firsts,
@@ -75,7 +75,8 @@ fn pdcch_of(
     Some(pdcch(id, cfi, mib))
 }
 
-// Returns whether the groups are these. A number is four times the first subcarrier plus the symbol.
+// Returns whether the groups are those in `numbers`, where a group's number is four times its first subcarrier, plus
+// its symbol.
 fn are_groups(groups: &[Reg], numbers: &[u16]) -> bool {
     let mut same = groups.len() == numbers.len();
     for (i, group) in groups.iter().enumerate() {
@@ -85,7 +86,7 @@ fn are_groups(groups: &[Reg], numbers: &[u16]) -> bool {
     same
 }
 
-// Returns whether the PDCCH has these resource-element groups.
+// Returns whether the PDCCH has the expected resource-element groups.
 fn has_pdcch(
     identity: u16,
     cfi: u8,
@@ -119,19 +120,19 @@ fn groups_of_the_pdcch_of_identity_503(rt: HostRuntime) {
     assert!(rt; has_pdcch(503, 3, Duration::Extended, Resource::Two, &expected));
 }
 
-// Returns whether `groups` has none of `others`.
+// Returns whether no group in `groups` is one of `others`.
 fn has_none_of(groups: &[Reg], others: &[Reg; 3]) -> bool {
     groups
         .iter()
         .all(|group| others.iter().all(|other| group != other))
 }
 
-// Returns a resource-element group.
+// Returns the resource-element group in a symbol that begins at subcarrier `first`.
 fn group_at(symbol: u8, first: u8) -> Reg {
     Reg { symbol, first }
 }
 
-// Returns whether these are the PHICH groups for identity 0 and resource one, which the PDCCH does not use.
+// Returns whether the PDCCH for identity 0 and resource one leaves out `groups`, the PHICH groups.
 fn has_phich(duration: Duration, groups: &[Reg; 3]) -> bool {
     match pdcch_of(0, 3, duration, Resource::One) {
         Some(others) => has_none_of(others.as_slice(), groups),
@@ -154,7 +155,7 @@ fn count_of(identity: u16, cfi: u8, duration: Duration, resource: Resource) -> O
     Some(pdcch_of(identity, cfi, duration, resource)?.len())
 }
 
-// Returns whether the PDCCH has these group counts for CFI 1, 2 and 3.
+// Returns whether the PDCCH has the group counts `counts` for CFI 1, 2 and 3.
 fn has_counts(identity: u16, duration: Duration, resource: Resource, counts: [usize; 3]) -> bool {
     count_of(identity, 1, duration, resource) == Some(counts[0])
         && count_of(identity, 2, duration, resource) == Some(counts[1])
@@ -177,7 +178,7 @@ fn counts_of_groups(rt: HostRuntime) {
     control_groups();
 }
 
-// Returns whether the resource elements of a group are on these subcarriers.
+// Returns whether the resource elements of `group` are on the given subcarriers.
 fn has_subcarriers(identity: u16, group: Reg, subcarriers: [u8; 4]) -> bool
     requires { IsTrue (is_group group) }
 {
@@ -211,7 +212,7 @@ fn places_of_a_group(rt: HostRuntime) {
     places_of_groups();
 }
 
-// Returns whether the first eight of `count` groups carry these quadruplets.
+// Returns whether the first eight of `count` groups carry the given quadruplets.
 fn has_quadruplets(identity: u16, count: u8, quadruplets: [u8; 8]) -> bool {
     let Some(id) = CellId::new(identity) else {
         return false;
@@ -297,7 +298,8 @@ fn point_by(
     Some(shared_place(carrier, id, &assignment, i))
 }
 
-// From a program that walks the resource elements of TS 36.211 sections 6.4 and 6.10.1.2 one by one.
+// The expected resource elements are from a program that visits all resource elements one by one, by TS 36.211 sections
+// 6.4 and 6.10.1.2.
 #[test]
 fn points_of_the_shared_channel_of_other_carriers(rt: HostRuntime) {
     for (carrier, identity, cfi, start, blocks, i, symbol, k) in [

@@ -13,7 +13,8 @@ fn block_bit(kind: usize, i: usize) -> bool
     kind > 0 && (i * i * 7 + i * kind + i / 8 + kind) % 5 < 2
 }
 
-// Returns whether `sent` bits determine a block of `size` bits with its CRC; `None` if the size is not in the table.
+// Returns whether `sent` coded bits determine a test block of `size` bits with its CRC; `None` if the size is not in
+// the table.
 fn is_filled(size: u16, kind: usize, sent: u16) -> Option<bool>
     requires size { size ≤ 1000 }
     requires kind { kind ≤ 9 }
@@ -32,7 +33,7 @@ fn is_filled(size: u16, kind: usize, sent: u16) -> Option<bool>
     Some(fills(&word[..n + 24], row, sent))
 }
 
-// Returns whether `sent` is the minimum number of bits that determine the block. Expected values:
+// Returns whether `sent` is the minimum number of coded bits that determine a test block. Expected values:
 // `python/lte_reference/erasure.py`.
 fn is_least(size: u16, kind: usize, sent: u16) -> bool
     requires size { size ≤ 1000 }

@@ -1,11 +1,11 @@
-//! Fixtures shared by several of these tests.
+//! Fixtures shared by several test files of this crate.
 
 ghost use Rattle.std.specs.Prelude.{◌^◌, ◌≤◌, nat_abs};
 ghost use Rattle.finite.specs.Sizes.{AllWithin};
 
 use std::alloc::{AllocError, Global};
 
-// Returns three soft values.
+// Returns the three soft values of one bit, bounded as decoders require.
 pub(crate) fn triple(first: i32, second: i32, third: i32) -> [i32; 3]
     requires first { nat_abs first ≤ 2032 }
     requires second { nat_abs second ≤ 2032 }
@@ -34,7 +34,7 @@ pub(crate) fn squares(alloc: Global, count: u16) -> Result<Vec<i16>, AllocError>
     Ok(values)
 }
 
-// Returns the base-31 hash of the sums, row by row, modulo 1,000,003.
+// Returns a digest of the sums: their base-31 hash, row by row, modulo 1,000,003.
 pub(crate) fn digest<const N: usize, const M: usize>(rows: &[[i32; N]; M]) -> i64 {
     let mut number: i64 = 0;
     for row in rows {

@@ -5,7 +5,7 @@ use cs_num::Cpx;
 use lte_types::CellId;
 use soft_bits::{Slot, soft};
 
-// A channel: a gain of 64, or a gain of 1,792 with a phase of a quarter cycle.
+// A channel with gain 64 (`Plain`), or with gain 1,792 and a phase of a quarter cycle (`Turned`).
 #[derive(Clone, Copy)]
 enum Channel {
     Plain,
@@ -37,7 +37,7 @@ fn level(value: Cpx) -> [Cpx; 72]
     [value; 72]
 }
 
-// Returns a symbol with only reference signals.
+// Returns a received symbol with only reference signals.
 fn references(id: CellId, number: u8, symbol: u8, channel: Channel) -> [Cpx; 72]
     requires number { number < 20 }
     requires symbol { (symbol ≡ 0) ⊎ (symbol ≡ 4) }
@@ -54,7 +54,8 @@ fn references(id: CellId, number: u8, symbol: u8, channel: Channel) -> [Cpx; 72]
     seen
 }
 
-// Returns a slot with reference signals, and `value` on the other symbols; `None` for an invalid identity.
+// Returns a received slot with reference signals in symbols 0 and 4, and `value` in the other symbols; `None` for an
+// invalid identity.
 fn slot_of(identity: u16, number: u8, first: Channel, second: Channel, value: Cpx) -> Option<Slot>
     requires number { number < 20 }
     requires small { IsWithin (2 ^ 25) value }
@@ -73,7 +74,7 @@ fn slot_of(identity: u16, number: u8, first: Channel, second: Channel, value: Cp
     Some(Slot::new(seen, number, id))
 }
 
-// Returns whether the slot has these soft values at a resource element.
+// Returns whether `values` are the slot's soft values at a resource element.
 fn has_values(slot: &Slot, symbol: u8, k: u8, values: [i16; 2]) -> bool {
     symbol < 7 && k < 72 && soft(slot, symbol, k) == values
 }

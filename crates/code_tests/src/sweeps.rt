@@ -20,7 +20,8 @@ fn hits_with_signal_at(alloc: Global, t: usize) -> Result<HitList, Fail>
     Ok(list)
 }
 
-// Returns whether the list has exactly that detection. Its peak and energy are from the reference implementation.
+// Returns whether the list has exactly one detection, of root 0 at sample `t`. The expected peak and energy are from
+// the reference implementation.
 fn has_lone_hit(list: &HitList, t: u32) -> bool {
     let lone = Hit {
         t,

@@ -8,7 +8,7 @@ use std::test::Fail;
 use test_support::bits_of;
 use turbo_code::{Coded, Row, combine, encode, further_row_of, interleaver, match_out, row_of};
 
-// Returns whether a transport block size has this table row.
+// Returns whether the interleaver table's row for a transport block size has the given numbers.
 fn has_row(size: u16, k: u16, f1: u16, f2: u16) -> bool {
     row_of(size) == Some(Row { k, f1, f2 })
 }
@@ -30,7 +30,8 @@ const FURTHER_ROWS: [(u16, u16, u16); 4] = [
     (360, 133, 90),
 ];
 
-// Returns whether this is the further row for the size, permutes, and is not in the first table.
+// Returns whether the row with `k`, `f1` and `f2` is the further row for `size`, is a permutation, and is not in the
+// first table.
 fn is_further(size: u16, k: u16, f1: u16, f2: u16) -> bool {
     match further_row_of(size) {
         Some(row) => row == Row { k, f1, f2 } && permutes(&row) && row_of(size) == None,
@@ -48,7 +49,7 @@ fn further_rows_of_sizes(rt: HostRuntime) {
     }
 }
 
-// Returns whether the interleaver is a permutation.
+// Returns whether a row's interleaver is a permutation.
 fn permutes(row: &Row) -> bool
     requires { IsAnyRow row.now }
 {
@@ -62,7 +63,7 @@ fn permutes(row: &Row) -> bool
     true
 }
 
-// Returns whether this is the row for K, and permutes.
+// Returns whether the row for block size `k` has `f1` and `f2`, and is a permutation.
 fn is_sound(k: u16, f1: u16, f2: u16) -> bool {
     match row_of(k.saturating_sub(24)) {
         Some(row) => row == Row { k, f1, f2 } && permutes(&row),
@@ -130,7 +131,7 @@ fn front_of(stream: &[bool; 1028]) -> u64 {
     number_of(&stream[..60])
 }
 
-// Returns whether K is 56 and the streams begin with these 60 bits.
+// Returns whether K is 56, and the streams' first 60 bits, as numbers, are `numbers`.
 fn has_streams(coded: &Coded, numbers: [u64; 3]) -> bool {
     coded.k == 56
         && front_of(&coded.d[0]) == numbers[0]
@@ -191,7 +192,7 @@ fn coded_word_of_64_bits(rt: HostRuntime) {
     }
 }
 
-// Returns the first four bits that the second constituent encoder reads.
+// Returns the indices of the first four bits that the second constituent encoder reads.
 fn first_read(row: &Row) -> Option<[usize; 4]>
     requires { IsRow row.now }
 {
@@ -234,8 +235,8 @@ fn alone(row: Row, stream: usize, index: usize) -> Coded
     Coded { k: row.k, d }
 }
 
-// Returns whether rate-matched bits `i` and `i + 444` are the bit at this index, and bit `i + 1` is not; `i` is at most
-// 100.
+// Returns whether rate-matched bits `i` and `i + 444` are the stream's bit at `index`, and bit `i + 1` is not. `i` is
+// at most 100.
 fn is_sent(row: Row, rv: u8, i: usize, stream: usize, index: usize) -> bool
     requires { IsRow row }
 {
@@ -297,7 +298,7 @@ fn digest_of_many(alloc: Global, row: Row, rv: u8) -> Result<i64, AllocError>
     Ok(digest(&combine(&values, row, rv).d))
 }
 
-// Returns the digest for a size in either table, and 0 for any other.
+// Returns the digest of the combined sums for a block size in either table, and 0 for any other size.
 fn digest_of_size(alloc: Global, size: u16, rv: u8) -> Result<i64, AllocError>
     requires version { rv < 4 }
 {

@@ -16,7 +16,8 @@ fn are_small(values: &[i32]) -> bool
     values.iter().all(|value| value.unsigned_abs() <= 4096)
 }
 
-// Returns whether one constituent decoder finds these extrinsic values; false if the inputs do not fit it.
+// Returns whether one constituent decoder returns the expected extrinsic values; false if the inputs violate its
+// precondition.
 fn has_extrinsics(
     alloc: Global,
     systematic: &[i32],
@@ -165,8 +166,8 @@ enum Answer {
     Other,
 }
 
-// A block of `size` bits, received with a gain and with noise up to `spread`. `sizes`, the sum of the received
-// magnitudes, shows that it equals the reference implementation's reception.
+// A block of `size` bits, received with gain `gain` and noise up to `spread`. `sizes`, the sum of the received
+// magnitudes, shows that the reception equals the reference implementation's.
 #[derive(Drop)]
 struct Reception {
     size: u16,
@@ -250,7 +251,7 @@ fn are_all_small(sums: &[[i32; 1028]; 3]) -> bool
     sums.iter().all(|stream| are_small(stream))
 }
 
-// Returns the sum of the magnitudes of all sums.
+// Returns the total magnitude of all sums.
 fn sizes_of(sums: &[[i32; 1028]; 3]) -> u32 {
     let mut sizes: u32 = 0;
     for stream in sums {
@@ -261,7 +262,7 @@ fn sizes_of(sums: &[[i32; 1028]; 3]) -> u32 {
     sizes
 }
 
-// Returns whether the block is the one that was sent.
+// Returns whether `block` is the sent block.
 fn is_sent(reception: &Reception, block: &[bool]) -> bool {
     let mut same = block.len() == reception.size as usize;
     for (i, bit) in block.iter().enumerate() {
@@ -270,7 +271,7 @@ fn is_sent(reception: &Reception, block: &[bool]) -> bool {
     same
 }
 
-// Decodes a reception.
+// Decodes a reception, and returns how the decoder's result compares with the sent block.
 fn decoded(alloc: Global, reception: &Reception) -> Result<Answer, AllocError> {
     let mut work = Work::new(alloc)?;
     let word = sent_word(alloc, reception)?;
@@ -299,16 +300,16 @@ fn short_blocks(rt: HostRuntime) -> Result<(), Fail> {
         (0x9a3b_5d71, 8, 17, 30_415, 2059, Answer::Sent),
         (0xc0ff_ee42, 8, 16, 4996, 1734, Answer::Sent),
         (0x5eed_f00d, 3, 6, 7408, 719, Answer::Sent),
-        // No iteration up to the eighth decodes it.
+        // No iteration up to the eighth decodes the block.
         (0x9a3b_5d71, 8, 17, 12_371, 1798, Answer::Nothing),
         (0x8000_0001, 100, 205, 21_512, 23_747, Answer::Nothing),
-        // The scaling by 3/4 or the clamp decides.
+        // The result depends on the scaling by 3/4 or on the clamp.
         (0x1b2c_3d4e, 2, 4, 21_055, 497, Answer::Sent),
         (0x5eed_f00d, 3, 6, 29_008, 745, Answer::Nothing),
         (0x7e57_ab1e, 1000, 2000, 29_537, 215_739, Answer::Sent),
         (0x0bad_cafe, 1800, 3700, 14_632, 276_067, Answer::Nothing),
         (0xc0ff_ee42, 1800, 3700, 5502, 275_180, Answer::Nothing),
-        // Tails, priors and zeros decide.
+        // The result depends on tails, priors and zeros.
         (0xc0ff_ee42, 8, 16, 21_517, 2010, Answer::Sent),
         (0x8000_0001, 100, 205, 4, 22_379, Answer::Sent),
         (0x9a3b_5d71, 8, 17, 1187, 1940, Answer::Sent),
@@ -352,7 +353,7 @@ fn longer_blocks(rt: HostRuntime) -> Result<(), Fail> {
     Ok(())
 }
 
-// Decodes sums that all have one value, except for the first; zeros were sent.
+// Decodes sums that are all `value`, except for the first; the sent block is all zeros.
 fn decoded_of(alloc: Global, first: i32, value: i32) -> Result<Answer, AllocError> {
     let mut work = Work::new(alloc)?;
     let Some(row) = row_of(32) else {
