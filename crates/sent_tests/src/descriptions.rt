@@ -5,7 +5,7 @@ use std::alloc::{AllocError, Global};
 use std::test::Fail;
 use test_support::{PLAIN_KEYS, description, plain_block};
 
-// Parses the plain description with `change`, and its SIB1 with `block`.
+// Parses the plain cell's description with the keys `change` appended, and `block` appended to its SIB1.
 fn answer(
     alloc: Global,
     change: &str,
@@ -15,7 +15,7 @@ fn answer(
     Ok(read(alloc, text.as_bytes()))
 }
 
-// Returns whether the changed description is refused for this cause.
+// Returns whether the changed description is refused for `cause`.
 fn is_refused(
     alloc: Global,
     change: &str,
@@ -26,7 +26,7 @@ fn is_refused(
     Ok(found.err() == Some(JsonError::Cell(cause)))
 }
 
-// Changes that break the description's format.
+// Changes that violate the description's format.
 const OTHER_FORMS: [&str; 22] = [
     ", \"identity\": 7.0, \"sfn\": 1024",
     ", \"sfn\": 1e2",
@@ -60,7 +60,7 @@ fn another_kind_of_value_or_key_has_not_the_form(rt: HostRuntime) -> Result<(), 
     Ok(())
 }
 
-// Changes that break the format of the SIB1.
+// Changes that violate the format of the SIB1.
 const OTHER_FORMS_OF_THE_BLOCK: [&str; 21] = [
     ", \"tac\": null",
     ", \"barred\": 0",
@@ -93,7 +93,7 @@ fn a_block_of_another_form_has_not_the_form(rt: HostRuntime) -> Result<(), Fail>
     Ok(())
 }
 
-// Changes that put a value of the transmission out of range, and the cause.
+// Changes that put a value of the transmission out of range, and the error of each.
 const OUT_OF_RANGE: [(&str, CellError); 12] = [
     (", \"sfn\": 1024, \"identity\": 504", CellError::Sfn),
     (", \"sfn\": -1, \"offset\": 19200", CellError::Sfn),
@@ -164,7 +164,7 @@ fn each_value_of_the_block_is_in_its_range(rt: HostRuntime) -> Result<(), Fail> 
     Ok(())
 }
 
-// Changes whose plan is not a valid cell, and the cause.
+// Changes whose plan is not a valid cell, and the error of each.
 const NOT_OF_A_CELL: [(&str, CellError); 19] = [
     (", \"identity\": 504, \"spare\": 1024", CellError::Identity),
     (", \"identity\": -1", CellError::Identity),
@@ -234,7 +234,7 @@ fn has_plain_assignment(plan: &CellPlan) -> bool {
     plan.cfi == 2 && plan.start == 0 && plan.blocks == 6 && plan.mcs == 4 && plan.column == 2
 }
 
-// Returns whether a scheduling entry has this period and this many SIBs.
+// Returns whether a scheduling entry has period code `period` and `count` SIBs.
 fn is_message(entry: &SiMessage, period: u8, count: usize) -> bool {
     entry.period == period && entry.sibs.slice().len() == count
 }
@@ -254,7 +254,7 @@ fn the_plain_description_is_read(rt: HostRuntime) -> Result<(), Fail> {
     Ok(())
 }
 
-// Other values for every key except the column.
+// Values for every key except `column` that differ from the plain cell's.
 const OTHER: &str = ", \"identity\": 503, \"sfn\": 1023, \"offset\": 19199, \"samples\": 1920000, \
     \"gain\": [-27, 7], \"duration\": \"extended\", \"resource\": \"oneSixth\", \"spare\": 1023, \"cfi\": 3, \
     \"start\": 1, \"blocks\": 5, \"mcs\": 5";
@@ -365,7 +365,7 @@ fn six_networks_are_read_and_not_seven(rt: HostRuntime) -> Result<(), Fail> {
     Ok(())
 }
 
-// Returns how many entries are read from a schedule with `more` + 1 entries.
+// Returns the number of entries parsed from a schedule with `more` + 1 entries.
 fn entries(alloc: Global, more: usize) -> Result<Result<usize, JsonError>, AllocError> {
     let mut list = String::new(alloc);
     list.push_str(", \"scheduling\": [{\"period\": 64, \"sibs\": []}")?;

@@ -1,4 +1,4 @@
-// The samples and sums are from the reference implementation, `python/lte_reference/cell.py`.
+// The expected samples and sums are from the reference implementation, `python/lte_reference/cell.py`.
 use cell_json::{JsonError, read_by};
 use cell_tx::{Cell, CellError, CellPlan, Emission, emit, sum_is_clean};
 use lte_types::Carrier;
@@ -7,7 +7,7 @@ use std::alloc::{AllocError, Global};
 use std::test::Fail;
 use test_support::{are_samples, description, has_sums, plain_block, silent};
 
-// The cells behind the tables, as changes of the plain cell's keys.
+// The cells of the sample tables, as changes of the plain cell's keys.
 const TURNED_KEYS: &str =
     ", \"identity\": 503, \"sfn\": 1023, \"offset\": 19199, \"gain\": [-11, 23], \
     \"duration\": \"extended\", \"spare\": 677, \"resource\": \"oneSixth\", \"cfi\": 3, \"start\": 1, \"blocks\": 5, \
@@ -26,7 +26,7 @@ const LONG_PREFIX_KEYS: &str =
     ", \"identity\": 167, \"sfn\": 511, \"offset\": 18000, \"gain\": [5, -27], \
     \"duration\": \"extended\", \"spare\": 1023, \"resource\": \"half\"";
 
-// Samples from `transmit --load 4294967295`, from sample 19,199 of frame 1023.
+// Samples that `transmit --load 4294967295` writes, starting at sample 19,199 of frame 1023.
 const LOADED: [(u32, i16, i16); 48] = [
     (0, -880, 5740),
     (1, -108, 3594),
@@ -416,7 +416,7 @@ const LOADED_LONG_PREFIX: [(u32, i16, i16); 45] = [
 
 const LOADED_LONG_PREFIX_SUMS: (i64, i64) = (-164_475_309, 64_888_093);
 
-// A parsed description, or why it is refused.
+// A parsed description, or the error for which it is refused.
 type Answer = Result<Emission, JsonError>;
 
 // Parses the plain description with `change`, under a transmission scheme.
@@ -425,7 +425,7 @@ fn answer(alloc: Global, carrier: Carrier, change: &str) -> Result<Answer, Alloc
     Ok(read_by(alloc, carrier, text.as_bytes()))
 }
 
-// Returns whether the changed description is refused for this cause.
+// Returns whether a row's description is refused for the row's error, under the row's transmission scheme.
 fn is_refused(alloc: Global, row: (Carrier, &str, CellError)) -> Result<bool, AllocError> {
     let (carrier, change, cause) = row;
     Ok(answer(alloc, carrier, change)?.err() == Some(JsonError::Cell(cause)))
@@ -446,7 +446,7 @@ fn sent(
     Ok(recording)
 }
 
-// Returns whether a recording has these samples and these sums.
+// Returns whether a recording has the samples in `rows`, and the weighted component sums `sums`.
 fn holds(recording: &Recording, rows: &[(u32, i16, i16)], sums: (i64, i64)) -> bool {
     let samples = recording.as_slice();
     are_samples(rows, |i| samples.get(i as usize).copied()) && has_sums(recording, sums)
@@ -499,11 +499,11 @@ fn the_extended_prefix_without_and_with_load(rt: HostRuntime) -> Result<(), Fail
     Ok(())
 }
 
-// Gains for the second to fourth antenna port.
+// Gains of the second, third and fourth antenna port.
 const THREE_GAINS: &str = ", \"gain2\": [0, 1], \"gain3\": [-1, 0], \"gain4\": [0, -1]";
 
 // Descriptions that a transmission scheme refuses. The gain of a further port is a key only if the scheme has that
-// port, and no gain may exceed what a clean recording allows.
+// port, and no gain may exceed the limit for a clean recording.
 const REFUSALS: [(Carrier, &str, CellError); 19] = [
     (Carrier::OnePort, ", \"gain2\": [1, 0]", CellError::Form),
     (Carrier::LongPrefix, ", \"gain2\": [1, 0]", CellError::Form),
@@ -598,7 +598,7 @@ fn gains_of_both_ports_at_their_greatest(rt: HostRuntime) -> Result<(), Fail> {
     Ok(())
 }
 
-// Returns why a transmission scheme refuses a plan with the plain SIB1.
+// Returns why a transmission scheme refuses a plan with the plain SIB1, if it does.
 fn refusal(carrier: Carrier, mcs: u8, blocks: u8) -> Option<CellError> {
     let plan = CellPlan {
         identity: 0,
@@ -621,7 +621,8 @@ fn refusal(carrier: Carrier, mcs: u8, blocks: u8) -> Option<CellError> {
 
 #[test]
 fn two_ports_leave_less_room(rt: HostRuntime) {
-    // 376 bits have 1,212 coded bits; one port carries 1,224, two ports carry 1,152.
+    // A transport block of 376 bits has 1,212 coded bits. Six resource blocks carry 1,224 bits with one port, and 1,152
+    // with two.
     assert!(rt; refusal(Carrier::OnePort, 11, 6) == None);
     assert!(rt; refusal(Carrier::LongPrefix, 11, 6) == None);
     assert!(rt; refusal(Carrier::FourPorts, 11, 6) == None);

@@ -1,10 +1,10 @@
-// The numbers are from the reference implementation, `python/lte_reference/four_ports.py`.
+// The expected numbers are from the reference implementation, `python/lte_reference/four_ports.py`.
 use capture_make::{MadeBy, make_by};
 use lte_types::Carrier;
 use std::test::Fail;
 use test_support::{Summary, is_summed_up};
 
-// Returns whether a synthetic recording has these gains, this noise bound and this summary.
+// Returns whether a synthetic recording has the given gains, noise bound and summary.
 fn is_made(made: &MadeBy, gains: [(i64, i64); 4], bound: i16, summary: &Summary) -> bool {
     let [zero, one, two, three] = made.sent.gains;
     [

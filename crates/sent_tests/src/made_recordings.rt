@@ -1,5 +1,5 @@
-// The numbers are from the reference implementation, `python/lte_reference/make.py`, and the first generator outputs
-// from PCG's reference code.
+// The expected numbers are from the reference implementation, `python/lte_reference/make.py`. The generator's first
+// outputs are from PCG's reference code.
 use capture_make::{made_is_clean, make};
 use rand_core::utils::NextWord;
 use rand_pcg::Lcg64Xsh32;
@@ -22,7 +22,7 @@ fn the_generator_gives_the_reference_words(rt: HostRuntime) {
     }
 }
 
-// Returns whether synthetic recording `n` has this noise bound and this summary.
+// Returns whether synthetic recording `n` has the given noise bound and summary.
 fn is_made(alloc: Global, n: u32, bound: i16, summary: &Summary) -> Result<bool, AllocError> {
     let made = make(alloc, n)?;
     Ok(made.bound == bound && is_summed_up(&made.recording, summary))

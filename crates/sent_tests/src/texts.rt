@@ -8,7 +8,7 @@ use std::alloc::{AllocError, Global};
 use std::test::Fail;
 use test_support::{PLAIN_REPORT, message, plain_block};
 
-// Returns a cell with this identity, start, frame number, MIB and system information.
+// Returns a list entry with the given identity, start, frame number, MIB and system information.
 fn entry_of(
     id: u16,
     start: u32,
@@ -30,7 +30,7 @@ fn entry_of(
     })
 }
 
-// Returns a cell list with one cell.
+// Returns a cell list with `entry` as its only entry.
 fn list_of(entry: Option<Entry>) -> Result<[Entry; 1], Fail> {
     let entry = entry.ok_or("out of range")?;
     Ok([entry])
@@ -52,13 +52,13 @@ fn is_text(found: String, wanted: &str) -> bool {
     found.as_str() == wanted
 }
 
-// Returns a cell with the minimum identity, start and frame number, and the plain SIB1.
+// Returns a list entry with the minimum identity, start and frame number, and the plain SIB1.
 fn plain_entry() -> Option<Entry> {
     let mib = Mib::new(Bandwidth::N6, Duration::Normal, Resource::One, 0, 0)?;
     entry_of(0, 0, 0, mib, Ok(plain_block()))
 }
 
-// Returns a cell with two scheduling entries.
+// Returns a list entry whose SIB1 has two scheduling entries.
 fn scheduled_entry() -> Option<Entry> {
     let mib = Mib::new(Bandwidth::N6, Duration::Extended, Resource::Two, 2, 7)?;
     let mut sib1 = Sib1 {
@@ -81,7 +81,7 @@ si rf8 -
 si rf8 0,2
 ";
 
-// Returns a cell with the maximum identity, start and frame number, and every optional field.
+// Returns a list entry with the maximum identity, start and frame number, and every optional field of SIB1.
 fn full_entry() -> Option<Entry> {
     let mib = Mib::new(Bandwidth::N6, Duration::Normal, Resource::OneSixth, 0, 1023)?;
     let mut sib1 = Sib1 {
@@ -120,7 +120,7 @@ si rf8 -
 si rf512 79
 ";
 
-// The text is from Python's `json`, with sorted keys and without spaces.
+// The JSON of `full_entry`, from Python's `json`, with sorted keys and without spaces.
 const FULL_JSON: &str =
     "[{\"at\":19199,\"bandwidth\":\"n6\",\"br\":31,\"duration\":\"normal\",\"identity\":503,\"ports\":1,\
     \"resource\":\"oneSixth\",\"sfn\":1023,\"sib1\":{\"band\":64,\"barred\":true,\"cell\":65535,\"csg\":true,\
@@ -130,7 +130,7 @@ const FULL_JSON: &str =
     \"scheduling\":[{\"period\":8,\"sibs\":[]},{\"period\":512,\"sibs\":[79]}],\"tac\":65535,\"tag\":31,\
     \"tdd\":[6,8],\"window\":40},\"spare\":31}]";
 
-// Returns a cell with two antenna ports, and the reason why it has no system information.
+// Returns a list entry with two antenna ports, which has no system information for that reason.
 fn two_port_entry() -> Option<Entry> {
     let mib = Mib::new(Bandwidth::N6, Duration::Normal, Resource::One, 0, 33)?;
     let entry = entry_of(0, 0, 0, mib, Err(Sib1Reason::NotOnePort(2)))?;
@@ -168,7 +168,7 @@ fn every_optional_field_is_written(rt: HostRuntime) -> Result<(), Fail> {
     Ok(())
 }
 
-// Returns a cell 50 resource blocks wide, and the reason why it has no system information.
+// Returns the list entry of a cell 50 resource blocks wide, which has no system information for `reason`.
 fn wide_entry(reason: Sib1Reason) -> Option<Entry> {
     let mib = Mib::new(Bandwidth::N50, Duration::Normal, Resource::Half, 0, 0)?;
     entry_of(0, 0, 0, mib, Err(reason))
@@ -205,7 +205,7 @@ fn each_reason_has_its_words(rt: HostRuntime) -> Result<(), Fail> {
     Ok(())
 }
 
-// Returns a PSS detection at sample `t`.
+// Returns a PSS detection at sample `t` with N_ID(2) = `n2`.
 fn hit_at(t: u32, n2: u8) -> Hit {
     Hit {
         t,
@@ -288,7 +288,7 @@ const CODES: [u8; 31] = [
     26, 27, 28, 29, 30,
 ];
 
-// Returns the plain cell with 31 further scheduling entries of 31 codes each.
+// Returns the plain cell's list entry with 31 further scheduling entries of 31 codes each.
 fn crowded_entry() -> Option<Entry> {
     let mib = Mib::new(Bandwidth::N6, Duration::Normal, Resource::One, 0, 0)?;
     let mut sib1 = plain_block();

@@ -1,4 +1,4 @@
-// The samples are from the reference implementation, `python/lte_reference/cell.py`.
+// The expected samples are from the reference implementation, `python/lte_reference/cell.py`.
 ghost use Rattle.std.specs.Prelude.{◌≡◌, IfOk};
 
 use cell_plan::accepted_are_sendable;
@@ -11,7 +11,7 @@ use lte_types::{Duration, Mnc, Plmn, Plmns, Resource, Schedule, Sfn, Sib1};
 use std::test::Fail;
 use test_support::{are_samples, message, plain_block, silent};
 
-// Samples of the plain cell from frame 0.
+// Samples of the plain cell, starting at frame 0.
 const ROW: [(u32, i16, i16); 52] = [
     (0, -99, 131),
     (9, -58, -3),
@@ -67,7 +67,7 @@ const ROW: [(u32, i16, i16); 52] = [
     (49919, 109, -129),
 ];
 
-// Samples of identity 503 from sample 19,199 of frame 1023, times -11 + 23j.
+// Samples of identity 503 with gain -11 + 23j, starting at sample 19,199 of frame 1023.
 const TURNED: [(u32, i16, i16); 52] = [
     (1, 1349, 843),
     (10, -754, -728),
@@ -123,7 +123,7 @@ const TURNED: [(u32, i16, i16); 52] = [
     (49920, -1353, 4129),
 ];
 
-// Samples of identity 301, frame 6.
+// Samples of identity 301 in frame 6.
 const FRAME: [(u32, i16, i16); 26] = [
     (0, 59, -27),
     (9, 70, -40),
@@ -180,7 +180,7 @@ fn usual_block() -> Sib1 {
     }
 }
 
-// Returns a plain cell's plan.
+// Returns the plain cell's plan.
 fn plain_plan() -> CellPlan {
     CellPlan {
         identity: 0,
@@ -205,7 +205,7 @@ fn cell_of(plan: CellPlan) -> Result<Cell, CellError> {
     }
 }
 
-// Returns why a plan is refused.
+// Returns the error for which a plan is refused, if it is.
 fn refusal(plan: CellPlan) -> Option<CellError> {
     cell_of(plan).err()
 }
@@ -218,7 +218,7 @@ fn is_accepted(plan: CellPlan) -> bool {
     refusal(plan) == None
 }
 
-// Returns identity 503's transmission.
+// Returns the transmission behind `TURNED`: identity 503 from sample 19,199 of frame 1023.
 fn turned() -> Result<Transmission, CellError>
     ensures { IfOk result (λ t. t.samples ≡ 57600) }
 {
@@ -278,7 +278,7 @@ fn refusals_by_numbers(rt: HostRuntime) {
     accepted_are_sendable();
 }
 
-// Returns the plain cell's plan with another transport block size.
+// Returns the plain cell's plan with another MCS index, CFI and number of resource blocks.
 fn sized_plan(mcs: u8, cfi: u8, blocks: u8) -> CellPlan {
     CellPlan {
         mcs,
@@ -300,13 +300,14 @@ fn punctured_plan(sib1: Sib1) -> CellPlan {
 
 #[test]
 fn punctured_blocks_have_to_be_resolvable(rt: HostRuntime) {
-    // K = 400 has 1,212 coded bits, and 1,224 are sent; K = 416 is resolvable without 36 of its bits, and K = 400 with
-    // 1,080.
+    // A block of K = 400 has 1,212 coded bits, and 1,224 are sent. A block of K = 416 is resolvable although 36 coded
+    // bits are not sent, and a block of K = 400 if only 1,080 are sent.
     assert!(rt; is_accepted(sized_plan(11, 2, 6)));
     assert!(rt; is_accepted(punctured_plan(plain_block())));
     assert!(rt; is_accepted(sized_plan(11, 3, 6)));
-    // 204 bits cannot determine 1,024. For K = 320 in 540 bits, from redundancy version 2, the first iteration leaves
-    // 38 bits. All of them are 0 here, so the hard decision passes the CRC before every bit is settled.
+    // 204 coded bits cannot determine a block of 1,024 bits. With K = 320 and 540 coded bits from redundancy version 2,
+    // the first iteration leaves 38 bits unresolved. All 38 bits are 0, so the hard decision passes the CRC before
+    // every bit is settled.
     assert!(rt; is_refused(sized_plan(21, 2, 1), CellError::Punctured));
     assert!(rt; is_refused(sized_plan(9, 3, 3), CellError::Punctured));
 }
@@ -327,8 +328,8 @@ fn punctured_plans_without_a_block_are_punctured(rt: HostRuntime) {
     assert!(rt; is_refused(sized_plan(3, 3, 2), CellError::Punctured));
 }
 
-// Returns whether a plan has the answer of its letter in the table: `w` or `r` accepted, `p` punctured, `l` a SIB1 that
-// is too long.
+// Returns whether the plan is answered as its letter in `ANSWERS` says: accepted for `w` or `r`, refused as punctured
+// for `p`, and refused as too long for `l`.
 fn is_answer(cfi: u8, blocks: u8, column: u8, mcs: u8, letter: u8) -> bool {
     let plan = CellPlan {
         cfi,
@@ -416,7 +417,7 @@ fn refusals_by_the_block(rt: HostRuntime) {
     assert!(rt; is_refused(extension, CellError::Extension));
 }
 
-// Returns whether a plan is accepted with this MCS index.
+// Returns whether a plan is accepted, and keeps MCS index `mcs`.
 fn has_scheme(plan: CellPlan, mcs: u8) -> bool {
     match cell_of(plan) {
         Ok(cell) => cell.plan().mcs == mcs,
@@ -424,7 +425,7 @@ fn has_scheme(plan: CellPlan, mcs: u8) -> bool {
     }
 }
 
-// A SIB1 of 113 bits in blocks of 104 and 120; one of 163 bits in blocks of 144 and 176.
+// A SIB1 of 113 bits fits a transport block of 120 bits but not of 104; a SIB1 of 163 bits fits 176 but not 144.
 #[test]
 fn a_text_has_to_fit_its_block(rt: HostRuntime) {
     let long = CellPlan {

@@ -1,4 +1,4 @@
-// The numbers are from the reference implementation, `python/lte_reference/two_ports.py`.
+// The expected numbers are from the reference implementation, `python/lte_reference/two_ports.py`.
 use capture_make::plan;
 use cell_tx::{CellError, CellPlan, sum_is_clean};
 use lte_types::{Sfn, Sib1};
@@ -15,7 +15,7 @@ fn cell_of(plan: CellPlan) -> Result<Cell2, CellError> {
     }
 }
 
-// Returns whether a plan is refused for `cause`, or accepted if that is `None`.
+// Returns whether a plan is refused for `cause`, or accepted if `cause` is `None`.
 fn is_answer(plan: CellPlan, cause: Option<CellError>) -> bool {
     cell_of(plan).err() == cause
 }
@@ -33,8 +33,8 @@ fn with_duplex(mcs: u8) -> CellPlan {
     }
 }
 
-// Six resource blocks carry 1,152 bits with CFI 2 and 1,008 with CFI 3. K = 352 needs 1,068 bits; K = 400 needs 1,212,
-// which one port carries; K = 320 needs 972.
+// Six resource blocks carry 1,152 bits with CFI 2 and 1,008 bits with CFI 3, for two antenna ports. A block of K = 352
+// needs 1,068 bits; K = 400 needs 1,212, which fit one port only; K = 320 needs 972.
 #[test]
 fn each_coded_bit_has_to_be_sent(rt: HostRuntime) {
     let punctured = Some(CellError::Punctured);
@@ -48,7 +48,7 @@ fn each_coded_bit_has_to_be_sent(rt: HostRuntime) {
     }
 }
 
-// The other conditions are those for one antenna port, in the same order.
+// All conditions except for puncturing are the conditions for one antenna port, in the same order.
 #[test]
 fn refusals_in_order(rt: HostRuntime) {
     let identity = CellPlan {
@@ -126,12 +126,12 @@ fn samples_of_each_port(rt: HostRuntime) -> Result<(), Fail> {
     Ok(())
 }
 
-// Returns whether a synthetic recording has these gains, this noise bound and this summary.
+// Returns whether a synthetic recording has the given gains, noise bound and summary.
 fn is_made(made: &TwoMade, gains: [(i16, i16); 2], bound: i16, summary: &Summary) -> bool {
     made.gains == gains && made.bound == bound && is_summed_up(&made.recording, summary)
 }
 
-// Returns whether the identity, the first sample and the first frame number are 7.
+// Returns whether a synthetic recording has identity 7, and begins at sample 7 of frame 7.
 fn begins_with_7(made: &TwoMade) -> bool {
     made.plan.identity == 7 && made.offset == 7 && made.sfn.value() == 7
 }
