@@ -76,7 +76,7 @@ fn received(sent: Sample) -> Sample {
     }
 }
 
-// Writes a frame at the start of the samples, as received.
+// Writes a received frame into the first 19,200 samples.
 fn receive(cell: &Cell, sfn: Sfn, samples: &mut [Sample])
     requires { length samples.old ≡ 57600 }
 {
@@ -86,7 +86,7 @@ fn receive(cell: &Cell, sfn: Sfn, samples: &mut [Sample])
     }
 }
 
-// Returns a received symbol in the first frame.
+// Returns received symbol `l` of slot `number` in the first frame.
 fn symbol_of(recording: &Recording, number: u8, l: usize) -> [Cpx; 72]
     requires number { number < 20 }
     requires l { l < 7 }
@@ -98,7 +98,7 @@ fn symbol_of(recording: &Recording, number: u8, l: usize) -> [Cpx; 72]
     symbol(recording, start)
 }
 
-// Returns a received slot in the first frame.
+// Returns received slot `number` in the first frame.
 fn slot_of(recording: &Recording, number: u8, id: CellId) -> Slot
     requires { number < 20 }
     ensures number { result.number ≡ number }
@@ -116,12 +116,12 @@ fn slot_of(recording: &Recording, number: u8, id: CellId) -> Slot
     Slot::new(seen, number, id)
 }
 
-// Returns whether the magnitude is at least 8 for each soft value.
+// Returns whether all soft values have a magnitude of at least 8.
 fn are_large(values: &[i16]) -> bool {
     values.iter().all(|value| value.unsigned_abs() >= 8)
 }
 
-// Returns how many soft values were granted, if the magnitude is at least 8 for each.
+// Returns the number of soft values for the decoded grant, if all have a magnitude of at least 8.
 fn large_values(first: &Slot, second: &Slot, attempt: &Attempt) -> Option<usize>
     requires first { first.now.number ≡ 10 }
     requires second { second.now.number ≡ 11 }
@@ -147,7 +147,7 @@ fn large_values(first: &Slot, second: &Slot, attempt: &Attempt) -> Option<usize>
     }
 }
 
-// Returns one received frame, followed by silence.
+// Returns a recording of one received frame, followed by silence.
 fn received_recording(alloc: Global) -> Result<Recording, Fail> {
     let cell = cell_of(plan()).ok_or("a plan that is sent")?;
     let mut samples = silent(alloc, 57_600)?;
@@ -169,7 +169,7 @@ fn has_grant(attempt: &Attempt) -> bool {
     attempt.cfi.value() == 3 && attempt.grant == Some(granted)
 }
 
-// Returns whether the magnitude is at least 8 for each soft value in the PDCCH candidate.
+// Returns whether all soft values in the PDCCH candidate have a magnitude of at least 8.
 fn has_large_control(slot: &Slot, cfi: Cfi, mib: Mib) -> bool
     requires { slot.now.number ≡ 10 }
 {
@@ -179,7 +179,7 @@ fn has_large_control(slot: &Slot, cfi: Cfi, mib: Mib) -> bool
     }
 }
 
-// Returns whether the SIB1 was decoded with some sent fields.
+// Returns whether SIB1 was decoded, with the sent tracking area code, cell identity and q-RxLevMin.
 fn has_fields(attempt: &Attempt) -> bool {
     match &attempt.answer {
         Ok(fields) => fields.tac == 0x1a2b && fields.cell == 0x0abcdef && fields.q_rx == -61,

@@ -1,5 +1,5 @@
-//! The estimated frequency offset of shifted synthetic recordings. The texts are from two reference implementations,
-//! `python/lte_reference/make.py` and `python/lte_reference/tune.py`.
+//! The estimated frequency offset of shifted synthetic recordings. The expected texts are from two reference
+//! implementations, `python/lte_reference/make.py` and `python/lte_reference/tune.py`.
 
 use capture_make::make;
 use cs_num::Sample;
@@ -30,7 +30,7 @@ fn front_and_silence(alloc: Global, recording: &Recording) -> Result<Vec<Sample>
     Ok(samples)
 }
 
-// Returns whether a recording has this report.
+// Returns whether `text` is the frequency offset report on a recording.
 fn is_estimated(alloc: Global, recording: &Recording, text: &str) -> Result<bool, AllocError> {
     Ok(tell_text(alloc, recording)?.as_str() == text)
 }

@@ -1,4 +1,4 @@
-// The numbers are from the reference implementation, `python/lte_reference/long_prefix.py`.
+// The expected numbers are from the reference implementation, `python/lte_reference/long_prefix.py`.
 use cs_num::{Sample, clamp_div};
 use explain::EntryList;
 use long_prefix::{LongMade, LongPlan, Workspace3, explain_clean, made_is_clean, make, sample};
@@ -39,7 +39,7 @@ const SENT: [(u32, i16, i16); 27] = [
     (28_800, 45, 45),
 ];
 
-// Returns cell 7's plan, with another bandwidth and other upper frame number bits in its MIB.
+// Returns cell 7's plan, with the given bandwidth and upper frame number bits in its MIB.
 fn plan_7(bandwidth: Bandwidth, upper: u8) -> Option<LongPlan> {
     let mib = Mib::new(bandwidth, Duration::Extended, Resource::Two, upper, 7)?;
     Some(LongPlan {
@@ -59,7 +59,7 @@ fn samples_of_a_plan(rt: HostRuntime) -> Result<(), Fail> {
     Ok(())
 }
 
-// Returns whether a synthetic recording has this gain, this noise bound and this summary.
+// Returns whether a synthetic recording has the given gain, noise bound and summary.
 fn is_made(made: &LongMade, gain: (i16, i16), bound: i16, summary: &Summary) -> bool {
     made.gain == gain && made.bound == bound && is_summed_up(&made.recording, summary)
 }
@@ -140,7 +140,7 @@ fn is_expected(entry: &Entry, expected: &ExpectedEntry) -> bool {
         && matches!(&entry.sib1, Err(Sib1Reason::LongPrefix))
 }
 
-// Returns whether synthetic recording `n` lists exactly this entry.
+// Returns whether the cell list of synthetic recording `n` is exactly the entry `expected`.
 fn is_list(alloc: Global, n: u32, expected: &ExpectedEntry) -> Result<bool, AllocError> {
     let made = make(alloc, n)?;
     let list = list_of(alloc, &made.recording)?;
@@ -150,7 +150,7 @@ fn is_list(alloc: Global, n: u32, expected: &ExpectedEntry) -> Result<bool, Allo
     })
 }
 
-// The entries expected for synthetic recordings.
+// The expected list entries of synthetic recordings, by number.
 const EXPECTED: [(u32, ExpectedEntry); 3] = [
     // Recording 7 starts at sample 7 of frame 7, so its frame 8 begins at sample 19,193.
     (
@@ -217,7 +217,7 @@ impl Noise {
     }
 }
 
-// Adds noise, at most `most`, to each component.
+// Adds noise of magnitude at most `most` to each component.
 fn noisy(sample: Sample, noise: &mut Noise, most: u16) -> Sample {
     let re = sample.re.saturating_add(noise.next(most));
     let im = sample.im.saturating_add(noise.next(most));
@@ -242,7 +242,8 @@ fn spoiled(alloc: Global, most: u16) -> Result<Recording, Fail> {
     Ok(recording)
 }
 
-// Returns whether the spoiled recording lists its cell, with a MIB decoded from this frame alone.
+// Returns whether the cell list of the noisy recording has only the sent cell, with a MIB decoded from frame `frame`
+// alone.
 fn is_estimated_alone(alloc: Global, most: u16, frame: u8) -> Result<bool, Fail> {
     let expected = ExpectedEntry {
         identity: 1,
@@ -260,16 +261,16 @@ fn is_estimated_alone(alloc: Global, most: u16, frame: u8) -> Result<bool, Fail>
     })
 }
 
-// From `lte_reference/long_prefix.py --spoiled 700 1` and `lte_reference/search.py --prefix long why`: frame 0 has no
-// MIB.
+// Expected result from `lte_reference/long_prefix.py --spoiled 700 1` and `lte_reference/search.py --prefix long why`:
+// no MIB is decoded from frame 0.
 #[test]
 fn the_second_frame_decodes_alone(rt: HostRuntime) -> Result<(), Fail> {
     assert!(rt; is_estimated_alone(rt.alloc(), 700, 1)?);
     Ok(())
 }
 
-// From `lte_reference/long_prefix.py --spoiled 1000 1` and `900 1`: no single frame has a MIB, although two or four
-// frames together would.
+// Expected result from `lte_reference/long_prefix.py --spoiled 1000 1` and `900 1`: no MIB is decoded from a single
+// frame, although the sum of two or four frames would give one.
 #[test]
 fn no_frames_are_added(rt: HostRuntime) -> Result<(), Fail> {
     let alloc = rt.alloc();

@@ -1,4 +1,4 @@
-//! A recording's cell list, and the calls that make it.
+//! A recording's cell list, and the calls that compute it.
 
 ghost use Rattle.std.specs.Prelude.{◌≡◌, IfOk, length};
 ghost use Rattle.explain.specs.Entries.{IsExplained};
@@ -15,8 +15,8 @@ use test_support::{
     Rows, primary_grid, put_rows, put_signals, send_often, silent, silent_recording, wide_cell,
 };
 
-// Symbols 0 to 4 of slot 1 for identity 0, from the reference implementation: width n6, PHICH extended and two, upper
-// bits 5, spare bits 1023, four ports, phase 3.
+// Symbols 0 to 4 of slot 1 for identity 0, from the reference implementation: bandwidth n6, PHICH duration extended and
+// resource two, upper frame number bits 5, spare bits 1023, four antenna ports, phase 3.
 const OTHER: Rows = [
     b"310.21230.23300.30223.23010.30333.31110.31213.00013.22101.03213.21121.02",
     b".10.20.22.13.12.21.33.20.20.03.13.13.00.33.03.22.32.22.00.01.11.33.33.13",
@@ -25,7 +25,7 @@ const OTHER: Rows = [
     b"...0.....3.....3.....3.....2.....2.....0.....1.....3.....3.....0.....0..",
 ];
 
-// Writes slot 1 in four consecutive frames.
+// Writes symbols 0 to 4 of slot 1 in four consecutive frames.
 fn send_frames(samples: &mut [Sample], frames: &[Rows; 4])
     requires { length samples.old ≡ 96000 }
 {
@@ -41,7 +41,7 @@ fn list_of(alloc: Global, recording: &Recording) -> Result<EntryList, AllocError
     plans::list_of(alloc, recording, &mut Workspace::new(alloc)?)
 }
 
-// Returns whether an entry has identity 0, and this start, frame number and port count.
+// Returns whether an entry has identity 0, and the given start, frame number and port count.
 fn is_cell_at(entry: &Entry, start: u32, sfn: u16, ports: u8) -> bool {
     entry.id.value() == 0
         && entry.start == start
@@ -49,12 +49,14 @@ fn is_cell_at(entry: &Entry, start: u32, sfn: u16, ports: u8) -> bool {
         && entry.ports == ports
 }
 
-// Returns whether an entry's MIB was decoded at no cost from these frames.
+// Returns whether an entry's MIB was decoded with cost 0, from `frames` frames starting at frame `frame`, which has
+// phase `phase`.
 fn is_estimated_by(entry: &Entry, frames: u8, frame: u8, phase: u8) -> bool {
     entry.frames == frames && entry.frame == frame && entry.phase == phase && entry.cost == 0
 }
 
-// Returns a MIB with width n6, PHICH extended and two, and these bits.
+// Returns a MIB with bandwidth n6, PHICH duration extended and resource two, and the given upper frame number bits and
+// spare bits.
 fn narrow(upper: u8, spare: u16) -> Option<Mib> {
     Mib::new(
         Bandwidth::N6,
@@ -65,12 +67,12 @@ fn narrow(upper: u8, spare: u16) -> Option<Mib> {
     )
 }
 
-// Returns the MIB in the n50 rows.
+// Returns the MIB in `WIDE`, with bandwidth n50.
 fn wide() -> Option<Mib> {
     Mib::new(Bandwidth::N50, Duration::Normal, Resource::One, 0, 0)
 }
 
-// Returns whether an entry has no system information because its width is n50.
+// Returns whether an entry has no system information because its bandwidth is n50.
 fn is_too_wide(entry: &Entry) -> bool {
     match &entry.sib1 {
         Ok(_) => false,

@@ -1,5 +1,5 @@
-// The soft values for pairs are from the reference implementation, `python/lte_reference/pairs.py --ports 4`. The
-// synthetic recordings have the samples of `python/lte_reference/four_ports.py`.
+// The expected soft values of pairs are from the reference implementation, `python/lte_reference/pairs.py --ports 4`.
+// The synthetic recordings have the samples of `python/lte_reference/four_ports.py`.
 ghost use Rattle.std.specs.Prelude.{◌≡◌, IfOk, length};
 
 use crate::ports::{is_of, is_pair, of_port, opposed, symbols, values_of, with_port};
@@ -52,7 +52,7 @@ fn silence_has_no_cell(rt: HostRuntime) -> Result<(), Fail> {
     Ok(())
 }
 
-// Returns whether the only entry is synthetic recording 7's cell.
+// Returns whether a list's only entry is the cell of synthetic recording 7, at the given start and frame number.
 fn is_list_of_7(list: &EntryList, start: u32, sfn: u16) -> bool {
     match list.slice() {
         [entry] => {
@@ -71,7 +71,8 @@ fn recording_7_has_its_cell(rt: HostRuntime) -> Result<(), Fail> {
     Ok(())
 }
 
-// The gains for ports 0 to 3. The first is the minimum, and each pair has at least three eighths of the power.
+// The gains of antenna ports 0 to 3. Port 0 has the minimum gain, and each pair has at least three eighths of the
+// power.
 const GAINS: [(i64, i64); 4] = [(1, 0), (5, -5), (-6, 6), (0, 7)];
 
 // Returns the received sum over all ports, with each component moved by 1 against its sign.
@@ -93,7 +94,7 @@ fn receive(samples: &mut [Sample], one: &[Sample], two: &[Sample], three: &[Samp
     }
 }
 
-// Returns 30 ms from all antenna ports, as received.
+// Returns 30 ms as received from all antenna ports.
 fn all_ports(alloc: Global, cell: &Cell) -> Result<Vec<Sample>, AllocError>
     ensures { IfOk result (λ samples. length samples.items ≡ 57600) }
 {

@@ -1,4 +1,4 @@
-//! Tests of cell search over whole recordings, cancellation, and frequency correction: `explain`, `clean_air`,
+//! Tests of cell search over complete recordings, cancellation, and frequency correction: `explain`, `clean_air`,
 //! `two_ports`, `four_ports`, `long_prefix`, `cancel`, `successive_cancel` and `frequency_offset`.
 #![tactic(auto)]
 

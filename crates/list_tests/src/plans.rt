@@ -45,7 +45,7 @@ fn is_of_the_first_frame(entry: &Entry) -> bool {
     entry.frames == 1 && entry.frame == 0 && entry.phase == 0
 }
 
-// Returns whether this is the plain cell's grant.
+// Returns whether `grant` is the plain cell's grant.
 fn is_granted(grant: &Grant) -> bool {
     let sent = Grant {
         start: 0,
@@ -58,7 +58,7 @@ fn is_granted(grant: &Grant) -> bool {
     *grant == sent
 }
 
-// Returns whether this is the plain cell's plan, apart from the SIB1.
+// Returns whether `plan` is the plain cell's plan, apart from the SIB1.
 fn is_plain(plan: &CellPlan) -> bool {
     plan.identity == 0
         && plan.duration == Duration::Normal

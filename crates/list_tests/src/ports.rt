@@ -25,7 +25,7 @@ fn seen_at(l: u8, k: u8) -> Cpx
     }
 }
 
-// Returns symbol `l` on all subcarriers.
+// Returns received symbol `l` of the pseudorandom slot.
 fn symbol(l: u8) -> [Cpx; 72]
     requires { l < 7 }
     ensures { All (IsWithin (2 ^ 25)) result }
@@ -37,7 +37,7 @@ fn symbol(l: u8) -> [Cpx; 72]
     values
 }
 
-// Returns the slot's symbols.
+// Returns all symbols of the pseudorandom slot.
 pub(crate) fn symbols() -> [[Cpx; 72]; 7]
     ensures { All (All (IsWithin (2 ^ 25))) result }
 {
@@ -52,7 +52,8 @@ pub(crate) fn symbols() -> [[Cpx; 72]; 7]
     ]
 }
 
-// Each pair's first resource element, as symbol and subcarrier. The second is on the next subcarrier, modulo 72.
+// The first resource element of each pair, as symbol and subcarrier. The pair's second resource element is on the next
+// subcarrier, modulo 72.
 const PAIRS: [(u8, u8); 12] = [
     (1, 0),
     (2, 1),
@@ -68,7 +69,7 @@ const PAIRS: [(u8, u8); 12] = [
     (6, 68),
 ];
 
-// Returns a resource element in the slot.
+// Returns the resource element in symbol `symbol` on subcarrier `k`, each reduced to its range.
 fn place(symbol: u8, k: u8) -> Place
     ensures symbol { result.symbol < 14 }
     ensures k { result.k < 72 }
@@ -79,7 +80,7 @@ fn place(symbol: u8, k: u8) -> Place
     }
 }
 
-// Returns all pairs' resource elements.
+// Returns the resource elements of all pairs.
 fn places() -> [Place; 24]
     ensures { All (λ p. (p.symbol < 14) × (p.k < 72)) result }
 {
@@ -92,14 +93,14 @@ fn places() -> [Place; 24]
     places
 }
 
-// Returns all pairs' soft values.
+// Returns the soft values of all pairs.
 pub(crate) fn values_of<S: ReadSlot>(slot: &S) -> [i16; 48] {
     let mut values = [0; 48];
     fill_slot(slot, &places(), &mut values);
     values
 }
 
-// Returns whether pair `i` has these soft values.
+// Returns whether pair `i` has the soft values `expected`.
 pub(crate) fn is_pair(values: &[i16; 48], i: usize, expected: [i16; 4]) -> bool {
     i < 12 && &values[4 * i..4 * i + 4] == expected.as_slice()
 }
@@ -115,7 +116,7 @@ pub(crate) fn is_of(entry: &Entry, n: u32, start: u32, sfn: u16, ports: u8) -> b
         && entry.mib.spare == sent.spare
 }
 
-// Returns 30 ms of one antenna port, from frame 512.
+// Returns 30 ms of one antenna port's samples, starting at frame 512.
 pub(crate) fn of_port(
     alloc: Global,
     cell: &Cell,
@@ -160,7 +161,7 @@ fn off(component: i64, error: i16) -> i16 {
     }
 }
 
-// Returns a sample with each component moved by `error` against its sign.
+// Returns `sum` as a sample, with each component moved by `error` against its sign.
 pub(crate) fn opposed(sum: (i64, i64), error: i16) -> Sample {
     Sample {
         re: off(sum.0, error),

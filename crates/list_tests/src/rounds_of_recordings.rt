@@ -35,7 +35,7 @@ fn sent(alloc: Global, change: &str) -> Result<Vec<Sample>, Fail>
     Ok(samples)
 }
 
-// Adds samples to samples.
+// Adds `others` to `samples`, sample by sample.
 fn add(samples: &mut [Sample], others: &[Sample])
     requires { length others.now ≡ length samples.old }
     ensures { length samples.new ≡ length samples.old }
@@ -48,7 +48,7 @@ fn add(samples: &mut [Sample], others: &[Sample])
     }
 }
 
-// Returns whether the text for some samples is `wanted`.
+// Returns whether `wanted` is the cancellation text for a recording of `samples`.
 fn has_text(alloc: Global, samples: Vec<Sample>, wanted: &str) -> Result<bool, Fail> {
     let recording = Recording::new(samples).ok_or("30 ms")?;
     let text = cancel_text(alloc, &recording)?;
@@ -96,7 +96,7 @@ fn a_wider_cell_has_no_plan(rt: HostRuntime) -> Result<(), Fail> {
     Ok(())
 }
 
-// Returns whether a round cancelled the plain cell with this gain and these powers before and after.
+// Returns whether a round cancelled the plain cell with gain `gain`, and had the given power before and after.
 fn is_round(round: &Round, gain: (i16, i16), before: u128, after: u128) -> bool {
     round.id.value() == 0
         && round.taken.gain == gain
@@ -105,7 +105,7 @@ fn is_round(round: &Round, gain: (i16, i16), before: u128, after: u128) -> bool 
         && round.taken.after == after
 }
 
-// Returns whether a round lists two cells, and the other one is second.
+// Returns whether a round's list has two cells, the second of which is `OTHER`.
 fn lists_the_other(round: &Round) -> bool {
     match round.list.slice() {
         [_, other] => other.id.value() == 150,
@@ -113,7 +113,8 @@ fn lists_the_other(round: &Round) -> bool {
     }
 }
 
-// Returns whether the rounds cancel the plain cell, then what remains from it, and then go on with the residuals.
+// Returns whether the first of four rounds cancels the plain cell, and each other round what remains of the plain cell
+// in the residual.
 fn are_four(rounds: &[Round]) -> bool {
     let (all, less, more) = (82_530_174_415, 1_168_250_863, 1_515_079_615);
     match rounds {

@@ -30,7 +30,7 @@ fn plain_plan(identity: u16) -> CellPlan {
     }
 }
 
-// Returns another cell's plan.
+// Returns the plan of a second cell, with identity 150.
 fn other_plan() -> CellPlan {
     CellPlan {
         duration: Duration::Extended,
@@ -48,7 +48,7 @@ fn part(z: i64) -> i16 {
     clamp_div(z, 1, 32_767)
 }
 
-// Returns a sample plus a sent sample times a gain.
+// Returns `sample` plus `sent` times `gain`, clamped to 16 bits.
 fn added(sample: Sample, sent: Sample, gain: Sample) -> Sample {
     let product = Cpx::from(gain).mul(Cpx::from(sent));
     Sample {
@@ -57,7 +57,7 @@ fn added(sample: Sample, sent: Sample, gain: Sample) -> Sample {
     }
 }
 
-// Adds a cell's emission times a gain, starting at a sample in a frame.
+// Adds a cell's emission times a gain. `place` is the frame number and the sample at which the emission begins.
 fn add(
     alloc: Global,
     samples: &mut [Sample],
@@ -92,7 +92,7 @@ fn add(
     Ok(())
 }
 
-// Subtracts a plan's cell, starting at a sample in a frame.
+// Subtracts the cell of `plan` from `samples`. `place` is a frame number and the sample at which that frame starts.
 fn taken(
     alloc: Global,
     samples: Vec<Sample>,
@@ -176,7 +176,7 @@ fn a_lone_cell_leaves_nothing(rt: HostRuntime) -> Result<(), Fail> {
     Ok(())
 }
 
-// Adds 56 and -56, alternately, to the components of samples.
+// Adds 56 to both components of each even sample, and -56 to those of each odd sample.
 fn disturb(samples: &mut [Sample]) {
     for i in 0..samples.len() {
         let error = if i % 2 == 0 { 56 } else { -56 };
@@ -205,7 +205,7 @@ fn errors_at_the_bound_are_left(rt: HostRuntime) -> Result<(), Fail> {
     Ok(())
 }
 
-// In silence, the gains 1, j, -1 and -j leave the same residual power.
+// In silence, the gains 1, j, -1 and -j leave residuals of equal power.
 #[test]
 fn of_equal_gains_the_lowest_is_taken(rt: HostRuntime) -> Result<(), Fail> {
     let samples = silent(rt.alloc(), 57_600)?;
@@ -223,7 +223,7 @@ fn of_equal_gains_the_lowest_is_taken(rt: HostRuntime) -> Result<(), Fail> {
     Ok(())
 }
 
-// The estimated gain is 20 + 9j.
+// The estimated gain, 20 + 9j, is not the gain with the smallest residual.
 #[test]
 fn another_gain_than_the_estimate_is_taken(rt: HostRuntime) -> Result<(), Fail> {
     let mut samples = silent(rt.alloc(), 57_600)?;

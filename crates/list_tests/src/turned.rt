@@ -1,4 +1,5 @@
-//! Frequency-shifted recordings. The sums are from the reference implementation, `python/lte_reference/tune.py`.
+//! Frequency-shifted recordings. The expected sums are from the reference implementation,
+//! `python/lte_reference/tune.py`.
 
 use cs_num::Sample;
 use frequency_offset::turned;

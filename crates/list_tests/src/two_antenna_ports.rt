@@ -1,5 +1,5 @@
-// The soft values for pairs are from the reference implementation, `python/lte_reference/pairs.py`. The synthetic
-// recordings are from `two_tx`, with the samples of `python/lte_reference/two_ports.py`.
+// The expected soft values of pairs are from the reference implementation, `python/lte_reference/pairs.py`. The
+// synthetic recordings are from `two_tx`, with the samples of `python/lte_reference/two_ports.py`.
 ghost use Rattle.std.specs.Prelude.{◌≡◌, IfOk, length};
 
 use crate::ports::{is_of, is_pair, of_port, opposed, symbols, values_of, with_port};
@@ -47,7 +47,7 @@ fn silence_has_no_cell(rt: HostRuntime) -> Result<(), Fail> {
     Ok(())
 }
 
-// Returns whether an entry has this SIB1, judged by a few fields.
+// Returns whether a few fields of an entry's SIB1 equal those of `sib1`.
 fn has_fields(entry: &Entry, sib1: &Sib1) -> bool {
     match &entry.sib1 {
         Ok(fields) => {
@@ -60,7 +60,7 @@ fn has_fields(entry: &Entry, sib1: &Sib1) -> bool {
     }
 }
 
-// Returns whether the only entry is synthetic recording 7's cell.
+// Returns whether a list's only entry is the cell of synthetic recording 7, at the given start and frame number.
 fn is_list_of_7(list: &EntryList, start: u32, sfn: u16) -> bool {
     match list.slice() {
         [entry] => is_of(entry, 7, start, sfn, 2) && has_fields(entry, &plan(7).sib1),
@@ -77,13 +77,13 @@ fn recording_7_has_its_cell(rt: HostRuntime) -> Result<(), Fail> {
     Ok(())
 }
 
-// Returns the sum with the gains (1, 0) and (19, 5), with each component moved by 2 against its sign.
+// Returns the received sum of both ports with gains 1 and 19 + 5j, with each component moved by 2 against its sign.
 fn received(first: Sample, second: Sample) -> Sample {
     let sum = with_port((0, 0), first, (1, 0));
     opposed(with_port(sum, second, (19, 5)), 2)
 }
 
-// Replaces the first port's samples by the received sum over both.
+// Replaces the first port's samples by the received sum of both ports.
 fn receive(samples: &mut [Sample], second: &[Sample])
     requires { length second.now ≡ length samples.old }
 {
@@ -92,7 +92,7 @@ fn receive(samples: &mut [Sample], second: &[Sample])
     }
 }
 
-// Returns 30 ms from both antenna ports, as received.
+// Returns 30 ms as received from both antenna ports.
 fn both_ports(alloc: Global, cell: &Cell) -> Result<Vec<Sample>, AllocError>
     ensures { IfOk result (λ samples. length samples.items ≡ 57600) }
 {
