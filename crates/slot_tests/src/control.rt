@@ -8,7 +8,7 @@ use soft_bits::Slot;
 use std::process::Abort;
 use test_support::Rows;
 
-// Instances of slot 10, whose first symbols carry the PDCCH. The control information is the same in both.
+// Two instances of slot 10, whose first symbols carry the PDCCH. Both have the same control information.
 
 // Identity 0, CFI 2, PHICH duration normal and resource one.
 const PLAIN: Rows = [
@@ -28,7 +28,7 @@ const WIDE: Rows = [
     b"..2.....1.....3.....2.....0.....2.....0.....0.....2.....0.....1.....1...",
 ];
 
-// The 288 coded bits of both slots.
+// The 288 coded bits of the control information, which are the same in both slots.
 const CODED: &[u8; 288] =
     b"111011001110110001100011001110111000001011000101001000111000100000110000\
     001100010111100011001101011000111100000111011001110110001100011001110111\
@@ -45,7 +45,7 @@ pub(crate) fn cfi_of(rt: &impl Abort, value: u8) -> Cfi
     Cfi::new(value).expect(rt, "in range")
 }
 
-// Returns the counts of control channel elements for CFI 1, 2 and 3.
+// Returns the numbers of control channel elements for CFI 1, 2 and 3.
 fn counts_of(rt: &impl Abort, identity: u16, mib: Mib) -> [u8; 3] {
     let id = CellId::new(identity).expect(rt, "in range");
     [1, 2, 3].map(|cfi| elements(id, cfi_of(rt, cfi), mib))
@@ -65,7 +65,7 @@ fn speaks_for(values: &[i16; 288], coded: &[u8; 288]) -> bool {
     values.iter().zip(coded).all(|(value, digit)| *value == if *digit == b'1' { -67 } else { 67 })
 }
 
-// Returns whether the PDCCH candidate in a slot has these coded bits; `None` without a candidate.
+// Returns whether the PDCCH candidate in a slot has the coded bits `CODED`; `None` without a candidate.
 fn is_coded(slot: &Slot, cfi: Cfi, mib: Mib) -> Option<bool>
     requires { slot.now.number ≡ 10 }
 {

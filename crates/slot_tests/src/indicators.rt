@@ -4,7 +4,7 @@ use test_support::{EMPTY, Rows};
 
 // Instances of slot 10, whose symbol 0 carries the PCFICH.
 
-// CFI 1 for identity 77, with three real parts negated.
+// CFI 1 for identity 77, with the real parts of three modulation symbols negated.
 const DAMAGED_1: Rows = [
     b".....2.....312.002.....2.....203.300.....0.....300.002.....3.....113.313",
     EMPTY,
@@ -31,7 +31,7 @@ const THREE: Rows = [
     b"..2.....1.....3.....2.....0.....2.....0.....0.....2.....0.....1.....1...",
 ];
 
-// Silence.
+// A silent slot.
 const SILENCE: Rows = [EMPTY; 5];
 
 #[test]

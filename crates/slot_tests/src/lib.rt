@@ -1,5 +1,5 @@
-//! Tests of channel decoding in single slots, MIB, CFI, PDCCH candidates, PDSCH soft values and SIB1: `pbch`, `pcfich`,
-//! `pdcch`, `pdsch`, `dci` and `sib1_reader`.
+//! Tests of decoding single slots and subframes (MIB, CFI, PDCCH candidates, PDSCH soft values, SIB1): `pbch`,
+//! `pcfich`, `pdcch`, `pdsch`, `dci` and `sib1_reader`.
 #![tactic(auto)]
 
 #[cfg(test)]

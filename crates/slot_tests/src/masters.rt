@@ -46,7 +46,7 @@ const FOUR_PORTS: Rows = [
     b"..3.....0.....2.....1.....3.....1.....1.....2.....3.....0.....3.....2...",
 ];
 
-// Other MIB fields, for identity 77 at phase 1, with eight real parts negated.
+// A MIB with other fields, for identity 77 at phase 1. The real parts of eight modulation symbols are negated.
 const DAMAGED: Rows = [
     b"13.20022.02101.22322.20221.13103.22020.31113.20222.03001.20103.21031.231",
     b"00.13.33.13.01.23.20.33.01.12.02.00.33.30.32.00.12.33.03.20.30.00.11.33.",
@@ -88,11 +88,11 @@ const QUARTERS: [Rows; 4] = [
     ],
 ];
 
-// Silence.
+// A silent slot.
 const SILENCE: Rows = [EMPTY; 5];
 
-// Returns whether a MIB was decoded at no cost, with this port count, bandwidth n6, PHICH duration normal, resource
-// one, and all other bits 0.
+// Returns whether a MIB was decoded with cost 0: port count `ports`, bandwidth n6, PHICH duration normal, PHICH
+// resource one, and all other bits 0.
 fn is_plain(found: Option<Master>, ports: u8) -> bool {
     let Some(master) = found else {
         return false;
@@ -136,7 +136,7 @@ fn bandwidth_code_6_is_no_master(rt: HostRuntime) -> Result<(), Fail> {
     Ok(())
 }
 
-// Returns whether a slot gives this port count at `phase`, and no MIB at `other`.
+// Returns whether a slot gives a MIB with port count `ports` at `phase`, and no MIB at phase `other`.
 fn gives_ports(slot: Slot, phase: u8, ports: u8, other: u8, work: &mut Trellis) -> bool
     requires number { slot.number ≡ 1 }
     requires phase { phase < 4 }
@@ -156,7 +156,7 @@ fn the_mask_gives_the_ports(rt: HostRuntime) -> Result<(), Fail> {
     Ok(())
 }
 
-// Returns whether this is the MIB of `DAMAGED`, at the cost of eight negated parts.
+// Returns whether `master` is the MIB of `DAMAGED`, with the cost of eight negated parts.
 fn is_damaged(master: &Master) -> bool {
     let mib = master.mib;
     mib.bandwidth == Bandwidth::N100

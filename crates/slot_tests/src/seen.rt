@@ -12,7 +12,7 @@ use test_support::{EMPTY, Rows, level, point_of};
 /// All symbols of a slot, subcarrier by subcarrier.
 pub(crate) type SlotRows = [&'static [u8; 72]; 7];
 
-// Returns the received value for a digit, 64 times the sent one.
+// Returns the received value for a digit: 64 times the sent constellation point.
 fn seen_of(digit: u8) -> Cpx
     ensures { IsWithin (2 ^ 25) result }
 {
@@ -41,7 +41,7 @@ fn symbol_of(row: &[u8; 72]) -> [Cpx; 72]
     seen
 }
 
-// Returns the slot with these symbols.
+// Returns slot `number` of cell `id`, with the symbols in `rows`.
 fn whole_slot_of(id: CellId, number: u8, rows: SlotRows) -> Slot
     requires { number < 20 }
     ensures number { result.number ≡ number }
@@ -59,12 +59,12 @@ fn whole_slot_of(id: CellId, number: u8, rows: SlotRows) -> Slot
     Slot::new(seen, number, id)
 }
 
-// Appends two empty symbols.
+// Returns all symbols of a slot: `rows`, then two empty symbols.
 fn with_two_empty(rows: Rows) -> SlotRows {
     [rows[0], rows[1], rows[2], rows[3], rows[4], EMPTY, EMPTY]
 }
 
-/// Returns a slot with these symbols and two empty ones.
+/// Returns a slot with the five symbols in `rows`, and two empty symbols.
 pub(crate) fn slot_of(rt: &impl Abort, identity: u16, number: u8, rows: Rows) -> Slot
     requires { number < 20 }
     ensures number { result.number ≡ number }
@@ -74,7 +74,8 @@ pub(crate) fn slot_of(rt: &impl Abort, identity: u16, number: u8, rows: Rows) ->
     whole_slot_of(id, number, with_two_empty(rows))
 }
 
-/// Returns slots 10 and 11 of a cell; slot 10 has these symbols and two empty ones.
+/// Returns slots 10 and 11 of a cell. Slot 10 has the five symbols in `first` and two empty symbols; slot 11 has the
+/// symbols in `second`.
 pub(crate) fn subframe_of(
     rt: &impl Abort,
     identity: u16,

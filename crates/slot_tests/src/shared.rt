@@ -7,9 +7,10 @@ use pdsch::{MOST_VALUES, values};
 use std::process::Abort;
 use test_support::{EMPTY, Rows, bits_of};
 
-// Instances of slots 10 and 11 with only the PDSCH, and its coded bits, from `python/lte_reference/subframe.py`.
+// Instances of slots 10 and 11 with only the PDSCH, and the PDSCH's coded bits, from
+// `python/lte_reference/subframe.py`.
 
-// Resource block 2, for identity 77 with CFI 2.
+// A PDSCH in resource block 2, for identity 77 with CFI 2.
 const ONE_10: Rows = [
     b".....2.....3.....2.....2.....2.....0.....0.....3.....2.....3.....1.....3",
     EMPTY,
@@ -33,7 +34,7 @@ const ONE_BITS: &[u8; 204] =
     100010100111110001000000010011011110010010101010110011100001010011010010\
     100110100100010100000010111000101011101111010101011110100011";
 
-// Resource blocks 4 and 5, for identity 503 with CFI 3.
+// A PDSCH in resource blocks 4 and 5, for identity 503 with CFI 3.
 const TWO_10: Rows = [
     b".....1.....1.....1.....2.....2.....0.....3.....3.....1.....0.....0.....1",
     EMPTY,
@@ -59,7 +60,7 @@ const TWO_BITS: &[u8; 360] =
     000000011000010010001001000000100000010000001011110000111100001010110100\
     100100010111110011000000000011100100110011010100000001001111000011010100";
 
-// Returns the soft values for a grant, in a buffer of sevens, and their count.
+// Returns the soft values for the grant in `word`, in a buffer filled with 7, and the number of soft values.
 fn values_of(
     rt: &impl Abort,
     identity: u16,
@@ -79,7 +80,7 @@ fn values_of(
     (out, count)
 }
 
-// Returns whether the soft values are 67 for each coded 0 and -67 for each coded 1, and 7 after them.
+// Returns whether the buffer has 67 for each coded 0 and -67 for each coded 1, and 7 after the coded bits.
 fn shows(values: &[i16; MOST_VALUES], coded: &[u8]) -> bool {
     values.iter().enumerate().all(|(i, value)| match coded.get(i) {
         Some(digit) => *value == if *digit == b'1' { -67 } else { 67 },
@@ -93,7 +94,7 @@ fn blocks_have_the_coded_bits(rt: HostRuntime) {
     assert!(rt; count == 204 && shows(&values, ONE_BITS));
     let (values, _) = values_of(&rt, 77, 2, 0b100001100000000000000, ONE_10, ONE_11);
     assert!(rt; !shows(&values, ONE_BITS));
-    // CFI 3, which shortens the PDSCH.
+    // The PDSCH with CFI 3 is one symbol shorter than with CFI 2.
     let (values, count) = values_of(&rt, 503, 3, 0b100101000100000011000, TWO_10, TWO_11);
     assert!(rt; count == 360 && shows(&values, TWO_BITS));
     let (values, count) = values_of(&rt, 503, 2, 0b100101000100000011000, TWO_10, TWO_11);

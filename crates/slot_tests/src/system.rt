@@ -56,56 +56,56 @@ const FULL_11: SlotRows = [
     b"............102230313022022333020013302321100122300130213133213102032330",
 ];
 
-// CFI 1, and nothing else.
+// A slot with CFI 1 and no PDCCH.
 const ONE_SYMBOL: ControlRows = [
     b"011.321.....1.....320.313.....2.....232.200.....1.....201.130.....1.....",
     EMPTY,
     EMPTY,
 ];
 
-// The CRC is not masked with the SI-RNTI.
+// A DCI message whose CRC is not masked with the SI-RNTI.
 const NO_CHECK: ControlRows = [
     b"020.111.....112.13332.003.....211.00211.32003.001.....230.30033.13110.31",
     b"0132321001222021....3202222120003030....22113000310023020030310020230020",
     b"313102200033122112311032....323010202033322330012112....003011002000....",
 ];
 
-// The flag selects DCI format 0.
+// A DCI message whose flag selects format 0.
 const ANOTHER_FORMAT: ControlRows = [
     b"020.111.....100.13332.003.....212.20211.32023.311.....230.30033.31102.13",
     b"0332132021232021....3210321323002030....20003110321023130132300121011130",
     b"301103000030102132010032....123110202322302130120332....000200003011....",
 ];
 
-// The assignment is distributed.
+// A DCI message with a distributed assignment.
 const DISTRIBUTED: ControlRows = [
     b"020.111.....132.31332.003.....201.22211.32003.201.....230.30033.33112.13",
     b"1133100123221131....2202332330111032....20303100330003120120102121230021",
     b"200300222233100130020132....033002022122312130022110....002311113211....",
 ];
 
-// The resource indication value is 21.
+// A DCI message with resource indication value 21.
 const VALUE_21: ControlRows = [
     b"020.111.....112.13332.003.....200.23211.32031.111.....230.30003.13102.03",
     b"0130102101202000....3311133320003020....23101000101011020010323110012101",
     b"201102202010122130011033....222130300320210023012211....323103121313....",
 ];
 
-// MCS index 27.
+// A DCI message with MCS index 27.
 const SCHEME_27: ControlRows = [
     b"020.111.....100.32332.003.....203.02211.32031.131.....230.30032.30130.03",
     b"0323311113310230....1001030103102013....03233313103103333003223110113313",
     b"030113023132230001233331....201001221020010020011220....203122311312....",
 ];
 
-// MCS index 22, which has no size in column 2.
+// A DCI message with MCS index 22, which has no transport block size in column 2.
 const SCHEME_22: ControlRows = [
     b"020.111.....102.01332.003.....201.00211.32000.011.....230.30023.02111.01",
     b"1222101011201100....2312332102030211....02321022011121003021123332212000",
     b"100313210211332122021233....332122100001211130032013....002013031331....",
 ];
 
-// The last bit of the block's CRC is inverted.
+// A transport block with the last bit of its CRC inverted.
 const BAD_CHECK: BlockRows = [
     b"133203023213122031212230032112000000302113322213111211022203020210212313",
     b"030301103030101133100213123133110302303323230311103220112020201230332030",
@@ -118,7 +118,7 @@ const BAD_CHECK: BlockRows = [
     b"002013112310100323222302001322322232122011110313211112333011022230131130",
 ];
 
-// Bits 0 and 1 of the message are 0.
+// A message that is not SIB1: bits 0 and 1 are 0.
 const OTHER_MESSAGE: BlockRows = [
     b"123203022211122031212220032313002000202111302333110211002003020230212322",
     b"320320012030111121011233313113012331312321000310032210213030203200121022",
@@ -131,7 +131,7 @@ const OTHER_MESSAGE: BlockRows = [
     b"012220103332200230312003101301303120132303232010133100013002013303311013",
 ];
 
-// The first digit of the country code is 11.
+// A SIB1 whose country code has 11 as its first digit.
 const DIGIT_11: BlockRows = [
     b"121223023211122031210230112312000000302311302213311211022003020210312113",
     b"210323123013303111320233121131130300121311212331103222110022031210322030",
@@ -144,7 +144,7 @@ const DIGIT_11: BlockRows = [
     b"200011330030322323220300023020323232302033130123031312131011122200110330",
 ];
 
-// Returns slots 10 and 11 with these symbols, for identity 0.
+// Returns slots 10 and 11 with the symbols in `control` and `block`, for identity 0.
 fn slots_of(rt: &impl Abort, control: ControlRows, block: BlockRows) -> (Slot, Slot)
     ensures first { result.0.number ≡ 10 }
     ensures second { result.1.number ≡ 11 }
@@ -157,7 +157,7 @@ fn slots_of(rt: &impl Abort, control: ControlRows, block: BlockRows) -> (Slot, S
     subframe_of(rt, 0, first, second)
 }
 
-// Returns why these slots have no system information.
+// Returns the reason why slots 10 and 11 have no system information, if there is one.
 fn reason_of(
     rt: &impl Abort,
     work: &mut Decoders,
@@ -169,7 +169,7 @@ fn reason_of(
     read(&first, &second, mib, work).err()
 }
 
-// Returns whether an attempt decoded this CFI and this grant.
+// Returns whether an attempt decoded CFI `cfi` and the grant `granted`.
 fn has_grant(attempt: &Attempt, cfi: u8, granted: Grant) -> bool {
     attempt.cfi.value() == cfi && attempt.grant == Some(granted)
 }
