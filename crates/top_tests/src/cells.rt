@@ -1,4 +1,4 @@
-//! Inputs shared by several commands: zeros, changes of the plain cell's description, and signals.
+//! Inputs shared by several commands' tests: zeros, changes of the plain cell's description, and signals.
 
 ghost use Rattle.std.specs.Prelude.{◌≡◌, IfOk, length};
 
@@ -6,10 +6,10 @@ use crate::{gives, sent_by};
 use std::alloc::{AllocError, Global};
 use test_support::{PRIMARY, put_signal, silence};
 
-/// A cell that begins before the recording.
+/// Changed keys for a cell whose first frame begins before the recording.
 pub(crate) const EARLY: &str = r#", "identity": 503, "sfn": 5, "offset": 19199, "gain": [0, 28]"#;
 
-/// A cell with another phase, magnitude and MIB.
+/// Changed keys for a cell with another phase, magnitude and MIB.
 pub(crate) const TURNED: &str =
     r#", "identity": 1, "sfn": 4, "gain": [-19, -20], "resource": "oneSixth", "spare": 512"#;
 

@@ -17,8 +17,7 @@ use test_support::{certificate_of_zeros, put, silence, wide_cell};
 // The length of a certificate without start-state tables.
 const BYTES: usize = 10_501;
 
-// Returns whether `check` on `bytes`, in reads of at most `most` bytes, ends with this status, and writes exactly this
-// text.
+// Returns whether `check` on `bytes`, in reads of at most `most` bytes, ends with `status`, and writes exactly `text`.
 fn checks(
     alloc: Global,
     bytes: Vec<u8>,
@@ -33,14 +32,14 @@ fn checks(
     Ok(output_from(alloc, Program::Receiver, &words, &mut source)?.is(status, text))
 }
 
-// Returns whether `check` refuses these bytes at byte offset `place`, and writes nothing.
+// Returns whether `check` refuses `bytes` at byte offset `place`, and writes nothing.
 fn refuses_at(alloc: Global, bytes: Vec<u8>, most: usize, place: u64) -> Result<bool, AllocError>
     requires { 0 < most }
 {
     checks(alloc, bytes, most, Status::BadCertificate(place), b"")
 }
 
-// Returns the all-zero certificate with `piece` written over it.
+// Returns the all-zero certificate with `piece` written over it at byte offset `at`.
 fn changed(alloc: Global, at: usize, piece: &[u8]) -> Result<Vec<u8>, AllocError>
     requires { at + length piece.now ≤ 10501 }
 {
@@ -74,7 +73,7 @@ fn another_cost_and_a_bound_that_no_branch_allows_are_not_accepted(
     rt: HostRuntime,
 ) -> Result<(), Fail> {
     let text = b"certificates 1\n0 no\n";
-    // The cost is at byte 249, the general bound at step 40 and state 0 at byte 253 + 4 * 64 * 39.
+    // The cost is at byte 249. The general bound at step 40 and state 0 is at byte 253 + 4 * 64 * 39.
     for (at, byte) in [(249, [1, 0, 0, 0]), (10_237, [255, 255, 255, 255])] {
         let bytes = changed(rt.alloc(), at, &byte)?;
         assert!(rt;
@@ -182,7 +181,8 @@ fn wide_bytes(alloc: Global) -> Result<Vec<u8>, AllocError> {
 const WIDE_LINES: &str =
     "cells 1\ncell 0 at 0 sfn 0 ports 1 n50 phich normal one br 0 spare 0\nsib1 none bandwidth n50\n";
 
-// Returns whether a run ended with `Done`, and wrote as many bytes as one certificate has.
+// Returns whether a run ended with `Done`, and wrote 10,501 bytes, the length of one certificate without start-state
+// tables.
 fn is_one_certificate(output: &Output) -> bool {
     output.status == Status::Done && output.written.len() == 10_501
 }
@@ -219,12 +219,12 @@ fn plain_certificate(alloc: Global) -> Result<Vec<u8>, AllocError> {
     Ok(output_of(alloc, "certify", sent.written)?.written)
 }
 
-// Returns whether a certificate has the right length, and a soft value that is not 0.
+// Returns whether a certificate has the length without start-state tables, and a soft value that is not 0.
 fn is_of_values(bytes: &[u8]) -> bool {
     bytes.len() == BYTES && bytes.iter().skip(4).take(240).any(|byte| *byte != 0)
 }
 
-// Writes a piece into bytes if it fits.
+// Writes `piece` into `bytes` at offset `at`, if `piece` fits.
 fn put_within(bytes: &mut [u8], at: usize, piece: &[u8])
     requires { at + length piece.now < 2 ^ 63 }
 {
@@ -233,7 +233,8 @@ fn put_within(bytes: &mut [u8], at: usize, piece: &[u8])
     }
 }
 
-// Returns whether `check` on the plain cell's certificate with one piece changed ends with this status and this text.
+// Returns whether `check` on the plain cell's certificate, with `piece` written over it, ends with `status`, and writes
+// exactly `text`.
 fn plain_ends(
     alloc: Global,
     at: usize,
@@ -265,7 +266,7 @@ fn the_certificate_of_a_sent_cell_is_accepted_and_its_changes_are_not(
     Ok(())
 }
 
-// Appends all-zero certificates, each with this number of start-state tables.
+// Appends `count` all-zero certificates, each with `tables` start-state tables.
 fn push_certificates(
     bytes: &mut Vec<u8>,
     alloc: Global,
@@ -302,7 +303,7 @@ fn check_of(alloc: Global, bytes: Vec<u8>) -> Result<Output, AllocError> {
     output_of(alloc, "check", bytes)
 }
 
-// Returns whether a run ended with `Done`, and answered the last of 6,144 certificates.
+// Returns whether a run ended with `Done`, and accepted the first and the last of 6,144 certificates.
 fn answers_the_last(output: &Output) -> bool {
     output.status == Status::Done
         && output.written.starts_with(b"certificates 6144\n0 yes\n")
@@ -328,7 +329,7 @@ fn one_byte_more_is_too_long_and_one_less_is_an_early_end(rt: HostRuntime) -> Re
     Ok(())
 }
 
-// Returns whether a write failed after the first 2,000 bytes of the output.
+// Returns whether a run ended with `WriteFault` after the first 2,000 bytes of the complete output.
 fn is_front(output: &Output, whole: &Output) -> bool {
     output.status == Status::WriteFault
         && output.written.len() == 2_000

@@ -5,13 +5,13 @@ use lte_top::{Program, Status, Words, run_in_memory, run_program};
 use std::alloc::{AllocError, Global};
 use test_support::description;
 
-/// The default room of a sink.
+/// The default room of a sink in bytes.
 pub const ROOM: usize = 16_777_216;
 
-/// How a run ended, and what it wrote.
+/// The status and the output of a run.
 #[derive(Drop)]
 pub struct Output {
-    /// The status.
+    /// The status with which the run ended.
     pub status: Status,
     /// The bytes written.
     pub written: Vec<u8>,
@@ -23,7 +23,7 @@ impl Output {
         self.status == status && self.written.as_slice() == bytes
     }
 
-    /// Returns whether the run ended with this refusal and exit code, and wrote nothing.
+    /// Returns whether the run ended with status `refusal` and exit code `code`, and wrote nothing.
     pub fn is_refused(&self, refusal: Status, code: u8) -> bool {
         self.is(refusal, b"") && self.status.code() == code
     }
@@ -38,7 +38,7 @@ pub fn command_line(alloc: Global, line: &str) -> Result<Words, AllocError> {
     Ok(words)
 }
 
-/// Runs a program on a source.
+/// Runs a program on a source, into a sink in memory.
 pub fn output_from<S: Source>(
     alloc: Global,
     program: Program,
@@ -49,7 +49,7 @@ pub fn output_from<S: Source>(
     output_into(alloc, program, words, source, &mut sink)
 }
 
-/// Runs a program on a source, into a sink with failing calls.
+/// Runs a program on a source, into a sink that may have failing calls.
 pub fn output_into<S: Source>(
     alloc: Global,
     program: Program,
@@ -64,7 +64,7 @@ pub fn output_into<S: Source>(
     })
 }
 
-/// Runs a program on a source whose first call fails, and returns whether that call was not made.
+/// Runs a program on a source whose first call fails, and also returns whether that call was not made.
 pub fn output_unread(
     alloc: Global,
     program: Program,
@@ -86,7 +86,7 @@ pub fn output_of(alloc: Global, line: &str, bytes: Vec<u8>) -> Result<Output, Al
     output_within(alloc, line, bytes, ROOM)
 }
 
-/// Runs a command of `lte_cli` on `bytes`, into a sink with this room.
+/// Runs a command of `lte_cli` on `bytes`, into a sink with room for `room` bytes.
 pub(crate) fn output_within(
     alloc: Global,
     line: &str,
@@ -130,19 +130,19 @@ pub fn gives_by(
     Ok(output_by(alloc, program, line, bytes)?.is(Status::Done, text.as_bytes()))
 }
 
-/// Runs a command on the plain cell's description with `change`.
+/// Runs a command on the plain cell's description with the keys `change` appended.
 pub fn sent_with_words(alloc: Global, line: &str, change: &str) -> Result<Output, AllocError> {
     let text = description(alloc, change, "")?;
     output_of(alloc, line, text.as_bytes().to_vec(alloc)?)
 }
 
-/// Runs `transmit` on the plain cell's description with `change`, and its SIB1 with `block`.
+/// Runs `transmit` on the plain cell's description, with the keys `change` appended, and `block` appended to its SIB1.
 pub fn sent_with(alloc: Global, change: &str, block: &str) -> Result<Output, AllocError> {
     let text = description(alloc, change, block)?;
     output_of(alloc, "transmit", text.as_bytes().to_vec(alloc)?)
 }
 
-/// Runs `transmit` on the plain cell's description with `change`.
+/// Runs `transmit` on the plain cell's description with the keys `change` appended.
 pub fn sent_by(alloc: Global, change: &str) -> Result<Output, AllocError> {
     sent_with(alloc, change, "")
 }

@@ -1,5 +1,5 @@
-//! The command `evidence`. The texts are from the reference implementations, `python/lte_reference/evidence.py` and,
-//! for JSON, `python/lte_reference/forms.py`.
+//! The command `evidence`. The expected texts are from the reference implementations,
+//! `python/lte_reference/evidence.py` and, for JSON, `python/lte_reference/forms.py`.
 
 use crate::cells::{EARLY, TURNED, plain_gives, zeros_give};
 use crate::lengths::refuse_lengths;
@@ -41,7 +41,7 @@ fn evidence_of_a_cell_and_of_an_entry_by_chance(rt: HostRuntime) -> Result<(), F
     Ok(())
 }
 
-// A cell that begins before the recording, with errors; and a cell with errors against the signal.
+// The inputs are a cell that begins before the recording, with errors, and a cell with errors that oppose the signal.
 #[test]
 fn evidence_of_cells_with_errors(rt: HostRuntime) -> Result<(), Fail> {
     let mut early = sent_by(rt.alloc(), EARLY)?.written;
@@ -69,7 +69,7 @@ fn lengths_that_are_refused(rt: HostRuntime) -> Result<(), Fail> {
     refuse_lengths(&rt, rt.alloc(), Program::Receiver, "evidence")
 }
 
-// The evidence for the plain cell.
+// The evidence for the plain cell as JSON.
 const AS_JSON: &str = "\
 [{\"at\":0,\"channel\":[[[1033740,3780],[1037520,-2160],[1038690,2430],[1038690,-810],[1033470,450],[1034730,450],\
 [1035990,-810],[1038150,810],[1036980,0],[1035270,2430],[1037520,-1080],[1036620,1800],[1037700,-1440],\
@@ -109,7 +109,7 @@ fn a_plain_cell_has_no_evidence_by_another_rule(rt: HostRuntime) -> Result<(), F
     Ok(())
 }
 
-// The numbers for synthetic recording 90 under other transmission schemes.
+// The evidence numbers of synthetic recording 90 under other transmission schemes.
 const OF_TWO_PORTS: &str =
     "t 742 peak 999 cost 0 total 32160 frames 1 frame 0 phase 3 power 14334247838 noise 130497";
 
@@ -211,14 +211,14 @@ const LONG_VALUES: &str = "\
 [68,67],[67,-67],[67,68],[-67,-70],[-67,-68],[-67,67],[67,-67],[-66,67],[-69,68],[67,-68],[67,-68],[-66,-66],[-67,\
 68],[67,-68],[67,68],[-67,-67],[-66,-66],[-68,68],[67,-67],[-66,67],[-68,-67],[-66,67],[-66,-67],[67,66],[-66,-66]]";
 
-// Returns the output of `evidence` with these arguments, or an empty text if it is refused.
+// Returns the output of `evidence` with the arguments `words`, or an empty text if the output is not UTF-8.
 fn evidence_of(alloc: Global, words: &str, bytes: Vec<u8>) -> Result<String, AllocError> {
     let line = format!(in alloc; "evidence{words}")?;
     let output = output_of(alloc, line.as_str(), bytes)?;
     String::from_str(alloc, from_utf8(&output.written).unwrap_or(""))
 }
 
-// Returns whether an entry's line begins with `place`, and has the named numbers.
+// Returns whether the line of entry `entry` begins with `place`, and has the named numbers.
 fn is_entry(
     alloc: Global,
     text: &str,
@@ -230,7 +230,8 @@ fn is_entry(
     Ok(line.starts_with(place) && line_has(alloc, text, entry, numbers)?)
 }
 
-// Returns whether the evidence for synthetic recording 90 under a rule has these numbers and, in JSON, these values.
+// Returns whether the evidence for synthetic recording 90 under a rule has the named numbers and, in JSON, each of the
+// given values.
 fn supports(
     alloc: Global,
     rule: &str,
@@ -254,7 +255,8 @@ fn supports(
     )
 }
 
-// The SIB1 field of the JSON. One rule decodes the SIB1; under the other two there is none.
+// The `sib1_block` key of the JSON. Only the rule for two ports decodes SIB1; under the other two rules the value is
+// null.
 const TWO_PORTS_BLOCK: &str = "\"sib1_block\":\"40400403005a000005a8a5a0e061005b4000\",";
 
 const NO_BLOCK: &str = "\"sib1_block\":null,";

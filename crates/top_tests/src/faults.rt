@@ -32,7 +32,7 @@ pub(crate) fn output_with_little_room(alloc: Global, word: &str) -> Result<Outpu
     output_within(alloc, word, silence(alloc, 230_400)?, 3)
 }
 
-/// Returns whether nothing is written if the source fails, and exactly `front` if the sink fails.
+/// Returns whether a run with a failing source writes nothing, and a run with a failing sink writes exactly `front`.
 pub(crate) fn is_broken_off(alloc: Global, word: &str, front: &[u8]) -> Result<bool, AllocError> {
     let unread = output_with_read_fault(alloc, word)?;
     let unwritten = output_with_write_fault(alloc, word)?;

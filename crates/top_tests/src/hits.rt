@@ -31,7 +31,7 @@ fn lengths_that_are_refused(rt: HostRuntime) -> Result<(), Fail> {
     refuse_lengths(&rt, rt.alloc(), Program::Receiver, "hits")
 }
 
-// Writes the PSS times 28j at a sample.
+// Writes the PSS times 28j from sample `at`.
 fn put_turned_signal(bytes: &mut [u8], at: usize)
     requires { 4 * at + 512 ≤ length bytes.old }
 {
@@ -74,7 +74,7 @@ fn signals_past_the_first_frame_are_not_listed(rt: HostRuntime) -> Result<(), Fa
     Ok(())
 }
 
-// Returns whether one sink gets nothing from a run with a read fault, and then the report from another run.
+// Returns whether a sink receives nothing from a run with a read fault, and then the complete report from a second run.
 fn goes_on_after_a_read_fault(alloc: Global) -> Result<bool, AllocError> {
     let words = command_line(alloc, "hits")?;
     let mut sink = MemSink::new(alloc, ROOM)?;
@@ -143,7 +143,7 @@ fn readers_and_writers_of_std(rt: HostRuntime) -> Result<(), Fail> {
     Ok(())
 }
 
-// Output of the reference implementation, `python/lte_reference/forms.py`.
+// The PSS detections in the plain cell's recording, from the reference implementation, `python/lte_reference/forms.py`.
 const AS_JSON: &str =
     "[{\"energy\":1996394,\"n2\":0,\"peak\":3985589003236,\"power\":1996394,\"t\":832},{\"energy\":1996394,\
 \"n2\":0,\"peak\":3985589003236,\"power\":1996394,\"t\":10432}]\n";

@@ -52,7 +52,7 @@ fn faults_of_identities(rt: HostRuntime) -> Result<(), Fail> {
     Ok(())
 }
 
-// Output of the reference implementation, `python/lte_reference/forms.py`.
+// The identities in the plain cell's recording, from the reference implementation, `python/lte_reference/forms.py`.
 const AS_JSON: &str =
     "[{\"at\":0,\"energy\":1996394,\"identity\":0,\"n2\":0,\"peak\":3985589003236,\"power\":1996394,\
 \"secondary\":{\"best\":{\"group\":0,\"score\":519218053738,\"subframe\":0},\"second\":{\"group\":165,\

@@ -1,4 +1,4 @@
-//! Recordings with a wrong length.
+//! Recordings whose length is refused.
 
 use crate::output_by;
 use lte_top::{Program, Status};
@@ -7,7 +7,8 @@ use std::process::Abort;
 use std::test::Fail;
 use test_support::silence;
 
-/// Runs a command on recordings that are too short, ragged or too long, each of which it must refuse without output.
+/// Runs a command on recordings that are too short, ragged or too long, and checks that the command refuses each
+/// without output.
 pub(crate) fn refuse_lengths(
     rt: &impl Abort,
     alloc: Global,

@@ -1,5 +1,5 @@
-//! Tests of `lte_top` and `lte_args`, command by command, with sources and sinks in memory that fail where a test needs
-//! it.
+//! Tests of `lte_top` and `lte_args`, command by command, with sources and sinks in memory. Some tests use sources and
+//! sinks that fail.
 #![tactic(auto)]
 
 mod carriers;

@@ -1,5 +1,6 @@
-//! The command `make`. The texts are from two reference implementations, `python/lte_reference/make.py` and
-//! `python/lte_reference/search.py`; for further antenna ports and the extended prefix they are worked out by hand.
+//! The command `make`. The expected texts are from two reference implementations, `python/lte_reference/make.py` and
+//! `python/lte_reference/search.py`; for further antenna ports and the extended cyclic prefix, they are worked out by
+//! hand.
 
 use crate::{Output, command_line, output_unread};
 use lte_top::{Program, Status};
@@ -39,7 +40,7 @@ cell 7 at 19193 sfn 8 ports 1 n6 phich extended two br 0 spare 7
 sib1 none long-prefix
 ";
 
-// Runs a command that reads nothing; `None` if it reads.
+// Runs a command, and returns its output, or `None` if the command reads its input.
 fn made_by(alloc: Global, line: &str) -> Result<Option<Output>, AllocError> {
     let words = command_line(alloc, line)?;
     let (output, unread) = output_unread(alloc, Program::Receiver, &words)?;

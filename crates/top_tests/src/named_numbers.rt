@@ -1,9 +1,9 @@
-//! Numbers in a report, looked up by name, so a further number does not change the tests.
+//! Numbers in a report, looked up by name, so that a report with a further number still passes.
 
 use std::alloc::{AllocError, Global};
 
-// Returns whether a text has a number, with these marks in front of the name, between name and value, and after the
-// value.
+// Returns whether `text` has the number `name` with value `value`. The marks appear in front of the name, between name
+// and value, and after the value.
 fn has_number(
     alloc: Global,
     text: &str,
@@ -16,7 +16,7 @@ fn has_number(
     Ok(text.contains(piece.as_str()))
 }
 
-// Returns whether a text has each of these numbers.
+// Returns whether `text` has each of `numbers`, which are names and values by turns.
 fn has_each(
     alloc: Global,
     text: &str,

@@ -34,7 +34,7 @@ help, --help, -h: this page
 version, --version: the versions of the program and of its definition
 ";
 
-// Returns whether each of these commands reads nothing, ends with `Done`, and writes exactly `text`.
+// Returns whether each command in `lines` reads nothing, ends with `Done`, and writes exactly `text`.
 fn print(alloc: Global, program: Program, lines: &[&str], text: &str) -> Result<bool, AllocError> {
     for line in lines {
         let (output, unread) = output_unread(alloc, program, &command_line(alloc, line)?)?;

@@ -5,7 +5,7 @@ use lte_top::Status;
 use std::alloc::{AllocError, Global};
 use std::test::Fail;
 
-// Returns `count` bytes, each a component of -1.
+// Returns `count` bytes of value 127, each an 8-bit component that stands for -1.
 fn quiet(alloc: Global, count: usize) -> Result<Vec<u8>, AllocError> {
     vec![in alloc; 127u8; count]
 }

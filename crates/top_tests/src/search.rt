@@ -15,13 +15,13 @@ fn search_shows(alloc: Global, bytes: Vec<u8>, lines: &str) -> Result<bool, Allo
     Ok(output.status == Status::Done && contains(&output.written, lines.as_bytes()))
 }
 
-// Returns whether a cell was sent, and `search` lists it with these lines.
+// Returns whether a `transmit` run ended with `Done`, and `search` on its output writes `lines`.
 fn is_found(alloc: Global, sent: Output, lines: &str) -> Result<bool, AllocError> {
     let done = sent.status == Status::Done;
     Ok(search_shows(alloc, sent.written, lines)? && done)
 }
 
-// Returns whether a text contains a piece.
+// Returns whether `text` contains `piece`.
 fn contains(text: &[u8], piece: &[u8]) -> bool {
     for at in 0..text.len() {
         if text[at..].starts_with(piece) {
@@ -82,7 +82,7 @@ const SENT: [u8; 16] = [
     104, 0, 184, 255, 27, 0, 249, 255, 157, 255, 69, 0, 144, 255, 1, 0,
 ];
 
-// Returns whether this is the plain cell's recording.
+// Returns whether a run wrote the plain cell's recording.
 fn is_plain(sent: &Output) -> bool {
     sent.status == Status::Done
         && sent.written.len() == 230_400
@@ -134,8 +134,8 @@ plmn 262 042 free\nsi rf8 -\nsi rf16 0\nsi rf32 1\nsi rf64 2,3\n";
 
 #[test]
 fn cells_with_punctured_blocks_are_found(rt: HostRuntime) -> Result<(), Fail> {
-    // The first change sends 1,224 of 1,260 coded bits, the second 1,224 of 2,412, which only the fourth iteration
-    // decodes. Redundancy version 2 is sent first.
+    // The first change sends 1,224 of 1,260 coded bits. The second sends 1,224 of 2,412, which only the fourth
+    // iteration decodes. Redundancy version 2 is sent first.
     for change in [
         r#", "sfn": 2, "mcs": 8, "column": 3"#,
         r#", "sfn": 2, "mcs": 18"#,

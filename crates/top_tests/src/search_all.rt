@@ -1,4 +1,5 @@
-//! The command `search --all`. The texts are from the reference implementation, `python/lte_reference/forms.py`.
+//! The command `search --all`. The expected texts are from the reference implementation,
+//! `python/lte_reference/forms.py`.
 
 use crate::cells::{plain_gives, zeros_give};
 use crate::lengths::refuse_lengths;
@@ -6,7 +7,7 @@ use crate::{gives, with_four_ports, with_two_ports};
 use lte_top::Program;
 use std::test::Fail;
 
-// The lists for the plain cell.
+// The lists of the plain cell's recording.
 const OF_PLAIN: &str = "rule one-port
 cells 1
 cell 0 at 0 sfn 0 ports 1 n6 phich normal one br 0 spare 0
@@ -21,7 +22,7 @@ rule four-ports
 cells 0
 ";
 
-// The lists for synthetic recording 90 with four antenna ports. The one-port list has the cell too.
+// The lists of synthetic recording 90 with four antenna ports. The one-port list contains the cell too.
 const OF_FOUR_PORTS: &str = "rule one-port
 cells 1
 cell 90 at 19110 sfn 91 ports 4 n6 phich normal one br 2 spare 26
@@ -36,7 +37,7 @@ cell 90 at 19110 sfn 91 ports 4 n6 phich normal one br 2 spare 26
 sib1 none ports 4
 ";
 
-// The lists for synthetic recording 90 with two antenna ports.
+// The lists of synthetic recording 90 with two antenna ports, as JSON.
 const AS_JSON: &str =
     "[{\"at\":19110,\"bandwidth\":\"n6\",\"br\":2,\"duration\":\"normal\",\"identity\":90,\"ports\":2,\
 \"resource\":\"one\",\"rule\":\"one-port\",\"sfn\":91,\"sib1\":{\"none\":\"ports 2\"},\"spare\":26},\
@@ -67,7 +68,7 @@ fn the_lists_of_a_cell_with_two_antenna_ports_as_json(rt: HostRuntime) -> Result
     Ok(())
 }
 
-// The lists for zeros.
+// The lists of a silent recording.
 const OF_ZEROS: &str =
     "rule one-port\ncells 0\nrule two-ports\ncells 0\nrule long-prefix\ncells 0\nrule four-ports\ncells 0\n";
 

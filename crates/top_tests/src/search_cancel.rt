@@ -19,7 +19,7 @@ fn lengths_that_are_refused(rt: HostRuntime) -> Result<(), Fail> {
     refuse_lengths(&rt, rt.alloc(), Program::Receiver, "search --cancel")
 }
 
-// Output of the reference implementation, `python/lte_reference/forms.py`.
+// The plain cell's list and rounds, from the reference implementation, `python/lte_reference/forms.py`.
 const AS_JSON: &str =
     "{\"cells\":[{\"at\":0,\"bandwidth\":\"n6\",\"br\":0,\"duration\":\"normal\",\"identity\":0,\"ports\":1,\
 \"resource\":\"one\",\"sfn\":0,\"sib1\":{\"band\":1,\"barred\":false,\"cell\":1,\"csg\":false,\

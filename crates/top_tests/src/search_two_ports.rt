@@ -17,7 +17,7 @@ fn lengths_that_are_refused(rt: HostRuntime) -> Result<(), Fail> {
     refuse_lengths(&rt, rt.alloc(), Program::Receiver, "search --ports 2")
 }
 
-// Output of the reference implementation, `python/lte_reference/forms.py`.
+// The list of synthetic recording 90, from the reference implementation, `python/lte_reference/forms.py`.
 const AS_JSON: &str =
     "[{\"at\":19110,\"bandwidth\":\"n6\",\"br\":2,\"duration\":\"normal\",\"identity\":90,\"ports\":2,\
 \"resource\":\"one\",\"sfn\":91,\"sib1\":{\"band\":27,\"barred\":false,\"cell\":90,\"csg\":false,\

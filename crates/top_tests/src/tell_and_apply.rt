@@ -48,7 +48,7 @@ fn lengths_that_are_refused(rt: HostRuntime) -> Result<(), Fail> {
     Ok(())
 }
 
-// Output of the reference implementation, `python/lte_reference/forms.py`.
+// The plain cell's estimate and candidates, from the reference implementation, `python/lte_reference/forms.py`.
 const AS_JSON: &str =
     "{\"candidates\":[{\"coarse\":0,\"energy\":1996394,\"peak\":3985589003236,\"power\":1996394,\"turn\":0},\
 {\"coarse\":8,\"energy\":2013870,\"peak\":2925206624674,\"power\":1996394,\"turn\":255},{\"coarse\":-12,\

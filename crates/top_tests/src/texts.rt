@@ -1,4 +1,4 @@
-//! The texts of answers and errors.
+//! The texts of statuses and errors.
 
 use cell_json::JsonError;
 use cell_tx::CellError;
@@ -12,7 +12,7 @@ use std::process::Abort;
 use std::test::Fail;
 use tail_cert::BadCertificate;
 
-// Returns whether a value prints as `text`.
+// Returns whether `value` is formatted as `text`.
 fn prints<T: Display>(alloc: Global, value: &T, text: &str) -> Result<bool, AllocError> {
     Ok(format!(in alloc; "{value}")?.as_str() == text)
 }
@@ -42,7 +42,7 @@ fn texts_of_the_conditions_of_a_description(rt: HostRuntime) -> Result<(), Fail>
     Ok(())
 }
 
-// Checks that each value prints as its text.
+// Checks that the value in each row is formatted as the row's text.
 fn print_each<T: Display>(rt: &impl Abort, alloc: Global, rows: &[(T, &str)]) -> Result<(), Fail> {
     for (value, text) in rows {
         assert!(rt; prints(alloc, value, text)?, "{text}");

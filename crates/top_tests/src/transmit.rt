@@ -1,5 +1,5 @@
-//! The command `transmit`: refused descriptions, and `search` on its output under each transmission scheme. The lists
-//! are from the reference implementations: `python/lte_reference/search.py` on the output of
+//! The command `transmit`: refused descriptions, and `search` on its output under each transmission scheme. The
+//! expected lists are from the reference implementations: `python/lte_reference/search.py` on the output of
 //! `python/lte_reference/cell.py`.
 
 use crate::{Output, gives, output_of, sent_by, sent_with_words};
@@ -9,7 +9,7 @@ use std::alloc::{AllocError, Global};
 use std::test::Fail;
 use test_support::{PLAIN_REPORT, description};
 
-// Returns whether a description is refused for this cause, and nothing is written.
+// Returns whether a description is refused for `cause`, and nothing is written.
 fn is_refused(sent: &Output, cause: CellError) -> bool {
     sent.is_refused(Status::BadCell(cause), 9)
 }
@@ -19,7 +19,7 @@ fn cells_whose_punctured_block_cannot_be_resolved_are_refused(rt: HostRuntime) -
     for change in [
         r#", "mcs": 21, "blocks": 1"#,
         r#", "mcs": 9, "cfi": 3, "blocks": 3"#,
-        // After one iteration, the hard decision with zeros for the open bits passes the CRC.
+        // The hard decision after one iteration, with zeros for the unresolved bits, passes the CRC.
         r#", "mcs": 17"#,
     ] {
         let sent = sent_by(rt.alloc(), change)?;
@@ -28,7 +28,7 @@ fn cells_whose_punctured_block_cannot_be_resolved_are_refused(rt: HostRuntime) -
     Ok(())
 }
 
-// Runs `transmit` on the first bytes of the plain cell's description.
+// Runs `transmit` on the first `len` bytes of the plain cell's description.
 fn sent_front(alloc: Global, len: usize) -> Result<Output, AllocError> {
     let text = description(alloc, "", "")?;
     let mut bytes = text.as_bytes().to_vec(alloc)?;
@@ -94,7 +94,8 @@ cell 0 at 0 sfn 0 ports 1 n6 phich normal one br 0 spare 0
 sib1 none long-prefix
 ";
 
-// Returns whether a `transmit` command on the plain description with `change` sends a recording with this list.
+// Returns whether `transmit` on the plain cell's description with `change` writes a recording for which `search` gives
+// the expected list.
 fn is_found(
     alloc: Global,
     line: &str,

@@ -217,7 +217,7 @@ fn words_of_no_form_of_the_tuner(rt: HostRuntime) -> Result<(), Fail> {
     Ok(())
 }
 
-// Builds the argument list.
+// Builds an argument list.
 fn words_of(alloc: Global, list: &[&str]) -> Result<Words, AllocError> {
     let mut words = Words::new(alloc);
     for word in list {

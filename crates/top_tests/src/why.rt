@@ -1,10 +1,10 @@
-//! The command `why`. The texts are those of the reference implementation, `python/lte_reference/why.py`.
+//! The command `why`. The expected texts are from the reference implementation, `python/lte_reference/why.py`.
 
 use crate::cells::{plain_gives, zeros_give};
 use crate::faults::is_broken_off;
 use std::test::Fail;
 
-// What is said of the plain cell, whose identity is 0, and of others.
+// The answers for several identities in the plain cell's recording, whose cell has identity 0.
 const OF_PLAIN: [(&str, &str); 8] = [
     ("why 0", "why 0 one-port 1\nlisted at 0 sfn 0 ports 1\n"),
     (
