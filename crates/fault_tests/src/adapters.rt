@@ -6,10 +6,11 @@ use std::io;
 use std::io::{ErrorKind, Read, Write};
 use std::test::Fail;
 
-// The byte counts of a call.
+// The byte counts that calls are tried with.
 const SIZES: [usize; 8] = [1, 2, 15, 16, 17, 4_095, 4_096, 20_000];
 
-// A reader and writer that records each call's byte count, and answers as configured.
+// A reader and writer that records each call's byte count, and transfers at most `taken` bytes a call, or fails if
+// `taken` is `None`.
 #[derive(Drop)]
 struct Recorder {
     sizes: Vec<usize>,
@@ -17,7 +18,7 @@ struct Recorder {
 }
 
 impl Recorder {
-    // Returns a recorder that accepts at most `taken` bytes a call, or fails if that is `None`.
+    // Returns a recorder that accepts at most `taken` bytes a call, or whose calls fail if `taken` is `None`.
     fn new(alloc: Global, taken: Option<usize>) -> Recorder {
         Recorder {
             sizes: Vec::new(alloc),
@@ -25,7 +26,7 @@ impl Recorder {
         }
     }
 
-    // Returns whether exactly one call was made, with this byte count.
+    // Returns whether exactly one call was made, with `size` bytes.
     fn was_called_once(&self, size: usize) -> bool {
         self.sizes.as_slice() == [size].as_slice()
     }

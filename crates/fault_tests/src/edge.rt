@@ -11,8 +11,8 @@ use std::io::{Eprint, Read};
 use std::process::{Abort, ExitCode};
 use std::test::Fail;
 
-// A runtime with its own arguments, which records what is printed on standard error. The arguments are a line, split at
-// single spaces; a question mark is a byte that is not UTF-8.
+// A runtime with its own arguments, which records the text on standard error. The arguments are the parts of `line`
+// between single spaces. A question mark stands for a byte that is not UTF-8.
 #[derive(Drop)]
 struct Process<'a> {
     alloc: Global,
@@ -66,7 +66,7 @@ impl<'a> Eprint for Process<'a> {
 }
 
 impl<'a> Process<'a> {
-    // Appends to the printed text.
+    // Appends `text` to the recorded text.
     fn keep(&self, text: &str) -> io::Result<()> {
         match self.printed.try_borrow_mut() {
             Ok(mut printed) => Ok(printed.push_str(text)?),
@@ -74,7 +74,7 @@ impl<'a> Process<'a> {
         }
     }
 
-    // Returns whether exactly this text was printed.
+    // Returns whether exactly `text` was printed.
     fn has_printed(&self, text: &str) -> bool {
         match self.printed.try_borrow() {
             Ok(printed) => printed.as_str() == text,
@@ -83,7 +83,7 @@ impl<'a> Process<'a> {
     }
 }
 
-// Checks that a program with these arguments and this input exits with `code`, and prints `text` on standard error.
+// Checks that a program with the given arguments and input exits with `code`, and prints `text` on standard error.
 fn ends_with(
     rt: &impl Abort,
     alloc: Global,
@@ -104,7 +104,8 @@ fn ends_with(
     Ok(())
 }
 
-// An 8-bit sample is half as long as a 16-bit sample, so the last two arguments change the answer.
+// The last two arguments select 8-bit samples. They change the answer, as an 8-bit sample is half as long as a 16-bit
+// sample.
 #[test]
 fn six_arguments_are_words(rt: HostRuntime) -> Result<(), Fail> {
     let alloc = rt.alloc();
@@ -194,7 +195,7 @@ impl Read for Broken {
     }
 }
 
-// Nothing is read, since a read would be a read fault.
+// The reader fails, so the answer `Usage` shows that nothing is read.
 #[test]
 fn an_argument_that_is_not_text_is_usage(rt: HostRuntime) -> Result<(), Fail> {
     let alloc = rt.alloc();

@@ -7,7 +7,7 @@ use std::test::Fail;
 use test_support::{primary_grid, put_sample, send_often, silence, silent};
 use top_tests::{gives, output_of};
 
-// Returns 57,600 copies of one sample.
+// Returns a recording of 57,600 equal samples.
 fn constant(alloc: Global, re: i16, im: i16) -> Result<Vec<u8>, AllocError> {
     let mut bytes = silence(alloc, 230_400)?;
     for at in 0..57_600 {
@@ -34,7 +34,7 @@ fn a_constant_of_the_greatest_and_the_least_number_holds_no_cell(
     Ok(())
 }
 
-// Returns the PSS of root 25, times 28, every 400 samples from sample 1,000.
+// Returns a recording with the PSS of root 25, times 28, every 400 samples from sample 1,000.
 fn many_loud_signals(alloc: Global) -> Result<Vec<u8>, AllocError> {
     let mut samples = silent(alloc, 57_600)?;
     send_often(&mut samples[..], &primary_grid(0));

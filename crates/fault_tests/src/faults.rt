@@ -1,4 +1,4 @@
-//! Each call to a source or a sink fails once; and one-byte pieces.
+//! Runs in which each call to a source or a sink fails once, and runs with one-byte pieces.
 
 use crate::forms::{
     APPLYING, AS_JSON, BY_OTHER_RULES, BY_OTHER_RULES_AND_WORDS, CANCELLING, Form, OF_8_BITS,
@@ -18,17 +18,17 @@ use top_tests::{Output, ROOM, command_line, output_by, output_from, output_into,
 // The maximum byte count of a call.
 const MOST: usize = 65_536;
 
-// More calls than any run makes.
+// A number of calls that no run reaches.
 const CALLS: u64 = 1_000;
 
-// Where a call fails.
+// The kind of call that fails.
 #[derive(Clone, Copy)]
 enum Fault {
     Read,
     Write,
 }
 
-// A program's arguments and input, and its output if no call fails.
+// A program with its arguments and its input (`bytes`), and its output if no call fails (`whole`).
 #[derive(Drop)]
 struct Case {
     program: Program,
@@ -38,7 +38,7 @@ struct Case {
 }
 
 impl Case {
-    // Runs a form without failing calls.
+    // Creates a case by running a form without failing calls.
     fn new(alloc: Global, program: Program, form: Form) -> Result<Case, AllocError> {
         let (line, input) = form;
         let words = command_line(alloc, line)?;
@@ -52,7 +52,7 @@ impl Case {
         })
     }
 
-    // Runs the case with one failing call. The sink has room for exactly the whole output.
+    // Runs the case with one failing call. The sink has room for exactly the complete output.
     fn output_at(&self, alloc: Global, fault: Fault, call: u64) -> Result<Output, AllocError> {
         let (program, words) = (self.program, &self.words);
         let fails = vec![in alloc; call; 1]?;
@@ -69,7 +69,7 @@ impl Case {
         }
     }
 
-    // Returns whether nothing is written after a failed read, and a prefix after a failed write.
+    // Returns whether a failed read leaves no output, and a failed write a prefix of the complete output.
     fn is_answered(&self, fault: Fault, output: &Output) -> bool {
         match fault {
             Fault::Read => output.is(Status::ReadFault, b""),
@@ -81,7 +81,7 @@ impl Case {
         }
     }
 
-    // Returns whether this count of failing calls is plausible for an input.
+    // Returns whether `faults` is a plausible number of calls that can fail for an input.
     fn has_faults(&self, fault: Fault, input: Input, faults: u64) -> bool {
         match fault {
             Fault::Read => {
@@ -96,7 +96,7 @@ impl Case {
     }
 }
 
-// Returns the minimum number of reads for an input of `len` bytes; the last one returns the end.
+// Returns the minimum number of reads for an input of `len` bytes, with the read that returns the end.
 fn least_reads(input: Input, len: usize) -> u64 {
     match input {
         Input::Nothing => 0,
@@ -109,7 +109,7 @@ fn least_writes(len: usize) -> u64 {
     len.div_ceil(MOST) as u64
 }
 
-// Counts the calls of a form that can fail. Each fails in turn, and the run after the last one is complete.
+// Counts the calls of a form that can fail: makes each fail in turn, until a run is complete.
 fn faults_of(
     rt: &impl Abort,
     alloc: Global,
@@ -131,7 +131,7 @@ fn faults_of(
     Ok(CALLS)
 }
 
-// Checks that each run of these forms with one failing call reports a fault of that call.
+// Checks that each run of each form with one failing call reports that call's fault.
 fn fail_each(rt: &impl Abort, alloc: Global, program: Program, forms: &[Form]) -> Result<(), Fail> {
     for &(line, input) in forms {
         let case = Case::new(alloc, program, (line, input))?;
@@ -229,7 +229,7 @@ fn each_call_of_pages_of_the_tuner_that_fails_is_a_fault(rt: HostRuntime) -> Res
     fail_each(&rt, rt.alloc(), Program::Tuner, &PAGES)
 }
 
-// Returns whether `search` lists exactly the recording's cell.
+// Returns whether a run of `search` lists exactly the recording's cell, and writes the same output as `whole`.
 fn states_the_cell(output: &Output, whole: &Output) -> bool {
     output.written.starts_with(b"cells 1\ncell 0 at 0 sfn 0 ")
         && output.is(Status::Done, &whole.written)
@@ -258,7 +258,7 @@ fn writes_of_one_byte_change_nothing(rt: HostRuntime) -> Result<(), Fail> {
     Ok(())
 }
 
-// A writer that accepts nothing, and counts the pieces.
+// A writer that accepts no byte, and counts the calls.
 #[derive(Drop)]
 struct Stuck {
     pieces: u64,

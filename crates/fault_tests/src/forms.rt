@@ -38,7 +38,8 @@ pub const OF_8_BITS_AS_JSON: [Form; 4] = [
     ("evidence --json --format cu8", Input::Cell8),
 ];
 
-/// The forms that use other rules, and the form that makes a recording.
+/// The cell lists for other transmission schemes than one antenna port: of input recordings, and of synthetic
+/// recordings.
 pub const BY_OTHER_RULES: [Form; 6] = [
     ("search --ports 2", Input::Cell16),
     ("search --ports 4", Input::Cell16),
@@ -48,7 +49,7 @@ pub const BY_OTHER_RULES: [Form; 6] = [
     ("make 0 --prefix long", Input::Nothing),
 ];
 
-/// The cell lists under other rules, as JSON and from 8-bit samples.
+/// The cell lists for other transmission schemes than one antenna port, as JSON and from 8-bit samples.
 pub const BY_OTHER_RULES_AND_WORDS: [Form; 8] = [
     ("search --ports 2 --json", Input::Cell16),
     ("search --ports 4 --json", Input::Cell16),
@@ -60,7 +61,7 @@ pub const BY_OTHER_RULES_AND_WORDS: [Form; 8] = [
     ("search --prefix long --json --format cu8", Input::Cell8),
 ];
 
-/// The evidence and the certificates under other rules.
+/// The evidence and the certificates for other transmission schemes than one antenna port.
 pub const OF_LISTS_BY_OTHER_RULES: [Form; 9] = [
     ("evidence --ports 2", Input::Cell16),
     ("evidence --ports 4", Input::Cell16),
@@ -120,7 +121,7 @@ pub const SENDING: [Form; 8] = [
     ("transmit --prefix long --load 7", Input::Description),
 ];
 
-/// The other forms.
+/// All forms in none of the other lists.
 pub const OTHERS: [Form; 4] = [
     ("certify", Input::Cell16),
     ("check", Input::ZeroCertificate),

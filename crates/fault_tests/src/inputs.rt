@@ -1,4 +1,4 @@
-//! Valid inputs.
+//! Valid inputs of command forms.
 
 use lte_top::Status;
 use std::alloc::{AllocError, Global};
@@ -11,7 +11,7 @@ const OTHER_GAINS: &str = ", \"gain2\": [0, 1], \"gain3\": [1, 0], \"gain4\": [0
 /// The input of a form.
 #[derive(Clone, Copy, Debug, PartialEq, Eq)]
 pub enum Input {
-    /// Nothing.
+    /// An empty input, for forms that read nothing.
     Nothing,
     /// The plain cell's recording in 16-bit samples.
     Cell16,
@@ -68,8 +68,8 @@ pub fn description_with(alloc: Global, input: Input, change: &str) -> Result<Vec
     description(alloc, &changes, "")?.as_bytes().to_vec(alloc)
 }
 
-/// Returns a recording with 16 cells in 76,800 samples. Each has the plain cell's synchronisation signals and MIB,
-/// 1,200 samples after the previous one.
+/// Returns a recording of 76,800 samples with 16 cells, one every 1,200 samples. Each cell has the plain cell's
+/// synchronisation signals and MIB.
 pub fn sixteen_cells(alloc: Global) -> Result<Vec<u8>, AllocError> {
     let one = recording(alloc)?;
     let mut bytes = silence(alloc, 2_240)?;
@@ -85,7 +85,7 @@ pub fn sixteen_cells(alloc: Global) -> Result<Vec<u8>, AllocError> {
     Ok(bytes)
 }
 
-/// Returns the plain cell's recording.
+/// Returns the plain cell's recording in 16-bit samples, or no bytes if `transmit` fails.
 pub fn recording(alloc: Global) -> Result<Vec<u8>, AllocError> {
     let sent = sent_by(alloc, "")?;
     match sent.status {
@@ -94,7 +94,7 @@ pub fn recording(alloc: Global) -> Result<Vec<u8>, AllocError> {
     }
 }
 
-// Returns the plain cell's recording with one byte per component, an eighth of it plus 128.
+// Returns the plain cell's recording in 8-bit samples. Each byte is an eighth of a 16-bit component, plus 128.
 fn recording_of_8_bits(alloc: Global) -> Result<Vec<u8>, AllocError> {
     let bytes = recording(alloc)?;
     let mut small = Vec::new(alloc);

@@ -1,5 +1,5 @@
-//! What each call of a sink is offered: pieces of at least 4,096 bytes, except for the last, and always the rest of the
-//! piece.
+//! The bytes that each call of a sink is offered: always the rest of a piece. Each piece except the last has at least
+//! 4,096 bytes.
 
 use crate::forms::{APPLYING, Form, OTHERS, PAGES, REPORTS, SENDING, TELLING};
 use crate::inputs::{bytes_of, description_with, recording, sixteen_cells};
@@ -15,17 +15,17 @@ use top_tests::command_line;
 // The minimum length of a piece, except for the last.
 const LEAST: usize = 4_096;
 
-// More calls than any run makes.
+// A number of calls that no run reaches.
 const CALLS: usize = 1_000_000;
 
-// The maximum byte count of a call, so low that a piece needs several calls.
+// The maximum byte count that a call accepts, so low that a piece needs several calls.
 const MOST: usize = 3_000;
 
 // The length of the plain cell's recording.
 const PLAIN: usize = 230_400;
 
-// A writer that accepts at most `most` bytes a call, and none from call `fails`. It records how many bytes each call is
-// offered.
+// A writer that accepts at most `most` bytes a call, and no byte from call `fails`. The writer records how many bytes
+// each call is offered.
 #[derive(Drop)]
 struct Recorder {
     offered: Vec<usize>,
@@ -47,7 +47,9 @@ impl Write for Recorder {
     }
 }
 
-// An output's pieces, reconstructed from calls that accept at most `most` bytes each.
+// An output's pieces, reconstructed from calls that accept at most `most` bytes each: the number of pieces, their total
+// bytes, the bytes left of the current piece, whether the current piece is short, and whether all calls so far are as
+// expected.
 #[derive(Drop)]
 struct Pieces {
     most: usize,
@@ -59,7 +61,7 @@ struct Pieces {
 }
 
 impl Pieces {
-    // Returns the pieces for calls that are offered these byte counts.
+    // Returns the pieces for calls that are offered the byte counts in `offered`.
     fn of(offered: &[usize], most: usize) -> Pieces {
         let mut pieces = Pieces {
             most,
@@ -75,7 +77,7 @@ impl Pieces {
         pieces
     }
 
-    // Adds a call, which begins a piece or is offered the rest of one.
+    // Adds a call, which begins a piece or is offered the rest of a piece.
     fn add(&mut self, offered: usize) {
         if self.left == 0 {
             self.are_right = self.are_right && !self.is_short;
@@ -129,7 +131,7 @@ impl Run {
         })
     }
 
-    // Returns whether the run is done, and wrote this many bytes in complete pieces.
+    // Returns whether the run is done, and wrote `bytes` bytes in complete pieces.
     fn is_written(&self, bytes: usize) -> bool {
         let pieces = Pieces::of(&self.offered, self.most);
         self.status == Status::Done && pieces.are_whole() && pieces.bytes == bytes
@@ -141,7 +143,7 @@ impl Run {
         self.status == Status::Done && pieces.are_whole() && pieces.count == 1
     }
 
-    // Returns whether the run is done, in `count` pieces of full length.
+    // Returns whether the run is done, and wrote `count` pieces, none of which is short.
     fn is_long_pieces(&self, count: usize) -> bool {
         let pieces = Pieces::of(&self.offered, self.most);
         self.status == Status::Done
@@ -156,7 +158,7 @@ impl Run {
     }
 }
 
-// Checks that the samples sent from this offset are written in complete pieces.
+// Checks that the recordings of descriptions with `change` are written in complete pieces.
 fn sends_from(rt: &impl Abort, alloc: Global, change: &str) -> Result<(), Fail> {
     for (line, input) in SENDING {
         let bytes = description_with(alloc, input, change)?;
@@ -177,7 +179,7 @@ fn what_is_sent_from_within_a_frame_is_in_whole_pieces(rt: HostRuntime) -> Resul
     sends_from(&rt, rt.alloc(), ", \"offset\": 5115")
 }
 
-// The first frame has 1,023 samples, one too few for a piece, or 1.
+// The first frame has 1,023 samples, one too few for a piece, or only one sample.
 #[test]
 fn what_is_sent_from_the_last_samples_is_in_whole_pieces(rt: HostRuntime) -> Result<(), Fail> {
     sends_from(&rt, rt.alloc(), ", \"offset\": 18177")?;
@@ -207,7 +209,7 @@ fn a_certificate_is_a_piece(rt: HostRuntime) -> Result<(), Fail> {
     Ok(())
 }
 
-// Checks that the output of each of these forms is one piece.
+// Checks that the output of each form in `forms` is one piece.
 fn are_one_piece(
     rt: &impl Abort,
     alloc: Global,
@@ -234,7 +236,7 @@ fn each_other_output_of_the_tuner_is_one_piece(rt: HostRuntime) -> Result<(), Fa
     are_one_piece(&rt, rt.alloc(), Program::Tuner, &PAGES)
 }
 
-// Checks that no call follows one that fails, if each accepts everything it is offered.
+// Checks that no call follows a failed one, with a writer whose other calls accept everything.
 fn end_with_calls(
     rt: &impl Abort,
     alloc: Global,
@@ -250,7 +252,7 @@ fn end_with_calls(
     Ok(())
 }
 
-// The 230,400 bytes are 15 pieces.
+// The 230,400 bytes of the recording are 15 pieces.
 #[test]
 fn no_call_follows_one_that_fails_where_samples_are_sent(rt: HostRuntime) -> Result<(), Fail> {
     let alloc = rt.alloc();

@@ -1,4 +1,4 @@
-//! No read follows one that returned the end or failed, and each read asks for many bytes.
+//! No read follows a read that returned the end or failed, and each read asks for many bytes.
 
 use crate::forms::{APPLYING, Form, OTHERS, REPORTS, SENDING};
 use crate::inputs::{Input, bytes_of};
@@ -11,10 +11,11 @@ use std::process::Abort;
 use std::test::Fail;
 use top_tests::{ROOM, command_line};
 
-// More calls than any run makes.
+// A number of calls that no run reaches.
 const CALLS: usize = 1_000_000;
 
-// Returns the minimum byte count of a read; for certificates, a read asks for the rest of the current one.
+// Returns the minimum byte count that a read asks for. For certificates, a read asks for the rest of the current
+// certificate.
 fn least_asked(input: Input) -> usize {
     match input {
         Input::ZeroCertificate | Input::Certificates => 1,
@@ -22,8 +23,8 @@ fn least_asked(input: Input) -> usize {
     }
 }
 
-// A reader of at most `most` bytes a call that fails at call `fails`. It counts its calls and the calls after the end
-// or a failure, and keeps the minimum byte count asked for.
+// A reader that returns at most `most` bytes a call, and fails at call `fails`. The reader counts all calls (`calls`)
+// and the calls after the end or a failure (`late`), and keeps the minimum byte count asked for (`fewest`).
 #[derive(Drop)]
 struct Watched<'a> {
     bytes: &'a [u8],
@@ -113,7 +114,7 @@ impl Reads {
     }
 }
 
-// Checks that the last read of each of these forms returns the end or fails.
+// Checks that the last read of each form in `forms` returns the end or fails.
 fn end_each(rt: &impl Abort, alloc: Global, program: Program, forms: &[Form]) -> Result<(), Fail> {
     for &(line, input) in forms {
         if input != Input::Nothing {
