@@ -126,8 +126,8 @@ pub fn read_front<S: Source>(
     recording_of(samples)
 }
 
-/// Reads a complete recording at `factor` times 1.92 million samples per second, 30 ms to one second long, and returns
-/// its first `most` samples. `factor` is 1 to 16. Errors are those of `read_as`, at `factor` times the length. (own)
+/// Reads a recording of 30 ms to one second at `factor` (1 to 16) times 1.92 million samples per second, and returns its
+/// first `most` samples. Errors are those of `read_as`, at this rate. (own)
 pub fn read_front_at<S: Source>(
     alloc: Global,
     source: &mut S,
