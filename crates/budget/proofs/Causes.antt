@@ -6,7 +6,6 @@ use Rattle.finite.proofs.Ring as ring
 use Rattle.cs_num.specs.declared.Cpx.{Cpx}
 use Rattle.cs_num.specs.Complex.{IsWithin, plus, times, square, minus, multiple}
 use Rattle.cs_num.specs.Rounding.{rounded}
-use Rattle.cs_num.specs.Sums.{complex_sum_below}
 use Rattle.cs_num.proofs.Complex.{square-within, pair, plus-associates, times-plus}
 use Rattle.norms.specs.Magnitudes.{IsBounded, energy_below, correlation_below}
 use Rattle.norms.proofs.Algebra.{plus-minus, minus-plus, plus-exchanges, times-minus, times-multiple}
@@ -15,12 +14,12 @@ use Rattle.norms.proofs.TwoTerms.{two_term_cauchy}
 use Rattle.norms.proofs.Bounded.{sized_plain, bounded-plus}
 use Rattle.norms.proofs.Cauchy.{cauchy, correlation_same, correlation_plus, correlation_times, correlation_multiple}
 use Rattle.norms.proofs.Rounding.{rounded_near}
-use Rattle.fold128.specs.Symbol.{frequency, useful_term, useful_at}
+use Rattle.fold128.specs.Symbol.{frequency, useful_at}
 use Rattle.fold128.specs.Spectrum.{spectrum_at}
 use Rattle.fold128.proofs.EntrySizes.{w-square}
 use Rattle.budget.specs.Received.{AreAmplitudes, in_parts, off_by}
 use Rattle.budget.specs.Budget.{SendingHasTwoCauses, LeakageIsSmall, RoundingSentIsSmall, SendingIsSmall, SendingIsLinear, DeviationHasThreeCauses, DeviationHasFourCauses}
-use Rattle.budget.specs.Budget.{leakage, rounding_sent, sending_off, with_gains}
+use Rattle.budget.specs.Budget.{unrounded, leakage, rounding_sent, sending_off, with_gains}
 use Rattle.budget.proofs.Leakage.{sum_sent, tone_at, leak, seen_sent, leak-small}
 
 -- ---- energies
@@ -40,13 +39,18 @@ seen-small f k e h = chain (square (correlation_below 128 f (tone_at k))) (energ
 
 -- ---- the transmit error
 
+-- 2^17 times a sample of a useful part is within half a unit of the sum before rounding
+pub sample_rounding_is_small : (grid : ℕ → Cpx) (n : ℕ) → IsWithin 65536 (minus (multiple 131072 (useful_at grid n)) (unrounded grid n))
+unfolding useful_at
+sample_rounding_is_small grid n = rounded_near (unrounded grid n) 17 65536 (omega arith) refl refl
+
 -- 2^17 times a sample of a useful part, less the sum before rounding
 rounding_off : (ℕ → Cpx) → ℕ → Cpx
 rounding_off grid n = minus (multiple 131072 (useful_at grid n)) (sum_sent grid n)
 
 rounding-off_small : (grid : ℕ → Cpx) (n : ℕ) → IsWithin 65536 (rounding_off grid n)
-unfolding rounding_off useful_at sum_sent
-rounding-off_small grid n = rounded_near (complex_sum_below 72 (useful_term grid n)) 17 65536 (omega arith) refl refl
+unfolding rounding_off sum_sent
+rounding-off_small grid n = sample_rounding_is_small grid n
 
 rounding-seen_small : (grid : ℕ → Cpx) (k : ℕ) → square (correlation_below 128 (rounding_off grid) (tone_at k)) ≤ (128 * (2 * (65536 * 65536))) * (128 * 268468225)
 rounding-seen_small grid k =

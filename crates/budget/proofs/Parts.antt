@@ -1,5 +1,5 @@
 -- Values in parts: their laws, and errors by component.
-use Rattle.std.proofs.Common.{◌≡◌, ℕ, zero, suc, ◌+◌, ◌*◌, ◌^◌, ◌≤◌, arith, refl, ap, sym, ◌∙◌, ℤ, pos, ◌-ℤ◌, ◌*ℤ◌, mul-le-mul_right}
+use Rattle.std.proofs.Common.{◌≡◌, ℕ, zero, suc, ◌+◌, ◌*◌, ◌^◌, ◌≤◌, arith, ap, sym, ◌∙◌, ℤ, pos, ◌-ℤ◌, ◌*ℤ◌, mul-le-mul_right}
 use Rattle.finite.specs.Sums.{total_below}
 use Rattle.cs_num.specs.declared.Cpx.{Cpx}
 use Rattle.cs_num.specs.Complex.{times, conjugate, square, minus, multiple}
@@ -32,14 +32,17 @@ product_in_parts x y = product-multiples 16384 16384 x y
 pub square_in_parts : (z : Cpx) → square (in_parts z) ≡ 268435456 * square z
 square_in_parts z = square-multiple 16384 z
 
-pub energy_in_parts : (n : ℕ) (f : ℕ → Cpx) → energy_below n (λ k. in_parts (f k)) ≡ 268435456 * energy_below n f
+pub energy_of_multiple : (m n : ℕ) (f : ℕ → Cpx) → energy_below n (λ k. multiple m (f k)) ≡ m * m * energy_below n f
 unfolding total_below
-energy_in_parts zero f = refl
-energy_in_parts (suc n) f =
-    more (energy_below n (λ k. in_parts (f k))) (energy_below n f) (square (in_parts (f n))) (square (f n)) (energy_in_parts n f) (square_in_parts (f n))
+energy_of_multiple m zero f = omega arith
+energy_of_multiple m (suc n) f =
+    more (m * m) (energy_below n (λ k. multiple m (f k))) (energy_below n f) (square (multiple m (f n))) (square (f n)) (energy_of_multiple m n f) (square-multiple m (f n))
   where
-    more : (s e x y : ℕ) → s ≡ 268435456 * e → x ≡ 268435456 * y → s + x ≡ 268435456 * (e + y)
-    more s e x y h k = omega (arith, h, k)
+    more : (q s e x y : ℕ) → s ≡ q * e → x ≡ q * y → s + x ≡ q * (e + y)
+    more q s e x y h k = omega (arith, h, k)
+
+pub energy_in_parts : (n : ℕ) (f : ℕ → Cpx) → energy_below n (λ k. in_parts (f k)) ≡ 268435456 * energy_below n f
+energy_in_parts n f = energy_of_multiple 16384 n f
 
 -- ---- errors by component
 
