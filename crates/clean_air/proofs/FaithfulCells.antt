@@ -7,7 +7,7 @@ use Rattle.crs.specs.Reference.{port_0}
 use Rattle.lte_types.specs.declared.carrier.Carrier.TheVariants.{OnePort}
 use Rattle.lte_types.specs.Numerology.{normal, useful_start}
 use Rattle.lte_types.specs.Timing.{start_of, number_at_start}
-use Rattle.soft_bits.specs.Soft.{seen_at}
+use Rattle.soft_bits.specs.Soft.{SeenSlot, seen_at}
 use Rattle.explain.specs.Frame.{frame_at, seen_slot}
 use Rattle.explain.specs.System.{even_frame}
 use Rattle.budget.specs.Received.{IsSeenAs}
@@ -19,25 +19,29 @@ use Rattle.cell_grid.specs.Ports.{only_port}
 use Rattle.cell_plan.specs.declared.cell.CellPlan.{CellPlan}
 use Rattle.cell_grid.specs.Grid.{Elements}
 use Rattle.clean_air.specs.Faithful.{IsOfMaster, IsOfSystem, IsFaithfulBy, first_frame_of}
-use Rattle.clean_air.specs.Through.{IsFrameSlotThrough, ReceivedSlotIsThrough, FaithfulIsThrough}
+use Rattle.clean_air.specs.Values.{ArePatternSeen}
+use Rattle.clean_air.specs.Through.{IsSlotThrough, IsFrameSlotThrough, ReceivedSlotIsThrough, FaithfulIsThrough}
 use Rattle.clean_air.proofs.SoftValues.{pattern_place_seen, pattern_pilots_seen}
 use Rattle.clean_air.proofs.SentSlots.{slot_grid, each_slot_received}
 use Rattle.clean_air.proofs.Signals.{signals_shown}
 
-pub received_slot_is_through : ReceivedSlotIsThrough
-received_slot_is_through recording starts grids slot is =
-    let pilots = pattern_pilots_seen 1800 2316 amplitude_is_seen_in_recording port_0 7 recording starts grids slot is (omega arith) in
-    record {
-      room = one_gain_leaves_room;
-      pilots = one_gain_is_through 2316 port_0 is.gain slot (some (square is.gain) pilots.sounds) pilots.pilot;
-      read = λ symbol k first second few inside same. one_gain_is_read 2316 port_0 is.gain slot symbol k;
-      seen = λ symbol k first second few inside same.
-          subst (λ (z : Cpx). IsSeenAs 2316 is.gain z (seen_at slot symbol k)) same
-          (pattern_place_seen 1800 2316 amplitude_is_seen_in_recording port_0 7 recording starts grids slot is symbol k few inside);
-    }
+-- a slot whose resource elements are observed with one gain is received through it as a channel
+pub seen_slot_is_through : (gain : Cpx) (grids : ℕ → ℕ → Cpx) (slot : SeenSlot) → ArePatternSeen 2316 port_0 gain slot →
+    ((symbol k : ℕ) → symbol < 7 → k < 72 → IsSeenAs 2316 gain (grids symbol k) (seen_at slot symbol k)) → IsSlotThrough level_bounds (square gain) (level gain) grids slot
+seen_slot_is_through gain grids slot pilots places = record {
+  room = one_gain_leaves_room;
+  pilots = one_gain_is_through 2316 port_0 gain slot (some (square gain) pilots.sounds) pilots.pilot;
+  read = λ symbol k first second few inside same. one_gain_is_read 2316 port_0 gain slot symbol k;
+  seen = λ symbol k first second few inside same. subst (λ (z : Cpx). IsSeenAs 2316 gain z (seen_at slot symbol k)) same (places symbol k few inside);
+}
   where
     some : (n : ℕ) → 2 ^ 28 ≤ n → 1 ≤ n
     some n h = omega (arith, h)
+
+pub received_slot_is_through : ReceivedSlotIsThrough
+received_slot_is_through recording starts grids slot is =
+    seen_slot_is_through is.gain grids slot (pattern_pilots_seen 1800 2316 amplitude_is_seen_in_recording port_0 7 recording starts grids slot is (omega arith))
+    (pattern_place_seen 1800 2316 amplitude_is_seen_in_recording port_0 7 recording starts grids slot is)
 
 module _ (recording : List Sample) (plan : CellPlan) (grids : Port → Elements) (sfn offset : ℕ) (gains : List Cpx) (faithful : IsFaithfulBy OnePort recording plan grids sfn offset gains) where
   -- each slot that is read is received through a channel

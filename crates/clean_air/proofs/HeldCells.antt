@@ -1,6 +1,6 @@
 -- A receiver of one antenna port hears each cell that is received through channels, whatever else the cell sends, and
 -- so each to which the recording is faithful.
-use Rattle.std.proofs.Common.{ℕ, ◌*◌, ◌/◌, ◌%◌, ◌≤◌, List, Bool, arith, refl, subst}
+use Rattle.std.proofs.Common.{ℕ, ◌*◌, ◌/◌, ◌%◌, ◌<◌, ◌≤◌, List, Bool, arith, refl, subst}
 use Rattle.cs_num.specs.declared.Cpx.{Cpx}
 use Rattle.cs_num.specs.declared.Sample.{Sample}
 use Rattle.lte_types.specs.declared.carrier.Carrier.TheVariants.{OnePort}
@@ -23,6 +23,7 @@ use Rattle.clean_air.specs.Carried.{SpeakOfWord}
 use Rattle.clean_air.specs.Clean.{HoldsCells}
 use Rattle.clean_air.specs.Faithful.{IsFaithfulBy}
 use Rattle.clean_air.specs.Heard.{word_of_master, master_of_plan, sent_place, IsMasterHeard}
+use Rattle.clean_air.specs.Through.{ShowsSignals}
 use Rattle.clean_air.specs.HeardLaws.{ShownIdentityIsBest, FaithfulIsHeard, ThroughIsHeard, FadingIsHeard, EchoesAreHeard}
 use Rattle.clean_air.proofs.BestPairs.{best_of_identified}
 use Rattle.clean_air.proofs.Held.{HearsCells, number_fits, heard_are_held}
@@ -68,6 +69,20 @@ through_cell_is_heard recording plan grids sfn offset sendable through =
 
 -- ---- other premises
 
+-- a receiver of any carrier hears the master information block of a cell whose signals are received where its values
+-- have the signs of the codeword
+pub shown_master_is_heard : (receiver : Receiver) (recording : List Sample) (plan : CellPlan) (sfn offset : ℕ) → sfn ≤ 1023 → offset < 19200 →
+    ShowsSignals receiver.carrier recording plan.identity offset →
+    SpeakOfWord (pbch_c_init plan.identity) (receiver.count * (number_at_start sfn offset % 4)) (word_of_master (master_of_plan receiver.carrier plan) (number_at_start sfn offset))
+    (receiver.broadcast recording (sent_place plan.identity offset) 0) → IsMasterHeard receiver recording plan.identity (master_of_plan receiver.carrier plan) sfn offset
+shown_master_is_heard receiver recording plan sfn offset known within shown speaks = record {
+  number = known;
+  within = within;
+  signals = shown.primary;
+  identity = shown_identity_is_best receiver.carrier recording plan.identity offset shown;
+  broadcast = speaks;
+}
+
 -- a receiver of any carrier hears the master information block of a cell to which the recording is faithful where its
 -- values have the signs of the codeword
 pub faithful_master_is_heard : (receiver : Receiver) (recording : List Sample) (plan : CellPlan) (grids : Port → Elements) (sfn offset : ℕ) (gains : List Cpx) → plan.identity ≤ 503 →
@@ -75,14 +90,7 @@ pub faithful_master_is_heard : (receiver : Receiver) (recording : List Sample) (
     SpeakOfWord (pbch_c_init plan.identity) (receiver.count * (number_at_start sfn offset % 4)) (word_of_master (master_of_plan receiver.carrier plan) (number_at_start sfn offset))
     (receiver.broadcast recording (sent_place plan.identity offset) 0) → IsMasterHeard receiver recording plan.identity (master_of_plan receiver.carrier plan) sfn offset
 faithful_master_is_heard receiver recording plan grids sfn offset gains known faithful speaks =
-    let shown = signals_shown receiver.carrier recording plan grids sfn offset gains faithful known in
-    record {
-      number = faithful.number;
-      within = faithful.within;
-      signals = shown.primary;
-      identity = shown_identity_is_best receiver.carrier recording plan.identity offset shown;
-      broadcast = speaks;
-    }
+    shown_master_is_heard receiver recording plan sfn offset faithful.number faithful.within (signals_shown receiver.carrier recording plan grids sfn offset gains faithful known) speaks
 
 pub faithful_cell_is_heard : FaithfulIsHeard one_port_receiver
 faithful_cell_is_heard recording plan grids sfn offset gains sendable faithful =

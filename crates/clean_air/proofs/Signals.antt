@@ -178,6 +178,26 @@ pub first_slot : (s m l : ℕ) → m * (2 * s % 2) + l ≡ l
 first_slot s m l = let even : 2 * s % 2 ≡ 0 = omega arith in rw even (omega arith)
 
 module _ (carrier : Carrier) (plan : CellPlan) (grids : Port → Elements) (carries : (port : Port) → IsPortOf carrier port → CarriesPlan port plan (grids port))
+    (number : ℕ) (half : Half) (port : Port) (same : IsPortOf carrier port) (k : ℕ) where
+  -- the element that a port sends in the symbol of a primary signal
+  pub primary_sent : grids port number (2 * subframe_of half / 2) (symbols_of_slot (prefix_of carrier) * (2 * subframe_of half % 2) + (symbols_of_slot (prefix_of carrier) - 1)) k
+      ≡ sent_signal port (pss_grid (plan.identity % 3) k)
+  primary_sent =
+      ap₂ (λ (subframe symbol : ℕ). grids port number subframe symbol k) (whole_slot (subframe_of half))
+      (first_slot (subframe_of half) (symbols_of_slot (prefix_of carrier)) (symbols_of_slot (prefix_of carrier) - 1))
+      ∙ subst (λ (c : Carrier). grids port number (subframe_of half) (symbols_of_slot (prefix_of c) - 1) k ≡ sent_signal port (pss_grid (plan.identity % 3) k)) same.0
+      (of_primary_symbol port plan (grids port) (carries port same) half number k ∙ primary_symbol port plan number k half)
+
+  -- the element that a port sends in the symbol of a secondary signal
+  pub secondary_sent : grids port number (2 * subframe_of half / 2) (symbols_of_slot (prefix_of carrier) * (2 * subframe_of half % 2) + (symbols_of_slot (prefix_of carrier) - 2)) k
+      ≡ sent_signal port (sss_grid (plan.identity / 3) (plan.identity % 3) half k)
+  secondary_sent =
+      ap₂ (λ (subframe symbol : ℕ). grids port number subframe symbol k) (whole_slot (subframe_of half))
+      (first_slot (subframe_of half) (symbols_of_slot (prefix_of carrier)) (symbols_of_slot (prefix_of carrier) - 2))
+      ∙ subst (λ (c : Carrier). grids port number (subframe_of half) (symbols_of_slot (prefix_of c) - 2) k ≡ sent_signal port (sss_grid (plan.identity / 3) (plan.identity % 3) half k)) same.0
+      (of_secondary_symbol port plan (grids port) (carries port same) half number k ∙ secondary_symbol port plan number k half)
+
+module _ (carrier : Carrier) (plan : CellPlan) (grids : Port → Elements) (carries : (port : Port) → IsPortOf carrier port → CarriesPlan port plan (grids port))
     (sfn offset : ℕ) (gains : List Cpx) (t : ℕ) where
   abbrev prefix : Prefix
   prefix = prefix_of carrier
@@ -188,11 +208,7 @@ module _ (carrier : Carrier) (plan : CellPlan) (grids : Port → Elements) (carr
       let rows = signal_rows half prefix (prefix_known carrier) in
       let place = rows.primary in
       signal_received carrier grids sfn offset gains t at.frame (2 * subframe_of half) (symbols_of_slot prefix - 1) (pss_grid (plan.identity % 3)) (slot_few half) rows.last
-      (omega (arith, at.place, place))
-      (λ port same k.
-      ap₂ (λ (subframe symbol : ℕ). grids port ((sfn + at.frame) % 1024) subframe symbol k) (whole_slot (subframe_of half)) (first_slot (subframe_of half) (symbols_of_slot prefix) (symbols_of_slot prefix - 1))
-      ∙ subst (λ (c : Carrier). grids port ((sfn + at.frame) % 1024) (subframe_of half) (symbols_of_slot (prefix_of c) - 1) k ≡ sent_signal port (pss_grid (plan.identity % 3) k)) same.0
-      (of_primary_symbol port plan (grids port) (carries port same) half ((sfn + at.frame) % 1024) k ∙ primary_symbol port plan ((sfn + at.frame) % 1024) k half))
+      (omega (arith, at.place, place)) (primary_sent carrier plan grids carries ((sfn + at.frame) % 1024) half)
 
   -- the received samples one symbol earlier
   pub secondary_is : (half : Half) → IsTruePlace offset t half → symbol_step prefix ≤ t → (n : ℕ) → n < 128 →
@@ -202,10 +218,7 @@ module _ (carrier : Carrier) (plan : CellPlan) (grids : Port → Elements) (carr
       let place = rows.secondary in
       signal_received carrier grids sfn offset gains (t - symbol_step prefix) at.frame (2 * subframe_of half) (symbols_of_slot prefix - 2)
       (sss_grid (plan.identity / 3) (plan.identity % 3) half) (slot_few half) rows.before (omega (arith, at.place, place, first))
-      (λ port same k.
-      ap₂ (λ (subframe symbol : ℕ). grids port ((sfn + at.frame) % 1024) subframe symbol k) (whole_slot (subframe_of half)) (first_slot (subframe_of half) (symbols_of_slot prefix) (symbols_of_slot prefix - 2))
-      ∙ subst (λ (c : Carrier). grids port ((sfn + at.frame) % 1024) (subframe_of half) (symbols_of_slot (prefix_of c) - 2) k ≡ sent_signal port (sss_grid (plan.identity / 3) (plan.identity % 3) half k)) same.0
-      (of_secondary_symbol port plan (grids port) (carries port same) half ((sfn + at.frame) % 1024) k ∙ secondary_symbol port plan ((sfn + at.frame) % 1024) k half))
+      (secondary_sent carrier plan grids carries ((sfn + at.frame) % 1024) half)
 
 -- a received symbol with errors of at most this ratio
 pub received_with : (carrier : Carrier) (recording : List Sample) (grids : Port → Elements) (sfn offset : ℕ) (gains : List Cpx) (start : ℕ) (grid : ℕ → Cpx) → 2 ^ 28 ≤ square (value_at gains 0) →

@@ -80,12 +80,17 @@ pub read_symbol : (recording : List Sample) (start k : ℕ) → k < 72 → value
 unfolding seen_symbol
 read_symbol recording start k l = values_below_at (seen recording start) 72 k nothing l
 
+-- a resource element of an observed symbol
+pub place_shown : (recording : List Sample) (start : ℕ) (slot : SeenSlot) (symbol k : ℕ) → slice_index_or slot.symbols symbol [] ≡ seen_symbol recording start → k < 72 →
+    seen recording start k ≡ seen_at slot symbol k
+place_shown recording start slot symbol k shown inside = sym (ap (λ (xs : List Cpx). value_at xs k) shown ∙ read_symbol recording start k inside)
+
 -- a resource element of a received symbol is observed with the symbol's gain
 pub place_seen : (quota most : ℕ) → AmplitudeIsSeenInRecording quota most → (recording : List Sample) (start : ℕ) (gain : Cpx) (grid : ℕ → Cpx) (slot : SeenSlot) (symbol k : ℕ) →
     slice_index_or slot.symbols symbol [] ≡ seen_symbol recording start → AreAmplitudes grid → IsReceived quota gain grid (samples_from recording start) → k < 72 →
     IsSeenAs most gain (grid k) (seen_at slot symbol k)
 place_seen quota most are_seen recording start gain grid slot symbol k shown amplitudes received inside =
-    subst (λ (z : Cpx). IsSeenAs most gain (grid k) z) (sym (ap (λ (xs : List Cpx). value_at xs k) shown ∙ read_symbol recording start k inside))
+    subst (λ (z : Cpx). IsSeenAs most gain (grid k) z) (place_shown recording start slot symbol k shown inside)
     (are_seen gain grid recording start k amplitudes received inside)
 
 -- the pilots are in the first symbol and a later one
@@ -97,6 +102,17 @@ symbol-few count pattern identity i later = few (is_pattern_place pattern identi
     few true = omega (arith, later)
     few false = later
 
+-- the pilots are observed with one gain if each resource element of their symbols is
+pub pilots_from_places : (most : ℕ) (pattern : Pattern) (count : ℕ) (gain : Cpx) (grids : ℕ → ℕ → Cpx) (slot : SeenSlot) → pattern.later < count → 2 ^ 28 ≤ square gain →
+    ((i : ℕ) → i < 24 → grids (pattern_symbol pattern slot.identity i) (pilot_subcarrier slot.identity i) ≡ pattern_sent pattern slot.identity slot.number i) →
+    ((symbol k : ℕ) → symbol < count → k < 72 → IsSeenAs most gain (grids symbol k) (seen_at slot symbol k)) → ArePatternSeen most pattern gain slot
+unfolding pattern_seen
+pilots_from_places most pattern count gain grids slot later sounds references places = record {
+  sounds = sounds;
+  pilot = λ i l. subst (λ (z : Cpx). IsSeenAs most gain z (seen_at slot (pattern_symbol pattern slot.identity i) (pilot_subcarrier slot.identity i))) (references i l)
+      (places (pattern_symbol pattern slot.identity i) (pilot_subcarrier slot.identity i) (symbol-few count pattern slot.identity i later) (omega (arith, l)));
+}
+
 module _ (quota most : ℕ) (are_seen : AmplitudeIsSeenInRecording quota most) (pattern : Pattern) (count : ℕ) (recording : List Sample) (starts : ℕ → ℕ) (grids : ℕ → ℕ → Cpx) (slot : SeenSlot)
     (is : IsPatternReceived quota pattern count recording starts grids slot) where
   -- each resource element of a received slot is observed with its gain
@@ -106,12 +122,8 @@ module _ (quota most : ℕ) (are_seen : AmplitudeIsSeenInRecording quota most) (
 
   -- the pilots are observed with its gain if both of their symbols are present
   pub pattern_pilots_seen : pattern.later < count → ArePatternSeen most pattern is.gain slot
-  unfolding pattern_seen
-  pattern_pilots_seen later = record {
-    sounds = (is.received 0 (omega (arith, later))).sounds;
-    pilot = λ i l. subst (λ (z : Cpx). IsSeenAs most is.gain z (seen_at slot (pattern_symbol pattern slot.identity i) (pilot_subcarrier slot.identity i))) (is.references i l)
-        (pattern_place_seen (pattern_symbol pattern slot.identity i) (pilot_subcarrier slot.identity i) (symbol-few count pattern slot.identity i later) (omega (arith, l)));
-  }
+  pattern_pilots_seen later =
+      pilots_from_places most pattern count is.gain grids slot later (is.received 0 (omega (arith, later))).sounds is.references pattern_place_seen
 
 received_speaks : (quota most size : ℕ) → AmplitudeIsSeenInRecording quota most → ValuesSupportBits most size → (recording : List Sample) (starts : ℕ → ℕ) (grids : ℕ → ℕ → Cpx) (slot : SeenSlot) →
     IsPatternReceived quota port_0 7 recording starts grids slot → SpeaksFor size grids slot
