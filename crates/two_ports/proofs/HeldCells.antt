@@ -1,10 +1,11 @@
 -- A receiver of two antenna ports hears each cell to which the recording is faithful, whatever else its ports send.
-use Rattle.std.proofs.Common.{ℕ, ◌*◌, ◌%◌, ◌≤◌, List, Bool, false, arith, refl, subst}
+use Rattle.std.proofs.Common.{ℕ, ◌*◌, ◌%◌, ◌≤◌, List, Bool, false, inl, inr, arith, refl, subst}
 use Rattle.cs_num.specs.Complex.{value_at}
 use Rattle.lte_types.specs.declared.carrier.Carrier.TheVariants.{TwoPorts}
 use Rattle.lte_types.specs.Timing.{number_at_start}
 use Rattle.grid_map.specs.Scrambling.{pbch_c_init}
 use Rattle.cell_grid.specs.Ports.{first_port}
+use Rattle.explain.specs.System.{even_frame}
 use Rattle.soft_bits.specs.Pairs.{over_two, paired_by}
 use Rattle.clean_air.specs.Carried.{SpeakOfWord}
 use Rattle.clean_air.specs.Clean.{HoldsCells}
@@ -18,17 +19,20 @@ use Rattle.two_ports.specs.Entries.{two_ports_receiver}
 use Rattle.two_ports.proofs.Master.{word_speaks}
 use Rattle.two_ports.proofs.ReceivedPairs.{received_pair_speaks}
 use Rattle.two_ports.proofs.SentSystem.{system_heard}
+use Rattle.two_ports.proofs.Slots.{faithful_pairs_speak}
 
 pub faithful_cell_is_heard : FaithfulIsHeard two_ports_receiver
 faithful_cell_is_heard recording plan grids sfn offset gains sendable faithful =
     let number : ℕ = number_at_start sfn offset in
     let fits : number ≤ 1023 = number_fits sfn offset faithful.number faithful.within in
+    let speak = faithful_pairs_speak false recording plan grids sfn offset gains faithful (received_pair_speaks (value_at gains)) in
     record {
       master = faithful_master_is_heard two_ports_receiver recording plan grids sfn offset gains sendable.identity faithful
           (subst (λ (word : List Bool). SpeakOfWord (pbch_c_init plan.identity) (480 * (number % 4)) word (two_ports_receiver.broadcast recording (sent_place plan.identity offset) 0))
           (same_word first_port plan number)
-          (word_speaks false recording plan grids sfn offset gains (received_pair_speaks (value_at gains)) faithful fits sendable.spare));
-      system = system_heard recording plan grids sfn offset gains sendable faithful;
+          (word_speaks false recording plan grids sfn offset faithful.carries (speak 0 1 (omega arith) (λ l start. inl (omega arith, refl))) fits sendable.spare));
+      system = system_heard recording plan grids sfn offset sendable faithful.carries
+          (λ s half. speak (even_frame (number_at_start sfn offset) 0) s (omega (arith, half)) (λ l start. inr (inl (omega arith, half))));
     }
 
 hears_cells : HearsCells two_ports_receiver

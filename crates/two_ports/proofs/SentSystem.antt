@@ -1,11 +1,9 @@
--- The system information of a recording that is faithful to both ports: the values of the first frame of even number
--- have the signs of the plan's bits.
+-- The system information of a cell whose pairs have soft values with the signs of their bits: the values of the first
+-- frame of even number have the signs of the plan's bits.
 use Rattle.std.proofs.Common.{◌≡◌, ℕ, zero, suc, ◌+◌, ◌*◌, ◌/◌, ◌%◌, ◌<◌, ◌≤◌, inl, inr, Bool, true, false, List, length, get_or, pos, nat_eq, nat_lt, ℤ, refl, ap, ap₂, sym, subst, ◌∙◌, arith}
 use Rattle.std.specs.Prelude.{if◌then◌else◌}
 use Rattle.std.proofs.lemmas.Bool.{cases_lt, lt-ltb, le-ltb}
-use Rattle.cs_num.specs.declared.Cpx.{Cpx}
 use Rattle.cs_num.specs.declared.Sample.{Sample}
-use Rattle.cs_num.specs.Complex.{value_at}
 use Rattle.cs_bits.proofs.Signs.{supports-speaks}
 use Rattle.grid_map.specs.declared.Place.{Place}
 use Rattle.grid_map.specs.Place.{place}
@@ -15,7 +13,6 @@ use Rattle.grid_map.specs.Shared.{shared_place_of}
 use Rattle.grid_map.proofs.Apart.{IsInRegion}
 use Rattle.grid_map.proofs.Pieces.{length-pcfich_places}
 use Rattle.grid_map.proofs.Together.{pair_in_one_symbol}
-use Rattle.lte_types.specs.Numerology.{normal, useful_start}
 use Rattle.lte_types.specs.Timing.{start_of, number_at_start}
 use Rattle.dci.specs.Fields.{system_information_rnti}
 use Rattle.soft_bits.specs.Pairs.{over_two, pair_at, paired_by}
@@ -31,7 +28,7 @@ use Rattle.cell_grid.specs.declared.antenna.Port.{Port}
 use Rattle.lte_types.specs.Carrier.{ports_of}
 use Rattle.cell_grid.specs.Ports.{first_port, second_port}
 use Rattle.cell_plan.specs.declared.cell.CellPlan.{CellPlan}
-use Rattle.cell_grid.specs.Ports.{has_control, sent_point}
+use Rattle.cell_grid.specs.Ports.{IsPortOf, has_control, sent_point}
 use Rattle.cell_grid.specs.Block.{coded_bit}
 use Rattle.cell_grid.specs.Points.{point_of, scrambled}
 use Rattle.cell_grid.specs.Control.{grant_of, control_places, control_word, indicator_point, control_point}
@@ -50,17 +47,16 @@ use Rattle.clean_air.proofs.Controls.{grant_parts}
 use Rattle.clean_air.proofs.Speaking.{descrambled_bits_are_heard}
 use Rattle.two_tx.specs.Plan.{IsSendableOfTwo}
 use Rattle.clean_air.specs.Load.{CarriesPlan}
-use Rattle.clean_air.specs.Faithful.{IsFaithfulBy}
+use Rattle.two_ports.specs.Received.{PairsSpeak}
 use Rattle.two_ports.proofs.Heard.{SpeakAs, paired_heard, paired_same}
 use Rattle.clean_air.proofs.SentSlots.{slot_grid}
-use Rattle.two_ports.proofs.ReceivedPairs.{received_pair_speaks}
 use Rattle.two_ports.proofs.Senders.{sender, is_sender, pair_carried}
-use Rattle.two_ports.proofs.Slots.{each_slot_received}
 
 -- ---- a frame
 
-module _ (recording : List Sample) (plan : CellPlan) (grids : Port → Elements) (sfn offset : ℕ) (gains : List Cpx) (sendable : IsSendableOfTwo plan)
-    (faithful : IsFaithfulBy TwoPorts recording plan grids sfn offset gains) where
+module _ (recording : List Sample) (plan : CellPlan) (grids : Port → Elements) (sfn offset : ℕ) (sendable : IsSendableOfTwo plan) (carries_all : (port : Port) → IsPortOf TwoPorts port → CarriesPlan port plan (grids port))
+    (speak : (s : ℕ) → s / 2 ≡ 5 → PairsSpeak over_two 1 (λ p. slot_grid (grids (sender false p)) ((number_at_start sfn offset + even_frame (number_at_start sfn offset) 0) % 1024) s)
+    (seen_slot recording (frame_at (start_of offset) (even_frame (number_at_start sfn offset) 0)) s plan.identity)) where
   abbrev port : ℕ → Port
   port = sender false
 
@@ -76,9 +72,6 @@ module _ (recording : List Sample) (plan : CellPlan) (grids : Port → Elements)
   -- slot 10 or 11, the slots of subframe 5
   abbrev slot : ℕ → SeenSlot
   slot s = seen_slot recording (frame_at (start_of offset) j) s plan.identity
-
-  abbrev starts : ℕ → ℕ → ℕ
-  starts s = useful_start normal (frame_at (start_of offset) j) s
 
   -- the slot that contains a resource element
   abbrev slot_at : Place → SeenSlot
@@ -125,14 +118,11 @@ module _ (recording : List Sample) (plan : CellPlan) (grids : Port → Elements)
         let b : 2 * i + 1 < length places = omega (arith, l) in
         let s : ℕ = 10 + (item (2 * i)).symbol / 7 in
         let both : s ≡ 10 + (item (2 * i + 1)).symbol / 7 = ap (λ n. 10 + n) (together i l) in
-        let few : s < 20 = let low = (placed (2 * i) a).0 in omega (arith, low) in
         let half : s / 2 ≡ 5 = (in_slot (item (2 * i)).symbol (placed (2 * i) a).0).0 in
-        let received = each_slot_received false recording plan grids sfn offset gains faithful j s few (λ l start. inr (inl (omega arith, half))) in
         let carry = pair_carried false (point_of carry_bits) i (λ p. slot_grid (grids (port p)) number s) (item (2 * i)) (item (2 * i + 1))
         (λ p. in_slot_sent p s (2 * i) a refl) (λ p. in_slot_sent p s (2 * i + 1) b both) in
         subst (λ (z : SeenSlot). SpeakAs carry_bits i (pair_at over_two (λ p. z) places i)) (sym (slot_is (item (2 * i)) (placed (2 * i) a).0))
-        (received_pair_speaks (value_at gains) recording (starts s) (λ p. slot_grid (grids (port p)) number s) (slot s) i (item (2 * i)) (item (2 * i + 1)) _ _ _ _ received
-        (placed (2 * i) a).1 (placed (2 * i + 1) b).1 carry)
+        (speak s half i (item (2 * i)) (item (2 * i + 1)) _ _ _ _ (placed (2 * i) a).1 (placed (2 * i + 1) b).1 carry)
 
     -- these resource elements have soft values with the signs of the bits before scrambling
     places_heard : AreHeard 1 (2 * length places) bits (descrambled c_init 0 (paired_by over_two slot_at places))
@@ -141,7 +131,7 @@ module _ (recording : List Sample) (plan : CellPlan) (grids : Port → Elements)
   -- ---- the control region
 
   carries : (p : ℕ) → CarriesPlan (port p) plan (grids (port p))
-  carries p = faithful.carries (port p) (is_sender false p).own
+  carries p = carries_all (port p) (is_sender false p).own
 
   controls : (p : ℕ) → has_control (port p) ≡ true
   controls zero = refl

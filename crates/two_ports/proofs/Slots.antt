@@ -1,6 +1,6 @@
 -- Slots in a recording that is faithful to a cell's ports, whatever else they send: each slot that is read is received
 -- as it was sent.
-use Rattle.std.proofs.Common.{◌≡◌, ℕ, ◌+◌, ◌*◌, ◌/◌, ◌%◌, ◌<◌, Bool, true, false, None, Some, inl, inr, arith, refl, sym, subst, ◌∙◌, List, []}
+use Rattle.std.proofs.Common.{◌≡◌, ℕ, ◌+◌, ◌*◌, ◌/◌, ◌%◌, ◌<◌, ◌≤◌, Bool, true, false, None, Some, inl, inr, arith, refl, sym, subst, ◌∙◌, List, []}
 use Rattle.std.specs.Prelude.{if◌then◌else◌, ◌⊎◌}
 use Rattle.std.proofs.Math.Path.{fun_ext}
 use Rattle.finite.proofs.Lists.{values_below_at}
@@ -17,7 +17,7 @@ use Rattle.cell_grid.specs.declared.antenna.Port.{Port}
 use Rattle.cell_plan.specs.declared.cell.CellPlan.{CellPlan}
 use Rattle.cell_grid.specs.Grid.{port_element}
 use Rattle.cell_tx.specs.Emission.{mixed}
-use Rattle.cell_grid.specs.Ports.{port_symbols, is_own_reference, is_other_reference}
+use Rattle.cell_grid.specs.Ports.{IsPortOf, port_symbols, is_own_reference, is_other_reference}
 use Rattle.cell_grid.specs.Rows.{port_reference_if}
 use Rattle.cell_grid.specs.Grid.{Elements}
 use Rattle.cell_grid.proofs.Elements.{element_of_reference}
@@ -32,8 +32,8 @@ use Rattle.lte_types.specs.Numerology.{normal, symbols_of_slot, useful_start}
 use Rattle.lte_types.specs.Timing.{start_of, number_at_start}
 use Rattle.explain.specs.Frame.{frame_at, seen_slot}
 use Rattle.budget.specs.Received.{off_by, IsReceivedBy, samples_from}
-use Rattle.two_ports.specs.Received.{IsSlotReceived}
-use Rattle.two_ports.proofs.Senders.{quota_of, carrier, sender, is_normal, is_sender, all, sounds, quiet, reference}
+use Rattle.two_ports.specs.Received.{only, IsSlotReceived, PairsSpeak, SpeakReceivedWith}
+use Rattle.two_ports.proofs.Senders.{pairing_of, quota_of, carrier, sender, is_normal, is_sender, all, sounds, quiet, reference}
 
 -- ---- the reference signals
 
@@ -68,6 +68,19 @@ carried port plan grid seven carries number slot l k value inside is = same ∙ 
       | inr other ↦ of_other_reference port plan grid carries number (slot / 2) (7 * (slot % 2) + l) k (at (λ s row. is_other_reference port plan.identity s row k ≡ true) other)
     ]
 
+-- in elements that carry the plan, the reference signals of each port stand alone
+pub references_alone : (four : Bool) (plan : CellPlan) (grids : Port → Elements) → ((port : Port) → IsPortOf (carrier four) port → CarriesPlan port plan (grids port)) →
+    (recording : List Sample) (f number slot p i q : ℕ) → let line : Line = line_of (carrier four) p (seen_slot recording f slot plan.identity) in
+    p < ports_of (carrier four) → i ≤ line.last → q < ports_of (carrier four) →
+    slot_grid (grids (sender four q)) number slot (line.symbol i) (line_place line i) ≡ only p (line.sent i) q
+unfolding seen_slot
+references_alone four plan grids carries recording f number slot p i q below last other =
+    let seen : SeenSlot = seen_slot recording f slot plan.identity in
+    let line : Line = line_of (carrier four) p seen in
+    let row = (is_line (carrier four) p seen).row i in
+    carried (sender four q) plan (grids (sender four q)) (is_sender four q).seven (carries (sender four q) (is_sender four q).own) number slot (line.symbol i) (line_place line i) _ (omega (arith, row))
+    (reference four seen p q i below other)
+
 -- ---- the slots
 
 module _ (four : Bool) (recording : List Sample) (plan : CellPlan) (grids : Port → Elements) (sfn offset : ℕ) (gains : List Cpx) (faithful : IsFaithfulBy (carrier four) recording plan grids sfn offset gains) where
@@ -96,15 +109,18 @@ module _ (four : Bool) (recording : List Sample) (plan : CellPlan) (grids : Port
       let number : ℕ = (number_at_start sfn offset + j) % 1024 in
       let start : ℕ → ℕ = useful_start normal (frame_at (start_of offset) j) slot in
       let frame = frame_is sfn offset j faithful.number faithful.within in
-      let seen : SeenSlot = seen_slot recording (frame_at (start_of offset) j) slot plan.identity in
       record {
         seen = λ l inside. values_below_at (λ symbol. seen_symbol recording (start symbol)) 7 l [] inside;
         amplitudes = λ p l below inside. (faithful.carries (sender four p) (is_sender four p).own).small number (slot / 2) (7 * (slot % 2) + l);
         received = λ l inside. subst (λ m. IsSymbolReceived m slot l (start l)) frame.number
             (received_at (start l) (first_frame_of offset + j) slot l few inside (omega (arith, frame.place)) (looked l (start l)));
-        pilots = λ p i q below last other.
-            let line : Line = line_of (carrier four) p seen in
-            let row = (is_line (carrier four) p seen).row i in
-            carried (sender four q) plan (grids (sender four q)) (is_sender four q).seven (faithful.carries (sender four q) (is_sender four q).own) number slot (line.symbol i) (line_place line i) _ (omega (arith, row))
-            (reference four seen p q i below other);
+        pilots = references_alone four plan grids faithful.carries recording (frame_at (start_of offset) j) number slot;
       }
+
+  -- the pairs of a slot that the receiver reads have soft values with the signs of their bits
+  pub faithful_pairs_speak : SpeakReceivedWith (value_at gains) (pairing_of four) (quota_of four) 1 →
+      (j slot : ℕ) → slot < 20 → ((l start : ℕ) → IsLookedAt (carrier four) sfn offset (first_frame_of offset + j) slot l start) →
+      PairsSpeak (pairing_of four) 1 (λ p. slot_grid (grids (sender four p)) ((number_at_start sfn offset + j) % 1024) slot) (seen_slot recording (frame_at (start_of offset) j) slot plan.identity)
+  faithful_pairs_speak speak j slot few looked =
+      speak recording (useful_start normal (frame_at (start_of offset) j) slot) (λ p. slot_grid (grids (sender four p)) ((number_at_start sfn offset + j) % 1024) slot)
+      (seen_slot recording (frame_at (start_of offset) j) slot plan.identity) (each_slot_received j slot few looked)

@@ -91,15 +91,21 @@ pub record CarryPair (pairing : Pairing) (grids : ℕ → ℕ → ℕ → Cpx) (
   pub second : (port : ℕ) → port < ports_of pairing.carrier →
       grids port (q.symbol % 7) q.k ≡ second_sent pairing i x y port
 
--- in a slot that is received with the gains `gains`, the four soft values of two resource elements that carry a pair
--- have the signs of its bits and a magnitude of at least `least`
-abbrev pub SpeakReceivedWith : (ℕ → Cpx) → Pairing → ℕ → ℕ → Type 0
-SpeakReceivedWith gains pairing quota least =
-    (recording : List Sample) (starts : ℕ → ℕ) (grids : ℕ → ℕ → ℕ → Cpx) (slot : SeenSlot) (i : ℕ) (p q : Place)
-    (b c d e : Bool) →
-    IsSlotReceived pairing.carrier quota gains recording starts grids slot → p.k < subcarriers → q.k < subcarriers →
+-- any two resource elements of `slot` that carry a pair of `grids` have four soft values with the signs of the pair's
+-- bits and a magnitude of at least `least`
+abbrev pub PairsSpeak : Pairing → ℕ → (ℕ → ℕ → ℕ → Cpx) → SeenSlot → Type 0
+PairsSpeak pairing least grids slot =
+    (i : ℕ) (p q : Place) (b c d e : Bool) → p.k < subcarriers → q.k < subcarriers →
     CarryPair pairing grids i p q (point b c) (point d e) →
     SupportFour least b c d e (pair_values pairing i slot p q)
+
+-- in each slot that is received with the gains `gains` and error energies of at most `quota` times the gains' total
+-- energy, any two resource elements that carry a pair have four soft values with the signs of the pair's bits and a
+-- magnitude of at least `least`
+abbrev pub SpeakReceivedWith : (ℕ → Cpx) → Pairing → ℕ → ℕ → Type 0
+SpeakReceivedWith gains pairing quota least =
+    (recording : List Sample) (starts : ℕ → ℕ) (grids : ℕ → ℕ → ℕ → Cpx) (slot : SeenSlot) →
+    IsSlotReceived pairing.carrier quota gains recording starts grids slot → PairsSpeak pairing least grids slot
 
 -- ---- two ports
 
