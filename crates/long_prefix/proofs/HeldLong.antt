@@ -10,7 +10,9 @@ use Rattle.lte_types.specs.declared.sib1_reason.Sib1Reason.TheVariants.{LongPref
 use Rattle.lte_types.specs.Numerology.{extended, useful_start}
 use Rattle.lte_types.specs.Timing.{start_of, number_at_start}
 use Rattle.grid_map.specs.Scrambling.{pbch_c_init}
+use Rattle.crs.specs.Reference.{long_prefix}
 use Rattle.soft_bits.specs.Soft.{SeenSlot}
+use Rattle.budget.proofs.Seen.{amplitude_is_seen_in_recording}
 use Rattle.cell_grid.specs.Ports.{long_port}
 use Rattle.cell_grid.specs.Block.{port_word, port_bit, port_point}
 use Rattle.cell_tx.specs.Clean.{IsCleanOf}
@@ -23,6 +25,7 @@ use Rattle.clean_air.specs.Carried.{SpeakOfWord}
 use Rattle.clean_air.specs.HeardLaws.{FaithfulIsHeard}
 use Rattle.clean_air.proofs.Held.{HearsCells, number_fits, heard_are_held}
 use Rattle.clean_air.proofs.HeldCells.{faithful_master_is_heard}
+use Rattle.clean_air.proofs.SoftValues.{pattern_place_seen, pattern_pilots_seen}
 use Rattle.clean_air.proofs.SentBlock.{is_block, same_word}
 use Rattle.clean_air.proofs.Speaking.{heard_bits_speak}
 use Rattle.long_prefix.specs.Entries.{long_slot, long_values, long_prefix_receiver, IsExplainedOfLong}
@@ -38,12 +41,15 @@ faithful_cell_is_heard recording plan grids sfn offset gains known faithful =
     -- the slot of the cell's first frame that carries the broadcast channel
     let slot : SeenSlot = long_slot recording plan.identity (start_of offset) 0 in
     let size = (is_block long_port plan number known.spare (number_fits sfn offset faithful.number faithful.within)).size in
+    let starts : ℕ → ℕ = useful_start extended (frame_at (start_of offset) 0) 1 in
+    let rows : ℕ → ℕ → Cpx = slot_row (grids long_port) number in
     let received = slot_received recording plan grids sfn offset gains faithful in
     record {
       master = faithful_master_is_heard long_prefix_receiver recording plan grids sfn offset gains known.identity faithful
           (subst (λ (word : List Bool). SpeakOfWord (pbch_c_init plan.identity) (432 * (number % 4)) word (long_values slot)) (same_word long_port plan number)
           (heard_bits_speak 1 432 (pbch_c_init plan.identity) (432 * (number % 4)) (port_word long_port plan number) (long_values slot) (omega arith) (omega (arith, size))
-          (values_heard recording (useful_start extended (frame_at (start_of offset) 0) 1) (slot_row (grids long_port) number) slot received (port_bit long_port plan number)
+          (values_heard received.gain rows slot (pattern_pilots_seen 1800 2316 amplitude_is_seen_in_recording long_prefix 6 recording starts rows slot received (omega arith))
+          (pattern_place_seen 1800 2316 amplitude_is_seen_in_recording long_prefix 6 recording starts rows slot received) (port_bit long_port plan number)
           (points_stand plan (grids long_port) (faithful.carries long_port (refl, omega arith)) number))));
       system = tt;
     }

@@ -72,7 +72,7 @@ reference_carried plan grid carries number l k inside is =
     let symbol : (6 + l) % 6 ≡ l = omega (arith, inside) in
     of_own_reference long_port plan grid carries number 0 (6 + l) k (rw symbol is)
 
-references_stand : (plan : CellPlan) (grid : Elements) → CarriesPlan long_port plan grid → (number i : ℕ) → slot_row grid number (pattern_symbol long_prefix plan.identity i) (pilot_subcarrier plan.identity i) ≡ pattern_sent long_prefix plan.identity 1 i
+pub references_stand : (plan : CellPlan) (grid : Elements) → CarriesPlan long_port plan grid → (number i : ℕ) → slot_row grid number (pattern_symbol long_prefix plan.identity i) (pilot_subcarrier plan.identity i) ≡ pattern_sent long_prefix plan.identity 1 i
 unfolding pattern_sent
 references_stand plan grid carries number i =
     let p = pilot_place plan.identity i in
