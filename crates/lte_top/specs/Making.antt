@@ -1,11 +1,11 @@
 -- The output of `make N`: a line about synthetic recording N and its cell, and its cell list. (own)
 use Rattle.std.specs.Prelude.{◌≡◌, ◌⊎◌, ℕ, ◌+◌, ◌/◌, ◌<◌, ◌^◌, List, [], ◌∷◌, ◌++◌}
-use Rattle.cs_num.specs.declared.Sample.{Sample}
 use Rattle.lte_types.specs.declared.bandwidth.Bandwidth.TheVariants.{N6}
 use Rattle.lte_types.specs.declared.entry.Entry.{Entry}
 use Rattle.lte_types.specs.Block.{HasFields}
 use Rattle.lte_types.specs.Timing.{start_of, number_at_start}
 use Rattle.clean_air.specs.Clean.{system_of_carrier}
+use Rattle.cell_plan.specs.declared.emission.Emission.{Emission}
 use Rattle.capture_make.specs.declared.made.MadeBy.{MadeBy}
 use Rattle.capture_make.specs.Made.{IsMadeBy}
 use Rattle.capture_make.specs.Recipe.{plan, number, offset}
@@ -21,6 +21,19 @@ Counts P [] n = n ≡ 0
 Counts P (x ∷ xs) n = (P x × ((m : ℕ) × (n ≡ m + 1) × Counts P xs m)) ⊎ ((P x → ⊥) × Counts P xs n)
 
 -- ---- the sent cell
+
+-- the cell that the emission `sent` contains, as it should be listed
+abbrev pub cell_of : Emission → SentCell
+cell_of sent = record {
+  identity = sent.cell.identity;
+  first = start_of sent.timing.offset;
+  number = number_at_start sent.timing.sfn sent.timing.offset;
+  ports = ports_of sent.carrier;
+  duration = sent.cell.duration;
+  resource = sent.cell.resource;
+  spare = sent.cell.spare;
+  sib1 = system_of_carrier sent.carrier sent.cell.sib1;
+}
 
 -- `entry` matches the sent `cell` in every field
 pub record IsSentCell (cell : SentCell) (entry : Entry) : Type 0 where
@@ -39,43 +52,22 @@ pub record IsMadeOutput (cell : SentCell) (entries : List Entry) (output : List 
 
 -- ---- synthetic recording n
 
--- the start and the number of the cell's first frame in synthetic recording `n`
+-- `output` is the line of the cell that synthetic recording `n` sends under transmission scheme `carrier`, followed by
+-- the text of the recording's cell list
+pub record IsMadeText (carrier : Carrier) (n : ℕ) (output : List ℕ) : Type 0 where
+  pub made : MadeBy
+  pub is : IsMadeBy carrier n made
+  pub entries : List Entry
+  pub listed : IsListOf carrier made.recording entries
+  pub decodes : IsMadeOutput (cell_of made.sent) entries output
+
+-- the start of the cell's first frame in synthetic recording `n`
 abbrev pub first_start : ℕ → ℕ
 first_start n = start_of (offset n)
 
+-- the number of the cell's first frame in synthetic recording `n`
 abbrev pub first_number : ℕ → ℕ
 first_number n = number_at_start (number n) (offset n)
-
--- the cell of synthetic recording `n`, as it should be listed
-abbrev pub cell_of : Carrier → ℕ → SentCell
-cell_of carrier n = record {
-  identity = (plan n).identity;
-  first = first_start n;
-  number = first_number n;
-  ports = ports_of carrier;
-  duration = (plan n).duration;
-  resource = (plan n).resource;
-  spare = (plan n).spare;
-  sib1 = system_of_carrier carrier (plan n).sib1;
-}
-
--- `samples` is synthetic recording `n` under transmission scheme `carrier`
-pub record AreSamplesOf (carrier : Carrier) (n : ℕ) (samples : List Sample) : Type 0 where
-  pub made : MadeBy
-  pub is : IsMadeBy carrier n made
-  pub are : samples ≡ made.recording
-
--- `entries` is the cell list of synthetic recording `n`
-pub record IsMadeList (carrier : Carrier) (n : ℕ) (entries : List Entry) : Type 0 where
-  pub samples : List Sample
-  pub made : AreSamplesOf carrier n samples
-  pub is_list : IsListOf carrier samples entries
-
--- `output` is the line of synthetic recording `n`, followed by the text of its cell list
-pub record IsMadeText (carrier : Carrier) (n : ℕ) (output : List ℕ) : Type 0 where
-  pub entries : List Entry
-  pub listed : IsMadeList carrier n entries
-  pub decodes : IsMadeOutput (cell_of carrier n) entries output
 
 -- ---- the sent cell is listed
 

@@ -2,11 +2,11 @@
 
 ghost use Rattle.std.specs.Prelude.{◌≡◌, ◌↔◌, ◌≤◌, IfOk, IsTrue, length, string_bytes};
 ghost use Rattle.clean_air.specs.Clean.{system_of_carrier};
-ghost use Rattle.lte_top.specs.Making.{Counts, IsSentCell, IsMadeOutput, cell_of, IsMadeList, IsMadeText};
+ghost use Rattle.lte_top.specs.Making.{Counts, IsSentCell, IsMadeOutput, cell_of, IsMadeText};
 
 use crate::searching::list_of;
-use capture_make::{make_by, plan, timing};
-use explain::EntryList;
+use capture_make::make_by;
+use cell_plan::Emission;
 use lte_types::{
     Bandwidth, Carrier, Duration, Entry, Resource, Sfn, Sib1, Sib1Reason, same_answers,
 };
@@ -32,45 +32,38 @@ pub(crate) struct SentCell {
 pub(crate) fn made_text(alloc: Global, carrier: Carrier, n: u32) -> Result<String, AllocError>
     ensures { IfOk result (λ text. IsMadeText carrier n (string_bytes text)) }
 {
-    let list = made_list(alloc, carrier, n)?;
-    text_of_sent(alloc, &sent_cell(carrier, n), list.slice())
-}
-
-// Returns the cell list of synthetic recording `n`.
-fn made_list(alloc: Global, carrier: Carrier, n: u32) -> Result<EntryList, AllocError>
-    ensures { IfOk result (IsMadeList carrier n) }
-{
     let made = make_by(alloc, carrier, n)?;
-    list_of(alloc, carrier, &made.recording)
+    let list = list_of(alloc, carrier, &made.recording)?;
+    text_of_sent(alloc, &sent_cell(&made.sent), list.slice())
 }
 
-// Returns the cell that synthetic recording `n` sends.
-fn sent_cell(carrier: Carrier, n: u32) -> SentCell
-    ensures { result ≡ cell_of carrier n }
+// Returns the cell that the emission `sent` contains, as it should be listed.
+fn sent_cell(sent: &Emission) -> SentCell
+    ensures { result ≡ cell_of sent.now }
 {
-    let plan = plan(n);
+    let plan = sent.cell.plan();
     SentCell {
         identity: plan.identity,
-        first: timing(n).start(),
-        number: timing(n).number_at_start(),
-        ports: carrier.ports(),
+        first: sent.timing.start(),
+        number: sent.timing.number_at_start(),
+        ports: sent.carrier.ports(),
         duration: plan.duration,
         resource: plan.resource,
         spare: plan.spare,
-        sib1: decoded_by(carrier, plan.sib1),
+        sib1: system_by(sent.carrier, &plan.sib1),
     }
 }
 
 // Returns the SIB1 result of a cell that sends `sib1`: SIB1 itself, or the reason why it is not read under `carrier`.
-fn decoded_by(carrier: Carrier, sib1: Sib1) -> Result<Sib1, Sib1Reason>
-    ensures { result ≡ system_of_carrier carrier sib1 }
+fn system_by(carrier: Carrier, sib1: &Sib1) -> Result<Sib1, Sib1Reason>
+    ensures { result ≡ system_of_carrier carrier sib1.now }
 {
     if carrier.prefix().is_extended() {
         Err(Sib1Reason::LongPrefix)
     } else if carrier.ports() > 2 {
         Err(Sib1Reason::NotOnePort(carrier.ports()))
     } else {
-        Ok(sib1)
+        Ok(sib1.copy())
     }
 }
 

@@ -10,6 +10,8 @@ returns c =
     (λ text. IsMadeOutput c.sent_cell.result c.slice.result.now (string_bytes text))
     (λ text. IsMadeText c.args.carrier c.args.n (string_bytes text))
     (λ text decodes. record {
+      made = c.in_ok-made.made;
+      is = c.in_ok-made.ensures.made;
       entries = c.in_ok-list.list;
       listed = c.in_ok-list.ensures;
       decodes = subst (λ cell. IsMadeOutput cell c.in_ok-list.list (string_bytes text)) c.sent_cell.ensures
