@@ -1,8 +1,10 @@
 //! The transport block that carried an entry's SIB1.
 
-ghost use Rattle.std.specs.Prelude.{◌≡◌, ◌<◌, ◌≤◌, [], IfOk};
+ghost use Rattle.std.specs.Prelude.{◌≡◌, ◌<◌, ◌≤◌, [], IfOk, None, false, true};
 ghost use Rattle.std.specs.Option.{option_map, unwrap_or};
+ghost use Rattle.lte_types.specs.Carrier.{has_control_by};
 ghost use Rattle.dci.specs.Format1A.{IsGrant};
+ghost use Rattle.soft_bits.specs.Pairs.{valued_by};
 ghost use Rattle.pdsch.specs.Values.{shared_values_by};
 ghost use Rattle.sib1_reader.specs.Subframe.{subframe_by};
 ghost use Rattle.sib1_reader.specs.Block.{IsBlock};
@@ -17,7 +19,7 @@ use lte_types::{Carrier, CellPlace, Cfi, Entry, Mib, Sfn};
 use pdsch::MOST_VALUES;
 use sample_file::Recording;
 use sib1_reader::{Decoders, attempt_in, block_of};
-use soft_bits::ReadSlot;
+use soft_bits::{PortSlot, Ports, ReadSlot};
 use std::alloc::{AllocError, Global};
 use turbo_dec::{Block, Work};
 
@@ -49,8 +51,29 @@ fn bits_of(alloc: Global, block: Option<Block>) -> Result<Vec<bool>, AllocError>
     Ok(list)
 }
 
+// Returns the transport block from the first tried frame that has one. `None` if no tried frame has one, or if the
+// scheme of `K` does not send SIB1.
+pub(crate) fn block_by_ports<K: Ports>(
+    recording: &Recording,
+    place: CellPlace,
+    entry: &Entry,
+    work: &mut Decoders,
+) -> Option<Block>
+    ensures read { has_control_by K.pairing.carrier ≡ true →
+        IsBlockRead (λ j. subframes_by K.pairing.carrier (valued_by K.pairing) recording.now place j
+        entry.now.mib.duration entry.now.mib.resource) recording.now place.start entry.now.sfn
+        (unwrap_or (option_map (λ block. block.items) result) []) }
+    ensures none { has_control_by K.pairing.carrier ≡ false → result ≡ None }
+{
+    if K::carrier().has_control() {
+        first_block::<PortSlot<K>>(recording, place, entry.sfn, entry.mib, work)
+    } else {
+        None
+    }
+}
+
 // Returns the transport block from the first tried frame that has one, or `None` if no tried frame has one.
-pub(crate) fn first_block<S: ReadSlot>(
+fn first_block<S: ReadSlot>(
     recording: &Recording,
     place: CellPlace,
     sfn: Sfn,

@@ -9,16 +9,29 @@ ghost use Rattle.evidence.specs.Blocks.{IsBlockWith};
 ghost use Rattle.evidence.specs.Evidence.{shown_in as shown_in_of};
 
 use crate::SlotShown;
-use crate::blocks::first_block;
+use crate::blocks::block_by_ports;
 use crate::slot::{shown_of, shown_of_long};
 use explain::place_in;
 use four_ports::FourPorts;
 use lte_types::{Carrier, CellPlace, Entry};
 use sample_file::Recording;
 use sib1_reader::Decoders;
-use soft_bits::{Single, Slot};
+use soft_bits::Single;
 use turbo_dec::Block;
-use two_ports::{PairSlot, TwoPorts};
+use two_ports::TwoPorts;
+
+// Reads by the receiver for a transmission scheme: `$read` with the receiver's antenna ports, or `$long` with the
+// extended cyclic prefix.
+macro_rules! by_receiver {
+    ($carrier:expr, $read:ident($($argument:expr),*), $long:expr) => {
+        match $carrier {
+            Carrier::OnePort => $read::<Single>($($argument),*),
+            Carrier::TwoPorts => $read::<TwoPorts>($($argument),*),
+            Carrier::LongPrefix => $long,
+            Carrier::FourPorts => $read::<FourPorts>($($argument),*),
+        }
+    };
+}
 
 // Returns the measurements of the slot with the PBCH in frame `j`, which lies within the recording.
 pub(crate) fn shown_in(
@@ -30,12 +43,11 @@ pub(crate) fn shown_in(
     requires { IsWhole recording.now place.start j }
     ensures { result ≡ shown_in_of carrier recording.now place j }
 {
-    match carrier {
-        Carrier::OnePort => shown_of::<Single>(recording, place, j),
-        Carrier::TwoPorts => shown_of::<TwoPorts>(recording, place, j),
-        Carrier::LongPrefix => shown_of_long(recording, place, j),
-        Carrier::FourPorts => shown_of::<FourPorts>(recording, place, j),
-    }
+    by_receiver!(
+        carrier,
+        shown_of(recording, place, j),
+        shown_of_long(recording, place, j)
+    )
 }
 
 // Returns the transport block that carried SIB1, or `None` if no tried frame has one or the receiver for `carrier` does
@@ -51,10 +63,5 @@ pub(crate) fn block_by(
         (unwrap_or (option_map (λ block. block.items) result) []) }
 {
     let place = place_in(entry);
-    match carrier {
-        Carrier::OnePort => first_block::<Slot>(recording, place, entry.sfn, entry.mib, work),
-        Carrier::TwoPorts => first_block::<PairSlot>(recording, place, entry.sfn, entry.mib, work),
-        Carrier::LongPrefix => None,
-        Carrier::FourPorts => None,
-    }
+    by_receiver!(carrier, block_by_ports(recording, place, entry, work), None)
 }
