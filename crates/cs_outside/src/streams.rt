@@ -10,7 +10,7 @@ use thiserror::Error;
 /// The reason why an input was not read completely.
 #[derive(Clone, Copy, Debug, PartialEq, Eq, Error)]
 pub enum ReadError {
-    /// The input exceeds the limit.
+    /// The input is longer than the maximum that the caller gives.
     #[error("too long")]
     TooLong,
     /// A call to the source failed.

@@ -1,6 +1,6 @@
--- The frames in which a cell's MIBs are searched: those of its frames 0 to 7 that lie within the recording, first
--- single frames, then two to four consecutive ones in one period of four. `Decodes` says which MIB frames carry; for a
--- receiver that combines fewer frames, it says that larger groups carry none. (own)
+-- The frames that are searched for a cell's MIB: its frames 0 to 7 within the recording, first single frames, then two
+-- to four consecutive ones in one period of four. `Decodes` states which MIB these frames carry; for a receiver that
+-- combines fewer frames, larger groups carry none. (own)
 use Rattle.std.specs.Prelude.{◌≡◌, ◌⊎◌, ℕ, ◌+◌, ◌<◌, ◌≤◌, List}
 use Rattle.cs_num.specs.declared.Sample.{Sample}
 use Rattle.lte_types.specs.CellPlace.{Place}

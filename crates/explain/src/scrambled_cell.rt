@@ -1,4 +1,4 @@
-//! A cell whose MIBs are searched.
+//! A cell with the scrambling sequence of its PBCH, computed once for the MIB search.
 
 ghost use Rattle.std.specs.Prelude.{◌≡◌};
 ghost use Rattle.lte_types.specs.CellPlace.{Place};

@@ -37,8 +37,8 @@ pub record HasOutput (form : Form) (output : List ℕ) (before now : SourceState
   pub unrefused : (status : Status) → Refuses (input_of form) bytes status → ⊥
   pub is_output : IsOutput form bytes output
 
--- the bytes read, at most one more than the limit, are refused with `status`, and either the input ended there or every
--- continuation of those bytes is refused with `status` too
+-- the bytes read, at most `limit_of input` + 1, are refused with `status`. Either the input ended there, or every
+-- continuation of these bytes is refused with `status` too.
 pub record HasRefusal (input : Input) (status : Status) (before now : SourceState) : Type 0 where
   pub bytes : List ℕ
   pub read : HasRead bytes before now
@@ -46,7 +46,7 @@ pub record HasRefusal (input : Input) (status : Status) (before now : SourceStat
   pub refused : Refuses input bytes status
   pub settled : IsAtEnd now ⊎ ((rest : List ℕ) → Refuses input (bytes ++ rest) status)
 
--- one byte past the limit was read, and no continuation of the bytes read is refused
+-- `limit_of input` + 1 bytes were read, and no continuation of these bytes is refused
 pub record IsReadTooLong (input : Input) (before now : SourceState) : Type 0 where
   pub is_read : IsRead input
   pub front : List ℕ
@@ -61,7 +61,7 @@ NothingMet (recording form) bytes = Unit {0}
 NothingMet certificates bytes = IsUnbroken bytes
 NothingMet (description carrier) bytes = Unit {0}
 
--- a read failed when at most the limit had been read, and nothing read by then was refused
+-- a read failed after at most `limit_of input` bytes, and none of these bytes was refused
 pub record IsReadFault (input : Input) (before now : SourceState) : Type 0 where
   pub is_read : IsRead input
   pub front : List ℕ

@@ -49,7 +49,7 @@ abbrev pub lists_text : Output → (Carrier → List Entry) → List ℕ
 lists_text Text lists = all_text lists
 lists_text Json lists = as_line (all_json lists)
 
--- `text` is one cell list of `samples` per transmission scheme
+-- `text` contains the cell lists of the recording `samples`, one for each transmission scheme, in the format `output`
 pub record IsTextOfAll (output : Output) (samples : List Sample) (text : List ℕ) : Type 0 where
   pub lists : Carrier → List Entry
   pub are_lists : (carrier : Carrier) → IsListOf carrier samples (lists carrier)

@@ -5,7 +5,7 @@
 pub struct Hit {
     /// The sample at which the useful part of the PSS symbol begins.
     pub t: u32,
-    /// The identity within the group, 0 to 2, that belongs to the root.
+    /// The identity within the group, N_ID(2), of the detected PSS: 0 to 2.
     pub n2: u8,
     /// The squared magnitude of the correlation with the PSS.
     pub peak: u128,

@@ -15,7 +15,7 @@ const FRAME: u32 = FRAME_LENGTH as u32;
 pub struct Timing {
     /// The number of the frame in which the recording begins.
     pub sfn: Sfn,
-    /// The sample within that frame at which the recording begins, 0 to 19,199.
+    /// The sample of frame `sfn` at which the recording begins, 0 to 19,199.
     pub offset: u32,
     pub ghost offset_range: { IsOffset offset },
 }

@@ -120,7 +120,7 @@ fn tail_at(tail: &[i32; 6], x: usize) -> u32
     tail_step(tail, 0, x) + tail_step(tail, 1, x / 2) + tail_step(tail, 2, x / 2 / 2)
 }
 
-/// Returns the row of costs of the three tail steps from each state.
+/// Returns the total cost of the three tail steps from each of the 8 states.
 pub(crate) fn tail_row(tail: &[i32; 6]) -> [u32; 8]
     requires small { All IsSmall tail.now }
     ensures row { (x : ℕ) → x < 8 → slice_index result x ≡ tail_cost tail.now x }
