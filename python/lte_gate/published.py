@@ -1,10 +1,11 @@
 """published [NAME ..]
 
 Tries changes that no mutant can show, since the changed crate is right and its users do not compile: a further public
-field of a published record. Each is made in a copy of the repository, in the record's crate, with a value wherever that
-crate makes the record. Then `rt try --test`, which compiles without a proof, must refuse `published_calls`, and name the
-file that reads the record by all its fields. NAME is a record; without names all are tried. Prints a line for each; the
-status is 0 if all were refused.
+field of a published record, and a further required method of a published trait. Each is made in a copy of the
+repository, in the crate of the record or the trait, with a value wherever that crate makes the record, or a body
+wherever it implements the trait. Then `rt try --test`, which compiles without a proof, must refuse `published_calls`,
+and name the file that reads the record by all its fields or implements the trait. NAME is a record or a trait; without
+names all are tried. Prints a line for each; the status is 0 if all were refused.
 """
 import argparse
 import collections
@@ -16,7 +17,8 @@ import tempfile
 
 from .repository import TOP, Refused, run
 
-# A published record: its crate, and the crate and the file whose code does not compile once it has one more field.
+# A published record or trait: its crate, and the crate and the file whose code does not compile once it has one more
+# field or required method.
 Item = collections.namedtuple("Item", "crate guard file")
 
 RECORDS = {
@@ -29,6 +31,13 @@ RECORDS = {
     "Subtracted": Item("cancel", "published_calls", "residues.rt"),
 }
 
+TRAITS = {
+    "Source": Item("cs_outside", "published_calls", "published_conditions/src/outside.rt"),
+    "Sink": Item("cs_outside", "published_calls", "published_conditions/src/outside.rt"),
+}
+
+ITEMS = RECORDS | TRAITS
+
 
 def with_field(text, name):
     """Returns the text of a file with one more field in the record of this name, and a value for it where it is made."""
@@ -37,16 +46,24 @@ def with_field(text, name):
     return re.sub(rf"{before}\b{name} \{{", rf"{name} {{ further: false,", declared)
 
 
+def with_method(text, name):
+    """Returns the text of a file with one more required method in the trait of this name, and a body in each impl."""
+    declared = re.sub(rf"^(pub trait {name} \{{)$", r"\1\n    fn further(&self) -> bool;\n", text, flags=re.M)
+    body = "\n    fn further(&self) -> bool {\n        false\n    }\n"
+    return re.sub(rf"^(impl(<.*>)? {name} for .* \{{)$", rf"\1{body}", declared, flags=re.M)
+
+
 def change(top, name):
-    """Adds a field to a record in a copy of the repository."""
+    """Adds a field to a record, or a required method to a trait, in a copy of the repository."""
     changed = False
-    for file in (top / "crates" / RECORDS[name].crate / "src").rglob("*.rt"):
+    further = with_method if name in TRAITS else with_field
+    for file in (top / "crates" / ITEMS[name].crate / "src").rglob("*.rt"):
         text = file.read_text(encoding="utf-8")
-        new = with_field(text, name)
+        new = further(text, name)
         file.write_text(new, encoding="utf-8")
         changed = changed or new != text
     if not changed:
-        raise Refused(f"{name} is not in {RECORDS[name].crate}")
+        raise Refused(f"{name} is not in {ITEMS[name].crate}")
 
 
 def compiled(top, crate):
@@ -74,8 +91,8 @@ def copy_of(room):
 
 
 def outcome(name):
-    """Returns what became of a further field."""
-    item = RECORDS[name]
+    """Returns what became of a further field or required method."""
+    item = ITEMS[name]
     with tempfile.TemporaryDirectory(prefix="published-") as room:
         top = copy_of(room)
         change(top, name)
@@ -97,10 +114,10 @@ def parser():
 
 def main():
     args = parser().parse_args()
-    if set(args.names) - set(RECORDS):
-        raise Refused(f"no item {' '.join(sorted(set(args.names) - set(RECORDS)))}")
+    if set(args.names) - set(ITEMS):
+        raise Refused(f"no item {' '.join(sorted(set(args.names) - set(ITEMS)))}")
     outcomes = {}
-    for name in args.names or RECORDS:
+    for name in args.names or ITEMS:
         outcomes[name] = outcome(name)
         print(f"{name}: {outcomes[name]}", flush=True)
     return 0 if all(it.startswith("refused") for it in outcomes.values()) else 1
