@@ -11,4 +11,5 @@ pub mod Room
 pub mod NoHit
 pub mod RightTest
 pub mod Listed
+pub mod Stronger
 pub mod Agree

@@ -7,8 +7,10 @@ use Rattle.finite.specs.Lists.{joined_below, values_below}
 use Rattle.pss_search.specs.declared.measure.Metric.{Metric}
 use Rattle.pss_search.specs.declared.products.ProductSums.{ProductSums}
 use Rattle.pss_search.specs.declared.measure.PlaceSums.{PlaceSums}
+use Rattle.pss_search.specs.declared.strongest.Measured.{Measured}
 use Rattle.pss_search.specs.Correlation.{peak, energy}
 use Rattle.pss_search.specs.Metrics.{Standing, end_place}
+use Rattle.pss_search.specs.Strongest.{IsStrongestBefore}
 use Rattle.pss_search.specs.Hits.{first_place, last_place, hit_at, hits_before}
 use Rattle.lte_types.specs.Numerology.{useful_length}
 
@@ -69,6 +71,13 @@ pub record DecidesOn (recent : Standing) (t : ℕ) : Type 0 where
   pub first : first_place ≤ t
   pub last : t ≤ last_place
   pub past : recent.place ≡ t + 10
+
+-- ---- the strongest position
+
+-- the position is the strongest for n2 before `end`, with its metric
+pub record IsStrongestSoFar (recording : List Sample) (n2 end : ℕ) (best : Measured) : Type 0 where
+  pub strongest : IsStrongestBefore recording n2 end best.t
+  pub metric : IsMetricOf recording n2 best.t best.metric
 
 -- ---- the list
 

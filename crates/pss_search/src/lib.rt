@@ -8,12 +8,14 @@ mod measure;
 mod products;
 mod recent;
 mod signals;
+mod strongest;
 
 ghost use Rattle.pss_search.specs.Laws.{TestIsRight, ListIsRight, ListIsInOrder, ListIsShort};
 
-pub use list::{HitList, hits};
+pub use list::{HitList, hits, hits_and_strongest};
 pub use measure::{Metric, Sweep};
 pub use signals::signal_power;
+pub use strongest::Measured;
 
 /// A law: the test for a hit agrees with its definition, and the list has exactly the hits, in order, each once, and at
 /// most 5,760.

@@ -5,12 +5,14 @@ ghost use Rattle.std.specs.Option.{option_to_list};
 ghost use Rattle.std.specs.Vec.{vec_capacity};
 ghost use Rattle.lte_types.specs.declared.Hit.{Hit};
 ghost use Rattle.lte_types.specs.Numerology.{frame_length};
-ghost use Rattle.pss_search.specs.Hits.{IsInSpan, IsSmallHit, hits_of};
-ghost use Rattle.pss_search.specs.Steps.{so_far};
+ghost use Rattle.pss_search.specs.Hits.{IsInSpan, IsSmallHit, hits_before, hits_of};
+ghost use Rattle.pss_search.specs.Steps.{IsMetricOf, so_far};
+ghost use Rattle.pss_search.specs.Strongest.{IsStrongest};
 
 use crate::choose::{FIRST_PLACE, hit_of, may_be_hit};
 use crate::recent::Recent;
 use crate::signals::Root;
+use crate::strongest::{AFTER_START, Measured, measured_at, stronger, strongest_at_start};
 use lte_types::{FRAME_LENGTH, Hit};
 use sample_file::Recording;
 use std::alloc::{AllocError, Global};
@@ -71,18 +73,49 @@ pub fn hits(recording: &Recording, list: &mut HitList)
     ensures span { All IsInSpan list.new }
     ensures small { All IsSmallHit list.new }
 {
-    let first = Root::new(0);
-    let second = Root::new(1);
-    let third = Root::new(2);
     let mut recent = Recent::new(recording);
     list.clear();
     for i in 0..FRAME_LENGTH {
         recent.advance();
-        if may_be_hit(&recent, FIRST_PLACE + i) {
-            add_of(&recent, &first, i, list);
-            add_of(&recent, &second, i, list);
-            add_of(&recent, &third, i, list);
-        }
+        add_hits(&recent, i, list);
+    }
+}
+
+/// Replaces the list as `hits` does, and returns the first of the measured positions, 128 to 19,345, at which the
+/// primary signal for `n2`, 0 to 2, is strongest, with its metric. Allocates nothing. (own)
+pub fn hits_and_strongest(recording: &Recording, n2: u8, list: &mut HitList) -> Measured
+    requires { n2 ≤ 2 }
+    ensures list { list.new ≡ hits_of recording.now }
+    ensures span { All IsInSpan list.new }
+    ensures small { All IsSmallHit list.new }
+    ensures strongest { IsStrongest recording.now n2 result.t }
+    ensures metric { IsMetricOf recording.now n2 result.t result.metric }
+{
+    let mut recent = Recent::new(recording);
+    let mut best = strongest_at_start(&recent, n2);
+    list.clear();
+    for offset in 0..FRAME_LENGTH {
+        recent.advance();
+        best = stronger(best, measured_at(&recent, n2, AFTER_START + offset));
+        add_hits(&recent, offset, list);
+    }
+    best
+}
+
+// Appends the hits at position `i` in the span.
+#[inline(always)]
+fn add_hits(recent: &Recent, i: usize, list: &mut HitList)
+    requires i { i < frame_length }
+    requires middle { recent.now.place ≡ i + 147 }
+    requires before { list.old ≡ hits_before recent.now.recording i }
+    requires small { All IsSmallHit list.old }
+    ensures list { list.new ≡ hits_before recent.now.recording (i + 1) }
+    ensures small { All IsSmallHit list.new }
+{
+    if may_be_hit(recent, FIRST_PLACE + i) {
+        add_of(recent, &Root::new(0), i, list);
+        add_of(recent, &Root::new(1), i, list);
+        add_of(recent, &Root::new(2), i, list);
     }
 }
 

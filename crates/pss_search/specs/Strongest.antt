@@ -1,0 +1,30 @@
+-- The position at which a primary signal is strongest, among those that decide the hits. A position's metric is the
+-- ratio peak / energy; ratios are compared by cross-multiplication, and a position without energy is the weakest. (own)
+use Rattle.std.specs.Prelude.{ℕ, ◌*◌, ◌<◌, ◌≤◌, List}
+use Rattle.cs_num.specs.declared.Sample.{Sample}
+use Rattle.lte_types.specs.Numerology.{useful_length}
+use Rattle.pss_search.specs.declared.measure.Metric.{Metric}
+use Rattle.pss_search.specs.Metrics.{metric_at, end_place}
+
+-- the first metric has energy, and is greater than the second if the second has energy
+abbrev pub IsStronger : Metric → Metric → Type 0
+IsStronger first second =
+    (0 < first.energy) × (0 < second.energy → second.peak * first.energy < first.peak * second.energy)
+
+-- if the second metric has energy, the first has energy too, and is at least as great
+abbrev pub IsAsStrong : Metric → Metric → Type 0
+IsAsStrong first second =
+    0 < second.energy → (0 < first.energy) × (second.peak * first.energy ≤ first.peak * second.energy)
+
+-- among the positions from 128 and before `end`, none is stronger for n2 than t, and none before t is as strong
+pub record IsStrongestBefore (recording : List Sample) (n2 end t : ℕ) : Type 0 where
+  pub from_first : useful_length ≤ t
+  pub before_end : t < end
+  pub greatest : (u : ℕ) → useful_length ≤ u → u < end →
+      IsAsStrong (metric_at recording t n2) (metric_at recording u n2)
+  pub first : (u : ℕ) → useful_length ≤ u → u < t → IsStronger (metric_at recording t n2) (metric_at recording u n2)
+
+-- position t is the first at which the primary signal n2 is strongest, among all positions that decide the hits, 128 to
+-- 19,345
+abbrev pub IsStrongest : List Sample → ℕ → ℕ → Type 0
+IsStrongest recording n2 t = IsStrongestBefore recording n2 end_place t
