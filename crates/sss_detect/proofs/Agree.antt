@@ -15,7 +15,7 @@ use Rattle.sss_detect.specs.Place.{prefix_place, start_by_hit}
 use Rattle.sss_detect.specs.Second.{prefix_ranking, ranking_of}
 
 -- the scores are the same
-scores_agree : (prefix : Prefix) (count : ℕ) (a b : List Sample) (hit : Hit) → AgreeBefore count a b → hit.t + 128 ≤ count → prefix_scores prefix a hit ≡ prefix_scores prefix b hit
+pub scores_agree : (prefix : Prefix) (count : ℕ) (a b : List Sample) (hit : Hit) → AgreeBefore count a b → hit.t + 128 ≤ count → prefix_scores prefix a hit ≡ prefix_scores prefix b hit
 scores_agree prefix count a b hit agree within =
     let step = symbol_step prefix in
     let primary : seen a hit.t ≡ seen b hit.t = fun_ext (seen_agrees count hit.t a b agree within) in

@@ -1,5 +1,5 @@
 -- The second-best pair of an identity group and a half-frame, and the two best pairs with their scores. (own)
-use Rattle.std.specs.Prelude.{◌≢◌, ℕ, ◌+◌, ◌-◌, ◌≤◌, List, ℤ, ◌<ℤ◌, ◌≤ℤ◌, nat_lt, if◌then◌else◌}
+use Rattle.std.specs.Prelude.{◌≢◌, ℕ, ◌+◌, ◌-◌, ◌≤◌, List, ℤ, ◌<ℤ◌, ◌≤ℤ◌, int_lt, nat_lt, if◌then◌else◌}
 use Rattle.cs_num.specs.declared.Sample.{Sample}
 use Rattle.lte_types.specs.declared.frame.Half.{Half}
 use Rattle.lte_types.specs.declared.frame.Half.TheVariants.{Zero, Five}
@@ -59,3 +59,15 @@ ranking_of scores = record {
 -- a hit's two best pairs for a cyclic prefix, with their scores
 unfoldable pub prefix_ranking : Prefix → List Sample → Hit → Ranking
 prefix_ranking prefix recording hit = ranking_of (prefix_scores prefix recording hit)
+
+-- ---- the two half-frames of one identity group
+
+-- the half-frame that scores better with identity group `n1`, with its score; subframe 0 if both scores are equal
+unfoldable pub group_choice : (ℕ → Half → ℤ) → ℕ → Choice
+group_choice scores n1 =
+    if int_lt (scores n1 Zero) (scores n1 Five) then choice_of scores (n1, Five) else choice_of scores (n1, Zero)
+
+-- the half-frame that scores better with an identity group at the PSS detection `hit`, with its score, for a cyclic
+-- prefix
+abbrev pub prefix_group_choice : Prefix → List Sample → Hit → ℕ → Choice
+prefix_group_choice prefix recording hit = group_choice (prefix_scores prefix recording hit)

@@ -12,14 +12,14 @@ ghost use Rattle.std.specs.Prelude.{◌≡◌, ◌+◌, ◌≤◌, length};
 ghost use Rattle.lte_types.specs.Numerology.{normal, symbol_step, useful_length};
 ghost use Rattle.sss_detect.specs.Identity.{IsBest, prefix_scores, prefix_identity, scores_of, identity_of};
 ghost use Rattle.sss_detect.specs.Place.{prefix_place};
-ghost use Rattle.sss_detect.specs.Second.{IsSecond, prefix_ranking};
+ghost use Rattle.sss_detect.specs.Second.{IsSecond, prefix_group_choice, prefix_ranking};
 ghost use Rattle.sss_detect.specs.Laws.{BestPairIsBest, OnlyOneIsBest, SecondPairIsSecond, OnlyOneIsSecond};
 
 pub use choose::best;
 use lte_types::{CellPlace, Half, Hit, Prefix};
 use observe::symbol;
 pub use place::{cell_id, frame_start};
-use rank::best_two;
+use rank::{best_of_group, best_two};
 pub use rank::{Choice, Ranking};
 use sample_file::Recording;
 
@@ -84,6 +84,25 @@ pub fn ranking_with(recording: &Recording, hit: &Hit, prefix: Prefix) -> Ranking
         &symbol(recording, primary),
         &symbol(recording, secondary),
         hit.n2,
+    )
+}
+
+/// Returns the half-frame that scores better with identity group `n1`, 0 to 167, and its complete score; subframe 0 if
+/// both scores are equal. The symbols are those that `identity_with` reads. (own)
+pub fn group_choice_with(recording: &Recording, hit: &Hit, prefix: Prefix, n1: u16) -> Choice
+    requires after { symbol_step prefix ≤ hit.now.t }
+    requires within { hit.now.t + useful_length ≤ length recording.now }
+    requires member { hit.now.n2 ≤ 2 }
+    requires group { n1 ≤ 167 }
+    ensures { result ≡ prefix_group_choice prefix recording.now hit.now n1 }
+{
+    let primary = hit.t as usize;
+    let secondary = primary - prefix.step();
+    best_of_group(
+        &symbol(recording, primary),
+        &symbol(recording, secondary),
+        hit.n2,
+        n1,
     )
 }
 

@@ -5,7 +5,7 @@ ghost use Rattle.finite.specs.Sizes.{AllWithin};
 ghost use Rattle.cs_num.specs.Complex.{IsWithin, value_at};
 ghost use Rattle.sss_detect.specs.Scores.{score};
 ghost use Rattle.sss_detect.specs.Steps.{score_by};
-ghost use Rattle.sss_detect.specs.Second.{choice_of, pair_at as pair_of, ranking_of};
+ghost use Rattle.sss_detect.specs.Second.{choice_of, group_choice, pair_at as pair_of, ranking_of};
 
 use crate::score::{ShiftSums, agreements};
 use cs_num::Cpx;
@@ -54,6 +54,35 @@ fn best_two_by(agreements: &[i64; 62], n2: u8) -> Ranking
     ranking
 }
 
+// Returns the half-frame that scores better with identity group `n1`, from the demodulated primary and secondary
+// symbols; `n2` is the identity within the group.
+pub(crate) fn best_of_group(
+    pss_seen: &[Cpx; SUBCARRIERS],
+    sss_seen: &[Cpx; SUBCARRIERS],
+    n2: u8,
+    n1: u16,
+) -> Choice
+    requires member { n2 ≤ 2 }
+    requires group { n1 ≤ 167 }
+    requires primary { All (IsWithin 23726080) pss_seen.now }
+    requires secondary { All (IsWithin 23726080) sss_seen.now }
+    ensures { result ≡ group_choice (score (value_at pss_seen.now) (value_at sss_seen.now) n2) n1 }
+{
+    best_of_group_by(&agreements(pss_seen, sss_seen, n2), n2, n1)
+}
+
+// Returns the half-frame that scores better with identity group `n1`, from the 62 `agreements`, whose magnitudes are at
+// most 254 times the square of 23,726,080.
+fn best_of_group_by(agreements: &[i64; 62], n2: u8, n1: u16) -> Choice
+    requires small { AllWithin 142983425530265600 agreements.now }
+    requires member { n2 ≤ 2 }
+    requires group { n1 ≤ 167 }
+    ensures { result ≡ group_choice (score_by agreements.now n2) n1 }
+{
+    let sums = ShiftSums::new(agreements, n2);
+    better_pair(scored(&sums, n1, Half::Zero), scored(&sums, n1, Half::Five))
+}
+
 // Returns pair number `place`, 0 to 335, with its score.
 fn scored_pair(sums: &ShiftSums, place: u16) -> Choice
     requires small { AllWithin 142983425530265600 sums.now.agreements.now }
@@ -61,6 +90,15 @@ fn scored_pair(sums: &ShiftSums, place: u16) -> Choice
     ensures { result ≡ choice_of (score_by sums.now.agreements.now sums.now.n2) (pair_of place) }
 {
     let (n1, half) = pair_at(place);
+    scored(sums, n1, half)
+}
+
+// Returns a pair with its score.
+fn scored(sums: &ShiftSums, n1: u16, half: Half) -> Choice
+    requires small { AllWithin 142983425530265600 sums.now.agreements.now }
+    requires group { n1 ≤ 167 }
+    ensures { result ≡ choice_of (score_by sums.now.agreements.now sums.now.n2) (n1, half) }
+{
     Choice {
         n1,
         half,
