@@ -4,6 +4,7 @@ use Rattle.std.specs.List.{AllZip}
 use Rattle.cs_num.specs.declared.Sample.{Sample}
 use Rattle.lte_types.specs.declared.entry.Entry.{Entry}
 use Rattle.explain.specs.Receiver.{Receiver}
+use Rattle.explain.proofs.Listed.{each_once}
 use Rattle.lte_types.specs.declared.evidence.Evidence.{Evidence}
 use Rattle.evidence.specs.Evidence.{IsEvidenceFor, thousandths}
 use Rattle.evidence.specs.Shown.{Shown, IsShownFor}
@@ -32,15 +33,6 @@ one_shown receiver recording entry a b p q i = record {
 }
 
 -- the measurements of a list's entries are unique
-each_once : {A B : Type 0} (R : A → B → Type 0) → ((x : A) (a b : B) → R x a → R x b → a ≡ b) → (xs : List A) (first second : List B) → AllZip R xs first → AllZip R xs second → first ≡ second
-each_once R once [] [] [] a b = refl
-each_once R once [] [] (y ∷ ys) a b = absurd b
-each_once R once [] (x ∷ xs) second a b = absurd a
-each_once R once (entry ∷ entries) [] second a b = absurd a
-each_once R once (entry ∷ entries) (x ∷ xs) [] a b = absurd b
-each_once R once (entry ∷ entries) (x ∷ xs) (y ∷ ys) a b =
-    ap (λ e. e ∷ xs) (once entry x y a.0 b.0) ∙ ap (λ es. y ∷ es) (each_once R once entries xs ys a.1 b.1)
-
 pub one_for_each : (receiver : Receiver) (recording : List Sample) (entries : List Entry) (first second : List Evidence) → AllZip (IsEvidenceFor receiver recording) entries first →
     AllZip (IsEvidenceFor receiver recording) entries second → first ≡ second
 one_for_each receiver recording = each_once (IsEvidenceFor receiver recording) (one_evidence receiver recording)

@@ -159,6 +159,16 @@ AllZip-more R [] (b ∷ ys) x y h r = absurd h
 AllZip-more R (a ∷ xs) [] x y h r = absurd h
 AllZip-more R (a ∷ xs) (b ∷ ys) x y h r = (h.0, AllZip-more R xs ys x y h.1 r)
 
+-- lists that a relation with one value for each item pairs with the same list are equal
+pub each_once : {A B : Type 0} (R : A → B → Type 0) → ((x : A) (a b : B) → R x a → R x b → a ≡ b) → (xs : List A) (first second : List B) → AllZip R xs first → AllZip R xs second → first ≡ second
+each_once R once [] [] [] a b = refl
+each_once R once [] [] (y ∷ ys) a b = absurd b
+each_once R once [] (x ∷ xs) second a b = absurd a
+each_once R once (entry ∷ entries) [] second a b = absurd a
+each_once R once (entry ∷ entries) (x ∷ xs) [] a b = absurd b
+each_once R once (entry ∷ entries) (x ∷ xs) (y ∷ ys) a b =
+    ap (λ e. e ∷ xs) (once entry x y a.0 b.0) ∙ ap (λ es. y ∷ es) (each_once R once entries xs ys a.1 b.1)
+
 pub of_one_more : (AreOf : Hit → List Entry → Type 0) (hits : List Hit) (hit : Hit) (old new : List Entry) →
     IsListOfHits AreOf hits old → AddsHit AreOf hit old new → IsListOfHits AreOf (hits ++ hit ∷ []) new
 of_one_more AreOf hits hit old new before adds =
