@@ -18,6 +18,7 @@ ghost use Rattle.pss_search.specs.Hits.{hits_of};
 ghost use Rattle.explain.specs.Entries.{IsListFor};
 ghost use Rattle.explain.specs.Readings.{IsReading, IsReadingFor};
 ghost use Rattle.clean_air.specs.Clean.{HoldsCells, IsListBy, IsListOfCells};
+ghost use Rattle.clean_air.specs.HeardLaws.{FaithfulIsHeard};
 
 use explain::{EntryList, FrameReader, OnePort, Workspace, explain_by, explain_hits};
 use lte_types::Hit;
@@ -29,10 +30,16 @@ pub trait CleanReader: FrameReader {
     /// bandwidth that the receiver hears.
     fn holds_cells()
         ensures { HoldsCells Self.receiver };
+
+    /// A law: this receiver hears, part by part (`IsHeardBy`), each cell of its scheme to which a recording is faithful.
+    fn faithful_cells_are_heard()
+        ensures { FaithfulIsHeard Self.receiver };
 }
 
 impl CleanReader for OnePort {
     fn holds_cells() {}
+
+    fn faithful_cells_are_heard() {}
 }
 
 /// Lists the cells of `reader`'s transmission scheme in `recording` into `list`, and stores in `work` how each entry

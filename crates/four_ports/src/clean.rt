@@ -18,6 +18,8 @@ use sample_file::Recording;
 
 impl CleanReader for FourPorts {
     fn holds_cells() {}
+
+    fn faithful_cells_are_heard() {}
 }
 
 /// Lists the cells with four antenna ports by `clean_air::explain_clean_by`, each without SIB1 for the reason

@@ -9,6 +9,9 @@ ghost use Rattle.clean_air.specs.HeardLaws.{FaithfulIsHeard};
 ghost use Rattle.four_ports.specs.Entries.{four_ports_receiver};
 ghost use Rattle.four_ports.specs.Received.{PairValuesSpeak, ReceivedPairSpeaks};
 
+use crate::frames::FourPorts;
+use clean_air::CleanReader;
+
 /// A law: a transmit diversity pair's four soft values have the signs of its bits if the errors are small and no pair
 /// of ports is weak (TS 36.211 section 6.3.4.3).
 pub fn pair_values_speak_for_the_sent_bits()
@@ -20,4 +23,6 @@ pub fn pair_values_speak_for_the_sent_bits()
 /// the recording is faithful to the cell.
 pub fn faithful_cells_are_heard()
     ensures { FaithfulIsHeard four_ports_receiver }
-{}
+{
+    FourPorts::faithful_cells_are_heard();
+}

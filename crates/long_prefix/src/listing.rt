@@ -20,6 +20,8 @@ use sample_file::Recording;
 
 impl CleanReader for ExtendedPrefix {
     fn holds_cells() {}
+
+    fn faithful_cells_are_heard() {}
 }
 
 /// Lists the cells with the extended cyclic prefix by `clean_air::explain_clean_by`, each without SIB1 for the reason
@@ -39,4 +41,6 @@ pub fn explain_clean(recording: &Recording, work: &mut Workspace3, list: &mut En
 /// `clean_air/specs/Heard.antt`), if the recording is faithful to the cell.
 pub fn faithful_cells_are_heard()
     ensures { FaithfulIsHeard long_prefix_receiver }
-{}
+{
+    ExtendedPrefix::faithful_cells_are_heard();
+}

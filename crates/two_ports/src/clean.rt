@@ -17,6 +17,8 @@ use sample_file::Recording;
 
 impl CleanReader for TwoPorts {
     fn holds_cells() {}
+
+    fn faithful_cells_are_heard() {}
 }
 
 /// Lists the cells with two antenna ports by `clean_air::explain_clean_by`, each with SIB1 or the reason why it was not

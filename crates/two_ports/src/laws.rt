@@ -11,6 +11,9 @@ ghost use Rattle.two_ports.specs.Entries.{two_ports_receiver};
 ghost use Rattle.two_ports.specs.Received.{PairValuesSpeak, ReceivedPairSpeaks};
 ghost use Rattle.two_ports.specs.Received.{QuietPairValuesSpeak, QuietReceivedPairSpeaks};
 
+use crate::frames::TwoPorts;
+use clean_air::CleanReader;
+
 /// A law: a transmit diversity pair's four soft values have the signs of its bits if the errors are small (TS 36.211
 /// section 6.3.4.3).
 pub fn pair_values_speak_for_the_sent_bits()
@@ -24,4 +27,6 @@ pub fn pair_values_speak_for_the_sent_bits()
 /// the recording is faithful to the cell.
 pub fn faithful_cells_are_heard()
     ensures { FaithfulIsHeard two_ports_receiver }
-{}
+{
+    TwoPorts::faithful_cells_are_heard();
+}
