@@ -31,7 +31,7 @@ pub trait CleanReader: FrameReader {
     fn holds_cells()
         ensures { HoldsCells Self.receiver };
 
-    /// A law: this receiver hears, part by part (`IsHeardBy`), each cell of its scheme to which a recording is faithful.
+    /// A law: the receiver hears each cell of its transmission scheme to which a recording is faithful (`IsHeardBy`).
     fn faithful_cells_are_heard()
         ensures { FaithfulIsHeard Self.receiver };
 }

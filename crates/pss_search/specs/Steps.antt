@@ -74,7 +74,7 @@ pub record DecidesOn (recent : Standing) (t : ℕ) : Type 0 where
 
 -- ---- the strongest position
 
--- the position is the strongest for n2 before `end`, with its metric
+-- `best` is the strongest position for the PSS `n2` before `end`, with its metric
 pub record IsStrongestSoFar (recording : List Sample) (n2 end : ℕ) (best : Measured) : Type 0 where
   pub strongest : IsStrongestBefore recording n2 end best.t
   pub metric : IsMetricOf recording n2 best.t best.metric

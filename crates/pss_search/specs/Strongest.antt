@@ -6,17 +6,19 @@ use Rattle.lte_types.specs.Numerology.{useful_length}
 use Rattle.pss_search.specs.declared.measure.Metric.{Metric}
 use Rattle.pss_search.specs.Metrics.{metric_at, end_place}
 
--- the first metric has energy, and is greater than the second if the second has energy
+-- the metric `first` is stronger than the metric `second`: `first` has energy, and `second` has none or a smaller ratio
+-- of peak to energy
 abbrev pub IsStronger : Metric → Metric → Type 0
 IsStronger first second =
     (0 < first.energy) × (0 < second.energy → second.peak * first.energy < first.peak * second.energy)
 
--- if the second metric has energy, the first has energy too, and is at least as great
+-- the metric `first` is at least as strong as the metric `second`: `second` has no energy, or `first` has energy and at
+-- least the same ratio of peak to energy
 abbrev pub IsAsStrong : Metric → Metric → Type 0
 IsAsStrong first second =
     0 < second.energy → (0 < first.energy) × (second.peak * first.energy ≤ first.peak * second.energy)
 
--- among the positions from 128 and before `end`, none is stronger for n2 than t, and none before t is as strong
+-- position `t` is the first at which the PSS `n2` is strongest, among the positions from 128 on and before `end`
 pub record IsStrongestBefore (recording : List Sample) (n2 end t : ℕ) : Type 0 where
   pub from_first : useful_length ≤ t
   pub before_end : t < end
@@ -24,7 +26,6 @@ pub record IsStrongestBefore (recording : List Sample) (n2 end t : ℕ) : Type 0
       IsAsStrong (metric_at recording t n2) (metric_at recording u n2)
   pub first : (u : ℕ) → useful_length ≤ u → u < t → IsStronger (metric_at recording t n2) (metric_at recording u n2)
 
--- position t is the first at which the primary signal n2 is strongest, among all positions that decide the hits, 128 to
--- 19,345
+-- position `t` is the first at which the PSS `n2` is strongest, among all positions that decide the hits, 128 to 19,345
 abbrev pub IsStrongest : List Sample → ℕ → ℕ → Type 0
 IsStrongest recording n2 t = IsStrongestBefore recording n2 end_place t

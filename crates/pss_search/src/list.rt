@@ -81,8 +81,8 @@ pub fn hits(recording: &Recording, list: &mut HitList)
     }
 }
 
-/// Replaces the list as `hits` does, and returns the first of the measured positions, 128 to 19,345, at which the
-/// primary signal for `n2`, 0 to 2, is strongest, with its metric. Allocates nothing. (own)
+/// Replaces `list` as `hits` does, and returns the position, 128 to 19,345, at which the PSS `n2`, 0 to 2, is strongest,
+/// with its metric; the first of several. Allocates nothing. (own)
 pub fn hits_and_strongest(recording: &Recording, n2: u8, list: &mut HitList) -> Measured
     requires { n2 ≤ 2 }
     ensures list { list.new ≡ hits_of recording.now }
@@ -102,7 +102,7 @@ pub fn hits_and_strongest(recording: &Recording, n2: u8, list: &mut HitList) -> 
     best
 }
 
-// Appends the hits at position `i` in the span.
+// Appends the hits at position `i`, 0 to 19,199, of the search range.
 #[inline(always)]
 fn add_hits(recent: &Recent, i: usize, list: &mut HitList)
     requires i { i < frame_length }

@@ -1,4 +1,4 @@
-//! The position at which a primary signal is strongest.
+//! The position at which the primary synchronisation signal is strongest.
 
 ghost use Rattle.std.specs.Prelude.{◌≡◌, ℕ, ◌+◌, ◌<◌, ◌≤◌, List, true, false};
 ghost use Rattle.cs_num.specs.declared.Sample.{Sample as SampleValue};
@@ -14,12 +14,12 @@ use lte_types::USEFUL_LENGTH;
 // The first position that is measured after the start of a sweep.
 pub(crate) const AFTER_START: usize = 146;
 
-/// A position with its metric for one of the three primary signals. (own)
+/// A position with its metric for one of the three primary synchronisation signals. (own)
 #[derive(Clone, Copy, Debug, PartialEq, Eq)]
 pub struct Measured {
-    /// The position, in samples.
+    /// The sample at which the measured 128 samples begin.
     pub t: u32,
-    /// The measurement there.
+    /// The metric at this sample.
     pub metric: Metric,
 }
 
@@ -36,7 +36,7 @@ pub(crate) fn strongest_at_start(recent: &Recent, n2: u8) -> Measured
     best
 }
 
-// Returns one of the last 19 positions with its metric.
+// Returns position `t`, one of the last 19 measured, with its metric for the PSS `n2`.
 pub(crate) fn measured_at(recent: &Recent, n2: u8, t: usize) -> Measured
     requires root { n2 ≤ 2 }
     requires first { useful_length ≤ t }
@@ -52,7 +52,7 @@ pub(crate) fn measured_at(recent: &Recent, n2: u8, t: usize) -> Measured
     }
 }
 
-// Returns the next position if it is stronger than the strongest so far, which otherwise remains.
+// Returns `next` if it is stronger than `best`, otherwise `best`.
 #[inline(always)]
 pub(crate) fn stronger(best: Measured, next: Measured) -> Measured
     requires best { IsSmallMetric best.metric }
@@ -67,7 +67,7 @@ pub(crate) fn stronger(best: Measured, next: Measured) -> Measured
     }
 }
 
-// Returns whether the first metric is greater: it has energy, and the second has none or a smaller ratio.
+// Returns whether `first` is stronger: it has energy, and `second` has none or a smaller ratio of peak to energy.
 fn is_stronger(first: &Metric, second: &Metric) -> bool
     requires first { IsSmallMetric first.now }
     requires second { IsSmallMetric second.now }
