@@ -22,7 +22,7 @@ seen_in samples k = rounded (spectrum_at samples k) 12
 abbrev pub sending_off : (ℕ → Cpx) → Cpx → ℕ → Cpx
 sending_off sent amplitude k = minus (multiple (2 ^ 17) (spectrum_at sent k)) (multiple (2 ^ 35) amplitude)
 
--- the transmit error of one symbol has a magnitude of at most 97 units of 2^31
+-- the transmit error of one symbol, whose elements have magnitudes of at most 256, has a magnitude of at most 97 * 2^31
 abbrev pub SendingIsSmall : Type 0
 SendingIsSmall =
     (grid : ℕ → Cpx) (k : ℕ) → AreAmplitudes grid → k < subcarriers →
@@ -47,7 +47,8 @@ SendingHasTwoCauses =
     (grid : ℕ → Cpx) (k : ℕ) → k < subcarriers →
     sending_off (useful_at grid) (grid k) k ≡ plus (leakage grid k) (rounding_sent grid k)
 
--- in units of 2^31, the leakage has a magnitude of at most 6.1, and the demodulated rounding errors of at most 90.7
+-- the leakage of a symbol whose elements have magnitudes of at most 256 is at most 6.1 * 2^31 in magnitude; the
+-- demodulated rounding errors of any symbol are at most 90.7 * 2^31
 abbrev pub LeakageIsSmall : Type 0
 LeakageIsSmall =
     (grid : ℕ → Cpx) (k : ℕ) → AreAmplitudes grid → k < subcarriers →
@@ -56,7 +57,7 @@ LeakageIsSmall =
 abbrev pub RoundingSentIsSmall : Type 0
 RoundingSentIsSmall = (grid : ℕ → Cpx) (k : ℕ) → 100 * square (rounding_sent grid k) ≤ (907 * 2 ^ 31) * (907 * 2 ^ 31)
 
--- the transmit error of a sum of two signals is the sum of the transmit errors; a signal's gain multiplies its transmit
+-- the transmit error of two added signals is the sum of their transmit errors; a signal's gain multiplies its transmit
 -- error
 abbrev pub SendingIsLinear : Type 0
 SendingIsLinear =
@@ -64,8 +65,8 @@ SendingIsLinear =
     sending_off (λ n. plus (times gain (sent n)) (others n)) (plus (times gain amplitude) other) k
     ≡ plus (times gain (sending_off sent amplitude k)) (sending_off others other k)
 
--- 2^29 times the deviation of a demodulated value, in units of 2^-14, from 64 times an amplitude is a sum of three
--- causes: the transmit error, the sample errors (`errors`), and the rounding of the demodulated value (`rounding`).
+-- The deviation of a demodulated value, in units of 2^-14, from 64 times an amplitude, multiplied by 2^29, is the sum
+-- of the transmit error, the sample errors (`errors`) and the demodulated value's rounding (`rounding`).
 pub record HasThreeCauses (sent samples : ℕ → Cpx) (amplitude : Cpx) (k : ℕ) : Type 0 where
   pub errors : Cpx
   pub rounding : Cpx
@@ -84,9 +85,9 @@ DeviationHasThreeCauses = (sent samples : ℕ → Cpx) (amplitude : Cpx) (k : �
 abbrev pub with_gains : Cpx → Cpx → Cpx → Cpx → Cpx
 with_gains gain other a b = plus (times gain a) (times other b)
 
--- Two symbols are received, each with its gain. 2^29 times the deviation of their demodulated value, in units of 2^-14,
--- is a sum of four causes: the leakage of both symbols, the transmitted rounding errors of both symbols, the sample
--- errors (`errors`), and the rounding of the demodulated value (`rounding`).
+-- Two symbols are received, each with its gain. The deviation of their demodulated value, in units of 2^-14, multiplied
+-- by 2^29, is the sum of both symbols' leakage, both symbols' transmitted rounding errors, the sample errors
+-- (`errors`), and the demodulated value's rounding (`rounding`).
 pub record HasFourCauses (gain other : Cpx) (grid second_grid samples : ℕ → Cpx) (k : ℕ) : Type 0 where
   pub errors : Cpx
   pub rounding : Cpx
@@ -108,15 +109,16 @@ DeviationHasFourCauses =
     (gain other : Cpx) (grid second_grid samples : ℕ → Cpx) (k : ℕ) → k < subcarriers →
     HasFourCauses gain other grid second_grid samples k
 
--- each amplitude is demodulated through one gain with a deviation of at most `most` times the gain's magnitude, if the
--- error energy is at most `quota` times the gain's square
+-- each amplitude of magnitude at most 256 is demodulated through one gain with a deviation of at most `most` times the
+-- gain's magnitude, if the error energy is at most `quota` times the gain's square
 abbrev pub AmplitudeIsSeen : ℕ → ℕ → Type 0
 AmplitudeIsSeen quota most =
     (gain : Cpx) (grid samples : ℕ → Cpx) (k : ℕ) → AreAmplitudes grid →
     IsReceived quota gain grid samples → k < subcarriers → IsSeenAs most gain (grid k) (seen_in samples k)
 
--- the amplitudes that several ports send are demodulated as their sum, with a deviation of at most `most` times the
--- gains' root sum square, if the error energy is at most `quota` times the gains' summed squares
+-- the amplitudes that several ports send, each of magnitude at most 256, are demodulated as their sum, with a deviation
+-- of at most `most` times the gains' root sum square, if the error energy is at most `quota` times the gains' summed
+-- squares
 abbrev pub AmplitudesAreSeen : ℕ → ℕ → ℕ → Type 0
 AmplitudesAreSeen ports quota most =
     (gains : ℕ → Cpx) (grids : ℕ → ℕ → Cpx) (samples : ℕ → Cpx) (k : ℕ) →
@@ -133,14 +135,14 @@ AmplitudeIsSeenInRecording quota most =
     IsSeenAs most gain (grid k) (seen recording start k)
 
 -- An error energy of at most `quota` times the gain's square causes a deviation of at most `most` times the gain's
--- magnitude. In units of 2^31, the transmit error has a magnitude of at most 97, the sample errors of at most `errors`,
--- and rounding of at most 1. One unit corresponds to 4 in `most`.
+-- magnitude. In units of 2^31, the magnitudes are at most 97 for the transmit error, `errors` for the sample errors and
+-- 1 for rounding. One unit corresponds to 4 in `most`.
 pub record AreUnitsOf (quota most : ℕ) : Type 0 where
   pub errors : ℕ
   pub enough : 2 ^ 41 * quota * (16385 * 16385) ≤ (errors * 2 ^ 31) * (errors * 2 ^ 31)
   pub fits : 4 * (97 + errors + 1) ≤ most
 
--- the deviation bound holds, also in a recording, for every `quota` and `most` that satisfy `AreUnitsOf`
+-- the deviation bound for one gain holds, also in a recording, for every `quota` and `most` that satisfy `AreUnitsOf`
 abbrev pub UnitsAreSeen : Type 0
 UnitsAreSeen =
     (quota most : ℕ) → AreUnitsOf quota most → AmplitudeIsSeen quota most × AmplitudeIsSeenInRecording quota most
@@ -157,7 +159,7 @@ AmplitudesAreSeenInRecording ports quota most =
 -- ---- integer gains, and errors by component
 
 -- if each component of 128 samples deviates by at most `eps`, the error energy, in units of 2^-28, is at most 2^36
--- times the square of `eps`
+-- `eps`^2
 abbrev pub ErrorsHaveEnergy : Type 0
 ErrorsHaveEnergy =
     (eps : ℕ) (values samples : ℕ → Cpx) → ((n : ℕ) → n < useful_length → IsWithin eps (minus (samples n) (values n))) →

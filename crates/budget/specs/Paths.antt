@@ -25,8 +25,8 @@ use Rattle.lte_types.specs.Numerology.{subcarriers, useful_length}
 
 -- ---- paths
 
--- The paths over which a signal arrives: the gain of the first path, the number of later paths (`later`), and the delay
--- in samples and the gain of each later path. Gains are in units of 2^-14.
+-- The paths over which a signal arrives: the gain of the first path (`first`), the number of later paths (`later`), and
+-- each later path's delay in samples and gain. Gains are in units of 2^-14.
 pub record Paths : Type 0 where
   pub first : Cpx
   pub later : ℕ
@@ -44,7 +44,7 @@ received_over paths part n =
     (received_of paths.later paths.gain (λ path. turned_round (paths.delay path) part n))
 
 -- 128 samples are received over several paths from a symbol with elements `grid`. The error energy is at most `quota`
--- times the square of the first path's gain, which has a magnitude of at least 1.
+-- times the square of the first path's gain, whose magnitude is at least 1 (2^14 in units of 2^-14).
 pub record IsReceivedOver (quota : ℕ) (paths : Paths) (grid samples : ℕ → Cpx) : Type 0 where
   pub sounds : 2 ^ 28 ≤ square paths.first
   pub quiet : energy_below useful_length (off_by samples (received_over paths (useful_at grid))) ≤
@@ -69,8 +69,9 @@ PrefixTurnsRound =
     ((path : ℕ) → path < paths.later → paths.delay path ≤ 9) → HasPrefix part place sent → n < useful_length →
     arriving paths sent (place + 9 + n) ≡ received_over paths part n
 
--- samples close to a transmitted symbol as it arrives over several paths are received over these paths, with error
--- energy at most `quota` times the square of the first path's gain
+-- If the delays of later paths are at most 9 samples and the first gain has a magnitude of at least 1, samples near a
+-- transmitted symbol with its cyclic prefix are received over the paths. The error energy is at most `quota` times the
+-- first gain's square.
 abbrev pub ArrivingIsReceived : Type 0
 ArrivingIsReceived =
     (quota : ℕ) (paths : Paths) (grid sent samples : ℕ → Cpx) (place : ℕ) →
@@ -128,8 +129,8 @@ over paths symbol k = channel_over paths k
 
 -- ---- demodulation
 
--- the demodulated value of a cyclically shifted useful part, unrounded and times 16384, is the value of the useful part
--- itself times the phase rotation of the delay, within 25 * 2^28; the deviation arises because the table is not exactly
+-- the demodulated value of a cyclically shifted useful part, unrounded and times 16384, is the useful part's own value
+-- times the delay's phase rotation, within 25 * 2^28; the deviation arises because the table is not exactly
 -- multiplicative
 abbrev pub TurnedPartIsSeen : Type 0
 TurnedPartIsSeen =
@@ -143,16 +144,16 @@ TurnedPartIsSeen =
 abbrev pub turned_off : (ℕ → Cpx) → Cpx → ℕ → Cpx
 turned_off sent number k = minus (multiple (2 ^ 31) (spectrum_at sent k)) (multiple (2 ^ 35) number)
 
--- the transmit error of a cyclically shifted useful part, times 16384, has a magnitude of at most 123 units of 2^45;
--- the amplitude is rotated by the phase of the delay
+-- the transmit error of a cyclically shifted useful part, times 16384, has a magnitude of at most 123 * 2^45; the
+-- amplitude is rotated by the delay's phase
 abbrev pub TurnedSendingIsSmall : Type 0
 TurnedSendingIsSmall =
     (grid : ℕ → Cpx) (delay k : ℕ) → AreAmplitudes grid → delay ≤ useful_length → k < subcarriers →
     square (turned_off (turned_round delay (useful_at grid)) (times (delayed delay k) (grid k)) k) ≤
     (123 * 2 ^ 45) * (123 * 2 ^ 45)
 
--- over faint later paths, the transmit error has a magnitude of at most 106 units of 2^31 times the magnitude of the
--- first gain
+-- over faint later paths, the transmit error is at most 106 * 2^31 times the first gain in magnitude, if the first
+-- gain's magnitude is at least 1
 abbrev pub SendingOverIsSmall : Type 0
 SendingOverIsSmall =
     (magnitudes : ℕ → ℕ) (paths : Paths) (grid : ℕ → Cpx) (k : ℕ) → AreAmplitudes grid → AreFaint magnitudes paths →
@@ -161,7 +162,7 @@ SendingOverIsSmall =
     (106 * 2 ^ 31) * (106 * 2 ^ 31) * square paths.first
 
 -- over faint later paths, each amplitude is demodulated through the paths' channel with a deviation of at most 1880
--- times the magnitude of the first gain, if the error energy is at most 1024 times the square of that gain
+-- times the first gain's magnitude, if the error energy is at most 1024 times the first gain's square
 abbrev pub AmplitudeIsSeenOver : Type 0
 AmplitudeIsSeenOver =
     (magnitudes : ℕ → ℕ) (paths : Paths) (grid samples : ℕ → Cpx) (k : ℕ) → AreAmplitudes grid →
@@ -208,8 +209,8 @@ PathsAreRead =
     IsReadThrough path_bounds (square paths.first) pattern (over paths) slot symbol k
 
 -- The first `count` symbols of a slot are received in a recording over several paths, symbol `l` from sample `starts
--- l`, with an error energy of at most 1024 times the square of the first gain. They contain the reference signals of
--- the slot's identity and number, at the positions of the pattern.
+-- l`. Each error energy is at most 1024 times the first gain's square. The symbols contain the reference signals of the
+-- slot's identity and number, at the pattern's positions.
 pub record IsSlotReceivedOver (paths : Paths) (pattern : Pattern) (count : ℕ) (recording : List Sample)
     (starts : ℕ → ℕ) (grids : ℕ → ℕ → Cpx) (slot : SeenSlot) : Type 0 where
   pub seen : (l : ℕ) → l < count → slice_index_or slot.symbols l [] ≡ seen_symbol recording (starts l)
@@ -219,7 +220,8 @@ pub record IsSlotReceivedOver (paths : Paths) (pattern : Pattern) (count : ℕ) 
       grids (pattern_symbol pattern slot.identity i) (pilot_subcarrier slot.identity i)
       ≡ pattern_sent pattern slot.identity slot.number i
 
--- if later paths are faint, both soft values of each resource element that carries two bits support the bits
+-- if a slot's first `count` symbols, with both of the pattern's reference-signal symbols, are received over paths whose
+-- later ones are faint, the two soft values of each resource element with two bits in these symbols support the bits
 abbrev pub SlotOverIsHeard : Type 0
 SlotOverIsHeard =
     (magnitudes : ℕ → ℕ) (paths : Paths) (pattern : Pattern) (count : ℕ) (recording : List Sample) (starts : ℕ → ℕ)

@@ -23,7 +23,7 @@ pub record StandsOutBy (least : ℕ) (recording : List Sample) (t n2 : ℕ) : Ty
   pub above : (u : ℕ) → u ≢ t → u ≤ t + 9 → t ≤ u + 9 → 0 < energy recording u → IsAbove recording n2 t u
 
 -- a PSS whose error energy is at most `quota` times its gain's square has a normalised metric of at least `least`
--- thousandths, greater than at each other sample at most 9 away
+-- thousandths, greater than at each other sample at most 9 away that has energy
 abbrev pub PrimaryStandsOutBy : ℕ → ℕ → Type 0
 PrimaryStandsOutBy quota least =
     (recording : List Sample) (t n2 : ℕ) → IsPrimaryWithin quota recording t n2 → StandsOutBy least recording t n2
@@ -41,8 +41,8 @@ PrimaryIsListedWithin quota =
     (recording : List Sample) (t n2 : ℕ) → IsPrimaryWithin quota recording t n2 → first_place ≤ t → t ≤ last_place →
     Contains (hits_of recording) (found recording t n2)
 
--- a PSS with error energy at most `quota` times its gain's square is the only hit of its root within 9 samples,
--- wherever the PSS is in the recording
+-- a PSS with error energy at most `quota` times its gain's square is the only possible hit of its root within 9
+-- samples, wherever the PSS is in the recording
 abbrev pub OnlyHitOfRootWithin : ℕ → Type 0
 OnlyHitOfRootWithin quota =
     (recording : List Sample) (t u n2 : ℕ) → IsPrimaryWithin quota recording t n2 → u ≤ t + 9 → t ≤ u + 9 →
@@ -67,7 +67,7 @@ PrimaryIsHit = PrimaryIsHitWithin 1800
 abbrev pub PrimaryIsListed : Type 0
 PrimaryIsListed = PrimaryIsListedWithin 1800
 
--- a clean PSS is the only hit of any root within 9 samples, wherever the PSS is in the recording
+-- a clean PSS is the only possible hit of any root within 9 samples, wherever the PSS is in the recording
 abbrev pub OnlyHitNear : Type 0
 OnlyHitNear =
     (recording : List Sample) (t u n2 m2 : ℕ) → IsPrimaryAt recording t n2 → m2 ≤ 2 → u ≤ t + 9 → t ≤ u + 9 →

@@ -21,8 +21,8 @@ in_parts value = multiple 16384 value
 abbrev pub off_by : (ℕ → Cpx) → (ℕ → Cpx) → ℕ → Cpx
 off_by samples values n = minus (in_parts (samples n)) (values n)
 
--- 128 samples are the useful part of a symbol with elements `grid` times a gain, in units of 2^-14 and of magnitude at
--- least 1. The error energy is at most `quota` times the gain's square.
+-- 128 samples are the useful part of a symbol with elements `grid` times a gain, which is in units of 2^-14 and has a
+-- magnitude of at least 1. The error energy is at most `quota` times the gain's square.
 pub record IsReceived (quota : ℕ) (gain : Cpx) (grid samples : ℕ → Cpx) : Type 0 where
   pub sounds : 2 ^ 28 ≤ square gain
   pub quiet : energy_below useful_length (off_by samples (λ n. times gain (useful_at grid n))) ≤ quota * square gain
@@ -31,8 +31,8 @@ pub record IsReceived (quota : ℕ) (gain : Cpx) (grid samples : ℕ → Cpx) : 
 abbrev pub received_of : ℕ → (ℕ → Cpx) → (ℕ → Cpx) → Cpx
 received_of ports gains sent = complex_sum_below ports (λ port. times (gains port) (sent port))
 
--- 128 samples are received from the symbols of several ports, with gains in units of 2^-14. The error energy is at most
--- `quota` times the sum of the gains' squares, which is at least that of one gain of magnitude 1.
+-- 128 samples are received from several ports' symbols, with gains in units of 2^-14. The error energy is at most
+-- `quota` times the summed squares of the gains, which are at least the square of one gain of magnitude 1.
 pub record IsReceivedBy (ports quota : ℕ) (gains : ℕ → Cpx) (grids : ℕ → ℕ → Cpx) (samples : ℕ → Cpx) : Type 0 where
   pub sounds : 2 ^ 28 ≤ energy_below ports gains
   pub quiet :
@@ -49,7 +49,7 @@ pub record IsSeenNear (most n : ℕ) (value seen : Cpx) : Type 0 where
   pub off : square (minus (in_parts seen) (multiple 64 value)) ≤ most * most * n
 
 -- a demodulated amplitude `seen` is 64 times the product of gain, in units of 2^-14, and amplitude, within `most` times
--- the gain's magnitude; this is `most` / 64 units of amplitude
+-- the gain's magnitude, which is `most` / 64 units of amplitude
 abbrev pub IsSeenAs : ℕ → Cpx → Cpx → Cpx → Type 0
 IsSeenAs most gain amplitude seen = IsSeenNear most (square gain) (times gain amplitude) seen
 

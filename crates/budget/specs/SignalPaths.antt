@@ -32,7 +32,7 @@ SignalsAreThrough =
     AreSignals prefix recording t n1 n2 half → AreSignalsThrough prefix recording t n1 n2 half
 
 -- both synchronisation signals are received over the same paths, the PSS at sample `t` and the SSS one symbol earlier,
--- with error energies of at most 1024 times the square of the first gain
+-- with error energies of at most 1024 times the first gain's square
 pub record AreSignalsOver (paths : Paths) (prefix : Prefix) (recording : List Sample) (t n1 n2 : ℕ) (half : Half) :
     Type 0 where
   pub group : n1 ≤ 167
@@ -49,7 +49,7 @@ SignalsOverAreThrough =
     AreSignalsThrough prefix recording t n1 n2 half
 
 -- if faint later paths count as errors of the PSS, the error energy, sample errors included, is at most 14,000 times
--- the square of the first gain
+-- the first gain's square
 abbrev pub PrimaryOverIsWithin : Type 0
 PrimaryOverIsWithin =
     (magnitudes : ℕ → ℕ) (paths : Paths) (recording : List Sample) (t n2 : ℕ) → AreFaint magnitudes paths → n2 ≤ 2 →

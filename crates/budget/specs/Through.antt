@@ -115,11 +115,12 @@ level_within most = record { most = most; least = 1000; mean = 1000; bend = 0 }
 abbrev pub level_bounds : Bounds
 level_bounds = level_within 2316
 
--- one gain leaves room for soft values of magnitude 1, if values deviate by less than 37 units of amplitude
+-- the bounds of one gain leave room for soft values of magnitude 1, if values deviate by at most 2316 / 64 (about 36.2)
+-- amplitude units
 abbrev pub OneGainLeavesRoom : Type 0
 OneGainLeavesRoom = LeaveRoom 1 level_bounds
 
--- one gain leaves room for soft values of magnitude 8, if values deviate by at most 30 units of amplitude
+-- the bounds of one gain leave room for soft values of magnitude 8, if values deviate by at most 30 amplitude units
 abbrev pub QuietGainLeavesRoom : Type 0
 QuietGainLeavesRoom = LeaveRoom 8 (level_within 1920)
 

@@ -3,7 +3,7 @@
 //! Soft values of some magnitude are guaranteed if four bounds leave room for them: how far demodulated values deviate,
 //! how weak the channel is at the resource element, how strong the channel is at the pilots, and how far the line
 //! through the pilots is from the channel. With one gain there is room for magnitude 1 if demodulated values deviate by
-//! less than 36.2 units of amplitude (2316 / 64), and for magnitude 8 if they deviate by at most 30 units.
+//! at most 2316 / 64 (about 36.2) amplitude units, and for magnitude 8 if they deviate by at most 30 units.
 
 ghost use Rattle.budget.specs.Through.{ValuesSpeakThrough, OneGainLeavesRoom, QuietGainLeavesRoom};
 ghost use Rattle.budget.specs.Through.{OneGainIsThrough, OneGainIsRead};

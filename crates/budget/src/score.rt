@@ -1,12 +1,11 @@
-//! The score that both synchronisation signals give to an identity group and half frame.
+//! The score that both synchronisation signals give to an identity group and half-frame.
 
 ghost use Rattle.budget.specs.Score.{TermsArePositive, SentPairIsGreatest, SentPairIsBest, SentPairIsIdentified};
 ghost use Rattle.budget.specs.Score.{SentPairStandsAlone, SentPairIsIdentifiedThrough};
 ghost use Rattle.budget.specs.Score.{OneGainLeavesTermsRoom, OneGainIsSeenThrough};
 
-/// A law: if a cell's two synchronisation signals are demodulated with one gain, each amplitude within 37 units, the
-/// transmitted group and half frame have the only maximum score, and a PSS detection at the primary signal identifies
-/// them.
+/// A law: if a cell's two synchronisation signals are demodulated with one gain, each amplitude within 2316 / 64 units,
+/// the transmitted identity group and half-frame alone have the maximum score, and a PSS detection identifies them.
 pub fn sent_pair_is_best()
     ensures terms { TermsArePositive }
     ensures greatest { SentPairIsGreatest }
@@ -14,7 +13,7 @@ pub fn sent_pair_is_best()
     ensures recording { SentPairIsIdentified }
 {}
 
-/// A law: the transmitted group and half frame have the only maximum score if both synchronisation signals are
+/// A law: the transmitted identity group and half-frame have the only maximum score if both synchronisation signals are
 /// demodulated through a channel whose bounds leave room, as the bounds for one gain do.
 pub fn sent_pair_stands_alone_through_a_channel()
     ensures alone { SentPairStandsAlone }

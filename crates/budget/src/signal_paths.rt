@@ -3,7 +3,7 @@
 ghost use Rattle.budget.specs.SignalPaths.{SignalsAreThrough, SignalsOverAreThrough, PrimaryOverIsWithin};
 
 /// A law: synchronisation signals received with one gain, or over common paths with faint later ones, are demodulated
-/// through a channel that leaves room. If faint paths count as errors of the primary signal, it is still a hit.
+/// through a channel that leaves room. With faint paths as errors, the PSS has an error energy of at most 14,000.
 pub fn signals_stand_over_several_paths()
     ensures one_gain { SignalsAreThrough }
     ensures through { SignalsOverAreThrough }

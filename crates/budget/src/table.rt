@@ -2,8 +2,8 @@
 
 ghost use Rattle.budget.specs.Table.{IsNearlyMultiplicative};
 
-/// A law: the product of two entries of the table is 16384 times the entry at the sum of their indices, within a
-/// magnitude of 22200.
+/// A law: the product of two table entries is 16384 times the entry at the sum of their indices, within a magnitude of
+/// 22200.
 pub fn table_is_nearly_multiplicative()
     ensures { IsNearlyMultiplicative }
 {}

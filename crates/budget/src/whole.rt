@@ -5,8 +5,8 @@
 
 ghost use Rattle.budget.specs.Budget.{ErrorsHaveEnergy, WholeGainIsReceived, IsReceivedByMore};
 
-/// A law: if each component of 128 samples deviates by at most `eps`, the error energy, in units of 2^-28, is at most
-/// 2^36 times the square of `eps`.
+/// A law: with component errors up to `eps`, 128 samples have error energy at most 2^36 `eps`^2, in units of 2^-28: at
+/// most 1024 times an integer gain's square if `eps` is at most twice its magnitude.
 pub fn whole_gain_is_received()
     ensures energy { ErrorsHaveEnergy }
     ensures received { WholeGainIsReceived }
