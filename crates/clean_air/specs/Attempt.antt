@@ -21,8 +21,8 @@ use Rattle.clean_air.specs.Subframe.{CarryInSubframe}
 use Rattle.clean_air.specs.Indicator.{indicator_scrambled}
 use Rattle.clean_air.specs.Grant.{grant_word, grant_places, grant_scrambled}
 
--- The soft values of a subframe's control region have the signs of the bits of an indicator and a grant. `enough`:
--- there are at least four control channel elements.
+-- The soft values of a subframe's control region have the signs of an indicator's bits and a grant's coded bits. The
+-- indicator is 1 to 3. `enough`: there are at least four control channel elements.
 pub record SpeakOfGrant (values : Subframe) (indicator : ℕ) (grant : Grant) : Type 0 where
   pub range : (1 ≤ indicator) × (indicator ≤ 3)
   pub is_grant : IsGrant grant
@@ -43,13 +43,14 @@ pub record IsReadWith (values : Subframe) (indicator : ℕ) (grant : Grant) : Ty
   pub reads : (answer : Result Sib1 Sib1Reason) →
       Decodes (values.shared indicator grant.start grant.blocks) grant answer → Reads values answer
 
--- a law: a subframe is read with an indicator and a grant if the subframe's soft values have the signs of their bits
+-- a law: a subframe is read with an indicator and a grant if the soft values of the subframe's control region have the
+-- signs of the indicator's and the grant's bits (`SpeakOfGrant`)
 abbrev pub SpokenGrantIsRead : Type 0
 SpokenGrantIsRead = (values : Subframe) (indicator : ℕ) (grant : Grant) → SpeakOfGrant values indicator grant →
     IsReadWith values indicator grant
 
--- a law: a subframe is read with an indicator, 2 or 3, and a grant if the resource elements of the first slot have soft
--- values with the signs of their scrambled bits
+-- a law: a subframe is read with an indicator, 2 or 3, and a grant if the first slot's soft values for both have the
+-- signs of their scrambled bits
 abbrev pub HeardGrantIsRead : Type 0
 HeardGrantIsRead =
     (first second : SeenSlot) (indicator : ℕ) (duration : Duration) (resource : Resource) (grant : Grant) →
@@ -58,8 +59,8 @@ HeardGrantIsRead =
     ArePlacesHeard first (grant_places first indicator duration resource) (grant_scrambled first grant) →
     IsReadWith (one_port first second duration resource) indicator grant
 
--- a law: a subframe is read with the indicator, 2 or 3, and the grant that its first slot carries, if that slot has
--- correct soft values
+-- a law: a subframe is read with the indicator, 2 or 3, and the grant that its first slot carries, if the first slot
+-- has correct soft values
 abbrev pub CarriedGrantIsRead : Type 0
 CarriedGrantIsRead =
     (grids : ℕ → ℕ → Cpx) (first second : SeenSlot) (indicator : ℕ) (duration : Duration) (resource : Resource)

@@ -31,21 +31,22 @@ pub record IsSentBlock (row : Row) (rv count : ℕ) (word : List Bool) : Type 0 
   pub passes : has_check_24 word ≡ true
   pub resolvable : resolvable row (sent_of row.k rv count) word ≡ true
 
--- Soft values determine a word. `sums`: the sums of the sent coded bits have the bits' signs, and the other sums are 0.
--- `whole`: if there are at least as many values as coded bits, no sum is 0. `decoded`: the decoded block is the word
--- without its CRC.
+-- Soft values determine a word. `sums`: the sums of soft values by coded bit have the signs of the sent bits, and are 0
+-- for bits that were not sent. `whole`: if there are at least as many values as coded bits, no sum is 0. `decoded`: the
+-- decoded block is the word without its CRC.
 pub record DecodesBlock (row : Row) (rv : ℕ) (word : List Bool) (values : List ℤ) : Type 0 where
   pub sums : SumsConvey row word (sent_of row.k rv (length values)) (summed row.k rv values)
   pub whole : 3 * (row.k + 4) ≤ length values → SumsSupport 1 row word (summed row.k rv values)
   pub decoded : block row (summed row.k rv values) ≡ Some (message_of 24 word)
 
--- a law: soft values determine the information word if each has the sign of the bit that was sent at its position
+-- a law: soft values determine an information word with a passing CRC, which the sent bits resolve, if each value has
+-- the sign of the bit that was sent at its position
 abbrev pub HeardBlockIsDecoded : Type 0
 HeardBlockIsDecoded = (row : Row) (rv count : ℕ) (word : List Bool) (values : List ℤ) → IsSentBlock row rv count word →
     AreHeard 1 count (matched_bit row rv word) values → DecodesBlock row rv word values
 
--- a law: the soft values of a subframe's resource blocks determine the information word if the two soft values of each
--- resource element have the signs of the word's scrambled bits there
+-- a law: the soft values in a subframe's resource blocks determine the information word, which the sent bits resolve,
+-- if each resource element's two soft values have the signs of the word's scrambled bits there
 abbrev pub HeardSubframeDecodes : Type 0
 HeardSubframeDecodes =
     (first second : SeenSlot) (cfi start blocks : ℕ) (row : Row) (rv : ℕ) (word : List Bool) →
@@ -54,8 +55,8 @@ HeardSubframeDecodes =
     IsSubframeHeard first second places (shared_scrambled first (matched_bit row rv word)) →
     DecodesBlock row rv word (shared_values first second cfi start blocks)
 
--- a law: the soft values of a subframe's resource blocks determine the information word if both slots have correct soft
--- values and the blocks' resource elements carry the word's scrambled bits
+-- a law: the soft values in a subframe's resource blocks determine the information word, which the sent bits resolve,
+-- if both slots have correct soft values and the blocks' resource elements carry the word's scrambled bits
 abbrev pub CarriedBlockIsDecoded : Type 0
 CarriedBlockIsDecoded =
     (grids : ℕ → ℕ → Cpx) (first second : SeenSlot) (cfi start blocks : ℕ) (row : Row) (rv : ℕ) (word : List Bool) →

@@ -26,7 +26,8 @@ SpokenWordIsDecoded =
     PassesWith ports word → field word 0 3 ≤ 5 →
     DecodesFreely sums word ports
 
--- a law: soft values with the signs of a MIB's scrambled coded bits determine the MIB's 40-bit word, at cost 0
+-- a law: soft values determine a MIB's 40-bit word, at cost 0, if each has the sign of its scrambled coded bit, there
+-- are at least 120 values, the CRC passes with the mask of the port count, and the bandwidth code is at most 5
 abbrev pub SentWordIsDecoded : Type 0
 SentWordIsDecoded =
     (c_init first ports : ℕ) (word : List Bool) (values : List ℤ) → length word ≡ 40 →
@@ -34,7 +35,8 @@ SentWordIsDecoded =
     DecodesFreely (sums_of c_init first 40 values) word ports
 
 -- a law: a slot with correct soft values determines, at cost 0, the 40-bit word that its broadcast channel carries in a
--- frame whose number is `phase` modulo 4
+-- frame whose number is `phase` modulo 4, if the word's CRC passes with the mask of the port count and the bandwidth
+-- code is at most 5
 abbrev pub HeardSlotDecodes : Type 0
 HeardSlotDecodes =
     (grids : ℕ → ℕ → Cpx) (slot : SeenSlot) (phase ports : ℕ) (word : List Bool) → IsSlotHeard grids slot →

@@ -24,12 +24,13 @@ pub record SpeakOfWord (c_init first : ℕ) (word : List Bool) (values : List �
   pub value : (i : ℕ) → i < length values →
       Supports 1 (scrambled_bit c_init word (first + i)) (slice_index_or values i (pos 0))
 
--- the sums by coded bit of soft values in sending order from bit `first`, after descrambling; `size` is the information
--- word's length
+-- the sums, for each coded bit, of its descrambled soft values; the values are in sending order from bit `first`, and
+-- `size` is the information word's length
 abbrev pub sums_of : ℕ → ℕ → ℕ → List ℤ → List (List ℤ)
 sums_of c_init first size values = summed_from first size (descrambled c_init first values)
 
--- a law: soft values with the signs of a word of 6 to 64 bits determine only that word, by their sums
+-- a law: at least 3n soft values with the signs of the scrambled bits of a word of n bits, 6 to 64, determine only that
+-- word, by their sums
 abbrev pub SentWordIsOnly : Type 0
 SentWordIsOnly =
     (c_init first : ℕ) (word : List Bool) (values : List ℤ) → 6 ≤ length word → length word ≤ 64 →
@@ -43,19 +44,19 @@ pub record AreHeard (least count : ℕ) (bits : ℕ → Bool) (values : List ℤ
   pub size : length values ≡ count
   pub value : (i : ℕ) → i < count → Supports least (bits i) (slice_index_or values i (pos 0))
 
--- the two soft values of each resource element of `places`, in the slot that `slot` assigns to the element, have the
--- signs of its two bits (QPSK, TS 36.211 section 7.1.2)
+-- each resource element in `places`, in the slot that `slot` assigns to the element, has two soft values with the signs
+-- of the element's two bits (QPSK, TS 36.211 section 7.1.2)
 abbrev pub ArePlacesHeardIn : (Place → SeenSlot) → List Place → (ℕ → Bool) → Type 0
 ArePlacesHeardIn slot places bits = (i : ℕ) → i < length places →
     let p = slice_index_or places i (place 0 0) in
     SupportBoth 1 (bits (2 * i)) (bits (2 * i + 1)) (values_at (slot p) p)
 
--- the two soft values of each resource element of `places`, all in one slot, have the signs of the element's bits
+-- each resource element in `places`, all in one slot, has two soft values with the signs of the element's two bits
 abbrev pub ArePlacesHeard : SeenSlot → List Place → (ℕ → Bool) → Type 0
 ArePlacesHeard slot places bits = ArePlacesHeardIn (λ p. slot) places bits
 
--- a law: if the two soft values of each resource element have the signs of its bits, so do the soft values of all
--- elements in sequence
+-- a law: if each resource element's two soft values have the signs of its bits, so do the soft values of all elements
+-- in sequence
 abbrev pub ValuesOfPlacesAreHeard : Type 0
 ValuesOfPlacesAreHeard = (slot : Place → SeenSlot) (places : List Place) (bits : ℕ → Bool) →
     ArePlacesHeardIn slot places bits → AreHeard 1 (2 * length places) bits (placed_values slot places)

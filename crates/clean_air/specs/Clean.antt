@@ -60,9 +60,9 @@ pub record HoldsOne (list : List Entry) (identity first number : ℕ) (is_sent :
       other ≡ entry
 
 -- `entry` has the antenna port count `count` (TS 36.212 section 5.3.1.1), the SIB1 result `answer`, and the fields of
--- the cell's MIB in the frame numbered `number`. The MIB holds the upper 8 bits of the frame number (TS 36.331 section
--- 6.2.2), and `lasting`, `share` and `bits` are its PHICH duration, PHICH resource and spare bits. The entry was read
--- from the cell's first whole frame alone, at cost 0.
+-- the cell's MIB in the frame numbered `number`, with a bandwidth of 6 resource blocks. The MIB holds the upper 8 bits
+-- of the frame number (TS 36.331 section 6.2.2), and `lasting`, `share` and `bits` are its PHICH duration, PHICH
+-- resource and spare bits. The entry was read from the cell's first whole frame alone, at cost 0.
 pub record IsSentEntryBy (count : ℕ) (lasting : Duration) (share : Resource) (bits : ℕ)
     (answer : Result Sib1 Sib1Reason)
     (number : ℕ) (entry : Entry) : Type 0 where
@@ -169,8 +169,8 @@ pub record HoldsSeenBy (receiver : Receiver) (recording : List Sample) (list : L
   pub through : HoldsThroughBy receiver.carrier recording list
   pub faithful : HoldsFaithfulBy receiver.carrier recording list
 
--- a law: the list of `receiver` contains each cell of its scheme and each MIB that the receiver hears, and each cell
--- that is received through channels or to which the recording is faithful
+-- a law: for a recording of at least 57,600 samples, the list of `receiver` contains each cell of its scheme and each
+-- MIB that the receiver hears, and each cell that is received through channels or to which the recording is faithful
 abbrev pub HoldsCells : Receiver → Type 0
 HoldsCells receiver =
     (recording : List Sample) (list : List Entry) → least_samples ≤ length recording →

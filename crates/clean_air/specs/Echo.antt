@@ -21,16 +21,16 @@ use Rattle.clean_air.specs.Load.{CarriesPlan, IsLoaded}
 use Rattle.clean_air.specs.Faithful.{IsLookedAt}
 use Rattle.clean_air.specs.Through.{IsSlotThrough, IsSeenThroughBy}
 
--- a law: a slot whose seven symbols are received over the same paths is received through the channel of these paths, if
--- the later paths are faint
+-- a law: a slot whose seven symbols are received over the same paths is received through the paths' channel, if the
+-- later paths are faint
 abbrev pub SlotOverIsThrough : Type 0
 SlotOverIsThrough =
     (magnitudes : ℕ → ℕ) (paths : Paths) (recording : List Sample) (starts : ℕ → ℕ) (grids : ℕ → ℕ → Cpx)
     (slot : SeenSlot) → AreFaint magnitudes paths → IsSlotReceivedOver paths port_0 7 recording starts grids slot →
     IsSlotThrough path_bounds (square paths.first) (over paths) grids slot
 
--- the energy of the difference between the 128 samples from `start` and the signal of `grid` as it arrives over
--- `paths`, in units of 2^-28
+-- the energy, in units of 2^-28, of the difference between the 128 samples from `start` and the signal with elements
+-- `grid` as it arrives over `paths`
 abbrev pub errors_over : List Sample → Elements → ℕ → ℕ → Paths → ℕ → ℕ
 errors_over recording grid sfn offset paths start =
     energy_below useful_length
@@ -58,8 +58,8 @@ EchoesAreThrough =
     (sfn offset : ℕ) → plan.identity ≤ 503 → IsEchoedBy magnitudes paths recording plan grids sfn offset →
     IsSeenThroughBy OnePort recording plan grids sfn offset
 
--- a law: in a recording that is clean for a cell, the cell arrives over one path, whose gain is the recording's integer
--- gain in units of 2^-14
+-- a law: in a recording that is clean for a cell with one antenna port, the cell arrives over one path, whose gain is
+-- the recording's integer gain in units of 2^-14
 abbrev pub LoadedIsEchoed : Type 0
 LoadedIsEchoed =
     (recording : List Sample) (plan : CellPlan) (grid : Elements) (sfn offset : ℕ) (gain : Cpx) (eps : ℕ) →

@@ -23,14 +23,14 @@ use Rattle.clean_air.specs.Through.{IsSlotThrough, IsSeenThroughBy}
 
 -- ---- a slot
 
--- any two gains of a slot's seven symbols differ by at most `bend` thousandths of the magnitude of either
+-- any two gains of a slot's seven symbols differ by at most `bend` thousandths of either gain's magnitude
 abbrev pub AreSlow : ℕ → (ℕ → Cpx) → Type 0
 AreSlow bend gains = (l m : ℕ) → l < 7 → m < 7 →
     1000000 * square (minus (gains l) (gains m)) ≤ bend * bend * square (gains m)
 
 -- The seven symbols of a slot are received, each with its own gain and an error energy of at most `quota` times the
--- gain's square, and contain the slot's reference signals. Any two gains differ by at most `bend` thousandths of the
--- magnitude of either.
+-- gain's square, and contain the slot's reference signals. Any two gains differ by at most `bend` thousandths of either
+-- gain's magnitude.
 pub record IsSlotFading (quota bend : ℕ) (recording : List Sample) (starts : ℕ → ℕ) (gains : ℕ → Cpx)
     (grids : ℕ → ℕ → Cpx) (slot : SeenSlot) : Type 0 where
   pub shown : (l : ℕ) → l < 7 → slice_index_or slot.symbols l [] ≡ seen_symbol recording (starts l)
@@ -51,8 +51,8 @@ abbrev pub fading_bounds : ℕ → ℕ → Bounds
 fading_bounds most bend = record { most = most; least = 1000; mean = 1000 + bend; bend = bend }
 
 -- A slowly varying gain leaves room for soft values of magnitude 1. With an error energy of at most `quota` times the
--- gain's square, a demodulated amplitude deviates by at most `own` times the magnitude of its symbol's gain, and
--- therefore by at most `most` times the magnitude of the weakest gain.
+-- gain's square, a demodulated amplitude deviates by at most `own` times its symbol's gain, and so by at most `most`
+-- times the weakest gain, in magnitude.
 pub record LeaveFadingRoom (quota bend : ℕ) : Type 0 where
   pub own : ℕ
   pub most : ℕ
@@ -76,7 +76,7 @@ FadingSlotIsThrough =
 
 -- ---- cells
 
--- the receiver decodes the slot: it is slot 1 of the first frame, or a slot of subframe 5 of the first even-numbered
+-- the receiver decodes the slot: slot 1 of the first whole frame, or a subframe 5 slot in the first even-numbered whole
 -- frame
 abbrev pub IsRead : ℕ → ℕ → ℕ → ℕ → Type 0
 IsRead sfn offset frame slot = IsOfMaster offset frame slot ⊎ IsOfSystem OnePort sfn offset frame slot

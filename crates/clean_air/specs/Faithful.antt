@@ -47,8 +47,8 @@ IsLittle carrier gains energy =
 
 -- ---- the symbols that the receiver reads
 
--- the index of the first frame that begins in the recording, and of the first even-numbered one; frame 0 is the one
--- that is being sent at sample 0
+-- the index of the first frame that begins in the recording, and the index of the first even-numbered such frame; frame
+-- 0 is being sent at sample 0
 abbrev pub first_frame_of : ℕ → ℕ
 first_frame_of offset = if nat_eq offset 0 then 0 else 1
 
@@ -75,8 +75,8 @@ pub record IsOfPrimary (carrier : Carrier) (slot symbol start : ℕ) : Type 0 wh
   pub from_first : symbol_step (prefix_of carrier) ≤ start + 9
   pub to_last : start ≤ last_place + 9
 
--- The symbol carries the secondary signal (TS 36.211 section 6.11.2), and the primary signal after it begins in the
--- later half frame of the PSS search range. One of the two secondary signals in a frame is enough.
+-- The symbol carries the secondary signal (TS 36.211 section 6.11.2), and the following primary signal begins in the
+-- later half-frame of the PSS search range. One of the two secondary signals in a frame is enough.
 pub record IsOfSecondary (carrier : Carrier) (slot symbol start : ℕ) : Type 0 where
   pub half : Half
   pub slot_is : slot ≡ 2 * subframe_of half
@@ -93,8 +93,8 @@ IsLookedAt carrier sfn offset frame slot symbol start =
 
 -- ---- recordings
 
--- the energy of the difference between the 128 samples from `start` and the sum of all ports' signals times their
--- gains, in units of 2^-28
+-- the energy, in units of 2^-28, of the difference between the 128 samples from `start` and all ports' signals, added
+-- after multiplication by their gains
 abbrev pub errors_from : Carrier → List Sample → (Port → Elements) → ℕ → ℕ → List Cpx → ℕ → ℕ
 errors_from carrier recording grids sfn offset gains start =
     energy_below useful_length
@@ -121,7 +121,7 @@ IsFaithful recording plan grid sfn offset gain =
 -- ---- clean recordings
 
 -- a law: in a recording that is clean for a cell, with component errors of at most `eps`, the error energy of 128
--- samples is at most 2^36 times the square of `eps`, in units of 2^-28
+-- samples is at most 2^36 `eps`^2, in units of 2^-28
 abbrev pub LoadedHasLittleErrors : Type 0
 LoadedHasLittleErrors =
     (carrier : Carrier) (recording : List Sample) (plan : CellPlan) (grids : Port → Elements) (sfn offset : ℕ)

@@ -35,9 +35,9 @@ pub record IsOnlyGrant (count : ℕ) (candidate : List ℤ) (grant : Grant) : Ty
   pub decoded : Grants count candidate (Ok grant)
   pub only : (answer : Result Grant Sib1Reason) → Grants count candidate answer → answer ≡ Ok grant
 
--- a law: the soft values of the first four control channel elements, after descrambling, determine the grant if each
--- has the sign of its coded bit, there are at least 111 values (the coded bits of 37), and there are at least four
--- elements
+-- a law: the descrambled soft values of the first four control channel elements determine the grant if each value has
+-- its coded bit's sign, there are at least 111 values (the coded bits of a 37-bit word), and there are at least four
+-- control channel elements
 abbrev pub SentGrantIsDecoded : Type 0
 SentGrantIsDecoded = (count : ℕ) (candidate : List ℤ) (grant : Grant) → IsGrant grant → 4 ≤ count →
     SpeakInOrder (grant_word grant) candidate → IsOnlyGrant count candidate grant

@@ -77,8 +77,8 @@ pub record IsTakenBy (receiver : Receiver) (master : SentMaster) : Type 0 where
 
 -- ---- reception up to the master information block
 
--- The receiver detects the identity: at the cell's primary signal in the later half frame of the PSS search range, the
--- cell's identity group and half frame have the maximum score of all 336 pairs, and each earlier pair has a smaller
+-- The receiver detects the identity: at the cell's primary signal in the later half-frame of the PSS search range, the
+-- cell's identity group and half-frame have the maximum score of all 336 pairs, and each earlier pair has a smaller
 -- score.
 abbrev pub IdentityIsBest : Carrier → List Sample → ℕ → ℕ → Type 0
 IdentityIsBest carrier recording identity offset =
@@ -106,9 +106,9 @@ pub record IsMasterHeard (receiver : Receiver) (recording : List Sample) (id : �
 
 -- ---- reception of the system information
 
--- The soft values of subframe 5 of the frame numbered `number` have the signs of the bits that `plan` sends there,
+-- The soft values of subframe 5 in the frame numbered `number` have the signs of the bits that `plan` sends there,
 -- before scrambling. `indicator`: all 32 values of the control format indicator. `control`: the 288 values of the first
--- four control channel elements, which carry the grant. `block`: the values of the granted resource blocks.
+-- four control channel elements, which carry the grant. `block`: the values in the granted resource blocks.
 pub record IsSystemHeard (carrier : Carrier) (values : Subframe) (plan : CellPlan) (number : ℕ) : Type 0 where
   pub indicator : Speak values.indicator plan.cfi
   pub control : SpeakInOrder (grant_word (grant_of plan number)) (values.candidate plan.cfi)

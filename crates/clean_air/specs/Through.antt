@@ -32,23 +32,24 @@ use Rattle.clean_air.specs.Faithful.{IsFaithfulBy}
 
 -- ---- the synchronisation signals
 
--- A primary signal of the cell begins at sample `t` of a recording that starts at sample `offset` of a frame (TS 36.211
--- section 6.11.1). `frame` counts the frames before the signal's own, from the one that is being sent at sample 0.
+-- A primary signal of the cell begins at sample `t` of a recording whose first sample is a frame's sample `offset` (TS
+-- 36.211 section 6.11.1). `frame` counts the frames before the signal's own, from the one that is being sent at sample
+-- 0.
 pub record IsPrimaryPlace (offset t : ℕ) (half : Half) : Type 0 where
   pub frame : ℕ
   pub place : t + offset ≡ frame_length * frame + primary_start half
 
 -- Each primary signal of a cell stands out if it begins at most 9 samples before the first position that leaves room
 -- for the secondary signal in front, and at most 9 samples after the PSS search range: its normalised metric is at
--- least 0.25, and greater than at each sample at distance 1 to 9. This is the rule of PSS detections without ties, and
--- needs no gain.
+-- least 0.25, and greater than at each sample at distance 1 to 9 that has energy. This is the rule of PSS detections
+-- without ties, and needs no gain.
 abbrev pub SignalsStandOut : Carrier → List Sample → ℕ → ℕ → Type 0
 SignalsStandOut carrier recording identity offset =
     (t : ℕ) (half : Half) → IsPrimaryPlace offset t half → symbol_step (prefix_of carrier) ≤ t + 9 →
     t ≤ last_place + 9 → StandsOutBy 250 recording t (identity % 3)
 
 -- The synchronisation signals of a cell appear in a recording. `primary`: near the PSS search range, each primary
--- signal stands out. `both`: for a primary signal in the later half frame of the range, both signals are received
+-- signal stands out. `both`: for a primary signal in the later half-frame of the range, both signals are received
 -- through a channel, which may differ from one occurrence to the next (TS 36.211 section 6.11.2).
 pub record ShowsSignals (carrier : Carrier) (recording : List Sample) (identity offset : ℕ) : Type 0 where
   pub primary : SignalsStandOut carrier recording identity offset
@@ -87,7 +88,7 @@ ReceivedSlotIsThrough =
     (received : IsSlotReceived recording starts grids slot) →
     IsSlotThrough level_bounds (square received.gain) (level received.gain) grids slot
 
--- A slot is received through some channel, with some bounds relative to a magnitude whose square is `size`.
+-- A slot is received through some channel, with some bounds relative to a magnitude whose square is `square`.
 pub record IsThrough (grids : ℕ → ℕ → Cpx) (slot : SeenSlot) : Type 0 where
   pub bounds : Bounds
   pub square : ℕ
@@ -104,9 +105,9 @@ IsFrameSlotThrough recording identity grid sfn offset j slot =
     (seen_slot recording (frame_at (start_of offset) j) slot identity)
 
 -- A cell with one port, whose elements carry the plan, is received from frame number `sfn`. The recording contains the
--- cell's synchronisation signals, and each of three slots is received through its own channel: slot 1 of the first
--- frame, with the broadcast channel (TS 36.211 section 6.6), and both slots of subframe 5 of the first even-numbered
--- frame, with SIB1 (TS 36.331 section 5.2.1.2).
+-- cell's synchronisation signals, and three slots are received, each through its own channel: in the first whole frame
+-- slot 1, with the broadcast channel (TS 36.211 section 6.6), and in the first even-numbered whole frame both slots of
+-- subframe 5, with SIB1 (TS 36.331 section 5.2.1.2).
 pub record IsCellThrough (recording : List Sample) (plan : CellPlan) (grid : Elements) (sfn offset : ℕ) : Type 0 where
   pub number : sfn ≤ 1023
   pub within : IsOffset offset

@@ -14,14 +14,14 @@ use Rattle.soft_bits.specs.Soft.{pattern_channel, pattern_energy, soft_pair, sof
 use Rattle.budget.specs.Received.{AreAmplitudes, IsReceived, IsSeenAs, samples_from}
 use Rattle.lte_types.specs.Numerology.{subcarriers}
 
--- The two soft values of a resource element have the signs of bits `first` and `second`, and magnitudes of at least
+-- The two soft values of a resource element have the signs of the bits `first` and `second`, and magnitudes at least
 -- `least`.
 pub record SupportBoth (least : ℕ) (first second : Bool) (values : List ℤ) : Type 0 where
   pub re : Supports least first (slice_index_or values 0 (pos 0))
   pub im : Supports least second (slice_index_or values 1 (pos 0))
 
--- The 24 pilots of a slot, in the port's pattern, are demodulated with one gain, in units of 2^-14 and of magnitude at
--- least 1. Each deviates by at most `most` times the gain's magnitude.
+-- The 24 pilots of a slot, in the port's pattern, are demodulated with one gain, which is in units of 2^-14 and has a
+-- magnitude of at least 1. Each deviates by at most `most` times the gain's magnitude.
 pub record ArePatternSeen (most : ℕ) (pattern : Pattern) (gain : Cpx) (slot : SeenSlot) : Type 0 where
   pub sounds : 2 ^ 28 ≤ square gain
   pub pilot : (i : ℕ) → i < 24 →
@@ -32,8 +32,7 @@ abbrev pub ArePilotsSeen : ℕ → Cpx → SeenSlot → Type 0
 ArePilotsSeen most gain slot = ArePatternSeen most port_0 gain slot
 
 -- a law: if a QPSK symbol and the slot's pilots are demodulated with one gain, each with a deviation of at most `most`
--- times the gain's magnitude, the symbol's soft values have the signs of its bits and magnitudes of at least
--- `magnitude`
+-- times the gain's magnitude, the symbol's soft values have its bits' signs and magnitudes of at least `magnitude`
 abbrev pub SeenPairSupportsBits : ℕ → ℕ → Type 0
 SeenPairSupportsBits most magnitude =
     (pattern : Pattern) (gain : Cpx) (slot : SeenSlot) (seen : Cpx) (k : ℕ) (first second : Bool) →
@@ -42,8 +41,9 @@ SeenPairSupportsBits most magnitude =
     SupportBoth magnitude first second
     (soft_pair (times seen (conjugate (pattern_channel pattern slot k))) (pattern_energy pattern slot))
 
--- a law: if a resource element with two bits and the slot's pilots are demodulated with one gain, the element's soft
--- values have the signs of the bits and magnitudes of at least `magnitude`
+-- a law: if a resource element with two bits and the slot's pilots are demodulated with one gain, each with a deviation
+-- of at most `most` times the gain's magnitude, the element's soft values have the bits' signs and magnitudes of at
+-- least `magnitude`
 abbrev pub ValuesSupportBits : ℕ → ℕ → Type 0
 ValuesSupportBits most magnitude =
     (gain : Cpx) (slot : SeenSlot) (symbol k : ℕ) (first second : Bool) → ArePilotsSeen most gain slot →
@@ -63,8 +63,8 @@ pub record IsPatternReceived (quota : ℕ) (pattern : Pattern) (count : ℕ) (re
       grids (pattern_symbol pattern slot.identity i) (pilot_subcarrier slot.identity i)
       ≡ pattern_sent pattern slot.identity slot.number i
 
--- the seven symbols of a slot with the normal cyclic prefix are received with one gain, with an error energy of at most
--- 1800 times the gain's square, and contain the reference signals of port 0
+-- a slot with the normal cyclic prefix is received with one gain: each of its seven symbols has an error energy of at
+-- most 1800 times the gain's square, and they contain port 0's reference signals
 abbrev pub IsSlotReceived : List Sample → (ℕ → ℕ) → (ℕ → ℕ → Cpx) → SeenSlot → Type 0
 IsSlotReceived recording starts grids slot = IsPatternReceived 1800 port_0 7 recording starts grids slot
 
@@ -78,13 +78,14 @@ SpeaksFor magnitude grids slot = (symbol k : ℕ) (first second : Bool) → symb
 abbrev pub IsSlotHeard : (ℕ → ℕ → Cpx) → SeenSlot → Type 0
 IsSlotHeard grids slot = SpeaksFor 1 grids slot
 
--- a law: a slot that is received with one gain and small errors has correct soft values
+-- a law: a slot has correct soft values if it is received with one gain, and each symbol's error energy is at most 1800
+-- times the gain's square
 abbrev pub ReceivedSlotIsHeard : Type 0
 ReceivedSlotIsHeard = (recording : List Sample) (starts : ℕ → ℕ) (grids : ℕ → ℕ → Cpx) (slot : SeenSlot) →
     IsSlotReceived recording starts grids slot → IsSlotHeard grids slot
 
--- a law: if the error energy of each symbol is at most 1024 times the gain's square, the slot's soft values have
--- magnitudes of at least 8
+-- a law: if a slot is received with one gain, and each symbol's error energy is at most 1024 times the gain's square,
+-- the slot's soft values have the bits' signs and magnitudes of at least 8
 abbrev pub QuietSlotIsHeard : Type 0
 QuietSlotIsHeard = (recording : List Sample) (starts : ℕ → ℕ) (grids : ℕ → ℕ → Cpx) (slot : SeenSlot) →
     IsPatternReceived 1024 port_0 7 recording starts grids slot → SpeaksFor 8 grids slot

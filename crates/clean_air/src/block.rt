@@ -1,7 +1,7 @@
 //! The transport block of the shared channel (PDSCH).
 //!
 //! If each soft value has the sign of its coded bit, the values of a sent coded bit add up to a sum with the bit's
-//! sign, and the sum of a coded bit that was not sent is 0. If there are at least as many values as coded bits, every
+//! sign, and a coded bit that was not sent has the sum 0. If there are at least as many values as coded bits, every
 //! coded bit was sent, and every block can be resolved.
 //!
 //! The law also holds for a subframe: in the block's resource blocks, either the soft values of the resource elements
@@ -10,8 +10,8 @@
 
 ghost use Rattle.clean_air.specs.Block.{HeardBlockIsDecoded, HeardSubframeDecodes, CarriedBlockIsDecoded};
 
-/// A law: the turbo decoder (TS 36.212 section 5.3.2) returns the sent transport block if each soft value has the sign
-/// of its coded bit and the sent bits resolve the block.
+/// A law: the turbo decoder (TS 36.212 section 5.3.2) returns the sent transport block if its CRC passes, each soft
+/// value has the sign of its coded bit, and the sent bits resolve the block.
 pub fn sent_block_is_decoded()
     ensures heard { HeardBlockIsDecoded }
     ensures subframe { HeardSubframeDecodes }

@@ -19,8 +19,8 @@ pub fn sent_indicator_is_decoded()
     ensures carried { CarriedIndicatorIsDecoded }
 {}
 
-/// A law: soft values determine the sent grant, and no other result, if each has its coded bit's sign, with at least
-/// one value per coded bit and at least four control channel elements.
+/// A law: soft values determine the sent grant, and no other result, if each has its coded bit's sign, and there are at
+/// least as many values as coded bits and at least four control channel elements.
 pub fn sent_grant_is_decoded()
     ensures decoded { SentGrantIsDecoded }
     ensures heard { HeardGrantIsDecoded }

@@ -1,8 +1,8 @@
 //! Laws of reception: the conditions under which a receiver hears a cell.
 //!
 //! A primary signal stands out by the rule of PSS detections if the error energy of its 128 samples is at most 14,000
-//! times the square of its gain (`primary`). Synchronisation signals that are received through a channel give the
-//! identity, with either cyclic prefix (`identity`).
+//! times its gain's square (`primary`). Synchronisation signals that are received through a channel give the identity,
+//! with either cyclic prefix (`identity`).
 
 ghost use Rattle.explain.specs.Receiver.{one_port_receiver};
 ghost use Rattle.clean_air.specs.HeardLaws.{PrimaryStandsOutByRule, ShownIdentityIsBest};

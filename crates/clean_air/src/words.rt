@@ -6,8 +6,8 @@
 ghost use Rattle.clean_air.specs.Words.{FourSpeakTogether, DescramblingKeeps, SumsSpeakByReading, SumsSpeakFrom};
 ghost use Rattle.clean_air.specs.Words.{SumsSpeak, SpokenWordIsOnly};
 
-/// A law: the sent word is the only one of minimum cost if each soft value has its coded bit's sign, with at least one
-/// value per coded bit, in sending order from any bit.
+/// A law: the sent word is the only one of minimum cost if each soft value has its coded bit's sign, and there are at
+/// least as many values as coded bits, read cyclically from any bit.
 pub fn spoken_word_is_the_least()
     ensures together { FourSpeakTogether }
     ensures descrambled { DescramblingKeeps }
