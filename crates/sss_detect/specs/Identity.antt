@@ -9,15 +9,16 @@ use Rattle.lte_types.specs.Numerology.{normal, symbol_step}
 use Rattle.observe.specs.Seen.{seen}
 use Rattle.sss_detect.specs.Scores.{score}
 
--- group m and its half-frame come before group n and its half-frame: subframe 0 before subframe 5, then the lower group
+-- group `m` with its half-frame comes before group `n` with its half-frame: subframe 0 before subframe 5, then the
+-- lower group
 abbrev pub IsBefore : ℕ → Half → ℕ → Half → Type 0
 IsBefore m Zero n Zero = m < n
 IsBefore m Zero n Five = Unit {0}
 IsBefore m Five n Zero = ⊥
 IsBefore m Five n Five = m < n
 
--- among all 336 pairs of a group and a half-frame, the pair of `n1` and `half` has the maximum score, and each earlier
--- pair a smaller score
+-- among all 336 pairs of an identity group and a half-frame, the pair of `n1` and `half` has the maximum score, and
+-- each earlier pair has a smaller score
 pub record IsBest (scores : ℕ → Half → ℤ) (n1 : ℕ) (half : Half) : Type 0 where
   pub known : n1 ≤ 167
   pub greatest : (m : ℕ) (other : Half) → m ≤ 167 → scores m other ≤ℤ scores n1 half
@@ -32,7 +33,8 @@ first_greatest f (suc n) = if int_lt (f (first_greatest f n)) (f (suc n)) then s
 abbrev pub best_group : (ℕ → Half → ℤ) → Half → ℕ
 best_group scores half = first_greatest (λ n1. scores n1 half) 167
 
--- the pair of an identity group and a half-frame with the maximum score; subframe 0 if both half-frames have it
+-- the pair of an identity group and a half-frame with the maximum score: subframe 0 if both half-frames have the
+-- maximum, and the lowest group of several
 unfoldable pub best_pair : (ℕ → Half → ℤ) → ℕ × Half
 best_pair scores =
     if int_lt (scores (best_group scores Zero) Zero) (scores (best_group scores Five) Five)

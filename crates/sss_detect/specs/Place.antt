@@ -9,7 +9,7 @@ use Rattle.lte_types.specs.declared.numerology.Prefix.{Prefix}
 use Rattle.lte_types.specs.Numerology.{frame_length, primary_start}
 use Rattle.sss_detect.specs.Identity.{prefix_identity}
 
--- the frame start in samples, modulo a frame, if the useful part of this half-frame's primary signal begins at sample t
+-- the frame start in samples, modulo a frame, if the useful part of the primary signal in `half` begins at sample `t`
 -- (TS 36.211 sections 4.1, 6.11 and 6.12)
 abbrev pub start_by_hit : ℕ → Half → ℕ
 start_by_hit t half = (t + (frame_length - primary_start half)) % frame_length

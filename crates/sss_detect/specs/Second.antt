@@ -9,8 +9,8 @@ use Rattle.sss_detect.specs.declared.rank.Choice.{Choice}
 use Rattle.sss_detect.specs.declared.rank.Ranking.{Ranking}
 use Rattle.sss_detect.specs.Identity.{IsBefore, first_greatest, best_pair, prefix_scores}
 
--- among the 335 pairs other than `best`, the pair of `n1` and `half` has the maximum score, and each earlier pair a
--- smaller score
+-- among the 335 pairs of an identity group and a half-frame other than `best`, the pair of `n1` and `half` has the
+-- maximum score, and each earlier pair has a smaller score
 pub record IsSecond (scores : ℕ → Half → ℤ) (best : ℕ × Half) (n1 : ℕ) (half : Half) : Type 0 where
   pub known : n1 ≤ 167
   pub another : (n1, half) ≢ best
@@ -18,16 +18,18 @@ pub record IsSecond (scores : ℕ → Half → ℤ) (best : ℕ × Half) (n1 : �
   pub first : (m : ℕ) (other : Half) → m ≤ 167 → (m, other) ≢ best → IsBefore m other n1 half →
       scores m other <ℤ scores n1 half
 
--- pair number `place`, 0 to 335: the pairs of subframe 0 by group, then those of subframe 5
+-- the pair of an identity group and a half-frame with the number `place`, 0 to 335: first the pairs of subframe 0 in
+-- group order, then the pairs of subframe 5
 abbrev pub pair_at : ℕ → ℕ × Half
 pair_at place = if nat_lt place 168 then (place, Zero) else (place - 168, Five)
 
--- a pair's number, 0 to 335: the pairs of subframe 0 by group, then those of subframe 5
+-- the number, 0 to 335, of a pair of an identity group and a half-frame: subframe 0 has 0 to 167, in group order,
+-- subframe 5 has 168 to 335
 abbrev pub place_of : ℕ × Half → ℕ
 place_of (n1, Zero) = n1
 place_of (n1, Five) = 168 + n1
 
--- the scores by pair number
+-- the score of the pair of an identity group and a half-frame with the number `place`
 abbrev pub score_at : (ℕ → Half → ℤ) → ℕ → ℤ
 score_at scores place = scores (pair_at place).0 (pair_at place).1
 
@@ -35,11 +37,12 @@ score_at scores place = scores (pair_at place).0 (pair_at place).1
 abbrev pub left_without : ℕ → ℕ → ℕ
 left_without taken i = if nat_lt i taken then i else i + 1
 
--- the index of the first maximum among f 0 to f (n + 1) without index `taken`
+-- the index of the first maximum among f 0 to f (n + 1), with index `taken` left out
 abbrev pub next_greatest : (ℕ → ℤ) → ℕ → ℕ → ℕ
 next_greatest f taken n = left_without taken (first_greatest (λ i. f (left_without taken i)) n)
 
--- the second-best pair: the first with the maximum score among the pairs other than the best
+-- the second-best pair of an identity group and a half-frame: of all 335 except `best_pair`, the pair with the maximum
+-- score, the lowest-numbered of several
 unfoldable pub second_pair : (ℕ → Half → ℤ) → ℕ × Half
 second_pair scores = pair_at (next_greatest (score_at scores) (place_of (best_pair scores)) 334)
 
@@ -49,14 +52,14 @@ second_pair scores = pair_at (next_greatest (score_at scores) (place_of (best_pa
 abbrev pub choice_of : (ℕ → Half → ℤ) → ℕ × Half → Choice
 choice_of scores pair = record { n1 = pair.0; half = pair.1; score = scores pair.0 pair.1 }
 
--- the best and second-best pairs, with their scores
+-- the best and second-best pairs of an identity group and a half-frame, with their scores
 unfoldable pub ranking_of : (ℕ → Half → ℤ) → Ranking
 ranking_of scores = record {
   best = choice_of scores (best_pair scores);
   second = choice_of scores (second_pair scores);
 }
 
--- a hit's two best pairs for a cyclic prefix, with their scores
+-- a hit's best and second-best pairs of an identity group and a half-frame for a cyclic prefix, with their scores
 unfoldable pub prefix_ranking : Prefix → List Sample → Hit → Ranking
 prefix_ranking prefix recording hit = ranking_of (prefix_scores prefix recording hit)
 

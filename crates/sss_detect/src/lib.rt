@@ -24,7 +24,7 @@ pub use rank::{Choice, Ranking};
 use sample_file::Recording;
 
 /// Returns a hit's identity group and half-frame for a cyclic prefix (TS 36.211 section 6.11), as `best` does. The
-/// recording contains the useful parts of the primary symbol and the secondary one before it; `n2` is 0 to 2.
+/// recording contains the useful parts of the primary symbol and the preceding secondary symbol; `n2` is 0 to 2.
 pub fn identity_with(recording: &Recording, hit: &Hit, prefix: Prefix) -> (u16, Half)
     requires after { symbol_step prefix ≤ hit.now.t }
     requires within { hit.now.t + useful_length ≤ length recording.now }
@@ -67,8 +67,8 @@ pub fn place_with(recording: &Recording, hit: &Hit, prefix: Prefix) -> CellPlace
     }
 }
 
-/// Returns the pair that `identity_with` chooses and the second-best pair, each with its score, which fits 64 bits. The
-/// conditions are those of `identity_with`. (own)
+/// Returns the identity group and half-frame that `identity_with` chooses and the second-best pair of a group and a
+/// half-frame, each with its score. The conditions are those of `identity_with`. (own)
 pub fn ranking_with(recording: &Recording, hit: &Hit, prefix: Prefix) -> Ranking
     requires after { symbol_step prefix ≤ hit.now.t }
     requires within { hit.now.t + useful_length ≤ length recording.now }
@@ -106,13 +106,15 @@ pub fn group_choice_with(recording: &Recording, hit: &Hit, prefix: Prefix, n1: u
     )
 }
 
-/// A law: the best pair is the first with the maximum score, and the only one.
+/// A law: exactly one pair of an identity group and a half-frame is the best: the first with the maximum score of all
+/// 336.
 pub fn best_pair_is_first_of_greatest()
     ensures best { BestPairIsBest }
     ensures only { OnlyOneIsBest }
 {}
 
-/// A law: the second-best pair is the first with the maximum score among the other 335, and the only one.
+/// A law: exactly one pair of an identity group and a half-frame is the second-best: the first with the maximum score
+/// of the other 335.
 pub fn second_pair_is_first_of_the_others()
     ensures second { SecondPairIsSecond }
     ensures only { OnlyOneIsSecond }

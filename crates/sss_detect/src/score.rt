@@ -58,7 +58,7 @@ pub(crate) struct ShiftSums<'a> {
 }
 
 impl<'a> ShiftSums<'a> {
-    /// Returns the sums for the identity `n2` within the group, 0 to 2.
+    /// Returns the sums for the identity `n2` within the group, 0 to 2, from agreements of magnitude at most 2^59.
     pub(crate) fn new(agreements: &'a [i64; 62], n2: u8) -> ShiftSums<'a>
         requires small { AllWithin (2 ^ 59) agreements.now }
         requires member { n2 ≤ 2 }
@@ -75,7 +75,7 @@ impl<'a> ShiftSums<'a> {
         }
     }
 
-    /// Returns the score of group `n1`, 0 to 167, in `half`.
+    /// Returns the score of identity group `n1`, 0 to 167, in `half`.
     pub(crate) fn score_of(&self, n1: u16, half: Half) -> i128
         requires small { AllWithin (2 ^ 59) self.now.agreements.now }
         requires group { n1 ≤ 167 }
