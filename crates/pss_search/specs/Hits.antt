@@ -10,32 +10,32 @@ use Rattle.pss_search.specs.Tests.{is_hit}
 
 -- ---- the span
 
--- the first position at which hits are searched: the useful part of the preceding symbol, which carries the secondary
--- signal, just fits before it. The positions searched span one frame.
+-- the first position searched for hits. It leaves just enough room before it for the useful part of the preceding
+-- symbol, which carries the secondary signal. The search spans one frame.
 abbrev pub first_place : ℕ
 first_place = 137
 
--- the last position at which hits are searched, 19,199 after the first
+-- the last position searched for hits, 19,199 after the first
 abbrev pub last_place : ℕ
 last_place = 19336
 
 -- ---- a hit
 
--- the position `first` has a greater metric for n2 than the position `second`
+-- position `first` has a greater metric for the primary signal `n2` than position `second`; both have energy
 pub record IsAbove (recording : List Sample) (n2 first second : ℕ) : Type 0 where
   pub first_sounds : 0 < energy recording first
   pub second_sounds : 0 < energy recording second
   pub greater : peak recording n2 second * energy recording first < peak recording n2 first * energy recording second
 
--- the positions `first` and `second` have equal metrics for n2
+-- positions `first` and `second` have equal metrics for the primary signal `n2`, and both have energy
 pub record IsLevel (recording : List Sample) (n2 first second : ℕ) : Type 0 where
   pub first_sounds : 0 < energy recording first
   pub second_sounds : 0 < energy recording second
   pub equal : peak recording n2 second * energy recording first ≡ peak recording n2 first * energy recording second
 
--- position t is a hit of n2. It lies in the span of one frame and has energy. Four times its peak is at least its
--- energy times the signal's power. No position at most 9 away has a greater metric, and none of them that is earlier
--- has an equal metric.
+-- Position `t` is a hit of the primary signal `n2`. It is in the search range and has energy. Four times its peak is at
+-- least its energy times the signal's power. No position at most 9 away has a greater metric, and no earlier one among
+-- them has an equal metric.
 pub record IsHit (recording : List Sample) (t n2 : ℕ) : Type 0 where
   pub from_first : first_place ≤ t
   pub to_last : t ≤ last_place
@@ -46,11 +46,11 @@ pub record IsHit (recording : List Sample) (t n2 : ℕ) : Type 0 where
 
 -- ---- the list of hits
 
--- the list's item for a hit of n2 at position t, with its peak and energy
+-- the list's item for a hit of the primary signal `n2` at position `t`, with its peak and energy
 abbrev pub found : List Sample → ℕ → ℕ → Hit
 found recording t n2 = record { t = t; n2 = n2; peak = peak recording n2 t; energy = energy recording t }
 
--- the hit of n2 at position t as a list, empty if there is none
+-- a list with the hit of the primary signal `n2` at position `t`, empty if there is no such hit
 unfoldable pub hit_at : List Sample → ℕ → ℕ → List Hit
 hit_at recording t n2 = if is_hit recording t n2 then found recording t n2 ∷ [] else []
 
@@ -58,7 +58,7 @@ hit_at recording t n2 = if is_hit recording t n2 then found recording t n2 ∷ [
 unfoldable pub hits_at : List Sample → ℕ → List Hit
 hits_at recording t = joined_below 3 (hit_at recording t)
 
--- the hits at the first `count` positions of the span, in order
+-- the hits at the first `count` positions of the search range, in order of position, then of n2
 unfoldable pub hits_before : List Sample → ℕ → List Hit
 hits_before recording count = joined_below count (λ i. hits_at recording (first_place + i))
 
@@ -66,7 +66,7 @@ hits_before recording count = joined_below count (λ i. hits_at recording (first
 abbrev pub hits_of : List Sample → List Hit
 hits_of recording = hits_before recording frame_length
 
--- the hit lies in the span of one frame and belongs to one of the three primary signals
+-- the hit is in the search range and belongs to one of the three primary signals
 pub record IsInSpan (hit : Hit) : Type 0 where
   pub from_first : first_place ≤ hit.t
   pub to_last : hit.t ≤ last_place

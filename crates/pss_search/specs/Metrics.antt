@@ -14,7 +14,7 @@ pub record Standing : Type 0 where
 abbrev pub end_place : ℕ
 end_place = 19346
 
--- the metric at position t for n2: the peak and the energy
+-- the metric at position `t` for the primary signal `n2`: the peak and the energy
 abbrev pub metric_at : List Sample → ℕ → ℕ → Metric
 metric_at recording t n2 = record { peak = peak recording n2 t; energy = energy recording t }
 

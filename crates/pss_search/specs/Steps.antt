@@ -21,15 +21,16 @@ pub record IsSmallMetric (metric : Metric) : Type 0 where
   pub peak : metric.peak < 2 ^ 70
   pub energy : metric.energy ≤ 2 ^ 38
 
--- `metric` has the peak and the energy at position t for n2, both bounded
+-- `metric` has the peak and the energy at position `t` for the primary signal `n2`, a peak below 2^70 and an energy of
+-- at most 2^38
 pub record IsMetricOf (recording : List Sample) (n2 t : ℕ) (metric : Metric) : Type 0 where
   pub peak : metric.peak ≡ peak recording n2 t
   pub energy : metric.energy ≡ energy recording t
   pub small_peak : metric.peak < 2 ^ 70
   pub small_energy : metric.energy ≤ 2 ^ 38
 
--- bounds on the dot products of 128 samples' real or imaginary parts with those of a signal, which have magnitude at
--- most 255
+-- bounds on the dot products of 128 samples' real or imaginary parts with a signal's real or imaginary parts, which
+-- have magnitudes of at most 255
 pub record AreSmallProducts (p : ProductSums) : Type 0 where
   pub re_re : nat_abs p.re_re ≤ 1069547520
   pub im_im : nat_abs p.im_im ≤ 1069547520
@@ -38,8 +39,8 @@ pub record AreSmallProducts (p : ProductSums) : Type 0 where
 
 -- ---- a sweep
 
--- a sweep is ready at `place`, a position to be measured or the end: `total` is the energy there, and each sample
--- already read has a squared magnitude of at most 2^31
+-- A sweep is ready at `place`, a position to be measured or the end. The recording has at least 57,600 samples, `total`
+-- is the energy at `place`, and each sample that was already read has a squared magnitude of at most 2^31.
 pub record IsReady (recording : List Sample) (place total : ℕ) : Type 0 where
   pub long : 57600 ≤ length recording
   pub first : useful_length ≤ place
@@ -49,7 +50,7 @@ pub record IsReady (recording : List Sample) (place total : ℕ) : Type 0 where
 
 -- ---- the last 19 positions
 
--- `row` holds the three peaks and the energy at position u
+-- `row` holds the three peaks, each at most 2^63, and the energy, at most 2^38, at position `u`
 pub record IsRowOf (recording : List Sample) (u : ℕ) (row : PlaceSums) : Type 0 where
   pub peaks : row.peaks ≡ values_below 3 (λ n2. peak recording n2 u)
   pub energy : row.energy ≡ energy recording u
@@ -60,13 +61,15 @@ pub record IsRowOf (recording : List Sample) (u : ℕ) (row : PlaceSums) : Type 
 abbrev pub empty_row : PlaceSums
 empty_row = record { peaks = []; energy = 0 }
 
--- `rows` holds the rows of the last 19 positions before `place`; the row of position u is at index u modulo 32
+-- `rows` has 32 entries, among them the rows of the last 19 positions before `place`; the row of position `u` is at
+-- index `u` modulo 32
 pub record HoldsLast (recording : List Sample) (place : ℕ) (rows : List PlaceSums) : Type 0 where
   pub whole : length rows ≡ 32
   pub each : (u : ℕ) → useful_length ≤ u → u < place → place ≤ u + 19 →
       IsRowOf recording u (slice_index_or rows (u % 32) empty_row)
 
--- the sweep's next position is t + 10, so all metrics that decide whether t is a hit were measured; t is in the span
+-- the sweep's next position is `t` + 10, so all metrics that decide whether `t` is a hit were measured; `t` is in the
+-- search range
 pub record DecidesOn (recent : Standing) (t : ℕ) : Type 0 where
   pub first : first_place ≤ t
   pub last : t ≤ last_place
@@ -81,6 +84,7 @@ pub record IsStrongestSoFar (recording : List Sample) (n2 end : ℕ) (best : Mea
 
 -- ---- the list
 
--- the hits at the first i positions of the span, then those at the next position for primary signals below n2
+-- the hits at the first `i` positions of the search range, then the hits of primary signals below `n2` at the next
+-- position
 abbrev pub so_far : List Sample → ℕ → ℕ → List Hit
 so_far recording i n2 = hits_before recording i ++ joined_below n2 (hit_at recording (first_place + i))

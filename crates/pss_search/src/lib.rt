@@ -17,8 +17,8 @@ pub use measure::{Metric, Sweep};
 pub use signals::signal_power;
 pub use strongest::Measured;
 
-/// A law: the test for a hit agrees with its definition, and the list has exactly the hits, in order, each once, and at
-/// most 5,760.
+/// A law: the test for a hit agrees with its definition. A recording's list has exactly its hits, in order, each once,
+/// and at most 5,760.
 pub fn hits_are_right()
     ensures test { TestIsRight }
     ensures list { ListIsRight }
