@@ -13,19 +13,19 @@ use Rattle.grid_map.specs.declared.Place.{Place}
 use Rattle.grid_map.specs.Group.{group, is_group, same_group, symbol_groups, group_places}
 use Rattle.lte_types.specs.Numerology.{subcarriers}
 
--- whether the group `g` is in `groups`
+-- whether the resource-element group `g` is in `groups`
 abbrev pub is_group_in : List Reg → Reg → Bool
 is_group_in groups g = list_any (same_group g) groups
 
--- the groups in `groups` that are not in `taken`, in order
+-- the resource-element groups in `groups` that are not in `taken`, in order
 abbrev pub without : List Reg → List Reg → List Reg
 without taken groups = filter (λ g. not (is_group_in taken g)) groups
 
--- the PCFICH's group `i`, 0 to 3
+-- the PCFICH's resource-element group `i`, 0 to 3
 abbrev pub pcfich_group : ℕ → ℕ → Reg
 pcfich_group identity i = group 0 ((6 * (identity % 12) + 18 * i) % subcarriers)
 
--- the four PCFICH groups
+-- the four resource-element groups of the PCFICH
 unfoldable pub pcfich_groups : ℕ → List Reg
 pcfich_groups identity = values_below 4 (pcfich_group identity)
 
@@ -33,11 +33,11 @@ pcfich_groups identity = values_below 4 (pcfich_group identity)
 unfoldable pub pcfich_places : ℕ → List Place
 pcfich_places identity = flat_map (group_places identity) (pcfich_groups identity)
 
--- the groups in a symbol that the PCFICH leaves unused, by subcarrier
+-- the resource-element groups of `symbol` that the PCFICH does not use, in order of subcarrier
 unfoldable pub left_groups : ℕ → ℕ → List Reg
 left_groups identity symbol = without (pcfich_groups identity) (symbol_groups symbol)
 
--- the number of groups in a symbol that the PCFICH leaves unused
+-- the number of resource-element groups of `symbol` that the PCFICH does not use
 abbrev pub left_count : ℕ → ℕ → ℕ
 left_count identity symbol = length (left_groups identity symbol)
 
@@ -48,23 +48,23 @@ phich_count Half = 1
 phich_count One = 1
 phich_count Two = 2
 
--- the symbol that carries quadruplet i of a PHICH group
+-- the symbol that carries quadruplet `i` of a PHICH group
 abbrev pub phich_symbol : Duration → ℕ → ℕ
 phich_symbol Normal i = 0
 phich_symbol Extended i = i
 
--- the index of the group for quadruplet `i` of PHICH group `m`, among the `n` groups in its symbol that the PCFICH
--- leaves unused; symbol 0 has `n0` such groups
+-- the index of quadruplet `i` of PHICH group `m` among the `n` resource-element groups of its symbol that the PCFICH
+-- does not use; symbol 0 has `n0` such groups (TS 36.211 section 6.9.3)
 abbrev pub phich_number : ℕ → ℕ → ℕ → ℕ → ℕ → ℕ
 phich_number identity n n0 m i = ((identity * n) / n0 + m + (i * n) / 3) % n
 
--- the resource-element group in a symbol for quadruplet i of PHICH group m
+-- the resource-element group in `symbol` that carries quadruplet `i` of PHICH group `m`
 unfoldable pub phich_group_in : ℕ → ℕ → ℕ → ℕ → Reg
 phich_group_in identity symbol m i =
     slice_index_or (left_groups identity symbol)
     (phich_number identity (left_count identity symbol) (left_count identity 0) m i) (group 0 0)
 
--- the resource-element group for quadruplet i of PHICH group m
+-- the resource-element group that carries quadruplet `i` of PHICH group `m`
 abbrev pub phich_group : ℕ → Duration → ℕ → ℕ → Reg
 phich_group identity duration m i = phich_group_in identity (phich_symbol duration i) m i
 
@@ -73,23 +73,25 @@ unfoldable pub phich_groups : ℕ → Duration → Resource → List Reg
 phich_groups identity duration resource =
     joined_below (phich_count resource) (λ m. values_below 3 (phich_group identity duration m))
 
--- the group with number `n` in the order by first subcarrier, then symbol
+-- the resource-element group, valid or not, in symbol n mod 4 that begins at subcarrier n / 4
 abbrev pub numbered : ℕ → Reg
 numbered n = group (n % 4) (n / 4)
 
--- a group's number in the order by first subcarrier, then symbol
+-- a resource-element group's number, which orders groups by first subcarrier, then by symbol: 4 times the first
+-- subcarrier, plus the symbol
 abbrev pub group_number : Reg → ℕ
 group_number g = 4 * g.first + g.symbol
 
--- whether `g` is a valid group in the control region, which has cfi + 1 symbols
+-- whether `g` is a valid resource-element group in the control region, which has cfi + 1 symbols
 abbrev pub is_in_region : ℕ → Reg → Bool
 is_in_region cfi g = is_group g && nat_le g.symbol cfi
 
--- the groups in the control region, by first subcarrier, then symbol
+-- the resource-element groups of the control region, in order of first subcarrier, then of symbol
 unfoldable pub region_groups : ℕ → List Reg
 region_groups cfi = filter (is_in_region cfi) (values_below 288 numbered)
 
--- the PDCCH groups: the control region's groups that PCFICH and PHICH do not use, by first subcarrier, then symbol
+-- the PDCCH's resource-element groups: the control region's groups that PCFICH and PHICH do not use, in order of first
+-- subcarrier, then of symbol
 unfoldable pub pdcch_groups : ℕ → ℕ → Duration → Resource → List Reg
 pdcch_groups identity cfi duration resource =
     without (phich_groups identity duration resource) (without (pcfich_groups identity) (region_groups cfi))
@@ -100,15 +102,16 @@ abbrev pub phich_inside : ℕ → Duration → ℕ
 phich_inside cfi Normal = 3
 phich_inside cfi Extended = if nat_eq cfi 1 then 2 else 3
 
--- the number of PDCCH groups; symbol 0 has twelve groups, each later symbol eighteen, and the PCFICH uses four
+-- the number of PDCCH resource-element groups; symbol 0 has twelve groups, each later symbol eighteen, and the PCFICH
+-- uses four
 abbrev pub group_count : ℕ → Duration → Resource → ℕ
 group_count cfi duration resource = 12 + 18 * cfi - 4 - phich_inside cfi duration * phich_count resource
 
--- the number of control channel elements (CCEs); a CCE has nine groups (section 6.8.1)
+-- the number of control channel elements (CCEs); a CCE has nine resource-element groups (section 6.8.1)
 abbrev pub element_count : ℕ → Duration → Resource → ℕ
 element_count cfi duration resource = group_count cfi duration resource / 9
 
--- the quadruplet carried by group `r` of `count`: quadruplets are interleaved like the bits of a stream (TS 36.212
--- section 5.1.4.2.1), and cyclically shifted by the identity
+-- the quadruplet that PDCCH resource-element group `r`, of `count` groups, carries: quadruplets are interleaved like a
+-- stream's bits (TS 36.212 section 5.1.4.2.1), and cyclically shifted by the identity
 unfoldable pub quadruplet_at : ℕ → ℕ → ℕ → ℕ
 quadruplet_at identity count r = slice_index_or (stream_order count) ((r + identity) % count) 0

@@ -2,7 +2,7 @@
 use Rattle.std.specs.Prelude.{◌≡◌, ◌↔◌, ℕ, ◌<◌, Bool, IsTrue, Some, List, length, slice_get}
 use Rattle.std.specs.List.{Contains}
 
--- `items` has `count` items in increasing order of `number`, so each item occurs once; item i is `at i`, and the
+-- `items` has `count` items in increasing order of `number`, so each item occurs once; item `i` is `at i`, and the
 -- members are exactly the values that satisfy `is`
 pub record AreInOrder {A : Type 0} (number : A → ℕ) (items : List A) (count : ℕ) (at : ℕ → A) (is : A → Bool) :
     Type 0 where

@@ -8,11 +8,11 @@ use Rattle.lte_types.specs.Numerology.{subcarriers}
 abbrev pub place : ℕ → ℕ → Place
 place symbol k = record { symbol = symbol; k = k }
 
--- all resource elements in a symbol, by subcarrier
+-- all resource elements in a symbol, in order of subcarrier
 abbrev pub symbol_places : ℕ → List Place
 symbol_places symbol = map (place symbol) (range_with_len 0 subcarriers)
 
--- all resource elements in `count` symbols from `first`, by symbol and subcarrier
+-- all resource elements in `count` symbols from `first`, in order of symbol, then of subcarrier
 unfoldable pub places_of : ℕ → ℕ → List Place
 places_of first count = flat_map symbol_places (range_with_len first count)
 
@@ -20,7 +20,8 @@ places_of first count = flat_map symbol_places (range_with_len first count)
 abbrev pub is_in_grid : Place → Bool
 is_in_grid p = nat_lt p.symbol 14 && nat_lt p.k subcarriers
 
--- a resource element's number, by symbol and subcarrier
+-- a resource element's number, which orders elements by symbol, then by subcarrier: 72 times the symbol, plus the
+-- subcarrier
 abbrev pub place_number : Place → ℕ
 place_number p = subcarriers * p.symbol + p.k
 

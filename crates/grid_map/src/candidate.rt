@@ -51,8 +51,8 @@ fn place_of(id: CellId, groups: &[Reg], number: u8, j: usize) -> Place
     reg_places(id, groups[number as usize])[j]
 }
 
-/// Returns the resource elements of control channel elements 0 to 3: those of the groups that carry quadruplets 0 to
-/// 35, in quadruplet order (TS 36.211 section 6.8.5). `groups` are the PDCCH groups, 36 to 255.
+/// Returns the resource elements of control channel elements 0 to 3, in the order of the quadruplets, 0 to 35, that
+/// they carry (TS 36.211 section 6.8.5). `groups` are the PDCCH's 36 to 255 resource-element groups.
 pub fn candidate_places(id: CellId, groups: &[Reg]) -> [Place; 144]
     requires few { length groups.now ≤ 255 }
     requires enough { 36 ≤ length groups.now }
@@ -68,8 +68,8 @@ pub fn candidate_places(id: CellId, groups: &[Reg]) -> [Place; 144]
     places
 }
 
-/// A law: each quadruplet below the group count is carried by one of the groups, the one that `group_of_quadruplet`
-/// names.
+/// A law: each quadruplet below the group count is carried by one of the PDCCH's resource-element groups, the one that
+/// `group_of_quadruplet` names.
 pub fn quadruplets_carried()
     ensures inside { (identity count q : ℕ) → q < count →
         group_of_quadruplet identity count q < count }

@@ -17,7 +17,7 @@ use crate::{Place, Reg, reg_places, skipping};
 use arrayvec::ArrayVec;
 use lte_types::{CellId, Cfi, Duration, Mib, Resource};
 
-/// Returns the four PCFICH groups, in the order of use (TS 36.211 section 6.7.4).
+/// Returns the four resource-element groups of the PCFICH, in the order of use (TS 36.211 section 6.7.4).
 pub fn pcfich(id: CellId) -> [Reg; 4]
     ensures groups { result ≡ pcfich_groups id }
     ensures inside { All (λ g. IsTrue (is_group g) × (g.symbol ≡ 0)) result }
@@ -53,7 +53,7 @@ fn pcfich_point(id: CellId, groups: &[Reg; 4], i: usize) -> Place
     reg_places(id, groups[i / 4])[i % 4]
 }
 
-/// Returns the sixteen PCFICH resource elements, group after group (TS 36.211 section 6.7.4).
+/// Returns the sixteen PCFICH resource elements, one resource-element group after the other (TS 36.211 section 6.7.4).
 pub fn pcfich_places(id: CellId) -> [Place; 16]
     ensures places { result ≡ pcfich_places id }
     ensures inside { All (λ p. (p.symbol < 14) × (p.k < subcarriers)) result }
@@ -183,8 +183,8 @@ fn is_left(reg: Reg, last: u8, pcfich: &[Reg], phich: &[Reg]) -> bool
     is_inside(reg, last) && !pcfich.contains(&reg) && !phich.contains(&reg)
 }
 
-/// Returns the PDCCH groups: the groups in the control region's `cfi` + 1 symbols that PCFICH and PHICH do not use, by
-/// first subcarrier, then symbol (TS 36.211 section 6.8.5).
+/// Returns the PDCCH's resource-element groups: the groups in the control region's `cfi` + 1 symbols that PCFICH and
+/// PHICH do not use, ordered by first subcarrier, then by symbol (TS 36.211 section 6.8.5).
 pub fn pdcch(id: CellId, cfi: Cfi, mib: Mib) -> ArrayVec<Reg, 66>
     ensures groups { result.items ≡ pdcch_groups id cfi mib.duration mib.resource }
     ensures inside { All (λ g. IsTrue (is_in_region cfi g)) result.items }
@@ -203,8 +203,8 @@ pub fn pdcch(id: CellId, cfi: Cfi, mib: Mib) -> ArrayVec<Reg, 66>
     groups
 }
 
-/// A law: the PCFICH has four groups. The PDCCH has all other groups in the control region except the PHICH's, each
-/// once, in order: two control channel elements with indicator 1, at least four with 2 and 3.
+/// A law: the PCFICH has four resource-element groups. The PDCCH has the control region's others except the PHICH's,
+/// each once, in order: two control channel elements with indicator 1, at least four with 2 and 3.
 pub fn control_groups()
     ensures pcfich_inside { (identity i : ℕ) → i < 4 → IsTrue (is_group (pcfich_group identity i)) }
     ensures pcfich_apart { (identity i j : ℕ) → i < 4 → j < 4 →

@@ -1,4 +1,4 @@
-//! The resource elements in a group.
+//! The resource elements of a resource-element group (TS 36.211 section 6.2.4).
 
 ghost use Rattle.std.specs.Prelude.{◌≡◌, ◌+◌, ◌*◌, ◌/◌, ◌%◌, ◌<◌, ℕ, All, IsTrue, slice_index_or, nat_eq, if◌then◌else◌};
 ghost use Rattle.std.specs.List.{Contains};
@@ -12,8 +12,8 @@ ghost use Rattle.lte_types.specs.Numerology.{subcarriers};
 use crate::{Place, Reg, skipping};
 use lte_types::CellId;
 
-/// Returns the four resource elements of a group, by subcarrier (TS 36.211 section 6.2.4). In symbol 0 every third
-/// subcarrier, from the identity modulo 3, is reserved for reference signals and left out.
+/// Returns the four resource elements of a resource-element group, in order of subcarrier (TS 36.211 section 6.2.4). In
+/// symbol 0 every third subcarrier, from the identity modulo 3, is reserved for reference signals and left out.
 pub fn reg_places(id: CellId, reg: Reg) -> [Place; 4]
     requires { IsTrue (is_group reg) }
     ensures places { result ≡ group_places id reg }
@@ -45,8 +45,8 @@ fn place_in(id: CellId, reg: Reg, i: usize) -> Place
     }
 }
 
-/// A law: a group has four resource elements, by subcarrier: all in its span that are not reserved for reference
-/// signals. Groups are disjoint.
+/// A law: a resource-element group has four resource elements, in order of subcarrier: all in its span that are not
+/// reserved for reference signals. Different groups share no resource element.
 pub fn places_of_groups()
     ensures order { (identity : ℕ) (g : Reg) → IsTrue (is_group g) →
         AreInOrder (λ p. p.k) (group_places identity g) 4

@@ -6,8 +6,9 @@ ghost use Rattle.grid_map.specs.Control.{quadruplet_at};
 use conv_code::stream_index;
 use lte_types::CellId;
 
-/// Returns the quadruplet carried by group `r` of the PDCCH's `count` groups: quadruplets are interleaved like the
-/// bits of a stream, and cyclically shifted by the identity (TS 36.211 section 6.8.5). `r` is below `count`.
+/// Returns the quadruplet that resource-element group `r` of the PDCCH's `count` groups carries: quadruplets are
+/// interleaved like a stream's bits, and cyclically shifted by the identity (TS 36.211 section 6.8.5). `r` is below
+/// `count`.
 pub fn quadruplet(id: CellId, count: u8, r: u8) -> u8
     requires inside { r < count }
     ensures value { result ≡ quadruplet_at id count r }
@@ -17,7 +18,7 @@ pub fn quadruplet(id: CellId, count: u8, r: u8) -> u8
     stream_index(count as usize, p) as u8
 }
 
-/// A law: each quadruplet below the group count is carried by exactly one group.
+/// A law: each quadruplet below the group count is carried by exactly one of the PDCCH's resource-element groups.
 pub fn quadruplets_permute()
     ensures inside { (identity count r : ℕ) → r < count → quadruplet_at identity count r < count }
     ensures one_to_one { (identity count r s : ℕ) → r < count → s < count →

@@ -9,7 +9,7 @@ ghost use Rattle.grid_map.specs.Candidate.{candidate_places};
 ghost use Rattle.grid_map.specs.Laws.{IsIndexed, CarryCandidate};
 
 /// A law: the PCFICH has sixteen different resource elements, and the PDCCH candidate has 144. With a control format
-/// indicator of 2 or 3, the PDCCH has enough groups for the candidate.
+/// indicator of 2 or 3, the PDCCH has enough resource-element groups for the candidate.
 pub fn control_places()
     ensures pcfich { (identity : ℕ) → IsIndexed 16 (pcfich_places identity) }
     ensures candidate { (identity : ℕ) (groups : List Reg) → CarryCandidate groups →

@@ -8,8 +8,8 @@ ghost use Rattle.lte_types.specs.Numerology.{subcarriers};
 use crate::Place;
 use lte_types::CellId;
 
-/// Returns the 216 PBCH resource elements with the extended prefix: symbol by symbol in symbols 0 to 3 of slot 1,
-/// without those reserved for reference signals (TS 36.211 section 6.6.4).
+/// Returns the 216 PBCH resource elements with the extended prefix, ordered by symbol, 0 to 3 of slot 1, then
+/// subcarrier, without the elements reserved for reference signals (TS 36.211 section 6.6.4).
 pub fn long_places(id: CellId) -> [Place; 216]
     ensures places { result ≡ places_of id }
     ensures inside { All (λ p. (p.symbol < 4) × (p.k < subcarriers)) result }
