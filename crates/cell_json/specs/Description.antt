@@ -26,7 +26,7 @@ use Rattle.cell_json.specs.Information.{sib1_in}
 
 -- ---- kinds of values in a description
 
--- the complex number of an array of exactly two integers, the real and the imaginary part
+-- the complex number in an array of exactly two integers, real part first, or `None` for other arrays
 abbrev pub pair_in : Items → Option Cpx
 pair_in (item a (item b no_items)) = option_and_then (λ x. option_map (λ y. with_parts x y) (whole_of b)) (whole_of a)
 pair_in _ = None
@@ -34,17 +34,17 @@ pair_in _ = None
 abbrev pub pair_of : Data → Option Cpx
 pair_of json = option_and_then pair_in (as_array json)
 
--- the phich-Duration that a string names
+-- the phich-Duration that a string names, or `None` if there is no such string
 abbrev pub duration_of : Data → Option Duration
 duration_of json = option_and_then duration_named (as_str json)
 
--- the phich-Resource that a string names
+-- the phich-Resource that a string names, or `None` if there is no such string
 abbrev pub resource_of : Data → Option Resource
 resource_of json = option_and_then resource_named (as_str json)
 
 -- ---- keys and their kinds
 
--- the keys of a network identity (PLMN), each with the type of its value
+-- tests for the keys of a network identity (PLMN): each has a value of its type
 abbrev pub network_keys : List (Data → Bool)
 network_keys =
     has (codes "mcc") (null_or as_str)
@@ -52,14 +52,14 @@ network_keys =
     ∷ has (codes "reserved") as_bool
     ∷ []
 
--- the keys of a schedule entry, each with the type of its value
+-- tests for the keys of a schedule entry: each has a value of its type
 abbrev pub message_keys : List (Data → Bool)
 message_keys =
     has (codes "period") whole_of
     ∷ has (codes "sibs") (list_of whole_of)
     ∷ []
 
--- the keys of cellAccessRelatedInfo, each with the type of its value
+-- tests for the keys of cellAccessRelatedInfo: each has a value of its type
 unfoldable pub access_keys : List (Data → Bool)
 access_keys =
     has (codes "plmns") (list_of (object_of network_keys))
@@ -71,7 +71,7 @@ access_keys =
     ∷ has (codes "csg_identity") (null_or whole_of)
     ∷ []
 
--- the keys of cellSelectionInfo, p-Max and freqBandIndicator, each with the type of its value
+-- tests for the keys of cellSelectionInfo, p-Max and freqBandIndicator: each has a value of its type
 unfoldable pub selection_keys : List (Data → Bool)
 selection_keys =
     has (codes "q_rx") whole_of
@@ -80,7 +80,7 @@ selection_keys =
     ∷ has (codes "band") whole_of
     ∷ []
 
--- the keys of the schedule and systemInfoValueTag, each with the type of its value
+-- tests for the keys of the schedule and systemInfoValueTag: each has a value of its type
 unfoldable pub schedule_keys : List (Data → Bool)
 schedule_keys =
     has (codes "scheduling") (list_of (object_of message_keys))
@@ -88,11 +88,11 @@ schedule_keys =
     ∷ has (codes "tag") whole_of
     ∷ []
 
--- the 14 keys of SystemInformationBlockType1
+-- tests for the 14 keys of SystemInformationBlockType1: each has a value of its type
 abbrev pub sib1_keys : List (Data → Bool)
 sib1_keys = access_keys ++ selection_keys ++ schedule_keys
 
--- the keys of the transmission's frame number, offset and sample count
+-- tests for the transmission's keys: `sfn`, `offset` and `samples` each have a 64-bit integer
 unfoldable pub sending_keys : List (Data → Bool)
 sending_keys =
     has (codes "sfn") whole_of
@@ -100,7 +100,8 @@ sending_keys =
     ∷ has (codes "samples") whole_of
     ∷ []
 
--- the keys of the plan's numbers
+-- tests for the plan's keys: `identity`, `spare`, `cfi`, `start`, `blocks`, `mcs` and `column` each have a 64-bit
+-- integer
 unfoldable pub number_keys : List (Data → Bool)
 number_keys =
     has (codes "identity") whole_of
@@ -116,11 +117,12 @@ number_keys =
 abbrev pub gain_names : List (List ℕ)
 gain_names = codes "gain" ∷ codes "gain2" ∷ codes "gain3" ∷ codes "gain4" ∷ []
 
--- the keys of the gains of the transmission scheme's ports, each with a pair of integers
+-- tests for the gain keys of the transmission scheme's ports: each has a pair of integers
 abbrev pub gain_keys : Carrier → List (Data → Bool)
 gain_keys carrier = map (λ name. has name pair_of) (take (ports_of carrier) gain_names)
 
--- all keys of a description for a transmission scheme; `has_form` states that a JSON value has exactly these keys
+-- tests for all keys of a description, for a transmission scheme; `has_form` states that a JSON value passes all tests
+-- and has no other key
 abbrev pub keys : Carrier → List (Data → Bool)
 keys carrier =
     sending_keys
@@ -158,11 +160,11 @@ duration_at json = unwrap_or (at_key duration_of (codes "duration") json) Normal
 abbrev pub resource_at : Data → Resource
 resource_at json = unwrap_or (at_key resource_of (codes "resource") json) OneSixth
 
--- the SystemInformationBlockType1 of a description, or `None` if one of its values is out of range
+-- the SystemInformationBlockType1 of a description, or `None` if a value in it is missing or out of range
 abbrev pub sib1_at : Data → Option Sib1
 sib1_at json = at_key sib1_in (codes "sib1") json
 
--- a number in a field of a plan; a number that does not fit becomes `most`, which no condition accepts
+-- a number in a plan's field; a number that is negative or above `most` becomes `most`, which no condition accepts
 abbrev pub in_field : ℕ → ℤ → ℕ
 in_field most z = if is_between (pos 0) (pos most) z then nat_abs z else most
 
@@ -183,13 +185,14 @@ plan_of json sib1 = record {
 
 -- ---- the conditions
 
--- the gains are those of a clean recording: the gain of port 0 is not 0, and the total power is at most 784 divided by
--- the port count
+-- the gains are a clean recording's, except that a transmit diversity pair may be weak: port 0's gain is not 0, and the
+-- total power is at most 784 divided by the port count
 abbrev pub are_gains : Carrier → List Cpx → Bool
 are_gains carrier gains =
     nat_le 1 (square (value_at gains 0)) && nat_le (power_of carrier gains) (784 / ports_of carrier)
 
--- the conditions on the plan of a description, or none if a value of its SystemInformationBlockType1 is out of range
+-- the conditions on the plan that a description gives, or none if a value in its SystemInformationBlockType1 is out of
+-- range
 unfoldable pub cell_conditions : Carrier → Data → List Condition
 cell_conditions carrier json =
     option_map_or (λ sib1. conditions_of carrier (plan_of json sib1)) (sib1_at json) []

@@ -17,7 +17,7 @@ use Rattle.cell_json.specs.Kinds.{◌>>=◌, given, whole_within, natural_within
 
 -- ---- network identities
 
--- the digit with character code `code`; `0` to `9` have the codes 48 to 57
+-- the digit with character code `code`, or `None` for other characters; `0` to `9` have the codes 48 to 57
 abbrev pub digit_of : ℕ → Option ℕ
 digit_of code = given (nat_le 48 code && nat_le code 57) (code - 48)
 
@@ -66,13 +66,13 @@ networks_of json = do
 
 -- ---- the schedule
 
--- the code of a period, given in frames, 8 to 512
+-- the code of a period, given in frames, 8 to 512, or `None` if there is no such period
 abbrev pub period_in : Data → Option ℕ
 period_in json = do
   frames ← natural_within 8 512 json
   period_of frames
 
--- the code of a system information window, given in milliseconds, 1 to 40
+-- the code of a system information window, given in milliseconds, 1 to 40, or `None` if there is no such window
 abbrev pub window_in : Data → Option ℕ
 window_in json = do
   milliseconds ← natural_within 1 40 json

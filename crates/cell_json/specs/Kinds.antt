@@ -6,7 +6,7 @@ use Rattle.serde_json.specs.Data.{Data, object, Items, no_items, item}
 use Rattle.serde_json.specs.Events.{items_len, members_len}
 use Rattle.serde_json.specs.Find.{get, as_null, as_number, as_i64, as_array}
 
--- the result of the second function for the value of the first option, or `None` if there is no value
+-- the result of a function for an option's value, or `None` if the option has no value
 infixl 10 ◌>>=◌
 abbrev pub ◌>>=◌ : {A B : Type 0} → Option A → (A → Option B) → Option B
 option >>= f = option_and_then f option
@@ -17,7 +17,7 @@ given test value = if test then Some value else None
 
 -- ---- numbers
 
--- an integer with 64 bits, signed
+-- a signed 64-bit integer
 abbrev pub whole_of : Data → Option ℤ
 whole_of json = option_and_then as_i64 (as_number json)
 
@@ -42,7 +42,7 @@ null_or kind json = if is_some (as_null json) then Some None else option_map Som
 
 -- ---- lists
 
--- the values of all items of an array, each of the kind `kind`, or `None` if one item is not of this kind
+-- the values of an array's items, each of the kind `kind`, or `None` if one item is not of this kind
 abbrev pub each : {A : Type 0} → (Data → Option A) → Items → Option (List A)
 each kind no_items = Some []
 each kind (item first rest) = do
@@ -53,13 +53,13 @@ each kind (item first rest) = do
 abbrev pub list_of : {A : Type 0} → (Data → Option A) → Data → Option (List A)
 list_of kind json = option_and_then (each kind) (as_array json)
 
--- the items of an array whose length is from `least` to `most`
+-- the items of an array whose length is from `least` to `most`, or `None` for other values
 abbrev pub items_within : ℕ → ℕ → Data → Option Items
 items_within least most json = do
   items ← as_array json
   given (nat_le least (items_len items) && nat_le (items_len items) most) items
 
--- the values of the items of an array whose length is from `least` to `most`, each of the kind `kind`
+-- the values of the items, each of the kind `kind`, in an array whose length is from `least` to `most`
 abbrev pub list_within : {A : Type 0} → ℕ → ℕ → (Data → Option A) → Data → Option (List A)
 list_within least most kind json = option_and_then (each kind) (items_within least most json)
 
@@ -74,18 +74,18 @@ abbrev pub key_count : Data → ℕ
 key_count (object members) = members_len members
 key_count _ = 0
 
--- whether a key has a value of the kind `kind`
+-- whether `key` has a value of the kind `kind`
 abbrev pub has : {A : Type 0} → List ℕ → (Data → Option A) → Data → Bool
 has key kind json = is_some (at_key kind key json)
 
--- whether each key of the list `keys` has a value of its kind
+-- whether a JSON value passes each test in `keys`, that is, has each key with a value of its kind
 abbrev pub has_all : List (Data → Bool) → Data → Bool
 has_all keys json = list_all (λ is_there. is_there json) keys
 
--- whether an object has each key of the list `keys` with a value of its kind, and no other key
+-- whether an object passes each test in `keys`, that is, has each key with a value of its kind, and has no other key
 abbrev pub has_exactly : List (Data → Bool) → Data → Bool
 has_exactly keys json = nat_eq (key_count json) (length keys) && has_all keys json
 
--- an object with exactly the keys of the list `keys`, each with a value of its kind
+-- an object that passes exactly the tests in `keys`: each key has a value of its kind, and there is no other key
 abbrev pub object_of : List (Data → Bool) → Data → Option Data
 object_of keys json = given (has_exactly keys json) json

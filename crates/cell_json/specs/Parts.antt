@@ -5,13 +5,13 @@ use Rattle.cell_json.specs.declared.description.Sending.{Sending}
 use Rattle.cell_json.specs.declared.description.Numbers.{Numbers}
 use Rattle.cell_json.specs.Description.{number_at}
 
--- the frame number, offset and sample count are those in the description
+-- the frame number, offset and sample count in `d` are the description's, 0 where the key has no integer
 pub record HasSending (d : Sending) (json : Data) : Type 0 where
   pub sfn : d.sfn ≡ number_at (codes "sfn") json
   pub offset : d.offset ≡ number_at (codes "offset") json
   pub samples : d.samples ≡ number_at (codes "samples") json
 
--- the numbers of the plan are those in the description
+-- the plan's numbers in `d` are the description's, 0 where the key has no integer
 pub record HasNumbers (d : Numbers) (json : Data) : Type 0 where
   pub identity : d.identity ≡ number_at (codes "identity") json
   pub spare : d.spare ≡ number_at (codes "spare") json

@@ -33,7 +33,7 @@ refusal_by carrier bytes = refusal_of carrier (json_of bytes)
 abbrev pub refusal : List ℕ → Option CellError
 refusal bytes = refusal_by OnePort bytes
 
--- the plan, first frame number, sample offset and sample count are those in the description
+-- the plan, first frame number, sample offset and sample count are the description's
 pub record HasValues (plan : CellPlan) (sfn offset count : ℕ) (json : Data) : Type 0 where
   pub identity : pos plan.identity ≡ number_at (codes "identity") json
   pub duration : plan.duration ≡ duration_at json
@@ -79,7 +79,7 @@ pub record Describes (bytes : List ℕ) (t : Transmission) : Type 0 where
   pub values : HasValues t.cell t.sfn t.offset t.samples value
   pub gain : gain_of t.gain ≡ gain_at value
 
--- the error reports the first failed condition; `OutOfMemory` is possible for any bytes
+-- `Cell` reports the first failed condition; `OutOfMemory` is possible for any bytes
 abbrev pub IsRefusedBy : Carrier → List ℕ → JsonError → Type 0
 IsRefusedBy carrier bytes (Cell cause) = refusal_by carrier bytes ≡ Some cause
 IsRefusedBy carrier bytes OutOfMemory = Unit {0}

@@ -15,7 +15,7 @@ use cs_num::Cpx;
 use lte_types::{Carrier, Duration, Resource};
 use serde_json::Value;
 
-/// The frame number, offset in samples and sample count of a transmission, without a check of their ranges.
+/// The frame number, offset in samples and sample count of a transmission, whose ranges have not been checked.
 #[derive(Clone, Copy)]
 pub(crate) struct Sending {
     pub sfn: i64,
@@ -23,7 +23,7 @@ pub(crate) struct Sending {
     pub samples: i64,
 }
 
-/// The numbers of a cell's plan, without a check of their ranges.
+/// The numbers of a cell's plan, whose ranges have not been checked.
 #[derive(Clone, Copy)]
 pub(crate) struct Numbers {
     pub identity: i64,

@@ -229,7 +229,8 @@ fn selection_in(value: &Value) -> Option<CellSelectionInfo>
     })
 }
 
-/// Returns the SystemInformationBlockType1 that `value` describes, or `None` if one of its values is out of range.
+/// Returns the SystemInformationBlockType1 that `value` describes, or `None` if a value in it is missing or out of
+/// range.
 #[tactic(auto, unfolding(crate::specs::Information::sib1_in))]
 pub(crate) fn sib1_in(value: &Value) -> Option<Sib1>
     ensures { result ≡ described_sib1 (view value.now) }

@@ -33,7 +33,7 @@ pub(crate) fn truth(value: &Value, key: &str) -> Option<bool>
     value.get(key)?.as_bool()
 }
 
-/// Returns `number` if it is from `least` to `most`.
+/// Returns `number` if it is from `least` to `most`, or `None` otherwise.
 pub(crate) fn within(number: &i64, least: u32, most: u32) -> Option<u32>
     ensures found { MatchOption result (IsFalse (is_between (pos least) (pos most) number.now))
         (λ _. IsTrue (is_between (pos least) (pos most) number.now)) }
@@ -47,7 +47,7 @@ pub(crate) fn within(number: &i64, least: u32, most: u32) -> Option<u32>
     }
 }
 
-/// Returns the integer in `value` if it is from `least` to `most`, which are not negative.
+/// Returns the integer in `value` if it is from `least` to `most`, or `None` otherwise.
 pub(crate) fn natural_within(value: &Value, least: u32, most: u32) -> Option<u32>
     ensures value { result ≡ natural_of least most (view value.now) }
     ensures range { IfSome result (λ n. (least ≤ n) × (n ≤ most)) }
@@ -56,7 +56,7 @@ pub(crate) fn natural_within(value: &Value, least: u32, most: u32) -> Option<u32
     within(&number, least, most)
 }
 
-/// Returns the integer at `key` if it is from `least` to `most`, which are not negative.
+/// Returns the integer at `key` if it is from `least` to `most`, or `None` otherwise.
 pub(crate) fn natural_at(value: &Value, key: &str, least: u32, most: u32) -> Option<u32>
     ensures value { result ≡ at_key (natural_of least most) key.now (view value.now) }
     ensures range { IfSome result (λ n. (least ≤ n) × (n ≤ most)) }
@@ -64,7 +64,7 @@ pub(crate) fn natural_at(value: &Value, key: &str, least: u32, most: u32) -> Opt
     natural_within(value.get(key)?, least, most)
 }
 
-/// Returns the integer at `key` if it is from `least` to `most`, which are not negative, or `Some(None)` for null.
+/// Returns the integer at `key` if it is from `least` to `most`, `Some(None)` for null, or `None` otherwise.
 pub(crate) fn natural_or_null_at(
     value: &Value,
     key: &str,
@@ -80,7 +80,7 @@ pub(crate) fn natural_or_null_at(
     Some(Some(natural_within(inner, least, most)?))
 }
 
-/// Returns the integer in `value` if it is from `least` to `most`, which have 8 bits.
+/// Returns the integer in `value` if it is from `least` to `most`, or `None` otherwise.
 pub(crate) fn small_within(value: &Value, least: i8, most: i8) -> Option<i8>
     ensures { result ≡ small_of least most (view value.now) }
 {
@@ -92,7 +92,7 @@ pub(crate) fn small_within(value: &Value, least: i8, most: i8) -> Option<i8>
     }
 }
 
-/// Returns the items of an array if their number is from `least` to `most`.
+/// Returns the items of an array with `least` to `most` items, or `None` for other values.
 pub(crate) fn items_within(value: &Value, least: usize, most: usize) -> Option<&[Value]>
     ensures value { option_map (λ items. items_view items.now) result ≡ items_of least most (view value.now) }
     ensures count { IfSome result (λ items. (least ≤ length items.now) × (length items.now ≤ most)) }
