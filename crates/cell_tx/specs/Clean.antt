@@ -18,8 +18,8 @@ AreNear recording values eps = (i : ℕ) → i < length recording → IsWithin e
 
 -- ---- one antenna port
 
--- The samples of a recording are a sequence from sample `offset`, times the gain. Each component is off by at most
--- `eps`, and `eps` is at most twice the gain's magnitude.
+-- The samples of a recording are the samples of a sequence from sample `offset`, times the gain. Each component is off
+-- by at most `eps`, and `eps` is at most twice the gain's magnitude.
 pub record IsCleanOf (sequence : ℕ → Cpx) (recording : List Sample) (offset : ℕ) (gain : Cpx) (eps : ℕ) : Type 0 where
   pub within : IsOffset offset
   pub range : IsGain gain
@@ -47,7 +47,7 @@ pub record IsCleanOfTwo (first second : ℕ → Cpx) (recording : List Sample) (
   pub bound : IsAllowed gain other eps
   pub near : AreNear recording (received_of_two first second offset gain other) eps
 
--- the sequence that port 0 of two transmits from frame `sfn`; `second_sequence` is port 1's
+-- the sequence that port 0 of two transmits from frame `sfn`; `second_sequence` is port 1's sequence
 abbrev pub first_sequence : CellPlan → ℕ → ℕ → Cpx
 first_sequence plan sfn = sent (port_element first_port plan) sfn
 

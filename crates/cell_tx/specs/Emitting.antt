@@ -36,11 +36,11 @@ made_samples s = values_below s.samples (λ i. sample_of (made s i))
 abbrev pub sent_in_frame : Option ℕ → Port → CellPlan → ℕ → ℕ → Cpx
 sent_in_frame load port plan n i = prefix_frame_sample (port_prefix port) (sent_element load port plan) n i
 
--- sample `i` of the frame numbered `n`, as the source's ports are received
+-- sample `i` of the frame numbered `n`: the sum of the source's ports, each times its gain
 abbrev pub framed : Source → ℕ → ℕ → Cpx
 framed s n i = mixed_by s.ports (λ port. sent_in_frame s.load port s.cell.now n i) s.gains
 
--- `samples` are those of the frame numbered `n`
+-- `samples` are the samples of frame `n`
 abbrev pub AreFrame : Source → ℕ → List Sample → Type 0
 AreFrame s n samples = (i : ℕ) → i < frame_length → slice_index_or samples i silence ≡ sample_of (framed s n i)
 
@@ -50,7 +50,7 @@ AreFrame s n samples = (i : ℕ) → i < frame_length → slice_index_or samples
 abbrev pub is_between : ℕ → ℕ → ℕ → Bool
 is_between first last i = nat_le first i && nat_lt i last
 
--- whether sample `i` of a frame lies in one of the two ranges of symbols
+-- whether sample `i` of a frame lies in either symbol range, from `first` to `last` or from `again` to `end`
 abbrev pub is_made_anew : Prefix → Symbols → ℕ → Bool
 is_made_anew prefix symbols i =
     is_between (first_sample prefix symbols.first) (first_sample prefix symbols.last) i
@@ -63,11 +63,11 @@ pub record AreSpans (prefix : Prefix) (symbols : Symbols) : Type 0 where
   pub end : symbols.again ≤ symbols.end
   pub most : symbols.end ≤ 20 * symbols_of_slot prefix
 
--- the two ranges of symbols contain each sample of a frame
+-- the two symbol ranges together contain each sample of a frame
 abbrev pub AreAll : Prefix → Symbols → Type 0
 AreAll prefix symbols = (i : ℕ) → i < frame_length → is_made_anew prefix symbols i ≡ true
 
--- outside the two ranges of symbols, the samples of every port are equal in all frames
+-- outside the two symbol ranges, the samples of every port are equal in all frames
 abbrev pub AreOwn : Carrier → Option ℕ → Symbols → Type 0
 AreOwn carrier load symbols =
     (port : Port) (plan : CellPlan) (a b i : ℕ) → port.carrier ≡ carrier → i < frame_length →
@@ -76,8 +76,8 @@ AreOwn carrier load symbols =
 
 -- ---- partially changed samples
 
--- Where `there` holds, `new` is the changed sample of `old`; elsewhere `new` and `old` are equal. Indices are those of
--- a frame.
+-- At the frame's indices where `there` holds, a sample in `new` is the changed sample of `old`; elsewhere `new` and
+-- `old` are equal.
 abbrev pub AreChanged : (ℕ → Bool) → (ℕ → Sample → Sample) → List Sample → List Sample → Type 0
 AreChanged there change old new =
     (i : ℕ) → i < frame_length →
@@ -88,7 +88,7 @@ AreChanged there change old new =
 abbrev pub added : Cpx → (ℕ → Cpx) → ℕ → Sample → Sample
 added gain values i before = sample_of (plus (value_of before) (times gain (values i)))
 
--- where `there` holds, sample plus value times `gain` fits 16 bits
+-- where `there` holds, the sample plus the value times `gain` fits 16 bits
 abbrev pub FitSamples : (ℕ → Bool) → Cpx → (ℕ → Cpx) → List Sample → Type 0
 FitSamples there gain values samples =
     (i : ℕ) → i < frame_length → there i ≡ true → IsWithin 32767 (plus (sample_at samples i) (times gain (values i)))

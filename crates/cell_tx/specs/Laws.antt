@@ -36,7 +36,7 @@ PrefixesRepeat =
     prefix_frame_sample prefix grid sfn (useful_start prefix 0 slot l - d)
     ≡ useful_at (grid sfn (slot / 2) (symbols_of_slot prefix * (slot % 2) + l)) (useful_length - d)
 
--- frame `j` of a sequence is the frame whose number is the first frame's number plus `j`, modulo 1024
+-- frame `j` of a sequence that begins with frame `sfn` has the number `sfn` plus `j`, modulo 1024
 abbrev pub FramesFollow : Type 0
 FramesFollow = (prefix : Prefix) (grid : Elements) (sfn j i : ℕ) → i < frame_length →
     prefix_sent prefix grid sfn (frame_length * j + i) ≡ prefix_frame_sample prefix grid ((sfn + j) % 1024) i
@@ -49,8 +49,8 @@ FramesBeginAtStart =
     prefix_sent prefix grid sfn (start_of offset + frame_length * j + i + offset)
     ≡ prefix_frame_sample prefix grid ((number_at_start sfn offset + j) % 1024) i
 
--- a resource element at any port, with or without load, has components with magnitudes of at most 127, and a magnitude
--- of at most 128
+-- a resource element at any port, with or without load, has components of magnitude at most 127 (`ElementsAreWithin`)
+-- and a magnitude of at most 128 (`ElementsAreSmall`)
 abbrev pub ElementsAreWithin : Type 0
 ElementsAreWithin =
     (load : Option ℕ) (port : Port) (plan : CellPlan) (sfn subframe symbol k : ℕ) →
@@ -82,15 +82,15 @@ values_with count values errors = values_below count (λ i. sample_of (plus (val
 abbrev pub received_with : (ℕ → Cpx) → ℕ → ℕ → Cpx → (ℕ → Cpx) → List Sample
 received_with sequence offset count gain errors = values_with count (λ i. times gain (sequence (i + offset))) errors
 
--- a sequence times a gain, plus any errors within the bound, is a clean recording
+-- a sequence times a gain, plus any errors of at most twice the gain's magnitude, is a clean recording
 abbrev pub ReceivedWithErrorsIsClean : Type 0
 ReceivedWithErrorsIsClean =
     (sequence : ℕ → Cpx) (offset count : ℕ) (gain : Cpx) (eps : ℕ) (errors : ℕ → Cpx) → IsOffset offset → IsGain gain →
     eps * eps ≤ 4 * square gain → ((i : ℕ) → i < count → IsWithin eps (errors i)) →
     IsCleanOf sequence (received_with sequence offset count gain errors) offset gain eps
 
--- if no sample of a sequence has a magnitude above 1,153, its samples times the gain, plus errors, have components of
--- at most 32,340 and fit 16 bits
+-- if a sample has a magnitude of at most 1,153, its product with the gain, plus an error of at most twice the gain's
+-- magnitude, has components of at most 32,340 and fits 16 bits
 abbrev pub ReceivedWithErrorsFits : Type 0
 ReceivedWithErrorsFits =
     (clean gain error : Cpx) (eps : ℕ) → square clean ≤ 1153 * 1153 → IsGain gain → eps * eps ≤ 4 * square gain →
@@ -109,7 +109,7 @@ abbrev pub received_of_two_with : (ℕ → Cpx) → (ℕ → Cpx) → ℕ → �
 received_of_two_with first second offset count gain other errors =
     values_with count (received_of_two first second offset gain other) errors
 
--- two sequences times their gains, plus any errors within the bound, are a clean recording of both
+-- two sequences times their gains, plus any errors that the gains allow (`IsAllowed`), are a clean recording of both
 abbrev pub ReceivedOfTwoIsClean : Type 0
 ReceivedOfTwoIsClean =
     (first second : ℕ → Cpx) (offset count : ℕ) (gain other : Cpx) (eps : ℕ) (errors : ℕ → Cpx) →
@@ -117,15 +117,15 @@ ReceivedOfTwoIsClean =
     IsAllowed gain other eps → ((i : ℕ) → i < count → IsWithin eps (errors i)) →
     IsCleanOfTwo first second (received_of_two_with first second offset count gain other errors) offset gain other eps
 
--- if no sample of two sequences has a magnitude above 1,153, the sum of their samples times the gains has components of
--- at most 32,284
+-- if two samples have magnitudes of at most 1,153, the sum of their products with the gains has components of at most
+-- 32,284
 abbrev pub ReceivedOfTwoIsSmall : Type 0
 ReceivedOfTwoIsSmall =
     (first second gain other : Cpx) → square first ≤ 1153 * 1153 → square second ≤ 1153 * 1153 → AreGains gain other →
     IsWithin 32284 (plus (times gain first) (times other second))
 
--- if no sample of two sequences has a magnitude above 1,153, the sum of their samples times the gains, plus errors, has
--- components of at most 32,293 and fits 16 bits
+-- if two samples have magnitudes of at most 1,153, the sum of their products with the gains, plus an error that the
+-- gains allow, has components of at most 32,293 and fits 16 bits
 abbrev pub ReceivedOfTwoFits : Type 0
 ReceivedOfTwoFits =
     (first second gain other error : Cpx) (eps : ℕ) →
@@ -135,7 +135,7 @@ ReceivedOfTwoFits =
 
 -- ---- transmission schemes
 
--- the samples of an emission plus any errors within the bound are a clean recording
+-- the samples of an emission plus any errors that the gains allow (`IsAllowedBy`) are a clean recording
 abbrev pub EmittedIsClean : Type 0
 EmittedIsClean =
     (carrier : Carrier) (load : Option ℕ) (plan : CellPlan) (sfn offset count : ℕ) (gains : List Cpx) (eps : ℕ)

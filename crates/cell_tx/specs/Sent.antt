@@ -1,5 +1,5 @@
 -- The samples that resource elements produce, frame after frame without end (TS 36.211 section 6.12, in integers), for
--- any elements and for a cell's own.
+-- any elements and for the elements of a cell's plan.
 use Rattle.std.specs.Prelude.{ℕ, ◌+◌, ◌-◌, ◌*◌, ◌/◌, ◌%◌, nat_lt, if◌then◌else◌, List}
 use Rattle.finite.specs.Lists.{values_below}
 use Rattle.cs_num.specs.declared.Cpx.{Cpx}
@@ -13,8 +13,8 @@ use Rattle.lte_types.specs.Timing.{number_of}
 use Rattle.cell_plan.specs.declared.cell.CellPlan.{CellPlan}
 use Rattle.cell_grid.specs.Grid.{Elements, element}
 
--- sample `i` of the symbol whose useful part begins at `start`; a sample of the cyclic prefix equals the useful sample
--- 128 later
+-- sample `i` of the symbol whose useful part begins at `start`; a cyclic prefix sample equals the useful sample 128
+-- samples later
 abbrev pub symbol_sample : (ℕ → Cpx) → ℕ → ℕ → Cpx
 symbol_sample useful start i = if nat_lt i start then useful (i + useful_length - start) else useful (i - start)
 

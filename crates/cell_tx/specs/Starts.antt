@@ -12,7 +12,7 @@ useful_place prefix i = (i + (useful_length - prefix.first) - symbol_step prefix
 abbrev pub first_in_slot : Prefix → ℕ → ℕ
 first_in_slot prefix l = if nat_eq l 0 then 0 else prefix.first - prefix.other + symbol_step prefix * l
 
--- the first sample of symbol `n` in a frame with 140 symbols, or 120 with the extended cyclic prefix; for the number
--- that follows the last symbol's, the frame's end
+-- the first sample of symbol `n` in a frame with 140 symbols, or 120 with the extended cyclic prefix; for the symbol
+-- number after the last, the frame's end
 abbrev pub first_sample : Prefix → ℕ → ℕ
 first_sample prefix n = slot_length * (n / symbols_of_slot prefix) + first_in_slot prefix (n % symbols_of_slot prefix)

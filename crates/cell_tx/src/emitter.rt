@@ -185,8 +185,8 @@ impl<'a> Emitter<'a> {
         }
     }
 
-    /// Computes the next piece of samples, up to the end of its frame or of the emission. Returns whether there was
-    /// such a piece.
+    /// Computes the next piece of samples, which ends with its frame or with the emission. Returns whether there was a
+    /// piece left.
     pub fn advance(&mut self) -> bool
         ensures samples { self.new.samples ≡ self.old.samples }
         ensures offset { self.new.offset ≡ self.old.offset }
@@ -241,8 +241,8 @@ pub(crate) fn put_all(mut emitter: Emitter, out: &mut [Sample])
     }
 }
 
-/// Writes all samples of `emission` to `out`, which must have the same length. Sample `i` is the sum over the ports of
-/// their sample `i + offset`, times the port's gain. Components have magnitudes of at most 32,284.
+/// Writes all samples of `emission` to `out`, which must have the same length. Sample `i` is the sum, over the ports,
+/// of sample `i + offset` times the port's gain. Components have magnitudes of at most 32,284.
 pub fn emit(emission: &Emission, out: &mut [Sample])
     requires { length out.old ≡ emission.now.samples }
     ensures samples { out.new ≡ emitted_samples emission.now }

@@ -73,8 +73,8 @@ fn channel_symbols(carrier: Carrier) -> Symbols
     }
 }
 
-/// Returns the symbols to compute anew when the buffer holds another frame: all symbols with load, and otherwise those
-/// that differ between frames.
+/// Returns the symbols to compute anew when the buffer holds another frame: all symbols with load, and otherwise the
+/// symbols that differ between frames.
 pub(crate) fn own_symbols(carrier: Carrier, load: Option<u32>) -> Symbols
     ensures order { AreSpans (prefix_of carrier) result }
     ensures own { AreOwn carrier load result }
@@ -215,7 +215,8 @@ fn add_between(signals: &Signals, gain: &Cpx, first: usize, last: usize, out: &m
     }
 }
 
-/// Adds the port's samples in the ranges `symbols` of a frame, times `gain`.
+/// Adds the port's samples in the ranges `symbols` of a frame, times `gain`. The sums must fit 16 bits, and the square
+/// of the gain's magnitude is at most 784.
 pub(crate) fn add_symbols(signals: &Signals, gain: &Cpx, symbols: &Symbols, out: &mut [Sample])
     requires order { AreSpans (port_prefix signals.now.port) symbols.now }
     requires gain { square gain.now ≤ 784 }

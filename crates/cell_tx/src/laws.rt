@@ -19,15 +19,15 @@ pub fn symbols_stand()
     ensures prefix { PrefixesRepeat }
 {}
 
-/// A law: frames follow each other in a sequence, and the first whole frame begins at the start sample when the
-/// recording begins inside a frame. This holds for any resource elements.
+/// A law: frames follow each other in a sequence, and in a recording that begins inside a frame, the first whole frame
+/// begins at the start sample. This holds for any resource elements.
 pub fn frames_stand()
     ensures follow { FramesFollow }
     ensures begin { FramesBeginAtStart }
 {}
 
-/// A law: resource elements at any port, with or without load, have magnitudes of at most 128, and the samples of a
-/// port have magnitudes of at most 1,153. (own amplitudes)
+/// A law: at any port, with or without load, resource elements have magnitudes of at most 128, and samples have
+/// magnitudes of at most 1,153. (own amplitudes)
 pub fn sizes()
     ensures within { ElementsAreWithin }
     ensures elements { ElementsAreSmall }
@@ -43,8 +43,8 @@ pub fn sent_is_clean()
     ensures exact { ReceivedIsClean }
 {}
 
-/// A law: two sequences times their gains, plus errors within the bound, are a clean recording; so is an emission. The
-/// recording fits 16 bits if no sample of the sequences exceeds magnitude 1,153.
+/// A law: two sequences times their gains, plus errors that the gains allow, are a clean recording; so is an emission.
+/// The recording fits 16 bits if no sample of the sequences exceeds magnitude 1,153.
 pub fn sum_is_clean()
     ensures errors { ReceivedOfTwoIsClean }
     ensures small { ReceivedOfTwoIsSmall }

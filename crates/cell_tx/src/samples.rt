@@ -103,7 +103,8 @@ pub fn sample(cell: &Cell, sfn: Sfn, i: u64) -> Sample
     port_sample(cell, ONLY, sfn, i)
 }
 
-/// Writes the 19,200 samples of frame `sfn` to `out`, for one antenna port: `sample` with the indices from 0.
+/// Writes the 19,200 samples of frame `sfn`, for one antenna port and the normal cyclic prefix, to `out`, which has
+/// room for 19,200: `sample` with the indices from 0.
 pub fn frame(cell: &Cell, sfn: Sfn, out: &mut [Sample])
     requires { length out.old ≡ frame_length }
     ensures { out.new ≡ frame_samples normal (element cell.now) sfn }
@@ -146,7 +147,7 @@ pub struct Sender<'a> {
     pub cell: &'a Cell,
     /// The antenna port that transmits.
     pub port: Port,
-    /// The number of the first frame, and the first transmitted sample in that frame.
+    /// The number of the first frame, and the first sample of this frame that is sent.
     pub timing: Timing,
     /// The number of the load in the resource elements that the plan leaves open, or `None` for no load.
     pub load: Option<u32>,

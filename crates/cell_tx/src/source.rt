@@ -53,7 +53,7 @@ impl<'a> Source<'a> {
         }
     }
 
-    /// Returns the source of one port's samples times `gain`, `samples` in number.
+    /// Returns a source of the first `samples` samples of one port's signal, times `gain`.
     pub(crate) fn of_port(sender: &Sender<'a>, gain: Cpx, samples: usize) -> Source<'a>
         requires samples { samples ≤ most_samples }
         requires gain { square gain ≤ 784 }

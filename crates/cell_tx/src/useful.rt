@@ -24,7 +24,7 @@ fn symbol_of(port: Port, slot: u8, symbol: u8) -> u8
     }
 }
 
-/// Returns the 128 samples of the useful part of symbol `symbol` in slot `slot` of the frame.
+/// Returns the useful part, 128 samples, of symbol `symbol` in slot `slot` of the frame.
 pub(crate) fn useful_of(signals: &Signals, slot: u8, symbol: u8) -> [Cpx; USEFUL_LENGTH]
     requires slot { slot < 20 }
     requires symbol { symbol < port_symbols signals.now.port }
