@@ -45,7 +45,7 @@ control_word plan sfn = with_check_16 system_information_rnti (sent_word (grant_
 
 -- ---- the transmitted grant
 
--- the resource elements of control channel elements 0 to 3; a cell transmits no others (own)
+-- the resource elements of control channel elements 0 to 3; a cell transmits no other control channel elements (own)
 abbrev pub control_places : CellPlan → List Place
 control_places plan =
     candidate_places plan.identity (pdcch_groups plan.identity plan.cfi plan.duration plan.resource)

@@ -136,7 +136,7 @@ system_value port plan sfn subframe symbol k =
     else (if is_shared port plan sfn subframe symbol k then shared_value port plan sfn symbol k
     else nothing))
 
--- the value of the first channel that occupies a resource element (PBCH, PCFICH, PDCCH, PDSCH), or 0 if there is none
+-- the value of the first channel that occupies a resource element (PBCH, PCFICH, PDCCH, PDSCH), or 0 if no channel does
 unfoldable pub port_channel_value : Port → CellPlan → ℕ → ℕ → ℕ → ℕ → Cpx
 port_channel_value port plan sfn subframe symbol k =
     if has_broadcast port plan.identity subframe symbol k then broadcast_value port plan sfn symbol k

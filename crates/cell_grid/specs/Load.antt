@@ -1,5 +1,5 @@
--- The resource elements that a plan uses, and the load on the others: pseudo-random QPSK symbols that imitate a live
--- cell's traffic. (own)
+-- The resource elements that a plan uses, and the load on the other elements: pseudo-random QPSK symbols that imitate a
+-- live cell's traffic. (own)
 use Rattle.std.specs.Prelude.{ℕ, ◌+◌, ◌-◌, ◌*◌, ◌%◌, ◌^◌, Bool, not, ◌&&◌, ◌||◌, nat_eq, if◌then◌else◌, Option}
 use Rattle.std.specs.Prelude.{Some, None}
 use Rattle.cs_num.specs.declared.Cpx.{Cpx}

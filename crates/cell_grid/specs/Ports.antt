@@ -75,12 +75,14 @@ port_mask port = mask_by port.carrier
 
 -- ---- transmitted values
 
--- the second port's symbol `i` under transmit diversity: for a pair x, y the port transmits -conj(y), conj(x)
+-- the second port's symbol `i` under transmit diversity (TS 36.211 section 6.3.4.3): for a pair x, y the port transmits
+-- -conj(y), conj(x)
 abbrev pub crossed_point : (ℕ → Cpx) → ℕ → Cpx
 crossed_point points i =
     if nat_eq (i % 2) 0 then negated (conjugate (points (i + 1))) else conjugate (points (i - 1))
 
--- the symbol `i` of a port: unchanged for ports below `half`, and the crossed symbol for the others
+-- symbol `i` of port `number` under transmit diversity: unchanged for ports below `half`, and the crossed symbol for
+-- the other ports
 abbrev pub paired_point : ℕ → ℕ → (ℕ → Cpx) → ℕ → Cpx
 paired_point half number points i = if nat_lt number half then points i else crossed_point points i
 

@@ -88,14 +88,14 @@ system_if port plan sfn subframe symbol k =
     else (if is_control plan sfn subframe symbol k then Some (control_value port plan sfn symbol k)
     else (if is_shared port plan sfn subframe symbol k then Some (shared_value port plan sfn symbol k) else None))
 
--- the value of the first channel that occupies a resource element, or `None` if there is none
+-- the value of the first channel that occupies a resource element, or `None` if no channel does
 abbrev pub channel_if : Port → CellPlan → ℕ → ℕ → ℕ → ℕ → Option Cpx
 channel_if port plan sfn subframe symbol k =
     if has_broadcast port plan.identity subframe symbol k then Some (broadcast_value port plan sfn symbol k)
     else (if has_control port then system_if port plan sfn subframe symbol k else None)
 
--- the value at a resource element without signal and channel: load, if there is any, except in synchronisation signal
--- symbols
+-- the value at a resource element without signal and channel: the load's symbol, or 0 without load and in the
+-- synchronisation signals' symbols
 abbrev pub open_value : Option ℕ → Port → ℕ → ℕ → ℕ → ℕ → Cpx
 open_value None port sfn subframe symbol k = nothing
 open_value (Some load) port sfn subframe symbol k =

@@ -121,8 +121,8 @@ fn system_at(signals: &Signals, subframe: u8, here: Place) -> Option<Cpx>
     shared_at(signals, subframe, here)
 }
 
-/// Returns the value of the first channel that occupies resource element `here`, or `None` if no channel does: PBCH,
-/// then PCFICH, PDCCH and PDSCH.
+/// Returns the value of the first channel that occupies resource element `here` (PBCH, PCFICH, PDCCH, PDSCH), or `None`
+/// if no channel does.
 pub(crate) fn channel_at(signals: &Signals, subframe: u8, here: Place) -> Option<Cpx>
     requires subframe { subframe < 10 }
     requires symbol { here.symbol < 14 }

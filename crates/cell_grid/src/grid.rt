@@ -343,8 +343,8 @@ fn element_of(
     }
 }
 
-/// Returns the values of the 72 resource elements in symbol `symbol` of `subframe`, by subcarrier (TS 36.211 section
-/// 6.2).
+/// Returns the values of the 72 resource elements in symbol `symbol` of `subframe`, in order of subcarrier (TS 36.211
+/// section 6.2).
 pub fn grid_of(signals: &Signals, subframe: u8, symbol: u8) -> [Cpx; SUBCARRIERS]
     requires subframe { subframe < 10 }
     requires symbol { symbol < 2 * port_symbols signals.now.port }
