@@ -24,8 +24,8 @@ pub record AreGains (first second : Cpx) : Type 0 where
   pub least : 1 ≤ square first
   pub most : square first + square second ≤ 392
 
--- Errors whose components have magnitude `eps` are allowed: the square of `eps` is at most a quarter of the sum of both
--- gains' squared magnitudes, and at most four times the squared magnitude of the first gain.
+-- Errors whose components have magnitudes up to `eps` are allowed: `eps`^2 is at most a quarter of both gains' summed
+-- squared magnitudes, and at most four times the first gain's squared magnitude.
 pub record IsAllowed (first second : Cpx) (eps : ℕ) : Type 0 where
   pub both : 4 * (eps * eps) ≤ square first + square second
   pub one : eps * eps ≤ 4 * square first
@@ -45,8 +45,8 @@ pub record AreGainsOfFour (gains : List Cpx) : Type 0 where
 abbrev pub HavePairs : List Cpx → Type 0
 HavePairs gains = ArePaired (value_at gains)
 
--- Errors whose components have magnitude `eps` are allowed: the square of `eps` is at most 1/64 of the power, so `eps`
--- is 0 or 1. Also, no transmit diversity pair of ports is weak.
+-- Errors whose components have magnitudes up to `eps` are allowed: `eps`^2 is at most 1/64 of the power. Also, no
+-- transmit diversity pair of ports is weak.
 pub record IsAllowedOfFour (gains : List Cpx) (eps : ℕ) : Type 0 where
   pub pairs : HavePairs gains
   pub quiet : 64 * (eps * eps) ≤ power_of_four gains
@@ -58,7 +58,7 @@ abbrev pub ByPorts : Carrier → Type 0 → Type 0 → Type 0 → Type 0
 ByPorts carrier One Two Four =
     MatchBool (nat_eq (ports_of carrier) 1) One (MatchBool (nat_eq (ports_of carrier) 2) Two Four)
 
--- the power of the gains of a transmission scheme's ports: the sum of their squared magnitudes
+-- the power of a transmission scheme's gains: the sum of the squared magnitudes for its ports
 abbrev pub power_of : Carrier → List Cpx → ℕ
 power_of carrier gains = total_below (ports_of carrier) (λ port. square (value_at gains port))
 

@@ -39,7 +39,8 @@ abbrev pub IsSendable : CellPlan → Type 0
 IsSendable plan = IsSendableWith (is_resolvable plan ≡ true) plan
 
 -- Two antenna ports must send each coded bit of a transport block, in the resource elements that neither port's
--- reference signals occupy. With the extended cyclic prefix, or four ports, no transport block is sent.
+-- reference signals occupy. With the extended cyclic prefix, or four ports, no transport block is sent; with one port,
+-- the bits that are sent need only resolve the block.
 abbrev pub needs_each_bit : Carrier → Bool
 needs_each_bit carrier = has_control_by carrier && nat_eq (ports_of carrier) 2
 
@@ -64,7 +65,7 @@ conditions_with enough plan =
     ∷ condition (text_fits plan) Sib1Long
     ∷ []
 
--- A transmission scheme sends enough of the plan's transport block: each coded bit, if the scheme must send each.
+-- A transmission scheme sends enough of the plan's transport block. With two antenna ports that is each coded bit.
 -- Otherwise one antenna port sends each coded bit, or the plan has a block that the sent bits resolve.
 abbrev pub is_enough : Carrier → CellPlan → Bool
 is_enough carrier plan =

@@ -44,8 +44,8 @@ shared_word plan = with_check_24 (filled (block_size plan) (system_text plan))
 unfoldable pub row_with : ℕ → Row
 row_with k = slice_index_or rows (position_or_len (λ r. nat_eq r.k k) rows) (row k 0 0)
 
--- whether the bits of SIB1 fit in the transport block; the plan has a block if SIB1 also has neither TDD-Config nor an
--- extension
+-- whether the bits of SIB1 fit in the transport block, or false if SIB1 has no encoding; the plan has a block
+-- (`has_block`) if SIB1 also has neither TDD-Config nor an extension
 abbrev pub text_fits : CellPlan → Bool
 text_fits plan = option_map_or (λ text. nat_le (length text) (block_size plan)) (text_of plan.sib1) false
 
@@ -58,7 +58,7 @@ has_block plan = (is_none plan.sib1.tdd && not plan.sib1.extended) && text_fits 
 unfoldable pub shared_coded : CellPlan → List (List Bool)
 shared_coded plan = coded (row_with (checked_size plan)) (shared_word plan)
 
--- the block size K and the three streams of `word` are those of the plan's encoded transport block
+-- the block size K and the three streams of `word` are the plan's: K is the transport block size with its CRC
 pub record IsCoded (plan : CellPlan) (word : Coded) : Type 0 where
   pub size : IsSize word.k
   pub k : word.k ≡ checked_size plan
@@ -66,7 +66,7 @@ pub record IsCoded (plan : CellPlan) (word : Coded) : Type 0 where
 
 -- ---- the sent part of the block
 
--- the number of bits that the assigned resource blocks carry: two for each resource element that the shared channel has
+-- the number of bits that the assigned resource blocks carry: two for each PDSCH resource element
 abbrev pub assigned_bits_of : Carrier → CellPlan → ℕ
 assigned_bits_of carrier plan = 2 * (block_places_of carrier plan.cfi * plan.blocks)
 

@@ -212,9 +212,9 @@ impl Cell {
     ghost use Rattle.cell_plan.specs.Plan.{IsSendable, IsSendableBy, plan_refusal, refusal_of};
     ghost use Rattle.cell_plan.specs.Transport.{IsCoded};
 
-    /// Creates the cell of `plan` for `carrier`, or returns the error of the first failed condition, in the order of
-    /// `CellError`'s variants. With the extended cyclic prefix or four antenna ports, the conditions are those for one
-    /// port. (own)
+    /// Creates the cell of `plan` for `carrier`. If a condition fails, returns the first such condition's error, in
+    /// `CellError`'s order. With the extended cyclic prefix or four antenna ports, the conditions for one port apply.
+    /// (own)
     pub fn of(carrier: Carrier, plan: CellPlan) -> Result<Cell, CellError>
         requires { IsValid plan.sib1 }
         ensures refusal { MatchResult result (λ _. refusal_of carrier plan ≡ None)

@@ -8,7 +8,7 @@ use crate::Cell;
 use cs_num::Cpx;
 use lte_types::{Carrier, Timing};
 
-/// A cell's transmission: `samples` samples from `timing`, the sum over the antenna ports of their signals times their
+/// A cell's transmission: `samples` samples from `timing`, each the sum of the antenna ports' samples times their
 /// gains. (own)
 #[derive(Debug, Drop)]
 pub struct Emission {
@@ -16,7 +16,7 @@ pub struct Emission {
     pub cell: Cell,
     /// The transmission scheme: the cyclic prefix and the antenna ports.
     pub carrier: Carrier,
-    /// The first frame number, and the offset in samples at which sending begins in that frame.
+    /// The number of the first frame, and the first sample of this frame that is sent.
     pub timing: Timing,
     /// The number of samples, 57,600 to 1,920,000.
     pub samples: u32,

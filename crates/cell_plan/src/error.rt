@@ -35,10 +35,10 @@ pub enum CellError {
     /// 7.1.7.2).
     Mcs,
     /// The resource blocks carry each coded bit at least once. Except with two antenna ports, it is also enough that
-    /// the bits which they carry resolve the transport block for each redundancy version (`erasure::fills`). A resource
-    /// block carries 204 bits with `cfi` 2 and 180 with `cfi` 3, or 192 and 168 with two antenna ports. A transport
-    /// block of n bits and its CRC have 3 (n + 24) + 12 coded bits. A block can be resolved only in a plan that meets
-    /// the next three conditions.
+    /// the carried bits resolve the transport block for each redundancy version (`erasure::fills`). A resource block
+    /// carries 204 bits with `cfi` 2 and 180 with `cfi` 3, or 192 and 168 with two antenna ports. A transport block of
+    /// n bits and its CRC have 3 (n + 24) + 12 coded bits. A block can be resolved only in a plan that meets the next
+    /// three conditions.
     Punctured,
     /// SIB1 has no TDD-Config (TS 36.331 section 6.2.2), since cells are FDD.
     Duplex,

@@ -63,8 +63,8 @@ pub(crate) fn coded_block(text: &[bool], size: u16) -> Coded
     encode(&checked_block(text, size)[..size as usize + 24], row)
 }
 
-/// Returns whether, for each redundancy version, `count` bits resolve a transport block of `size` bits, which is `text`
-/// followed by zeros, with its CRC. The interleaver table must have a row for `size + 24`.
+/// Returns whether, for each redundancy version, the first `count` bits after rate matching resolve the transport block
+/// of `size` bits: `text`, zeros, and its CRC. The interleaver table must have a row for `size + 24`.
 pub(crate) fn block_fills(text: &[bool], size: u16, count: u16) -> bool
     requires size { IsSize (size + 24) }
     requires room { size ≤ 1000 }
