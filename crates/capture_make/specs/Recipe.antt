@@ -95,7 +95,7 @@ gains_of_four n =
     ∷ record { re = pos (n % 3) -ℤ pos 1; im = neg_ℤ (pos 4) }
     ∷ []
 
--- the gains in recording `n` for a number of ports, with zeros up to four
+-- the four gains in recording `n` for `ports` antenna ports, 1, 2 or 4, with 0 for ports beyond `ports`
 abbrev pub gains_of_ports : ℕ → ℕ → List Cpx
 gains_of_ports ports n =
     if nat_eq ports 1 then gain n ∷ nothing ∷ nothing ∷ nothing ∷ []
@@ -104,7 +104,7 @@ gains_of_ports ports n =
 abbrev pub gains : Carrier → ℕ → List Cpx
 gains carrier n = gains_of_ports (ports_of carrier) n
 
--- the error bound: the maximum that a clean recording with gains `gains` allows
+-- `bound` is the error bound: the maximum that a clean recording with gains `gains` allows
 pub record IsBoundBy (carrier : Carrier) (gains : List Cpx) (bound : ℤ) : Type 0 where
   pub within : IsAllowedBy carrier gains (nat_abs bound)
   pub greatest : (m : ℕ) → IsAllowedBy carrier gains m → pos m ≤ℤ bound

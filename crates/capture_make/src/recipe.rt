@@ -199,7 +199,7 @@ pub fn gains(carrier: Carrier, n: u32) -> [Cpx; 4]
     }
 }
 
-/// Returns the number of the first frame of recording `n`, and the sample of that frame at which the recording begins.
+/// Returns the number of recording `n`'s first frame, and the sample of this frame at which the recording begins.
 pub fn timing(n: u32) -> Timing
     ensures number { result.sfn ≡ number n }
     ensures offset { result.offset ≡ offset n }
