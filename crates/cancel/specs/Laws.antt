@@ -20,17 +20,19 @@ pub record IsGainSeen (eps : ℕ) (gain : Cpx) (samples signal : ℕ → Cpx) : 
   pub power : 1990000 ≤ energy_below useful_length signal
   pub near : (n : ℕ) → n < useful_length → IsWithin eps (minus (samples n) (times gain (signal n)))
 
--- if 128 samples are a signal times a gain, plus small errors, the estimate has a distance of at most 1 from the gain
+-- if 128 samples are a signal times a gain, plus errors up to twice the gain's magnitude (`IsGainSeen`), the estimate
+-- has a distance of at most 1 from the gain
 abbrev pub EstimateIsNear : Type 0
 EstimateIsNear = (eps : ℕ) (gain : Cpx) (samples signal : ℕ → Cpx) → IsGainSeen eps gain samples signal →
     square (minus gain (estimate samples signal)) ≤ 1
 
--- if 128 samples are a signal times a gain, plus small errors, the gain is a candidate near the estimate
+-- if 128 samples are a signal times a gain, plus errors up to twice the gain's magnitude (`IsGainSeen`), the gain is a
+-- candidate near the estimate
 abbrev pub GainIsCandidate : Type 0
 GainIsCandidate = (eps : ℕ) (gain : Cpx) (samples signal : ℕ → Cpx) → IsGainSeen eps gain samples signal →
     IsCandidate (estimate samples signal) gain
 
--- the largest residual component of the best candidate does not exceed that of any other candidate
+-- the largest residual component of the best candidate does not exceed any other candidate's largest residual component
 abbrev pub BestLeavesLeast : Type 0
 BestLeavesLeast =
     (count : ℕ) (left : Cpx → ℕ → Cpx) (middle best gain : Cpx) (bound : ℕ) →
@@ -43,15 +45,15 @@ abbrev pub IsSomeSubtraction : Type 0
 IsSomeSubtraction = (recording : List Sample) (plan : CellPlan) (start number : ℕ) →
     (answer : Option Subtracted) × IsSubtraction recording plan start number answer
 
--- if the recording is clean for a cell with load, the residual does not exceed the residual for the true gain, provided
--- that the latter is at most 32,767
+-- if the recording is clean for a cell with load, no residual component exceeds a bound, at most 32,767, that none
+-- exceeds for the true gain
 abbrev pub AnswerTakesLoadedOff : Type 0
 AnswerTakesLoadedOff =
     (recording : List Sample) (plan : CellPlan) (start number : ℕ) (answer : Option Subtracted) →
     IsRecording recording → IsSubtraction recording plan start number answer →
     TakesLoadedOff recording plan start number answer
 
--- if the recording is clean for a cell without load, the residual does not exceed the errors
+-- if the recording is clean for a cell without load, no residual component exceeds the error bound `eps`
 abbrev pub AnswerTakesCleanOff : Type 0
 AnswerTakesCleanOff =
     (recording : List Sample) (plan : CellPlan) (start number : ℕ) (answer : Option Subtracted) →

@@ -78,9 +78,9 @@ pub record IsLeftWithin (eps : ℕ) (taken : Subtracted) : Type 0 where
   pub greatest : taken.greatest ≤ eps
   pub each : (i : ℕ) → i < length taken.residue → IsWithin eps (sample_at taken.residue i)
 
--- If the recording is clean for the cell, which may carry load, and `start` and `number` are those of its first frame,
--- the cell is cancelled. No residual component exceeds `most`, if none exceeds `most` for the true gain, and `most` is
--- at most 32,767.
+-- If the recording is clean for the cell, which may carry load, and `start` and `number` are the start and number of
+-- its first whole frame, the cell is cancelled. No residual component exceeds `most`, if none exceeds `most` for the
+-- true gain, and `most` is at most 32,767.
 abbrev pub TakesLoadedOff : List Sample → CellPlan → ℕ → ℕ → Option Subtracted → Type 0
 TakesLoadedOff recording plan start number answer =
     (grid : Elements) (sfn offset : ℕ) (gain : Cpx) (eps most : ℕ) → IsLoaded recording plan grid sfn offset gain eps →
@@ -89,8 +89,8 @@ TakesLoadedOff recording plan start number answer =
     ((i : ℕ) → i < length recording → IsWithin most (left_at recording plan start number gain i)) →
     IsSomeAnd answer (IsLeftWithin most)
 
--- If the recording is clean for the cell, without load, and `start` and `number` are those of its first frame, the cell
--- is cancelled, and the residual does not exceed the errors.
+-- If the recording is clean for the cell, without load, and `start` and `number` are the start and number of its first
+-- whole frame, the cell is cancelled, and no residual component exceeds `eps`.
 abbrev pub TakesCleanOff : List Sample → CellPlan → ℕ → ℕ → Option Subtracted → Type 0
 TakesCleanOff recording plan start number answer =
     (sfn offset : ℕ) (gain : Cpx) (eps : ℕ) → IsClean recording plan sfn offset gain eps → start ≡ start_of offset →

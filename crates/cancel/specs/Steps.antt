@@ -13,7 +13,7 @@ use Rattle.cancel.specs.Residue.{power_of}
 use Rattle.cancel.specs.declared.choosing.GainChoice.{GainChoice}
 use Rattle.cancel.specs.Gain.{IsCandidate, GoesBefore, IsBest, greatest_below}
 
--- gain `i` of the 25 whose components differ by at most 2 from those of `middle`, ordered by real part, then by
+-- gain `i` of 25, whose components differ from the components of `middle` by at most 2, ordered by real part, then by
 -- imaginary part
 abbrev pub around : Cpx → ℕ → Cpx
 around middle i = record { re = middle.re +ℤ (pos (i / 5) -ℤ pos 2); im = middle.im +ℤ (pos (i % 5) -ℤ pos 2) }
@@ -27,15 +27,16 @@ pub record IsBestBefore (greatest : Cpx → ℕ) (middle : Cpx) (n : ℕ) (choic
   pub first : (j : ℕ) → j < n → IsCandidate middle (around middle j) → GoesBefore greatest choice.gain (around middle j)
   pub leaves : choice.greatest ≡ greatest choice.gain
 
--- a residual's largest component `left` is at or above the limit, if there is a limit, so the search skips its gain
+-- the search skips a gain whose largest residual component is `left`: there is a `limit`, and `left` is not below it
 abbrev pub IsPast : Option ℕ → ℕ → Type 0
 IsPast limit left = MatchOption limit ⊥ (λ end. end ≤ left)
 
--- if there is a limit, `middle` is a candidate, and its largest residual component is below the limit
+-- if there is a `limit`, `middle` is a candidate, and its largest residual component is below `limit`
 abbrev pub IsLimit : (Cpx → ℕ) → Cpx → Option ℕ → Type 0
 IsLimit greatest middle limit = IfSome limit (λ end. IsCandidate middle middle × (greatest middle < end))
 
--- the best candidate among the first `n` gains, or `None` if no candidate among them is below the limit
+-- the best candidate among the first `n` gains, or `None` if no candidate among them has a largest residual component
+-- below `limit`
 abbrev pub IsFoundBefore : (Cpx → ℕ) → Cpx → Option ℕ → ℕ → Option GainChoice → Type 0
 IsFoundBefore greatest middle limit n (Some choice) = IsBestBefore greatest middle n choice
 IsFoundBefore greatest middle limit n None =
@@ -46,18 +47,19 @@ abbrev pub IsChosen : (Cpx → ℕ) → Cpx → Option GainChoice → Type 0
 IsChosen greatest middle (Some choice) = IsBest greatest middle choice.gain × (choice.greatest ≡ greatest choice.gain)
 IsChosen greatest middle None = (gain : Cpx) → IsCandidate middle gain → ⊥
 
--- the bound that a better gain's largest residual component must stay below: the best gain's component so far, or else
--- the limit
+-- the bound that a better gain's largest residual component must stay below: the largest residual component of the best
+-- gain so far, or `limit` if there is no such gain
 abbrev pub end_of : Option ℕ → Option GainChoice → Option ℕ
 end_of limit None = limit
 end_of limit (Some found) = Some found.greatest
 
--- `choice`, if its largest residual component is below the bound, or if there is no bound
+-- `choice`, if its largest residual component is below the bound or there is no bound, and otherwise `None`
 abbrev pub choice_below : Option ℕ → GainChoice → Option GainChoice
 choice_below None choice = Some choice
 choice_below (Some end) choice = if nat_lt choice.greatest end then Some choice else None
 
--- the better choice: `choice` only if its residual is smaller than that of `found`, and otherwise `found`
+-- the better choice: `choice` if its largest residual component is below `found`'s, or below `limit` if nothing was
+-- found, and otherwise `found`
 abbrev pub better_choice : Option ℕ → Option GainChoice → GainChoice → Option GainChoice
 better_choice limit found choice = option_or (choice_below (end_of limit found) choice) found
 

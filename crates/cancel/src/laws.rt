@@ -3,8 +3,8 @@
 ghost use Rattle.cancel.specs.Laws.{EstimateIsNear, GainIsCandidate, BestLeavesLeast, IsOneBest, IsOneSubtraction};
 ghost use Rattle.cancel.specs.Laws.{IsSomeSubtraction, AnswerTakesLoadedOff, AnswerTakesCleanOff};
 
-/// A law: if 128 samples are a known signal times a gain of magnitude 1 to 28, plus errors up to twice that magnitude,
-/// the gain is a candidate, and the best candidate's residual is no larger. (own)
+/// A law: if 128 samples are a known signal times a gain of magnitude 1 to 28, with errors as in `IsGainSeen`, the gain
+/// is a candidate. The best candidate has the smallest residual. (own)
 pub fn clean_gain_is_candidate()
     ensures near { EstimateIsNear }
     ensures candidate { GainIsCandidate }

@@ -5,9 +5,10 @@
 //! component magnitude. Among equals, the candidate with the lowest real part is used, and then the one with the lowest
 //! imaginary part.
 //!
-//! In a clean recording, the samples are those of the cell times a gain, with each component off by at most twice the
-//! gain's magnitude. The residual then does not exceed the errors (`clean`). If the cell also carries load, the
-//! residual does not exceed the residual for the true gain, provided that this residual is at most 32,767 (`loaded`).
+//! In a clean recording, the samples are the cell's samples times a gain, with each component off by at most twice the
+//! gain's magnitude. The residual then does not exceed the error bound (`clean`). If the cell also carries load, the
+//! residual does not exceed the residual for the true gain, provided that the true gain's residual is at most 32,767
+//! (`loaded`).
 //!
 //! Tests: the crate `list_tests`, in `taken_off.rt`.
 #![tactic(auto)]
