@@ -37,8 +37,8 @@ pub record TakesOneOf (recording : List Sample) (entries : List Entry) (round : 
   pub id : round.id ≡ entry.id
   pub taken : IsTakenOff recording entry round.taken
 
--- `list` has an entry for the cell of `plan`, and the first of `rounds` cancels that cell or one listed before it; if
--- no cell listed before it can be cancelled, the round cancels the cell of `plan`
+-- `list` has an entry for the cell of `plan`, and the first of `rounds` cancels this cell or a cell listed before it;
+-- if no cell listed before it can be cancelled, the round cancels the cell of `plan`
 pub record IsTakenFirst (recording : List Sample) (list : List Entry) (rounds : List Round) (plan : CellPlan)
     (start number most : ℕ) : Type 0 where
   pub before : List Entry
@@ -54,8 +54,8 @@ pub record IsTakenFirst (recording : List Sample) (list : List Entry) (rounds : 
 
 -- ---- laws
 
--- if a recording is clean for a cell that can be sent, the first round cancels that cell or one listed before it; if it
--- cancels that cell, no component of the residual exceeds the noise bound `eps`
+-- if a recording is clean for a cell that can be sent, the first round cancels this cell or a cell listed before it; if
+-- it cancels this cell, no residual component exceeds the noise bound `eps`
 abbrev pub CleanCellIsTakenFirst : Type 0
 CleanCellIsTakenFirst =
     (recording : List Sample) (rounds : Rounds) (plan : CellPlan) (sfn offset : ℕ) (gain : Cpx) (eps : ℕ) →
@@ -63,9 +63,9 @@ CleanCellIsTakenFirst =
     IsClean recording plan sfn offset gain eps →
     IsTakenFirst recording rounds.first rounds.taken.items plan (start_of offset) (number_at_start sfn offset) eps
 
--- if a recording is clean except for load, for a cell that can be sent, the first round cancels that cell or one listed
--- before it; if it cancels that cell, the residual does not exceed `most`, any bound up to 32,767 on the residual for
--- the true gain
+-- if a recording is clean except for load, for a cell that can be sent, the first round cancels this cell or a cell
+-- listed before it; if it cancels this cell, no residual component exceeds `most`, a bound up to 32,767 that holds for
+-- the true gain's residual
 abbrev pub LoadedCellIsTakenFirst : Type 0
 LoadedCellIsTakenFirst =
     (recording : List Sample) (rounds : Rounds) (plan : CellPlan) (grid : Elements) (sfn offset : ℕ) (gain : Cpx)
@@ -75,8 +75,8 @@ LoadedCellIsTakenFirst =
     IsWithin most (left_at recording plan (start_of offset) (number_at_start sfn offset) gain i)) →
     IsTakenFirst recording rounds.first rounds.taken.items plan (start_of offset) (number_at_start sfn offset) most
 
--- if a residual is clean for a cell that can be sent, the next round cancels that cell or one listed before it; if it
--- cancels that cell, no component of the new residual exceeds `eps`
+-- if a residual is clean for a cell that can be sent, the next round, if one is left, cancels this cell or a cell
+-- listed before it; if it cancels this cell, no component of the new residual exceeds `eps`
 abbrev pub CleanCellIsTakenNext : Type 0
 CleanCellIsTakenNext =
     (most : ℕ) (recording : List Sample) (list : List Entry) (rounds : List Round) (ended : Bool) (plan : CellPlan)

@@ -29,8 +29,8 @@ pub record IsRoundIn (recording : List Sample) (list : List Entry) (rounds : Lis
   pub residue : recording_after (suc n) recording rounds ≡ round.taken.residue
   pub listed : IsListOfCells round.taken.residue (list_after (suc n) list rounds)
 
--- the rounds in plain words: at most `most` rounds cancel a cell. There are fewer than `most` exactly if `ended` is
--- true, and then no entry in the last list can be cancelled
+-- the rounds in plain words: at most `most` rounds each cancel a cell of the previous list. There are fewer than `most`
+-- exactly if `ended` is true, and then no entry in the last list can be cancelled
 pub record AreInPlainWords (most : ℕ) (recording : List Sample) (list : List Entry) (rounds : List Round)
     (ended : Bool) : Type 0 where
   pub few : length rounds ≤ most

@@ -34,15 +34,15 @@ pub record IsRound (recording : List Sample) (list : List Entry) (round : Round)
   pub id : round.id ≡ entry.id
   pub listed : IsListOfCells round.taken.residue round.list
 
--- a sequence of rounds, at most the given number, each on the previous residual and its list. The sequence ends early,
--- and `ended` is true, if no entry can be cancelled
+-- a sequence of at most as many rounds as the first argument states, each on the previous residual and its list.
+-- `ended` is true exactly if there are fewer rounds: then no entry of the last list can be cancelled
 abbrev pub AreRounds : ℕ → List Sample → List Entry → List Round → Bool → Type 0
 AreRounds zero recording list rounds ended = (rounds ≡ []) × (ended ≡ false)
 AreRounds (suc most) recording list [] ended = (ended ≡ true) × NoneIsTakenOff recording list
 AreRounds (suc most) recording list (round ∷ rest) ended =
     IsRound recording list round × AreRounds most round.taken.residue round.list rest ended
 
--- `rounds` is the cell list of `recording` and at most four rounds
+-- `rounds` contains the cell list of `recording` and at most four rounds
 pub record IsCancelled (recording : List Sample) (rounds : Rounds) : Type 0 where
   pub listed : IsListOfCells recording rounds.first
   pub follow : AreRounds 4 recording rounds.first rounds.taken.items rounds.ended

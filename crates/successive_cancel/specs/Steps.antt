@@ -6,12 +6,12 @@ use Rattle.cancel.specs.declared.subtracted.Subtracted.{Subtracted}
 use Rattle.successive_cancel.specs.declared.round.Round.{Round}
 use Rattle.successive_cancel.specs.Rounds.{IsTakenOff, NoneIsTakenOff, IsRound}
 
--- the result of cancelling an entry's cell; none if the cell cannot be cancelled
+-- the result of cancelling an entry's cell, or `None` if the cell cannot be cancelled
 abbrev pub IsTakenIf : List Sample → Entry → Option Subtracted → Type 0
 IsTakenIf recording entry (Some taken) = IsTakenOff recording entry taken
 IsTakenIf recording entry None = (taken : Subtracted) → IsTakenOff recording entry taken → ⊥
 
--- the next round; none if no entry in the list can be cancelled
+-- the next round, or `None` if no entry in `list` can be cancelled
 abbrev pub IsNextRound : List Sample → List Entry → Option Round → Type 0
 IsNextRound recording list (Some round) = IsRound recording list round
 IsNextRound recording list None = NoneIsTakenOff recording list

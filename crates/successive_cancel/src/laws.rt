@@ -6,14 +6,14 @@ ghost use Rattle.successive_cancel.specs.Laws.{RoundsInPlainWords};
 use cancel::{answer_leaves_errors, some_answer};
 use clean_air::{one_plan, open_places_are_silent, sent_entry_has_plan};
 
-/// A law: at most four rounds cancel a cell, each from the previous list. There are fewer than four exactly if no entry
-/// in the last list can be cancelled.
+/// A law: at most four rounds cancel a cell, each from the previous list. If there are fewer than four, no entry in the
+/// last list can be cancelled, and `ended` is true; otherwise `ended` is false.
 pub fn rounds_in_plain_words()
     ensures { RoundsInPlainWords }
 {}
 
-/// A law: the first round in a clean recording cancels its cell or one listed before it, and so does each later round
-/// after a clean residual. The crate's documentation bounds the residuals. (own)
+/// A law: the first round in a clean recording cancels its cell or a cell listed before it, and so does each later
+/// round after a clean residual. The crate's documentation bounds the residuals. (own)
 pub fn clean_cell_is_taken_first()
     ensures clean { CleanCellIsTakenFirst }
     ensures loaded { LoadedCellIsTakenFirst }

@@ -9,7 +9,7 @@ use lte_types::CellId;
 pub struct Round {
     /// The identity of the cancelled cell.
     pub id: CellId,
-    /// The gain of the cancelled cell, the residual, and the power before and after.
+    /// The gain of the cancelled cell, the residual, and the power before and after cancellation.
     pub taken: Subtracted,
     /// The cell list of the residual.
     pub list: EntryList,
@@ -22,6 +22,6 @@ pub struct Rounds {
     pub first: EntryList,
     /// The rounds that cancelled a cell, in order: at most four.
     pub taken: Vec<Round>,
-    /// Whether no cell in the last list can be cancelled. If false, there are four rounds.
+    /// Whether cancellation ended before the limit of four rounds, because no cell in the last list can be cancelled.
     pub ended: bool,
 }
