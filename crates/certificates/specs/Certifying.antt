@@ -32,7 +32,7 @@ pub record Certifies (receiver : Receiver) (samples : List Sample) (entry : Entr
   pub block : Carries c.word entry.mib
   pub cost : c.cost ≡ entry.cost
 
--- `bytes` are those of a certificate for the entry
+-- `bytes` encode a certificate for `entry`
 pub record IsCertificateOf (receiver : Receiver) (samples : List Sample) (entry : Entry) (bytes : List ℕ) : Type 0 where
   pub certificate : Held
   pub certifies : Certifies receiver samples entry certificate
@@ -62,7 +62,7 @@ pub record HasCertifiedAll (receiver : Receiver) (samples : List Sample) (entrie
   pub written : HasWritten (all_bytes certificates) before now
 
 -- only a prefix of the certificates for `entries` was written; the sink's free space, if known, was too small for all
--- of them
+-- certificates
 pub record HasCertifiedSome (receiver : Receiver) (samples : List Sample) (entries : List Entry)
     (before now : SinkState) : Type 0 where
   pub certificates : List Held

@@ -30,15 +30,15 @@ IsStep part (Broken place) = (place < length part) × IsFirstBreak part place
 
 -- ---- the whole input
 
--- certificates were read to the end of the input, and `answers` says in order whether each is accepted
+-- certificates were read to the end of the input, and `answers` states in order whether each is accepted
 pub record HasReadAnswers (answers : List Bool) (before now : SourceState) : Type 0 where
   pub bytes : List ℕ
   pub are_answers : AreAnswers bytes answers
   pub whole : HasReadAll most_bytes bytes before now
 
--- the first format error in the bytes read is at offset `place`. Either the input ended, or the offset is the same for
--- every continuation. From `place` on, at most the length of the longest certificate was read, and in all at most one
--- byte past the limit.
+-- The first format error in the bytes read is at offset `place`. Either the input ended, or the offset is the same for
+-- every continuation. From `place`, at most the length of the longest certificate was read, and in all at most
+-- `most_bytes` + 1 bytes.
 pub record HasReadBroken (place : ℕ) (before now : SourceState) : Type 0 where
   pub bytes : List ℕ
   pub read : HasRead bytes before now
@@ -47,14 +47,14 @@ pub record HasReadBroken (place : ℕ) (before now : SourceState) : Type 0 where
   pub few : length bytes ≤ most_bytes + 1
   pub settled : IsAtEnd now ⊎ ((rest : List ℕ) → IsBrokenAt (bytes ++ rest) place)
 
--- one byte past the limit was read, and no byte within the limit breaks the format, whatever bytes follow
+-- `most_bytes` + 1 bytes were read, and none of the first `most_bytes` breaks the format, whatever follows
 pub record HasReadTooMany (before now : SourceState) : Type 0 where
   pub front : List ℕ
   pub read : HasRead front before now
   pub past : length front ≡ most_bytes + 1
   pub unbroken : (rest : List ℕ) (place : ℕ) → IsFirstBroken (front ++ rest) place → most_bytes ≤ place
 
--- a read failed before the limit was passed, and none of the bytes read breaks the format
+-- a read failed after at most `most_bytes` bytes, and none of these bytes breaks the format
 pub record HasFailedUnbroken (before now : SourceState) : Type 0 where
   pub front : List ℕ
   pub failed : HasFailedAfter most_bytes front before now

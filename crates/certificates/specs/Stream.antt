@@ -4,7 +4,7 @@ use Rattle.std.specs.List.{flat_map, AllZip}
 use Rattle.tail_cert.specs.Certificate.{Held, IsWhole, IsAccepted}
 use Rattle.tail_cert.specs.Form.{bytes_of, IsFirstBreak}
 
--- the limit on the length of the input, in bytes
+-- the maximum length of the input, in bytes
 abbrev pub most_bytes : ℕ
 most_bytes = 67108864
 
@@ -14,12 +14,12 @@ all_bytes certificates = flat_map bytes_of certificates
 
 -- ---- the answers
 
--- the certificate's parts have the required lengths and ranges, and `answer` says whether it is accepted
+-- the certificate's parts have the required lengths and ranges, and `answer` states whether it is accepted
 pub record IsAnswer (certificate : Held) (answer : Bool) : Type 0 where
   pub whole : IsWhole certificate
   pub right : IsTrue answer ↔ IsAccepted certificate
 
--- `bytes` is a sequence of certificates, and `answers` says in order whether each is accepted
+-- `bytes` is a sequence of certificates, and `answers` states in order whether each is accepted
 pub record AreAnswers (bytes : List ℕ) (answers : List Bool) : Type 0 where
   pub certificates : List Held
   pub each : AllZip IsAnswer certificates answers
@@ -27,8 +27,8 @@ pub record AreAnswers (bytes : List ℕ) (answers : List Bool) : Type 0 where
 
 -- ---- format errors
 
--- the first format error in `bytes` is at offset `place`: complete certificates come first, then a remainder whose
--- first format error, a byte or an early end, is there
+-- the first format error in `bytes` is at offset `place`: complete certificates come first, then a remainder, not
+-- empty, whose first format error, a byte or an early end, is at this offset
 pub record IsFirstBroken (bytes : List ℕ) (place : ℕ) : Type 0 where
   pub certificates : List Held
   pub whole : All IsWhole certificates
@@ -39,8 +39,8 @@ pub record IsFirstBroken (bytes : List ℕ) (place : ℕ) : Type 0 where
   pub first : IsFirstBreak rest within
   pub here : place ≡ length (all_bytes certificates) + within
 
--- the first format error in `bytes` is at offset `place`, and is either a byte within the limit or the early end of
--- bytes that do not exceed the limit
+-- the first format error in `bytes` is at offset `place`: either a byte among the first `most_bytes`, or the end of an
+-- input of at most `most_bytes` bytes
 pub record IsBrokenAt (bytes : List ℕ) (place : ℕ) : Type 0 where
   pub first : IsFirstBroken bytes place
   pub within : (place < most_bytes) ⊎ (length bytes ≤ most_bytes)

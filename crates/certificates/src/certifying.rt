@@ -1,8 +1,8 @@
 //! Certificates for the MIBs in a recording's cell list.
 //!
 //! A certificate holds the combined soft values for the entry's frames, their minimum-cost word, which carries the MIB,
-//! and its cost. Writing does not allocate. If a sink whose free space is known fails, that space was too small for all
-//! certificates.
+//! and the word's cost. Writing does not allocate. If a sink with known free space fails, the free space was too small
+//! for all certificates.
 
 ghost use Rattle.std.specs.Prelude.{◌≡◌, ◌≤◌, OnOk, OnErr};
 ghost use Rattle.std.specs.Vec.{vec_capacity};

@@ -1,5 +1,5 @@
-//! Sequences of certificates: writing those for a recording's cell list to a sink, and checking those read from a
-//! source.
+//! Sequences of certificates: writing the certificates for a recording's cell list to a sink, and checking the
+//! certificates in a source.
 //! Tests: the crate `top_tests`.
 #![tactic(auto)]
 

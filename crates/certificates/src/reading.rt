@@ -1,7 +1,7 @@
 //! Reading and checking a sequence of certificates.
 //!
-//! Certificates are checked as they are read. The error `Broken` is returned before the bytes read from its offset on
-//! exceed the length of the longest certificate, and `TooLong` after one byte past the limit of 67,108,864.
+//! Certificates are checked as they are read. The error `Broken` is returned before the bytes read from its offset
+//! exceed the length of the longest certificate, and `TooLong` after one byte more than 67,108,864.
 
 ghost use Rattle.std.specs.Prelude.{◌≡◌, ◌<◌, ◌≤◌, ◌+◌, ◌-◌, min, length, take, IfOk, IfErr, OnErr};
 ghost use Rattle.cs_outside.specs.Counts.{Rose};
@@ -55,8 +55,8 @@ fn read_each<S: Source>(
     ensures never_falls { (S.state source.old).faults ≤ (S.state source.new).faults }
 {
     let mut answers = Vec::new(alloc);
-    // the number of bytes in complete certificates, of bytes read of the next certificate, and of its bytes that may be
-    // read so far
+    // the number of bytes in complete certificates, and for the next certificate the number of bytes read and the
+    // number that may be read so far
     let mut done = 0;
     let mut filled = 0;
     let mut aim = HEAD_BYTES;
