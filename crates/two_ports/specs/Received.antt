@@ -40,28 +40,31 @@ second_sent pairing i x y = over (pairing.lower i) (pairing.upper i) y (conjugat
 
 -- ---- received resource elements
 
--- all ports' pilots are received in `slot`, each port's with its gain, in units of 2^-14, and without other ports'
--- signals; the gains' total energy is at least 1
+-- All ports' pilots are received in `slot`, each port's pilots with the port's gain, in units of 2^-14, and without
+-- other ports' signals. Each pilot is off by at most `most` / 64 amplitude units times the root of the gains' total
+-- energy, which is at least 1.
 pub record ArePortsSeen (carrier : Carrier) (most : ℕ) (gains : ℕ → Cpx) (slot : SeenSlot) : Type 0 where
   pub sounds : 2 ^ 28 ≤ energy_below (ports_of carrier) gains
   pub pilots : (port i : ℕ) → port < ports_of carrier → i ≤ (line_of carrier port slot).last →
       IsSeenBy (ports_of carrier) most gains (only port ((line_of carrier port slot).sent i))
       (line_seen (line_of carrier port slot) slot i)
 
--- pair `i` with symbols `x` and `y` is received in two resource elements, with the values `a` and `b`
+-- pair `i` with symbols `x` and `y` is received in two resource elements, with the values `a` and `b`, each off by at
+-- most `most` / 64 amplitude units times the root of the gains' total energy
 pub record IsPairSeen (pairing : Pairing) (most : ℕ) (gains : ℕ → Cpx) (i : ℕ) (x y a b : Cpx) : Type 0 where
   pub first : IsSeenBy (ports_of pairing.carrier) most gains (first_sent pairing i x y) a
   pub second : IsSeenBy (ports_of pairing.carrier) most gains (second_sent pairing i x y) b
 
--- the four soft values `values` have the signs of the bits `b`, `c`, `d` and `e` and a magnitude of at least `least`
+-- the four soft values `values` have the signs of the bits `b`, `c`, `d` and `e` and magnitudes of at least `least`
 pub record SupportFour (least : ℕ) (b c d e : Bool) (values : List ℤ) : Type 0 where
   pub first : Supports least b (slice_index_or values 0 (pos 0))
   pub second : Supports least c (slice_index_or values 1 (pos 0))
   pub third : Supports least d (slice_index_or values 2 (pos 0))
   pub fourth : Supports least e (slice_index_or values 3 (pos 0))
 
--- a received pair's four soft values have the signs of its bits and a magnitude of at least `least`, with the channel
--- estimates of any subcarrier `k`
+-- a pair's four soft values, with the channel estimates for any subcarrier `k`, have its bits' signs and magnitudes of
+-- at least `least`, if all pilots and the pair's two resource elements are off by at most `most` / 64 amplitude units
+-- times the root of the gains' total energy
 abbrev pub SpeakWith : (ℕ → Cpx) → Pairing → ℕ → ℕ → Type 0
 SpeakWith gains pairing most least =
     (slot : SeenSlot) (i k : ℕ) (b c d e : Bool) (at_first at_second : Cpx) →
@@ -71,8 +74,9 @@ SpeakWith gains pairing most least =
 
 -- ---- slots of a recording
 
--- the seven symbols of `slot` are received from all ports with the gains `gains`, and contain all ports' reference
--- signals; no port sends anything in another port's reference elements
+-- The seven symbols of `slot` are received from all ports with the gains `gains` and error energies of at most `quota`
+-- times the gains' total energy. They contain all ports' reference signals; no port sends anything in another port's
+-- reference elements.
 pub record IsSlotReceived (carrier : Carrier) (quota : ℕ) (gains : ℕ → Cpx) (recording : List Sample)
     (starts : ℕ → ℕ) (grids : ℕ → ℕ → ℕ → Cpx) (slot : SeenSlot) : Type 0 where
   pub seen : (l : ℕ) → l < 7 → slice_index_or slot.symbols l [] ≡ seen_symbol recording (starts l)
@@ -91,8 +95,8 @@ pub record CarryPair (pairing : Pairing) (grids : ℕ → ℕ → ℕ → Cpx) (
   pub second : (port : ℕ) → port < ports_of pairing.carrier →
       grids port (q.symbol % 7) q.k ≡ second_sent pairing i x y port
 
--- any two resource elements of `slot` that carry a pair of `grids` have four soft values with the signs of the pair's
--- bits and a magnitude of at least `least`
+-- any two resource elements of `slot` that carry a pair have four soft values with the pair's bits' signs and
+-- magnitudes of at least `least`
 abbrev pub PairsSpeak : Pairing → ℕ → (ℕ → ℕ → ℕ → Cpx) → SeenSlot → Type 0
 PairsSpeak pairing least grids slot =
     (i : ℕ) (p q : Place) (b c d e : Bool) → p.k < subcarriers → q.k < subcarriers →
@@ -100,8 +104,8 @@ PairsSpeak pairing least grids slot =
     SupportFour least b c d e (pair_values pairing i slot p q)
 
 -- in each slot that is received with the gains `gains` and error energies of at most `quota` times the gains' total
--- energy, any two resource elements that carry a pair have four soft values with the signs of the pair's bits and a
--- magnitude of at least `least`
+-- energy, any two resource elements that carry a pair have four soft values with the pair's bits' signs and magnitudes
+-- of at least `least`
 abbrev pub SpeakReceivedWith : (ℕ → Cpx) → Pairing → ℕ → ℕ → Type 0
 SpeakReceivedWith gains pairing quota least =
     (recording : List Sample) (starts : ℕ → ℕ) (grids : ℕ → ℕ → ℕ → Cpx) (slot : SeenSlot) →
@@ -109,22 +113,22 @@ SpeakReceivedWith gains pairing quota least =
 
 -- ---- two ports
 
--- a law: for any gains, a pair's four soft values have the signs of its bits if each received element is off by less
--- than 23 amplitude units times the root of the gains' total energy
+-- a law: for any gains, a pair's four soft values have its bits' signs if each received element is off by at most 1464
+-- / 64 amplitude units times the root of the gains' total energy
 abbrev pub PairValuesSpeak : Type 0
 PairValuesSpeak = (gains : ℕ → Cpx) → SpeakWith gains over_two 1464 1
 
--- a law: in a recording, a pair's four soft values have the signs of its bits if each symbol's error energy is at most
--- 400 times the gains' total energy
+-- a law: in a recording, a pair's four soft values have its bits' signs if each symbol's error energy is at most 400
+-- times the gains' total energy
 abbrev pub ReceivedPairSpeaks : Type 0
 ReceivedPairSpeaks = (gains : ℕ → Cpx) → SpeakReceivedWith gains over_two 400 1
 
--- a law: a pair's four soft values have the signs of its bits and magnitudes of at least 16 if each received element is
--- off by at most 16 amplitude units times the root of the gains' total energy
+-- a law: a pair's four soft values have its bits' signs and magnitudes of at least 16 if each received element is off
+-- by at most 16 amplitude units times the root of the gains' total energy
 abbrev pub QuietPairValuesSpeak : Type 0
 QuietPairValuesSpeak = (gains : ℕ → Cpx) → SpeakWith gains over_two 1024 16
 
--- a law: in a recording, a pair's four soft values have the signs of its bits and magnitudes of at least 16 if each
--- symbol's error energy is at most 64 times the gains' total energy
+-- a law: in a recording, a pair's four soft values have its bits' signs and magnitudes of at least 16 if each symbol's
+-- error energy is at most 64 times the gains' total energy
 abbrev pub QuietReceivedPairSpeaks : Type 0
 QuietReceivedPairSpeaks = (gains : ℕ → Cpx) → SpeakReceivedWith gains over_two 64 16
