@@ -23,12 +23,12 @@ pub struct TwoMade {
     pub plan: CellPlan,
     /// The number of the first frame.
     pub sfn: Sfn,
-    /// The first transmitted sample in the first frame, 0 to 19,199.
+    /// The first sample of the first frame that is sent, 0 to 19,199.
     pub offset: u32,
     /// The gains of ports 0 and 1, real part first; the gain of port 1 may be 0.
     pub gains: [(i16, i16); 2],
-    /// The maximum magnitude of an error component: the largest bound that a clean recording with the gains of this
-    /// transmission allows.
+    /// The maximum magnitude of an error component: the largest bound that a clean recording with this transmission's
+    /// gains allows.
     pub bound: i16,
     /// The samples of the recording: the received sum of both ports, errors included.
     pub recording: Recording,
