@@ -4,8 +4,7 @@ use Rattle.finite.specs.Sums.{total_below}
 use Rattle.cs_bits.specs.Signs.{disagreement}
 use Rattle.conv_code.specs.Code.{tapped_bit, taps_0, taps_1, taps_2}
 
--- the branch metric: the summed magnitudes of those of the three soft values `v` that contradict their coded bits b0,
--- b1 and b2
+-- the branch metric: the summed magnitude of each soft value in `v` that contradicts its coded bit (b0, b1, b2)
 abbrev pub triple_cost : List ℤ → Bool → Bool → Bool → ℕ
 triple_cost v b0 b1 b2 =
     disagreement (slice_index_or v 0 (pos 0)) b0 + disagreement (slice_index_or v 1 (pos 0)) b1
@@ -17,6 +16,6 @@ cost_at values word k =
     triple_cost (slice_index_or values k [])
     (tapped_bit taps_0 word k) (tapped_bit taps_1 word k) (tapped_bit taps_2 word k)
 
--- a word's cost: the summed magnitudes of all soft values that contradict its coded bits
+-- a word's cost: the summed magnitudes of all soft values that contradict the word's coded bits
 unfoldable pub word_cost : List (List ℤ) → List Bool → ℕ
 word_cost values word = total_below (length values) (cost_at values word)

@@ -11,8 +11,8 @@ stream_of n i = i % (3 * n) / n
 abbrev pub place_of : ℕ → ℕ → ℕ
 place_of n i = i % (3 * n) % n
 
--- the sum of those of the first `m` soft values, from rate-matched bit `first`, that belong to position `p` in stream
--- `t`
+-- the sum of the soft values at position `p` of stream `t`, among the first `m` values, which start at rate-matched bit
+-- `first`
 unfoldable pub placed_sum : ℕ → ℕ → List ℤ → ℕ → ℕ → ℕ → ℤ
 placed_sum n first values m t p =
     sum_below m

@@ -6,7 +6,7 @@ ghost use Rattle.conv_code.specs.Cost.{triple_cost};
 
 use cs_bits::disagreement_of;
 
-/// Returns the branch metric: the summed magnitudes of those soft values whose signs contradict their coded bits (own).
+/// Returns the branch metric: the summed magnitudes of the soft values whose signs contradict their coded bits (own).
 /// Magnitudes in `values` are at most 2^20.
 pub fn against(values: &[i32; 3], bits: &[bool; 3]) -> u32
     requires { AllWithin (2 ^ 20) values.now }

@@ -50,7 +50,7 @@ fn coded_at(word: &[bool], k: usize) -> [bool; 3]
     ]
 }
 
-/// Encodes a word to three coded bits per index (TS 36.212 section 5.1.3.1).
+/// Encodes a word of 6 to 64 bits to three coded bits per index (TS 36.212 section 5.1.3.1).
 pub fn encode<const N: usize>(word: &Bits<N>) -> [[bool; 3]; N]
     requires low { 6 ≤ N }
     requires high { N ≤ 64 }

@@ -8,7 +8,7 @@ ghost use Rattle.conv_code.specs.Steps.{place_of, HasPlacedSums};
 
 use sub_block::{Code, Item, cell_at};
 
-/// Returns the index of the bit that is read after `p` others from a stream of `n` bits, at most 6,176 (TS 36.212
+/// Returns the index of the bit that is read after `p` other bits from a stream of `n` bits, at most 6,176 (TS 36.212
 /// section 5.1.4.2.1). `p` and the result are below `n`.
 pub fn stream_index(n: usize, p: usize) -> usize
     requires high { n ≤ 6176 }
