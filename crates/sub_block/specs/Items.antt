@@ -22,13 +22,13 @@ bits_in skipped cells = map (λ c. item c.stream (c.index - skipped)) (filter (�
 abbrev pub is_at : ℕ → ℕ → Item → Bool
 is_at t p here = nat_eq here.stream t && nat_eq here.index p
 
--- the sum of those of the first `m` soft values that the bit order `reading` maps to index `p` in stream `t`
+-- the sum of the soft values, among the first `m`, that the bit order `reading` maps to index `p` of stream `t`
 unfoldable pub summed_at : (ℕ → Item) → List ℤ → ℕ → ℕ → ℕ → ℤ
 summed_at reading values m t p =
     sum_below m (λ i. cond (is_at t p (reading i)) (slice_index_or values i (pos 0)) (pos 0))
 
--- `reading` is a bit order for three streams of `n` bits: its first 3n items are different, and each bit occurs among
--- them
+-- `reading` is a bit order for three streams of `n` bits: each item is a coded bit, the first 3n items are different,
+-- and each coded bit occurs among them
 pub record ReadsEachOnce (n : ℕ) (reading : ℕ → Item) : Type 0 where
   pub inside : (i : ℕ) → ((reading i).stream < 3) × ((reading i).index < n)
   pub once : (i j : ℕ) → i < 3 * n → j < 3 * n → reading i ≡ reading j → i ≡ j

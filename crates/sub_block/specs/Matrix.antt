@@ -23,6 +23,6 @@ matrix_rows n = (n + 31) / 32
 abbrev pub nulls : ℕ → ℕ
 nulls n = 32 * matrix_rows n - n
 
--- the cell, in a matrix of `r` rows, that is read after `m` others; cells are numbered row by row
+-- the cell, in a matrix of `r` rows, that is read after `m` other cells; cells are numbered row by row
 abbrev pub cell : Code → ℕ → ℕ → ℕ
 cell code r m = 32 * (m % r) + slice_index_or (columns code) (m / r) 0

@@ -22,6 +22,6 @@ pub enum Code {
 pub struct Item {
     /// The stream, 0 to 2.
     pub stream: usize,
-    /// The bit's index in the stream, or the cell's in the matrix.
+    /// The bit's index in the stream, or the cell's index in the matrix.
     pub index: usize,
 }

@@ -11,7 +11,7 @@ const COLUMNS: [usize; 32] = [
     11, 27, 7, 23, 15, 31,
 ];
 
-/// Returns the matrix column, 0 to 31, that is read after `c` others.
+/// Returns the matrix column, 0 to 31, that is read after `c` other columns.
 fn column_at(code: Code, c: usize) -> usize
     requires { c < 32 }
     ensures column { result ≡ slice_index_or (columns code) c 0 }
@@ -24,8 +24,8 @@ fn column_at(code: Code, c: usize) -> usize
     }
 }
 
-/// Returns the matrix cell that is read after `m` others; cells are numbered row by row. `rows` is at most 193, enough
-/// for the largest code block. `m` and the result are below 32 `rows`.
+/// Returns the matrix cell that is read after `m` other cells; cells are numbered row by row. `rows` is at most 193,
+/// enough for the largest code block. `m` and the result are below 32 `rows`.
 pub fn cell_at(code: Code, rows: usize, m: usize) -> usize
     requires rows { rows ≤ 193 }
     requires inside { m < 32 * rows }
