@@ -1,5 +1,5 @@
--- The bits of a punctured block that are known after each iteration. (own; the code and its rate matching are those
--- in TS 36.212 sections 5.1.3.2 and 5.1.4.1)
+-- The bits of a punctured block that are known after each iteration. (own; the code and its rate matching are in TS
+-- 36.212 sections 5.1.3.2 and 5.1.4.1)
 use Rattle.std.specs.Prelude.{ℕ, zero, suc, ◌+◌, ◌*◌, Bool, false, not, ◌&&◌, ◌||◌, List, [], ◌∷◌, nat_eq}
 use Rattle.finite.specs.Lists.{values_below}
 use Rattle.finite.specs.Tests.{any_below, every_below}
@@ -13,8 +13,8 @@ use Rattle.turbo_code.specs.Reading.{item_of}
 
 -- ---- one decoder
 
--- the marks of the bits that are sent from a constituent encoder: the information bits, the parity bits, and the six
--- tail bits x(K), z(K), x(K + 1), z(K + 1), x(K + 2), z(K + 2)
+-- the marks of a constituent encoder's sent bits: the information bits, the parity bits, and the six tail bits x(K),
+-- z(K), x(K + 1), z(K + 1), x(K + 2), z(K + 2)
 pub record Sent : Type 0 where
   pub information : ℕ → Bool
   pub parity : ℕ → Bool
@@ -45,11 +45,11 @@ found n sent known k = every_word n (λ word. not (bit_at word k) || shows n sen
 abbrev pub tail_sent : (ℕ → ℕ → Bool) → ℕ → List Bool
 tail_sent sent p = sent 0 p ∷ sent 1 p ∷ sent 2 p ∷ sent 0 (p + 1) ∷ sent 1 (p + 1) ∷ sent 2 (p + 1) ∷ []
 
--- the marks of the bits that are sent from the first encoder
+-- the marks of the first encoder's sent bits
 abbrev pub first_sent : Row → (ℕ → ℕ → Bool) → Sent
 first_sent row sent = record { information = sent 0; parity = sent 1; tail = bit_at (tail_sent sent row.k) }
 
--- the marks of the bits that are sent from the second encoder, in its own order
+-- the marks of the second encoder's sent bits, in the second encoder's order
 abbrev pub second_sent : Row → (ℕ → ℕ → Bool) → Sent
 second_sent row sent = record {
   information = λ i. sent 0 (interleaver row i);
@@ -57,11 +57,11 @@ second_sent row sent = record {
   tail = bit_at (tail_sent sent (row.k + 2));
 }
 
--- whether the first decoder finds a bit, given the `known` bits
+-- whether the first decoder finds a bit from the sent bits and the `known` bits
 abbrev pub first_found : Row → (ℕ → ℕ → Bool) → (ℕ → Bool) → ℕ → Bool
 first_found row sent known = found row.k (first_sent row sent) known
 
--- whether the second decoder, which works in its own order, finds bit `k`, given the `known` bits
+-- whether the second decoder, which works in its own order, finds bit `k` from the sent bits and the `known` bits
 abbrev pub second_found : Row → (ℕ → ℕ → Bool) → (ℕ → Bool) → ℕ → Bool
 second_found row sent known k = found row.k (second_sent row sent) (λ i. known (interleaver row i)) (step_of row k)
 

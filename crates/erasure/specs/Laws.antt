@@ -4,7 +4,8 @@ use Rattle.turbo_code.specs.declared.rows.Row.{Row}
 use Rattle.turbo_code.specs.Table.{IsAnyRow}
 use Rattle.erasure.specs.Known.{resolvable, sent_of}
 
--- a block whose coded bits are all sent can be resolved, whatever its bits
+-- a block can be resolved, whatever its bits and redundancy version, if at least 3 (K + 4) bits are sent, among which
+-- is each coded bit
 abbrev pub WholeBlockIsResolvable : Type 0
 WholeBlockIsResolvable =
     (row : Row) (rv count : ℕ) (word : List Bool) → IsAnyRow row → rv < 4 → 3 * (row.k + 4) ≤ count →

@@ -5,11 +5,11 @@ ghost use Rattle.erasure.specs.Sets.{HasSets, found_by};
 
 use crate::states::{States, any_led_through, earlier_set, later_set, start_set, tail_set};
 
-/// One mark per bit of a word of at most 1,024 bits; later entries are not used.
+/// One mark per bit of a word of at most 1,024 bits; entries beyond the word are not used.
 pub(crate) type Marks = [bool; 1024];
 
-/// Writes to `sets`, for the point before the first step and after each step, the set of states that steps without a
-/// known bit 1 reach.
+/// Writes to `sets`, for the point before the first step and after each step, the set of states that steps from state 0
+/// without a known bit 1 reach.
 fn forward(own: &[bool], parity: &[bool], sets: &mut [States])
     requires short { length own.now ≤ 1024 }
     requires parities { length parity.now ≡ length own.now }
@@ -43,7 +43,7 @@ fn backward(own: &[bool], parity: &[bool], tail: &[bool; 6], sets: &[States]) ->
     found
 }
 
-/// Returns the marks of the bits that a decoder finds: every word with a 1 there has another known 1, in its
+/// Returns the marks of the bits that a decoder finds: every word with a 1 at such a bit has another known 1, in its
 /// information bits, its parity bits or its tail bits.
 pub(crate) fn find(own: &[bool], parity: &[bool], tail: &[bool; 6]) -> Marks
     requires short { length own.now ≤ 1024 }

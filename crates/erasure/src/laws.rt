@@ -2,8 +2,8 @@
 
 ghost use Rattle.erasure.specs.Laws.{UnsentBlockIsNotResolvable, WholeBlockIsResolvable};
 
-/// A law: a block whose coded bits are all sent can be resolved, whatever its bits. From any redundancy version, 3(K +
-/// 4) sent bits are enough.
+/// A law: a block can be resolved, whatever its bits, if all its coded bits are sent. From any redundancy version, 3 (K
+/// + 4) sent bits are enough.
 pub fn whole_block_is_resolvable()
     ensures { WholeBlockIsResolvable }
 {}

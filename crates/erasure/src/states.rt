@@ -12,7 +12,7 @@ const STATES: usize = 8;
 /// A set of encoder states: entry x states whether state x is a member.
 pub(crate) type States = [bool; STATES];
 
-/// Returns whether a step from state `x` by bit `u` has no known bit 1.
+/// Returns whether the step from state `x` with input bit `u` has no known bit 1.
 fn is_hidden(own: bool, parity: bool, x: usize, u: bool) -> bool
     requires { x < 8 }
     ensures { result ≡ hides own parity x u }
@@ -73,8 +73,8 @@ pub(crate) fn earlier_set(own: bool, parity: bool, set: &States) -> States
     earlier
 }
 
-/// Returns whether a step by an unknown bit 1, with a parity bit that is not a known 1, leads from state `x` in
-/// `before` into `after`.
+/// Returns whether the step from state `x` in `before`, with input bit 1, leads into `after`. The input bit counts as
+/// unknown, and the parity bit is not a known 1.
 fn is_led_through(parity: bool, before: &States, after: &States, x: usize) -> bool
     requires { x < 8 }
     ensures { result ≡ leads_through parity before.now after.now x }
@@ -82,8 +82,8 @@ fn is_led_through(parity: bool, before: &States, after: &States, x: usize) -> bo
     before[x] && is_hidden(false, parity, x, true) && after[next(x, true)]
 }
 
-/// Returns whether a step by an unknown bit 1, with a parity bit that is not a known 1, leads from any state in
-/// `before` into `after`.
+/// Returns whether a step from any state in `before`, with input bit 1, leads into `after`. The input bit counts as
+/// unknown, and the parity bit is not a known 1.
 pub(crate) fn any_led_through(parity: bool, before: &States, after: &States) -> bool
     ensures { result ≡ any_below 8 (leads_through parity before.now after.now) }
 {
