@@ -27,14 +27,14 @@ from_any x = 0
 abbrev pub from_state : ℕ → ℕ → ℕ
 from_state s x = cond (nat_eq x s) 0 unbounded
 
--- the lower bound on the cost of i steps to state x. Step 0 has the bounds `first`, and `table` has a row for each step
--- from 1 on.
+-- The lower bound on the cost of i steps to state x. Step 0 has the bounds `first`, and `table` has a row for each step
+-- from 1.
 abbrev pub bound : (ℕ → ℕ) → List (List ℕ) → ℕ → ℕ → ℕ
 bound first table zero x = first x
 bound first table (suc i) x = slice_index (slice_index_or table i []) x
 
--- along each branch of 40 steps, the bound rises by at most the branch's cost, unless the branch starts from an entry
--- that states no bound
+-- in each of 40 steps, the bound rises along each branch by at most the branch's cost, unless the branch starts from an
+-- entry that states no bound
 abbrev pub StepsHold : List (List ℤ) → (ℕ → ℕ) → List (List ℕ) → Type 0
 StepsHold values first table = (i x : ℕ) (b : Bool) → i < 40 → x < 64 →
     bound first table i x ≢ unbounded →
@@ -73,7 +73,7 @@ IsTriple v = Counted 3 (λ z. nat_abs z ≤ 2032) v
 abbrev pub IsRow : List ℕ → Type 0
 IsRow row = Counted 64 (λ n. n < 2 ^ 32) row
 
--- `table` has one row of bounds for each of the 40 steps
+-- `table` has a row of bounds for each of 40 steps
 abbrev pub IsTable : List (List ℕ) → Type 0
 IsTable table = Counted 40 IsRow table
 

@@ -53,14 +53,14 @@ maybe_bytes None = []
 maybe_bytes (Some table) = table_bytes table
 
 -- the bytes of a certificate: the mark, the values by position and stream, the word, the cost, the general table, the
--- set of start states that have tables, and those tables. A table has its bounds by step, then by state.
+-- set of start states that have tables, and their tables. A table has its bounds by step, then by state.
 unfoldable pub bytes_of : Held → List ℕ
 bytes_of c =
     mark ++ flat_map place_bytes c.values ++ word_bytes c.word ++ entry_bytes c.cost
     ++ table_bytes c.general ++ set_bytes c.tables
     ++ flat_map maybe_bytes c.tables
 
--- `bytes` with the bytes from offset `at` on replaced by `piece`; later bytes keep their offsets
+-- `bytes` with `piece` in place of the bytes from offset `at`; later bytes keep their offsets
 unfoldable pub with_piece : ℕ → List ℕ → List ℕ → List ℕ
 with_piece at piece bytes = take at bytes ++ piece ++ drop (at + length piece) bytes
 

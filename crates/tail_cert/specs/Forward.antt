@@ -27,15 +27,15 @@ HasLeastFrom values s table =
     (i x : ℕ) → i < 40 → x < 64 →
     IsLeastTo shift (step_cost values) (ends_in (2 ^ 30) s) 64 (suc i) x (slice_index (slice_index_or table i []) x)
 
--- `table` is the table that is written for state s: its bounds are minimum costs from s, and s is accepted with it for
--- every lower bound on word costs
+-- `table` is the table that is written for start state s: its bounds are minimum costs from s, and s is accepted with
+-- it for every lower bound on word costs that is at most 2 ^ 30
 pub record IsTableFrom (values : List (List ℤ)) (s : ℕ) (table : List (List ℕ)) : Type 0 where
   pub least : HasLeastFrom values s table
   pub shows : ShowsBounds values s table
 
--- the certificate c is filled as the program does. Each bound in the general table is the minimum cost to its state
+-- The certificate c is filled as the program does. Each bound in the general table is the minimum cost to its state
 -- after its step, from any start. A start state has its own table exactly if its bound in the general table is below
--- the cost; that table holds the minimum costs from the state.
+-- the cost; its own table holds the minimum costs from the state.
 pub record IsFilled (c : Held) : Type 0 where
   pub least : (i x : ℕ) → i < 40 → x < 64 →
       IsLeastTo shift (step_cost c.values) from_any 64 (suc i) x (bound from_any c.general (suc i) x)

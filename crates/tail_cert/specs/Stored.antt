@@ -8,11 +8,11 @@ use Rattle.tail_cert.specs.Certificate.{Counted, IsTable, IsTriple}
 abbrev pub has_table : List Bool → ℕ → Bool
 has_table set s = slice_index_or set (63 - s) false
 
--- the table of state s if `set` contains s, otherwise none
+-- the table of state s if `set` contains s, and otherwise `None`
 abbrev pub shown_at : List Bool → List (List (List ℕ)) → ℕ → Option (List (List ℕ))
 shown_at set tables s = cond (has_table set s) (Some (slice_index_or tables s [])) None
 
--- for each start state, its own table or none
+-- for each start state, its own table or `None`
 unfoldable pub shown : List Bool → List (List (List ℕ)) → List (Option (List (List ℕ)))
 shown set tables = values_below 64 (shown_at set tables)
 
@@ -20,7 +20,7 @@ shown set tables = values_below 64 (shown_at set tables)
 abbrev pub HaveTables : List Bool → List (List (List ℕ)) → Type 0
 HaveTables set tables = (s : ℕ) → s < 64 → has_table set s ≡ true → s < length tables
 
--- `tables` are at most 64 tables, with one for each state in `set`
+-- `tables` has at most 64 tables, and reaches to each state in `set`
 pub record AreStored (set : List Bool) (tables : List (List (List ℕ))) : Type 0 where
   pub each : All IsTable tables
   pub most : length tables ≤ 64

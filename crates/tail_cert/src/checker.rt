@@ -111,8 +111,8 @@ fn start_holds(
     }
 }
 
-/// Returns whether every start state is accepted: `cost` is at most its bound for 40 steps back to it, and the
-/// inequalities of its own table, if it has one, hold.
+/// Returns whether every start state is accepted: `cost` is at most the bound for 40 steps back to the state, and the
+/// inequalities of the state's own table, if there is one, hold.
 fn starts_hold(
     costs: &PathCosts,
     cost: u32,
@@ -154,7 +154,7 @@ fn tables_hold(
     steps_hold(&costs, &[0; STATES], general) && starts_hold(&costs, cost, general, set, tables)
 }
 
-/// Returns the cost of `word`: the sum of the magnitudes of the values that contradict its coded bits.
+/// Returns the cost of `word`: the summed magnitudes of the values that contradict the word's coded bits.
 fn cost_of(values: &[[i32; 3]; 40], word: &Bits<40>) -> u32
     requires magnitudes { RowsWithin (2 ^ 20) values.now }
     requires bits { length word.now ≡ 40 }
@@ -168,8 +168,8 @@ fn cost_of(values: &[[i32; 3]; 40], word: &Bits<40>) -> u32
     cost
 }
 
-/// Returns whether a certificate is accepted: its stated cost is the word's, and its tables show that no path from a
-/// start state back to it costs less. No 40-bit word costs less than an accepted certificate's cost.
+/// Returns whether a certificate is accepted: its stated cost is its word's cost, and its tables show that no path with
+/// equal start and end states costs less. No 40-bit word costs less than an accepted certificate's cost.
 pub fn check(certificate: &Certificate) -> bool
     ensures accepted { IsTrue result ↔ IsAccepted certificate.now }
     ensures least { IsTrue result → IsLowerBound certificate.now.values certificate.now.cost }

@@ -1,8 +1,8 @@
 //! The filling of a certificate.
 //!
 //! The general table holds the minimum costs from any start state. A start state has its own table if its bound in the
-//! general table, after 40 steps back to it, is below the word's cost. That table holds the minimum costs from the
-//! state, where a start in any other state costs 2^30.
+//! general table, after 40 steps back to it, is below the word's cost. A start state's own table holds the minimum
+//! costs from this state, where a start in any other state costs 2^30.
 
 ghost use Rattle.std.specs.Prelude.{◌≡◌, ◌*◌, ◌^◌, ◌<◌, ◌≤◌, ℕ, [], length, nat_lt, slice_index, slice_index_or, true};
 ghost use Rattle.finite.specs.Sizes.{RowsWithin};
@@ -34,7 +34,7 @@ fn fill_table(costs: &PathCosts, start: &[u32; 64], table: &mut Table)
     }
 }
 
-/// Fills `table` for start state `s`: the minimum costs of paths from `s`.
+/// Fills `table` for start state `s`: the minimum costs of paths from `s`, where a start in any other state costs 2^30.
 fn fill_start(costs: &PathCosts, s: usize, table: &mut Table)
     requires state { s < 64 }
     ensures bounds { IsTableFrom costs.now.values.now s table.new }
