@@ -15,7 +15,7 @@ pub record PlaceSpeaks (v : List ℤ) (word : List Bool) (k : ℕ) : Type 0 wher
 pub record Speaks (values : List (List ℤ)) (word : List Bool) : Type 0 where
   pub place : (k : ℕ) → k < length values → PlaceSpeaks (slice_index_or values k []) word k
 
--- if all values agree in sign with the coded bits of a word of at least 6 bits, it is the only minimum-cost word
+-- if all values agree in sign with the coded bits of a word of at least 6 bits, the word is the only minimum-cost word
 abbrev pub IsOnlyLeast : Type 0
 IsOnlyLeast =
     (values : List (List ℤ)) (word least : List Bool) → 6 ≤ length values → length word ≡ length values →

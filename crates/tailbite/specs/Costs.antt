@@ -12,8 +12,8 @@ even_codes =
     0 ∷ 4 ∷ 1 ∷ 5 ∷ 6 ∷ 2 ∷ 7 ∷ 3 ∷ 7 ∷ 3 ∷ 6 ∷ 2 ∷ 1 ∷ 5 ∷ 0 ∷ 4 ∷
     3 ∷ 7 ∷ 2 ∷ 6 ∷ 5 ∷ 1 ∷ 4 ∷ 0 ∷ 4 ∷ 0 ∷ 5 ∷ 1 ∷ 2 ∷ 6 ∷ 3 ∷ 7 ∷ []
 
--- one position's table of step costs, from the cost of each three-bit number of coded bits: first for the numbers in
--- `even_codes`, then for their complements
+-- one position's step cost table, from the costs of the eight combinations of coded bits, numbered as three bits: first
+-- for the numbers in `even_codes`, then for their complements
 unfoldable pub spread_costs : List ℕ → List ℕ
 spread_costs by_code =
     map (λ code. slice_index_or by_code code 0) even_codes
@@ -24,8 +24,8 @@ abbrev pub code_cost : List ℤ → ℕ → ℕ
 code_cost v p = triple_cost v (odd (p / 4)) (odd (p / 2)) (odd p)
 
 -- the table's cost for the step from state x with input bit b. Entry h is the cost of the steps from 2h with 0 and from
--- 2h + 1 with 1, which have the same coded bits; entry h + 32 is that of the steps from 2h with 1 and from 2h + 1 with
--- 0.
+-- 2h + 1 with 1, which have the same coded bits; entry h + 32 is the cost of the steps from 2h with 1 and from 2h + 1
+-- with 0.
 abbrev pub shared_cost : List ℕ → ℕ → Bool → ℕ
 shared_cost costs x b = slice_index costs (shift x (xor b (odd x)))
 

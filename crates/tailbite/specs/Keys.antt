@@ -27,7 +27,7 @@ abbrev pub IsBound : List (List ℤ) → ℕ → ℕ → Type 0
 IsBound values s m =
     (word : List Bool) → length word ≡ length values → end_of shift 0 word ≡ s → m ≤ word_key values word
 
--- `bounds` has, for each state, a lower bound on the keys of all words whose path starts and ends there
+-- `bounds` has, for each state, a lower bound on the keys of all words whose path starts and ends in the state
 pub record AreBounds (values : List (List ℤ)) (bounds : List ℕ) : Type 0 where
   pub bound : (s : ℕ) → s < 64 → IsBound values s (slice_index bounds s)
 

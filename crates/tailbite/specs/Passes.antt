@@ -5,14 +5,14 @@ use Rattle.trellis.specs.Rows.{bit_out}
 use Rattle.tailbite.specs.Machine.{shift, step_cost}
 use Rattle.tailbite.specs.Costs.{shared_cost}
 
--- for each state, row k has the minimum cost of a path from the state through the positions from k on, including the
--- end state's cost in `ends`
+-- for each state, row k has the minimum cost of a path from the state through the positions from k to the last,
+-- including the end state's cost in `ends`
 pub record IsPass (values : List (List ℤ)) (ends : ℕ → ℕ) (rows : List (List ℕ)) : Type 0 where
   pub cost : (k m x : ℕ) → k + m ≡ length values → x < 64 →
       slice_index (slice_index_or rows k []) x ≡ best shift (step_cost values) ends k m x
   pub room : (k x : ℕ) → k ≤ length values → x < 64 → slice_index (slice_index_or rows k []) x ≤ 2 ^ 31
 
--- `rows` are those of a pass in which a path may end in any state at no cost
+-- `rows` are the rows of a backward pass in which a path may end in any state at no cost
 abbrev pub IsFreePass : List (List ℤ) → List (List ℕ) → Type 0
 IsFreePass values rows = (ends : ℕ → ℕ) × ((x : ℕ) → x < 64 → ends x ≡ 0) × IsPass values ends rows
 

@@ -8,8 +8,8 @@ use crate::steps::next;
 use conv_code::against;
 
 /// The step costs at one position. Entry h is the cost of the steps from state 2h with input bit 0 and from 2h + 1 with
-/// 1, which have the same coded bits. Entry h + 32 is that of the steps from 2h with 1 and from 2h + 1 with 0, which
-/// have the complementary bits.
+/// 1, which have the same coded bits. Entry h + 32 is the cost of the steps from 2h with 1 and from 2h + 1 with 0,
+/// which have the complementary bits.
 pub type StepCosts = [u32; 64];
 
 /// Returns the cost of each combination of three coded bits against one position's values. The index is the bits as a
@@ -26,7 +26,7 @@ fn code_costs(values: &[i32; 3]) -> [u32; 8]
     costs
 }
 
-/// Returns one position's table of step costs, given the cost of each combination of three coded bits.
+/// Returns one position's step cost table, given the cost of each combination of three coded bits.
 // The table is written out, so the compiler assembles it from parts of vectors; in a loop it would look up each cost
 // separately.
 fn spread(by_code: &[u32; 8]) -> StepCosts

@@ -6,8 +6,8 @@ use crate::costs::StepCosts;
 use crate::passes::CostRow;
 use std::alloc::{AllocError, Global};
 
-/// Working memory for words up to 64 bits long: a table of step costs for each position, and two sets of rows of
-/// minimum costs from each state, `free` to any end state and `rows` to a single one.
+/// Working memory for words up to 64 bits long: a step cost table for each position, and two sets of minimum-cost rows
+/// from each state, `free` to any end state and `rows` to a single one.
 #[derive(Drop)]
 pub struct Trellis {
     pub(crate) tables: Vec<StepCosts>,

@@ -46,7 +46,7 @@ fn free_ends() -> CostRow
 }
 
 /// Returns the start or end costs if only `state`, below 64, is allowed: 0 for `state`, and more than any word costs
-/// for the others.
+/// for every other state.
 pub fn free_at(state: usize) -> CostRow
     requires { state < 64 }
     ensures row { (x : ℕ) → x < 64 → slice_index result x ≡ ends_in far state x }
@@ -99,7 +99,7 @@ fn fill_bounds(starts: &CostRow, to: &CostRow, bounds: &mut [u128; 64])
 }
 
 /// Raises each bound below `least` to the key of the minimum-cost path from its state. Returns the minimum of `least`
-/// and the keys of those paths that end where they start, since only these belong to words.
+/// and the keys of the paths that end in their start state, since only such paths belong to words.
 fn raise_bounds(
     values: &[[i32; 3]],
     tables: &[StepCosts],
@@ -202,8 +202,8 @@ fn least_of<const N: usize>(
     (Bits::of_number((key % SCALE) as u64), (key / SCALE) as u32)
 }
 
-/// Returns the word of N bits with the minimum cost, the lexicographically first of several, and its cost: the sum of
-/// the magnitudes of values that contradict its coded bits. A positive value stands for bit 0.
+/// Returns the word of N bits with the minimum cost, the lexicographically first of several, and its cost: the summed
+/// magnitude of the values that contradict its coded bits. A positive value stands for bit 0.
 pub fn least<const N: usize>(values: &[[i32; 3]; N], work: &mut Trellis) -> (Bits<N>, u32)
     requires low { 6 ≤ N }
     requires high { N ≤ 64 }
