@@ -273,7 +273,7 @@ module _ (carrier : Carrier) (recording : List Sample) (plan : CellPlan) (grids 
   secondary_looked : (half : Half) (frame : ℕ) → 9737 ≤ t → t ≤ 19336 → IsLookedAt carrier sfn offset frame (2 * subframe_of half) (symbols_of_slot own_prefix - 2) (t - symbol_step own_prefix)
   secondary_looked half frame low high = inr (inr (inr (is_secondary carrier half t low high)))
 
-  secondary_received : (half : Half) → IsTruePlace offset t half → 9737 ≤ t → t ≤ 19336 →
+  pub secondary_received : (half : Half) → IsTruePlace offset t half → 9737 ≤ t → t ≤ 19336 →
       IsReceived 1800 (value_at gains 0) (sss_grid (plan.identity / 3) (plan.identity % 3) half) (samples_from recording (t - symbol_step own_prefix))
   secondary_received half at low high =
       let rows = signal_rows half own_prefix (prefix_known carrier) in
