@@ -12,7 +12,7 @@ use Rattle.pss_search.specs.Strongest.{IsStronger, IsAsStrong, IsStrongestBefore
 -- ---- metrics
 
 -- p / e of the first is above that of the second, and that of the second at least that of the third
-above : (p e q f r g : ℕ) → 0 < f → 0 < g → q * e < p * f → r * f ≤ q * g → r * e < p * g
+pub above : (p e q f r g : ℕ) → 0 < f → 0 < g → q * e < p * f → r * f ≤ q * g → r * e < p * g
 above p e q f r g second third over least = settle (nat_lt (r * e) (p * g)) refl
   where
     settle : (b : Bool) → nat_lt (r * e) (p * g) ≡ b → r * e < p * g
