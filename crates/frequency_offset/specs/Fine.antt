@@ -11,12 +11,12 @@ use Rattle.sss_detect.specs.Identity.{first_greatest}
 use Rattle.frequency_offset.specs.Turned.{w_of}
 use Rattle.frequency_offset.specs.Order.{by_magnitude}
 
--- the start of the first half frame in a recording whose PSS is at sample `t`: (t - 832) modulo 9600
+-- the start of the first half-frame in a recording whose PSS is at sample `t`: (t - 832) modulo 9600
 abbrev pub half_start : ℕ → ℕ
 half_start t = (t + (half_frame_length - primary_start Zero)) % half_frame_length
 
 -- whether every cell transmits in a symbol: symbols 0 and 4 of each slot carry reference signals, and symbols 5 and 6
--- carry synchronisation signals in the first slot of each half frame
+-- carry synchronisation signals in the first slot of each half-frame
 abbrev pub is_carried : ℕ → ℕ → Bool
 is_carried slot symbol =
     nat_eq symbol 0 || nat_eq symbol 4 || (nat_eq (slot % 10) 0 && (nat_eq symbol 5 || nat_eq symbol 6))
@@ -40,7 +40,7 @@ symbol_sum recording start slot symbol =
 unfoldable pub slot_sum : List Sample → ℕ → ℕ → Cpx
 slot_sum recording start slot = complex_sum_below 7 (symbol_sum recording start slot)
 
--- the sum S of the prefix products over 160 slots, from the first half frame in a recording whose PSS is at sample `t`
+-- the sum S of the prefix products over 160 slots, from the first half-frame in a recording whose PSS is at sample `t`
 unfoldable pub prefix_sum : List Sample → ℕ → Cpx
 prefix_sum recording t = complex_sum_below 160 (slot_sum recording (half_start t))
 

@@ -75,7 +75,7 @@ fn prefix_sum(turned: &Turned, t: usize) -> Cpx
     sum
 }
 
-// Returns the start of the first half frame in a recording whose PSS is at sample `t`.
+// Returns the start of the first half-frame in a recording whose PSS is at sample `t`.
 fn half_start(t: usize) -> usize
     requires { t < 19600 }
     ensures value { result ≡ half_start_of t }

@@ -13,7 +13,7 @@ use Rattle.hit_details.specs.declared.hits.IdentifiedHit.{IdentifiedHit}
 use Rattle.hit_details.specs.declared.hits.MeasuredHit.{MeasuredHit}
 use Rattle.hit_details.specs.declared.hits.MeasuredId.{MeasuredId}
 
--- `hit` with its cell identity, half frame and frame start, given `pair`, its SSS group and half frame
+-- `hit` with its cell identity, half-frame and frame start, given `pair`, its SSS group and half-frame
 abbrev pub identified_by : Hit → ℕ × Half → IdentifiedHit
 identified_by hit pair = record {
   hit = hit;
@@ -22,7 +22,7 @@ identified_by hit pair = record {
   start = start_by_hit hit.t pair.1;
 }
 
--- a hit with the cell identity, half frame and frame start that the SSS in `samples` gives
+-- a hit with the cell identity, half-frame and frame start that the SSS in `samples` gives
 abbrev pub identified : List Sample → Hit → IdentifiedHit
 identified samples hit = identified_by hit (identity_of samples hit)
 

@@ -10,7 +10,7 @@ pub struct IdentifiedHit {
     pub hit: Hit,
     /// The cell's physical identity.
     pub id: CellId,
-    /// The half frame that contains the hit's PSS.
+    /// The half-frame that contains the hit's PSS.
     pub half: Half,
     /// The sample, 0 to 19,199, at which a frame of the cell begins, modulo the frame length.
     pub start: u32,
@@ -32,9 +32,9 @@ pub struct MeasuredHit {
 /// An identified hit with its SSS ranking and its metric's numbers. (own)
 #[derive(Clone, Copy, Debug, PartialEq, Eq)]
 pub struct MeasuredId {
-    /// The hit with its cell identity, half frame and frame start.
+    /// The hit with its cell identity, half-frame and frame start.
     pub found: IdentifiedHit,
-    /// The two best pairs of SSS group and half frame, with their scores.
+    /// The two best pairs of SSS group and half-frame, with their scores.
     pub ranking: Ranking,
     /// The squared magnitude of the correlation with the PSS.
     pub peak: u64,

@@ -29,7 +29,7 @@ pub fn identified_hits(
     Ok(found)
 }
 
-// Returns a hit with its cell identity, half frame and frame start.
+// Returns a hit with its cell identity, half-frame and frame start.
 fn identity_of(recording: &Recording, hit: &Hit) -> IdentifiedHit
     requires recording { IsRecording recording.now }
     requires span { IsInSpan hit.now }
@@ -39,7 +39,7 @@ fn identity_of(recording: &Recording, hit: &Hit) -> IdentifiedHit
     identified(hit, n1, half)
 }
 
-/// Returns `hit` with its cell identity and frame start, given the SSS group `n1` and the half frame.
+/// Returns `hit` with its cell identity and frame start, given the SSS group `n1` and the half-frame.
 pub(crate) fn identified(hit: &Hit, n1: u16, half: Half) -> IdentifiedHit
     requires group { n1 ≤ 167 }
     requires member { hit.now.n2 ≤ 2 }

@@ -10,7 +10,7 @@ use Rattle.lte_types.specs.declared.numerology.Prefix.{Prefix}
 abbrev pub frame_length : ℕ
 frame_length = 19200
 
--- samples per half frame
+-- samples per half-frame
 abbrev pub half_frame_length : ℕ
 half_frame_length = 9600
 
@@ -81,18 +81,18 @@ useful_start prefix frame slot symbol = frame + slot_length * slot + prefix.firs
 abbrev pub symbol_of : Prefix → ℕ → ℕ
 symbol_of prefix i = (i - (prefix.first - prefix.other)) / symbol_step prefix
 
--- ---- half frames
+-- ---- half-frames
 
--- the first subframe of a half frame
+-- the first subframe of a half-frame
 abbrev pub subframe_of : Half → ℕ
 subframe_of Zero = 0
 subframe_of Five = 5
 
--- the half frame that begins with a subframe, 0 or 5
+-- the half-frame that begins with a subframe, 0 or 5
 abbrev pub half_of : ℕ → Half
 half_of subframe = if nat_eq subframe 0 then Zero else Five
 
--- the offset, in samples, from the start of a frame to the useful part of a half frame's PSS, which is in the last
+-- the offset, in samples, from the start of a frame to the useful part of a half-frame's PSS, which is in the last
 -- symbol of slot 0 or 10 (TS 36.211 section 6.11.1.2): 832 or 10,432
 abbrev pub primary_start : Half → ℕ
 primary_start half = useful_start normal 0 (2 * subframe_of half) 6

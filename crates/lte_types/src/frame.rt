@@ -1,4 +1,4 @@
-//! Frame numbers and half frames.
+//! Frame numbers and half-frames.
 
 ghost use Rattle.std.specs.Prelude.{◌≡◌, ℕ, ◌%◌, ◌<◌, ◌≤◌, IsSome, IfSome, ◌↔◌};
 ghost use Rattle.lte_types.specs.Numerology.{frame_length, subframe_of, primary_start as primary_start_of};
@@ -53,7 +53,7 @@ impl Sfn {
     }
 }
 
-/// A half frame, named after the subframe that carries its synchronisation signals: 0 or 5 (TS 36.211 section 6.11).
+/// A half-frame, named after the subframe that carries its synchronisation signals: 0 or 5 (TS 36.211 section 6.11).
 #[derive(Clone, Copy, Debug, PartialEq, Eq)]
 pub enum Half {
     Zero,
@@ -61,7 +61,7 @@ pub enum Half {
 }
 
 impl Half {
-    /// Returns the first subframe of the half frame, 0 or 5.
+    /// Returns the first subframe of the half-frame, 0 or 5.
     pub fn subframe(self) -> u8
         ensures { result ≡ subframe_of self }
     {
@@ -71,7 +71,7 @@ impl Half {
         }
     }
 
-    /// Returns the offset, in samples, from the start of a frame to the useful part of the half frame's PSS: 832 or
+    /// Returns the offset, in samples, from the start of a frame to the useful part of the half-frame's PSS: 832 or
     /// 10,432 (TS 36.211 section 6.11.1.2).
     pub fn primary_start(self) -> u32
         ensures value { result ≡ primary_start_of self }

@@ -9,7 +9,7 @@ ghost use Rattle.lte_types.specs.Numerology.{symbols_of_slot, is_extended};
 /// Samples per frame.
 pub const FRAME_LENGTH: usize = 19_200;
 
-/// Samples per half frame.
+/// Samples per half-frame.
 pub const HALF_FRAME_LENGTH: usize = 9_600;
 
 /// Samples per slot. A frame has 20 slots.

@@ -23,7 +23,7 @@ metric_members peak energy power members =
     put (codes "peak") (natural peak) members))
 
 -- `members`, with a hit's cell identity, frame start and subframe added; the reported subframe is the first one in the
--- hit's half frame
+-- hit's half-frame
 abbrev pub identity_members : IdentifiedHit → Members → Members
 identity_members found members =
     put (codes "at") (natural found.start) (
@@ -39,14 +39,14 @@ hit_value measured =
 unfoldable pub hits_json : List MeasuredHit → List ℕ
 hits_json hits = compact_text (list_of hit_value hits)
 
--- the object for an SSS group and a half frame, with the score of the pair
+-- the object for an SSS group and a half-frame, with the score of the pair
 abbrev pub choice_value : Choice → Data
 choice_value choice = object (
     put (codes "subframe") (natural (subframe_of choice.half)) (
     put (codes "score") (integer choice.score) (
     put (codes "group") (natural choice.n1) no_members)))
 
--- the object for the two best pairs of SSS group and half frame
+-- the object for the two best pairs of SSS group and half-frame
 abbrev pub ranking_value : Ranking → Data
 ranking_value ranking = object (
     put (codes "second") (choice_value ranking.second) (

@@ -21,7 +21,7 @@ pub fn json_of_hits(alloc: Global, hits: &[MeasuredHit]) -> Result<String, Alloc
 }
 
 /// Returns identified `hits` as JSON, in the form of `json_of_hits`; `secondary` has a hit's two best pairs of SSS
-/// group and half frame. Fails only if an allocation fails. (own)
+/// group and half-frame. Fails only if an allocation fails. (own)
 pub fn json_of_ids(alloc: Global, hits: &[MeasuredId]) -> Result<String, AllocError>
     ensures { IfOk result (λ text. string_bytes text ≡ ids_json hits.now) }
 {
@@ -53,7 +53,7 @@ impl ToJson for MeasuredId {
     }
 }
 
-// The object for an SSS group and a half frame, with the score of the pair.
+// The object for an SSS group and a half-frame, with the score of the pair.
 impl ToJson for Choice {
     ghost json_of = { choice_value };
 
@@ -67,7 +67,7 @@ impl ToJson for Choice {
     }
 }
 
-// The object for the two best pairs of SSS group and half frame.
+// The object for the two best pairs of SSS group and half-frame.
 impl ToJson for Ranking {
     ghost json_of = { ranking_value };
 

@@ -29,7 +29,7 @@ abbrev pub place_line : ℕ → ℕ → ℕ → ℕ → List ℕ
 place_line t id subframe start =
     decimal t ++ codes " " ++ decimal id ++ codes " " ++ decimal subframe ++ codes " " ++ decimal start ++ codes "\n"
 
--- an identified hit's line; the reported subframe is the first one in the hit's half frame
+-- an identified hit's line; the reported subframe is the first one in the hit's half-frame
 abbrev pub id_line : IdentifiedHit → List ℕ
 id_line found = place_line found.hit.t found.id (subframe_of found.half) found.start
 

@@ -75,7 +75,7 @@ unfoldable pub shifted_value : List Bool → List Bool → List Bool → ℕ →
 shifted_value s c z n2 even odd k =
     if k % 2 == 0 then even_value s c n2 even (k / 2) else odd_value s c z n2 even odd (k / 2)
 
--- SSS value `k` for the group `n1`, the identity `n2` within the group, and a half frame
+-- SSS value `k` for the group `n1`, the identity `n2` within the group, and a half-frame
 unfoldable pub sss_at : ℕ → ℕ → Half → ℕ → ℤ
 sss_at n1 n2 half k =
     shifted_value (period_bits S) (period_bits C) (period_bits Z) n2 (even_shift half n1) (odd_shift half n1) k
@@ -88,6 +88,6 @@ amplitude sign = record { re = pos 127 *ℤ sign; im = pos 0 }
 abbrev pub sss_amplitude : ℕ → ℕ → Half → ℕ → Cpx
 sss_amplitude n1 n2 half n = amplitude (sss_at n1 n2 half n)
 
--- the 62 SSS values for the group `n1`, the identity `n2` within the group, and a half frame
+-- the 62 SSS values for the group `n1`, the identity `n2` within the group, and a half-frame
 unfoldable pub sss_list : ℕ → ℕ → Half → List ℤ
 sss_list n1 n2 half = values_below 62 (sss_at n1 n2 half)
