@@ -22,7 +22,7 @@ seen_in samples k = rounded (spectrum_at samples k) 12
 abbrev pub sending_off : (ℕ → Cpx) → Cpx → ℕ → Cpx
 sending_off sent amplitude k = minus (multiple (2 ^ 17) (spectrum_at sent k)) (multiple (2 ^ 35) amplitude)
 
--- the transmit error of one symbol, whose elements have magnitudes of at most 256, has a magnitude of at most 97 * 2^31
+-- the transmit error of one symbol, whose elements have magnitudes up to 256, has a magnitude up to 97 * 2^31
 abbrev pub SendingIsSmall : Type 0
 SendingIsSmall =
     (grid : ℕ → Cpx) (k : ℕ) → AreAmplitudes grid → k < subcarriers →
@@ -47,8 +47,8 @@ SendingHasTwoCauses =
     (grid : ℕ → Cpx) (k : ℕ) → k < subcarriers →
     sending_off (useful_at grid) (grid k) k ≡ plus (leakage grid k) (rounding_sent grid k)
 
--- the leakage of a symbol whose elements have magnitudes of at most 256 is at most 6.1 * 2^31 in magnitude; the
--- demodulated rounding errors of any symbol are at most 90.7 * 2^31
+-- the leakage of a symbol whose elements have magnitudes up to 256 is at most 6.1 * 2^31 in magnitude; the demodulated
+-- rounding errors of any symbol are at most 90.7 * 2^31
 abbrev pub LeakageIsSmall : Type 0
 LeakageIsSmall =
     (grid : ℕ → Cpx) (k : ℕ) → AreAmplitudes grid → k < subcarriers →
@@ -109,7 +109,7 @@ DeviationHasFourCauses =
     (gain other : Cpx) (grid second_grid samples : ℕ → Cpx) (k : ℕ) → k < subcarriers →
     HasFourCauses gain other grid second_grid samples k
 
--- each amplitude of magnitude at most 256 is demodulated through one gain with a deviation of at most `most` times the
+-- each amplitude of magnitude at most 256 is demodulated through one gain with a deviation up to `most` times the
 -- gain's magnitude, if the error energy is at most `quota` times the gain's square
 abbrev pub AmplitudeIsSeen : ℕ → ℕ → Type 0
 AmplitudeIsSeen quota most =
@@ -117,8 +117,7 @@ AmplitudeIsSeen quota most =
     IsReceived quota gain grid samples → k < subcarriers → IsSeenAs most gain (grid k) (seen_in samples k)
 
 -- the amplitudes that several ports send, each of magnitude at most 256, are demodulated as their sum, with a deviation
--- of at most `most` times the gains' root sum square, if the error energy is at most `quota` times the gains' summed
--- squares
+-- up to `most` times the gains' root sum square, if the error energy is at most `quota` times the gains' summed squares
 abbrev pub AmplitudesAreSeen : ℕ → ℕ → ℕ → Type 0
 AmplitudesAreSeen ports quota most =
     (gains : ℕ → Cpx) (grids : ℕ → ℕ → Cpx) (samples : ℕ → Cpx) (k : ℕ) →
@@ -134,9 +133,9 @@ AmplitudeIsSeenInRecording quota most =
     IsReceived quota gain grid (samples_from recording start) → k < subcarriers →
     IsSeenAs most gain (grid k) (seen recording start k)
 
--- An error energy of at most `quota` times the gain's square causes a deviation of at most `most` times the gain's
--- magnitude. In units of 2^31, the magnitudes are at most 97 for the transmit error, `errors` for the sample errors and
--- 1 for rounding. One unit corresponds to 4 in `most`.
+-- An error energy up to `quota` times the gain's square causes a deviation up to `most` times the gain's magnitude. In
+-- units of 2^31, the magnitudes are at most 97 for the transmit error, `errors` for the sample errors and 1 for
+-- rounding. One unit corresponds to 4 in `most`.
 pub record AreUnitsOf (quota most : ℕ) : Type 0 where
   pub errors : ℕ
   pub enough : 2 ^ 41 * quota * (16385 * 16385) ≤ (errors * 2 ^ 31) * (errors * 2 ^ 31)
@@ -173,7 +172,7 @@ WholeGainIsReceived =
     ((n : ℕ) → n < useful_length → IsWithin eps (minus (samples n) (times gain (useful_at grid n)))) →
     IsReceived 1024 (in_parts gain) grid samples
 
--- reception with an error energy of at most `quota` times the gain's square implies reception with any greater quota
+-- reception with an error energy up to `quota` times the gain's square implies reception with any greater quota
 abbrev pub IsReceivedByMore : Type 0
 IsReceivedByMore =
     (quota more : ℕ) (gain : Cpx) (grid samples : ℕ → Cpx) → quota ≤ more → IsReceived quota gain grid samples →

@@ -144,8 +144,8 @@ TurnedPartIsSeen =
 abbrev pub turned_off : (ℕ → Cpx) → Cpx → ℕ → Cpx
 turned_off sent number k = minus (multiple (2 ^ 31) (spectrum_at sent k)) (multiple (2 ^ 35) number)
 
--- the transmit error of a cyclically shifted useful part, times 16384, has a magnitude of at most 123 * 2^45; the
--- amplitude is rotated by the delay's phase
+-- the transmit error of a cyclically shifted useful part, times 16384, has a magnitude up to 123 * 2^45; the amplitude
+-- is rotated by the delay's phase
 abbrev pub TurnedSendingIsSmall : Type 0
 TurnedSendingIsSmall =
     (grid : ℕ → Cpx) (delay k : ℕ) → AreAmplitudes grid → delay ≤ useful_length → k < subcarriers →
@@ -161,8 +161,8 @@ SendingOverIsSmall =
     square (sending_off (received_over paths (useful_at grid)) (times (channel_over paths k) (grid k)) k) ≤
     (106 * 2 ^ 31) * (106 * 2 ^ 31) * square paths.first
 
--- over faint later paths, each amplitude is demodulated through the paths' channel with a deviation of at most 1880
--- times the first gain's magnitude, if the error energy is at most 1024 times the first gain's square
+-- over faint later paths, each amplitude is demodulated through the paths' channel with a deviation up to 1880 times
+-- the first gain's magnitude, if the error energy is at most 1024 times the first gain's square
 abbrev pub AmplitudeIsSeenOver : Type 0
 AmplitudeIsSeenOver =
     (magnitudes : ℕ → ℕ) (paths : Paths) (grid samples : ℕ → Cpx) (k : ℕ) → AreAmplitudes grid →

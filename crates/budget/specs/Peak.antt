@@ -50,8 +50,8 @@ OnlyHitOfRootWithin quota =
 
 -- ---- a clean signal
 
--- A clean PSS has an error energy of at most 1800 times its gain's square, so no other root has a hit nearby. Its
--- normalised metric is then at least 0.999 instead of 0.99.
+-- A clean PSS has an error energy up to 1800 times its gain's square, so no other root has a hit nearby. Its normalised
+-- metric is then at least 0.999 instead of 0.99.
 abbrev pub IsPrimaryAt : List Sample → ℕ → ℕ → Type 0
 IsPrimaryAt recording t n2 = IsPrimaryWithin 1800 recording t n2
 

@@ -9,7 +9,7 @@ use Rattle.norms.specs.Magnitudes.{energy_below}
 use Rattle.fold128.specs.Symbol.{useful_at}
 use Rattle.lte_types.specs.Numerology.{subcarriers, useful_length}
 
--- the elements of a symbol, by subcarrier, have magnitudes of at most 256
+-- a symbol's elements, indexed by subcarrier, have magnitudes up to 256
 abbrev pub AreAmplitudes : (ℕ → Cpx) → Type 0
 AreAmplitudes grid = (k : ℕ) → k < subcarriers → square (grid k) ≤ 256 * 256
 
@@ -32,7 +32,7 @@ abbrev pub received_of : ℕ → (ℕ → Cpx) → (ℕ → Cpx) → Cpx
 received_of ports gains sent = complex_sum_below ports (λ port. times (gains port) (sent port))
 
 -- 128 samples are received from several ports' symbols, with gains in units of 2^-14. The error energy is at most
--- `quota` times the summed squares of the gains, which are at least the square of one gain of magnitude 1.
+-- `quota` times the gains' summed squares, which are at least 1.
 pub record IsReceivedBy (ports quota : ℕ) (gains : ℕ → Cpx) (grids : ℕ → ℕ → Cpx) (samples : ℕ → Cpx) : Type 0 where
   pub sounds : 2 ^ 28 ≤ energy_below ports gains
   pub quiet :
@@ -48,13 +48,13 @@ samples_from recording start n = sample_at recording (start + n)
 pub record IsSeenNear (most n : ℕ) (value seen : Cpx) : Type 0 where
   pub off : square (minus (in_parts seen) (multiple 64 value)) ≤ most * most * n
 
--- a demodulated amplitude `seen` is 64 times the product of gain, in units of 2^-14, and amplitude, within `most` times
--- the gain's magnitude, which is `most` / 64 units of amplitude
+-- a demodulated amplitude `seen` is 64 times its gain, in units of 2^-14, times its amplitude, within `most` times the
+-- gain's magnitude, that is, within `most` / 64 amplitude units
 abbrev pub IsSeenAs : ℕ → Cpx → Cpx → Cpx → Type 0
 IsSeenAs most gain amplitude seen = IsSeenNear most (square gain) (times gain amplitude) seen
 
--- a demodulated value is 64 times the sum received from several ports, within `most` times the root of the sum of the
--- gains' squares
+-- a demodulated value is 64 times the sum received from several ports, within `most` times the root of the gains'
+-- summed squares
 abbrev pub IsSeenBy : ℕ → ℕ → (ℕ → Cpx) → (ℕ → Cpx) → Cpx → Type 0
 IsSeenBy ports most gains amplitudes seen =
     IsSeenNear most (energy_below ports gains) (received_of ports gains amplitudes) seen

@@ -1,5 +1,5 @@
--- A cell's synchronisation signals in a recording, demodulated through a channel, such as that of several paths. (own;
--- the signals are in TS 36.211 section 6.11)
+-- A cell's synchronisation signals in a recording, demodulated through a channel, such as several paths. (own; the
+-- signals are in TS 36.211 section 6.11)
 use Rattle.std.specs.Prelude.{ℕ, ◌-◌, ◌≤◌, List}
 use Rattle.cs_num.specs.declared.Cpx.{Cpx}
 use Rattle.cs_num.specs.declared.Sample.{Sample}
@@ -32,7 +32,7 @@ SignalsAreThrough =
     AreSignals prefix recording t n1 n2 half → AreSignalsThrough prefix recording t n1 n2 half
 
 -- both synchronisation signals are received over the same paths, the PSS at sample `t` and the SSS one symbol earlier,
--- with error energies of at most 1024 times the first gain's square
+-- with error energies up to 1024 times the first gain's square
 pub record AreSignalsOver (paths : Paths) (prefix : Prefix) (recording : List Sample) (t n1 n2 : ℕ) (half : Half) :
     Type 0 where
   pub group : n1 ≤ 167

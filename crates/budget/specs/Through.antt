@@ -108,7 +108,7 @@ abbrev pub level : Cpx → Channel
 level gain symbol k = gain
 
 -- The bounds of one gain, when demodulated values deviate by at most `most` times the gain's magnitude. With `most` =
--- 2316 (`level_bounds`), the deviation is 2316 / 64, less than 37 units of amplitude.
+-- 2316 (`level_bounds`), the deviation is 2316 / 64, less than 37 amplitude units.
 abbrev pub level_within : ℕ → Bounds
 level_within most = record { most = most; least = 1000; mean = 1000; bend = 0 }
 

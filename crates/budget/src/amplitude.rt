@@ -1,12 +1,12 @@
 //! The deviation of a demodulated amplitude.
 //!
 //! With one gain, whose magnitude is at least 1 (2^14 in units of 2^-14), the demodulated value is close to 64 times
-//! the gain times the amplitude. The deviation is less than 37 units of amplitude if the error energy of the symbol's
-//! 128 samples is at most 1800 times the gain's square. It is at most 30 units at 1024 times the gain's square, as when
+//! the gain times the amplitude. The deviation is less than 37 amplitude units if the error energy of the symbol's 128
+//! samples is at most 1800 times the gain's square. It is at most 30 units at 1024 times the gain's square, as when
 //! each sample component deviates by at most twice the gain's magnitude.
 //!
 //! With several gains, the demodulated value is close to 64 times the sum over the ports. Its deviation is relative to
-//! the root of the sum of the gains' squares, and the error energy is relative to that sum:
+//! the root of the gains' summed squares, and the error energy is relative to that sum:
 //!
 //! - two gains: less than 23 units at 400 times the sum, and 16 at 64 times;
 //! - four gains: less than 14.1 units at 7 times the sum, and less than 14 at 4 times.

@@ -5,8 +5,8 @@
 //!
 //! A single later path is faint if its gain is at most 1/17 of the first path's for a delay of at most 7 samples, 1/19
 //! for 8 and 1/21 for 9. Each of several paths uses a fraction of its limit, and the fractions add up to at most 1.
-//! Each amplitude is then demodulated within 30 units of amplitude if the error energy of a symbol's 128 samples is at
-//! most 1024 times the square of the first gain. This leaves room for soft values of magnitude 1. One gain is the case
+//! Each amplitude is then demodulated within 30 amplitude units if the error energy of a symbol's 128 samples is at
+//! most 1024 times the first gain's square. This leaves room for soft values of magnitude 1. One gain is the case
 //! without later paths.
 
 ghost use Rattle.budget.specs.Paths.{PrefixTurnsRound, ArrivingIsReceived, OnePathIsReceivedOver};

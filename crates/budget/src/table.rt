@@ -2,7 +2,7 @@
 
 ghost use Rattle.budget.specs.Table.{IsNearlyMultiplicative};
 
-/// A law: the product of two table entries is 16384 times the entry at the sum of their indices, within a magnitude of
+/// A law: the product of two table entries is 16384 times the entry at the indices' sum, up to a deviation of magnitude
 /// 22200.
 pub fn table_is_nearly_multiplicative()
     ensures { IsNearlyMultiplicative }

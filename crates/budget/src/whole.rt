@@ -1,6 +1,6 @@
 //! Integer gains, and errors of sample components.
 //!
-//! A symbol received with an integer gain has an error energy of at most 1024 times the gain's square if each sample
+//! A symbol received with an integer gain has an error energy up to 1024 times the gain's square if each sample
 //! component deviates by at most twice the gain's magnitude.
 
 ghost use Rattle.budget.specs.Budget.{ErrorsHaveEnergy, WholeGainIsReceived, IsReceivedByMore};
