@@ -49,8 +49,8 @@ abbrev pub SpokenGrantIsRead : Type 0
 SpokenGrantIsRead = (values : Subframe) (indicator : ℕ) (grant : Grant) → SpeakOfGrant values indicator grant →
     IsReadWith values indicator grant
 
--- a law: a subframe is read with an indicator, 2 or 3, and a grant if the first slot's soft values for both have the
--- signs of their scrambled bits
+-- a law: a subframe is read with an indicator, 2 or 3, and a grant if the first slot's soft values for both have their
+-- scrambled bits' signs
 abbrev pub HeardGrantIsRead : Type 0
 HeardGrantIsRead =
     (first second : SeenSlot) (indicator : ℕ) (duration : Duration) (resource : Resource) (grant : Grant) →

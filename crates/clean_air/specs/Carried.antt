@@ -29,7 +29,7 @@ pub record SpeakOfWord (c_init first : ℕ) (word : List Bool) (values : List �
 abbrev pub sums_of : ℕ → ℕ → ℕ → List ℤ → List (List ℤ)
 sums_of c_init first size values = summed_from first size (descrambled c_init first values)
 
--- a law: at least 3n soft values with the signs of the scrambled bits of a word of n bits, 6 to 64, determine only that
+-- a law: at least 3n soft values with the signs of an n-bit word's scrambled bits, n from 6 to 64, determine only that
 -- word, by their sums
 abbrev pub SentWordIsOnly : Type 0
 SentWordIsOnly =
@@ -55,8 +55,8 @@ ArePlacesHeardIn slot places bits = (i : ℕ) → i < length places →
 abbrev pub ArePlacesHeard : SeenSlot → List Place → (ℕ → Bool) → Type 0
 ArePlacesHeard slot places bits = ArePlacesHeardIn (λ p. slot) places bits
 
--- a law: if each resource element's two soft values have the signs of its bits, so do the soft values of all elements
--- in sequence
+-- a law: if each resource element's two soft values have its bits' signs, so do the soft values of all elements in
+-- sequence
 abbrev pub ValuesOfPlacesAreHeard : Type 0
 ValuesOfPlacesAreHeard = (slot : Place → SeenSlot) (places : List Place) (bits : ℕ → Bool) →
     ArePlacesHeardIn slot places bits → AreHeard 1 (2 * length places) bits (placed_values slot places)

@@ -28,9 +28,9 @@ abbrev pub AreSlow : ℕ → (ℕ → Cpx) → Type 0
 AreSlow bend gains = (l m : ℕ) → l < 7 → m < 7 →
     1000000 * square (minus (gains l) (gains m)) ≤ bend * bend * square (gains m)
 
--- The seven symbols of a slot are received, each with its own gain and an error energy of at most `quota` times the
--- gain's square, and contain the slot's reference signals. Any two gains differ by at most `bend` thousandths of either
--- gain's magnitude.
+-- The seven symbols of a slot are received, each with its own gain and an error energy up to `quota` times the gain's
+-- square, and contain the slot's reference signals. Any two gains differ by at most `bend` thousandths of either gain's
+-- magnitude.
 pub record IsSlotFading (quota bend : ℕ) (recording : List Sample) (starts : ℕ → ℕ) (gains : ℕ → Cpx)
     (grids : ℕ → ℕ → Cpx) (slot : SeenSlot) : Type 0 where
   pub shown : (l : ℕ) → l < 7 → slice_index_or slot.symbols l [] ≡ seen_symbol recording (starts l)
@@ -50,9 +50,9 @@ by_symbol gains symbol k = gains symbol
 abbrev pub fading_bounds : ℕ → ℕ → Bounds
 fading_bounds most bend = record { most = most; least = 1000; mean = 1000 + bend; bend = bend }
 
--- A slowly varying gain leaves room for soft values of magnitude 1. With an error energy of at most `quota` times the
--- gain's square, a demodulated amplitude deviates by at most `own` times its symbol's gain, and so by at most `most`
--- times the weakest gain, in magnitude.
+-- A slowly varying gain leaves room for soft values of magnitude 1. With an error energy up to `quota` times the gain's
+-- square, a demodulated amplitude deviates by at most `own` times its symbol's gain, and so by at most `most` times the
+-- weakest gain, in magnitude.
 pub record LeaveFadingRoom (quota bend : ℕ) : Type 0 where
   pub own : ℕ
   pub most : ℕ

@@ -1,7 +1,8 @@
--- A recording is faithful to a cell: each symbol that the receiver reads is the sum of the signals of the cell's
--- antenna ports, each times its gain in units of 2^-14, up to errors of small energy. These symbols belong to the slots
--- that the scheme's receiver decodes, or carry a primary signal in its search range or one secondary signal. Other
--- samples are unconstrained. (own; frames, slots and symbols are those of TS 36.211 sections 4.1 and 6.2)
+-- A recording is faithful to a cell: each symbol that the receiver reads is the sum of the cell's antenna port signals,
+-- each times its gain in units of 2^-14, up to errors whose energy is small compared with the gains. These symbols
+-- belong to the slots that the scheme's receiver decodes, or carry a primary signal in its search range or one
+-- secondary signal. Other samples are unconstrained. (own; frames, slots and symbols are in TS 36.211 sections 4.1 and
+-- 6.2)
 use Rattle.std.specs.Prelude.{◌≡◌, ℕ, ◌+◌, ◌*◌, ◌^◌, ◌/◌, ◌%◌, ◌<◌, ◌≤◌, ◌⊎◌, nat_eq, if◌then◌else◌, MatchBool}
 use Rattle.std.specs.Prelude.{List, [], ◌∷◌, length, map}
 use Rattle.cs_num.specs.declared.Cpx.{Cpx}
@@ -32,7 +33,7 @@ pub record ArePartGains (carrier : Carrier) (gains : List Cpx) : Type 0 where
   pub sounds : 2 ^ 28 ≤ square (value_at gains 0)
   pub paired : ArePairedBy carrier gains
 
--- the maximum error energy of a symbol with two or four ports: 400 or 7 times the sum of the gains' squares
+-- the maximum error energy of a symbol with two or four ports: 400 or 7 times the gains' summed squares
 abbrev pub most_beside : Carrier → List Cpx → ℕ
 most_beside carrier gains =
     if nat_eq (ports_of carrier) 2 then 400 * (square (value_at gains 0) + square (value_at gains 1))
@@ -120,8 +121,8 @@ IsFaithful recording plan grid sfn offset gain =
 
 -- ---- clean recordings
 
--- a law: in a recording that is clean for a cell, with component errors of at most `eps`, the error energy of 128
--- samples is at most 2^36 `eps`^2, in units of 2^-28
+-- a law: in a recording that is clean for a cell, with component errors of at most `eps`, 128 samples have an error
+-- energy up to 2^36 `eps`^2, in units of 2^-28
 abbrev pub LoadedHasLittleErrors : Type 0
 LoadedHasLittleErrors =
     (carrier : Carrier) (recording : List Sample) (plan : CellPlan) (grids : Port → Elements) (sfn offset : ℕ)

@@ -1,7 +1,7 @@
 -- Reception of one cell, part by part: the synchronisation signals, the identity, the broadcast channel and, if the
 -- receiver reads SIB1, the control format indicator, the grant and the transport block. Each part compares a value that
 -- the receiver computes from the recording with the value that the cell sends. No part needs a gain, a channel or an
--- error bound, so each can be checked on a recording. (own; the channels are those of TS 36.211 sections 6.3 to 6.11)
+-- error bound, so each can be checked on a recording. (own; the channels are in TS 36.211 sections 6.3 to 6.11)
 use Rattle.std.specs.Prelude.{◌≡◌, ◌⊎◌, ℕ, ◌+◌, ◌*◌, ◌/◌, ◌%◌, ◌<◌, ◌≤◌, true, Bool, List, ◌++◌, Result, Ok, Err}
 use Rattle.cs_num.specs.declared.Sample.{Sample}
 use Rattle.cs_bits.specs.Numbers.{bits_of}
@@ -91,8 +91,8 @@ sent_place identity offset = record { id = identity; start = start_of offset }
 
 -- The receiver hears the MIB of a cell in a recording whose first sample is sample `offset` of the frame numbered
 -- `sfn`. `signals`: the primary signals stand out by the rule of PSS detections. `identity`: the secondary signals give
--- the cell's identity. `broadcast`: each soft value of the broadcast channel in the first whole frame has the sign of
--- its scrambled bit. Nothing is required of the broadcast channel in other frames, or of any other channel.
+-- the cell's identity. `broadcast`: each soft value of the broadcast channel in the first whole frame has its scrambled
+-- bit's sign. Nothing is required of the broadcast channel in other frames, or of any other channel.
 pub record IsMasterHeard (receiver : Receiver) (recording : List Sample) (id : ℕ) (master : SentMaster)
     (sfn offset : ℕ) : Type 0 where
   pub number : sfn ≤ 1023

@@ -17,8 +17,8 @@ use Rattle.clean_air.specs.Echo.{IsEchoedBy}
 use Rattle.clean_air.specs.Clean.{IsKnownBy}
 use Rattle.clean_air.specs.Heard.{IdentityIsBest, IsHeardBy}
 
--- a law: a primary signal with an error energy of at most 14,000 times its gain's square has a normalised PSS metric of
--- at least 0.25, greater than at each other sample at most 9 away that has energy
+-- a law: a primary signal with an error energy up to 14,000 times its gain's square has a normalised PSS metric of at
+-- least 0.25, greater than at each other sample at most 9 away that has energy
 abbrev pub PrimaryStandsOutByRule : Type 0
 PrimaryStandsOutByRule = PrimaryStandsOutBy 14000 250
 

@@ -55,8 +55,8 @@ abbrev pub SentElementsCarry : Type 0
 SentElementsCarry =
     (load : Option ℕ) (port : Port) (plan : CellPlan) → CarriesPlan port plan (sent_element load port plan)
 
--- a law: without load, the element is zero in each resource element that the plan leaves open, except those of control
--- format indicators
+-- a law: without load, the element is zero in each resource element that the plan leaves open, except control format
+-- indicators
 abbrev pub OpenPlacesAreSilent : Type 0
 OpenPlacesAreSilent =
     (port : Port) (plan : CellPlan) (sfn subframe symbol k : ℕ) → is_taken port plan sfn subframe symbol k ≡ false →
@@ -70,7 +70,7 @@ is_of_others_by carrier number i = nat_lt 2 (ports_of carrier) && not (nat_eq (i
 abbrev pub is_of_others : Port → ℕ → Bool
 is_of_others port i = is_of_others_by port.carrier port.number i
 
--- a resource element of the broadcast channel holds a symbol of the other pair of ports
+-- a broadcast channel resource element holds a symbol that the other pair of ports sends
 abbrev pub is_other_pair : Port → CellPlan → ℕ → ℕ → ℕ → Bool
 is_other_pair port plan subframe symbol k =
     has_broadcast port plan.identity subframe symbol k

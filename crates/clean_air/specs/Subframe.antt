@@ -17,7 +17,7 @@ use Rattle.lte_types.specs.Numerology.{subcarriers}
 
 -- ---- resource elements and their soft values
 
--- the soft values of the resource elements `places` of a subframe, each in its slot, have the signs of `bits`
+-- the soft values of a subframe's resource elements `places`, each in its slot, have the signs of `bits`
 abbrev pub IsSubframeHeard : SeenSlot → SeenSlot → List Place → (ℕ → Bool) → Type 0
 IsSubframeHeard first second places bits = ArePlacesHeardIn (in_subframe first second) places bits
 

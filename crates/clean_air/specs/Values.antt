@@ -1,5 +1,5 @@
--- The soft values of a slot that is received with one gain and small errors: each has the sign of the bit that was
--- sent. (own)
+-- The soft values of a slot that is received with one gain and errors within a stated bound: each has the sign of its
+-- sent bit. (own)
 use Rattle.std.specs.Prelude.{◌≡◌, ℕ, ◌^◌, ◌<◌, ◌≤◌, Bool, List, [], slice_index_or, ℤ, pos}
 use Rattle.cs_num.specs.declared.Cpx.{Cpx}
 use Rattle.cs_num.specs.declared.Sample.{Sample}
@@ -31,8 +31,8 @@ pub record ArePatternSeen (most : ℕ) (pattern : Pattern) (gain : Cpx) (slot : 
 abbrev pub ArePilotsSeen : ℕ → Cpx → SeenSlot → Type 0
 ArePilotsSeen most gain slot = ArePatternSeen most port_0 gain slot
 
--- a law: if a QPSK symbol and the slot's pilots are demodulated with one gain, each with a deviation of at most `most`
--- times the gain's magnitude, the symbol's soft values have its bits' signs and magnitudes of at least `magnitude`
+-- a law: if a QPSK symbol and the slot's pilots are demodulated with one gain, each with a deviation up to `most` times
+-- the gain's magnitude, the symbol's soft values have its bits' signs and magnitudes of at least `magnitude`
 abbrev pub SeenPairSupportsBits : ℕ → ℕ → Type 0
 SeenPairSupportsBits most magnitude =
     (pattern : Pattern) (gain : Cpx) (slot : SeenSlot) (seen : Cpx) (k : ℕ) (first second : Bool) →
@@ -42,8 +42,8 @@ SeenPairSupportsBits most magnitude =
     (soft_pair (times seen (conjugate (pattern_channel pattern slot k))) (pattern_energy pattern slot))
 
 -- a law: if a resource element with two bits and the slot's pilots are demodulated with one gain, each with a deviation
--- of at most `most` times the gain's magnitude, the element's soft values have the bits' signs and magnitudes of at
--- least `magnitude`
+-- up to `most` times the gain's magnitude, the element's soft values have the bits' signs and magnitudes of at least
+-- `magnitude`
 abbrev pub ValuesSupportBits : ℕ → ℕ → Type 0
 ValuesSupportBits most magnitude =
     (gain : Cpx) (slot : SeenSlot) (symbol k : ℕ) (first second : Bool) → ArePilotsSeen most gain slot →
@@ -63,8 +63,8 @@ pub record IsPatternReceived (quota : ℕ) (pattern : Pattern) (count : ℕ) (re
       grids (pattern_symbol pattern slot.identity i) (pilot_subcarrier slot.identity i)
       ≡ pattern_sent pattern slot.identity slot.number i
 
--- a slot with the normal cyclic prefix is received with one gain: each of its seven symbols has an error energy of at
--- most 1800 times the gain's square, and they contain port 0's reference signals
+-- a slot with the normal cyclic prefix is received with one gain: each of its seven symbols has an error energy up to
+-- 1800 times the gain's square, and they contain port 0's reference signals
 abbrev pub IsSlotReceived : List Sample → (ℕ → ℕ) → (ℕ → ℕ → Cpx) → SeenSlot → Type 0
 IsSlotReceived recording starts grids slot = IsPatternReceived 1800 port_0 7 recording starts grids slot
 

@@ -11,8 +11,8 @@ use Rattle.tailbite.specs.LeastWord.{IsLeastWord}
 use Rattle.tailbite.specs.Clean.{Speaks}
 use Rattle.cs_bits.specs.Signs.{Supports}
 
--- a law: if four values have the sign of a bit and magnitudes of at least `least`, so has their sum, with a magnitude
--- of at least `4 * least`
+-- a law: if four values have a bit's sign and magnitudes of at least `least`, their sum has the bit's sign and a
+-- magnitude of at least `4 * least`
 abbrev pub FourSpeakTogether : Type 0
 FourSpeakTogether =
     (least : ℕ) (bit : Bool) (a b c d : ℤ) → Supports least bit a → Supports least bit b → Supports least bit c →
@@ -31,8 +31,8 @@ pub record SpeakByReading (reading : ℕ → Item) (word : List Bool) (values : 
   pub value : (i : ℕ) → i < length values →
       Supports 1 (bit_of_item (coded_word word) (reading i)) (slice_index_or values i (pos 0))
 
--- a law: if each coded bit has at least one soft value in the order `reading`, and each value has the sign of its coded
--- bit, so has the sum of each coded bit's values
+-- a law: if each coded bit has at least one soft value in the order `reading`, and each value has its coded bit's sign,
+-- the sum of each coded bit's values has the bit's sign
 abbrev pub SumsSpeakByReading : Type 0
 SumsSpeakByReading = (reading : ℕ → Item) (word : List Bool) (values : List ℤ) →
     SpeakByReading reading word values → Speaks (summed_by reading (length word) values) word
@@ -43,16 +43,16 @@ pub record SpeakInTurn (reading : ℕ → Item) (word : List Bool) (values : Lis
   pub value : (i : ℕ) → i < length values →
       Supports 1 (bit_of_item (coded_word word) (reading i)) (slice_index_or values i (pos 0))
 
--- for a word of n bits, at least 3n soft values, each with the sign of its coded bit; the values are read cyclically
--- from bit `first` (`SpeakInOrderFrom`) or from bit 0 (`SpeakInOrder`)
+-- for a word of n bits, at least 3n soft values, each with its coded bit's sign; the values are read cyclically from
+-- bit `first` (`SpeakInOrderFrom`) or from bit 0 (`SpeakInOrder`)
 abbrev pub SpeakInOrderFrom : ℕ → List Bool → List ℤ → Type 0
 SpeakInOrderFrom first word values = SpeakInTurn (λ i. item_of (length word) (first + i)) word values
 
 abbrev pub SpeakInOrder : List Bool → List ℤ → Type 0
 SpeakInOrder word values = SpeakInTurn (item_of (length word)) word values
 
--- a law: for a word of n bits, 6 to 64, if at least 3n soft values, read cyclically from any bit, have the signs of
--- their coded bits, so has each coded bit's sum of soft values
+-- a law: for a word of n bits, 6 to 64, if at least 3n soft values, read cyclically from any bit, have their coded
+-- bits' signs, each coded bit's sum of soft values has the bit's sign
 abbrev pub SumsSpeakFrom : Type 0
 SumsSpeakFrom = (first : ℕ) (word : List Bool) (values : List ℤ) → 6 ≤ length word → length word ≤ 64 →
     SpeakInOrderFrom first word values → Speaks (summed_from first (length word) values) word
@@ -69,7 +69,7 @@ pub record IsOnlyWord (values : List (List ℤ)) (word : List Bool) : Type 0 whe
   pub least : IsLeastWord values word
 
 -- a law: a word of at least 6 bits costs 0 and is the only one of minimum cost, if each value, three per position, has
--- the sign of its coded bit
+-- its coded bit's sign
 abbrev pub SpokenWordIsOnly : Type 0
 SpokenWordIsOnly =
     (values : List (List ℤ)) (word : List Bool) → 6 ≤ length values → length word ≡ length values → Speaks values word →

@@ -1,7 +1,7 @@
 //! The soft values of bits that are sent in a slot's resource elements.
 //!
-//! If each resource element's two soft values have the signs of its two bits, so do the soft values of all the elements
-//! in sequence, in whichever slots the elements are (`places`), and in a slot with correct soft values (`carried`).
+//! If each resource element's two soft values have its two bits' signs, so do the soft values of all the elements in
+//! sequence, in whichever slots the elements are (`places`), and in a slot with correct soft values (`carried`).
 //! Descrambled values have the signs of the bits before scrambling (`descrambled`, TS 36.211 section 7.2).
 
 ghost use Rattle.clean_air.specs.Carried.{SentWordIsOnly, ValuesOfPlacesAreHeard};

@@ -1,7 +1,7 @@
 //! The soft values of a subframe.
 //!
-//! The laws have two premises: the soft values of each resource element have the signs of its bits (`blocks`), or both
-//! slots have correct soft values and the resource elements carry the bits (`carried`, `carried_blocks`).
+//! The laws have two premises: the soft values of each resource element have its bits' signs (`blocks`), or both slots
+//! have correct soft values and the resource elements carry the bits (`carried`, `carried_blocks`).
 
 ghost use Rattle.clean_air.specs.Subframe.{ValuesOfBlocksAreHeard};
 ghost use Rattle.clean_air.specs.Subframe.{CarriedSubframeIsHeard, CarriedBlocksAreHeard};

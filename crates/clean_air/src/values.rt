@@ -12,8 +12,8 @@
 ghost use Rattle.clean_air.specs.Values.{SeenPairSupportsBits, ValuesSupportBits};
 ghost use Rattle.clean_air.specs.Values.{ReceivedSlotIsHeard, QuietSlotIsHeard};
 
-/// A law: both soft values of a resource element have the signs of its two bits, positive for 0 and negative for 1, if
-/// the slot is received with one gain and errors within a stated bound.
+/// A law: both soft values of a resource element have its two bits' signs, positive for 0 and negative for 1, if the
+/// slot is received with one gain and errors within a stated bound.
 pub fn values_support_the_sent_bits()
     ensures pair { SeenPairSupportsBits 2316 1 }
     ensures seen { ValuesSupportBits 2316 1 }

@@ -1,4 +1,4 @@
-//! The word that soft values determine if each has the sign of its coded bit.
+//! The word that soft values determine if each has its coded bit's sign.
 //!
 //! The sums of the soft values by coded bit have the bits' signs. The sent word costs 0, and every other word of the
 //! same length costs more.
