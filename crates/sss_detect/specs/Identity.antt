@@ -1,4 +1,4 @@
--- The identity group and the half-frame for a hit. (own; the signals are those in TS 36.211 section 6.11)
+-- The identity group and the half-frame for a hit. (own; the signals are in TS 36.211 section 6.11)
 use Rattle.std.specs.Prelude.{ℕ, zero, suc, ◌-◌, ◌<◌, ◌≤◌, List, ℤ, ◌<ℤ◌, ◌≤ℤ◌, int_lt, if◌then◌else◌}
 use Rattle.cs_num.specs.declared.Sample.{Sample}
 use Rattle.lte_types.specs.declared.frame.Half.{Half}

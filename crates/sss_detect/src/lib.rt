@@ -41,7 +41,7 @@ pub fn identity_with(recording: &Recording, hit: &Hit, prefix: Prefix) -> (u16, 
 }
 
 /// Returns a hit's identity group and half-frame for the normal cyclic prefix: the secondary symbol is 137 samples
-/// before the primary one. The conditions are those of `identity_with`.
+/// before the primary one. The conditions for `identity_with` apply.
 pub fn identity(recording: &Recording, hit: &Hit) -> (u16, Half)
     requires after { symbol_step normal ≤ hit.now.t }
     requires within { hit.now.t + useful_length ≤ length recording.now }
@@ -53,7 +53,7 @@ pub fn identity(recording: &Recording, hit: &Hit) -> (u16, Half)
 }
 
 /// Returns a hit's cell identity, and the sample at which the cell's first frame starts, for a cyclic prefix. The
-/// conditions are those of `identity_with`.
+/// conditions for `identity_with` apply.
 pub fn place_with(recording: &Recording, hit: &Hit, prefix: Prefix) -> CellPlace
     requires after { symbol_step prefix ≤ hit.now.t }
     requires within { hit.now.t + useful_length ≤ length recording.now }
@@ -68,7 +68,7 @@ pub fn place_with(recording: &Recording, hit: &Hit, prefix: Prefix) -> CellPlace
 }
 
 /// Returns the identity group and half-frame that `identity_with` chooses and the second-best pair of a group and a
-/// half-frame, each with its score. The conditions are those of `identity_with`. (own)
+/// half-frame, each with its score. The conditions for `identity_with` apply. (own)
 pub fn ranking_with(recording: &Recording, hit: &Hit, prefix: Prefix) -> Ranking
     requires after { symbol_step prefix ≤ hit.now.t }
     requires within { hit.now.t + useful_length ≤ length recording.now }

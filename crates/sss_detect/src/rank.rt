@@ -106,7 +106,8 @@ fn scored(sums: &ShiftSums, n1: u16, half: Half) -> Choice
     }
 }
 
-// Returns pair number `place`, 0 to 335: the pairs of subframe 0 by group, then those of subframe 5.
+// Returns the pair of an identity group and a half-frame with the number `place`, 0 to 335: first subframe 0's pairs in
+// group order, then subframe 5's.
 fn pair_at(place: u16) -> (u16, Half)
     requires { place < 336 }
     ensures pair { result ≡ pair_of place }

@@ -11,8 +11,8 @@ use cs_num::Cpx;
 use lte_types::{Half, SUBCARRIERS};
 use sync_seq::{MIDDLE, pss, sss_shifts, sss_sign};
 
-// Returns the agreements at the 62 values of the secondary sequence, for demodulated symbols with components of
-// magnitude at most 2^25.
+// Returns the agreements at the secondary sequence's 62 values, for demodulated symbols with components of magnitude at
+// most 2^25.
 pub(crate) fn agreements(
     primary: &[Cpx; SUBCARRIERS],
     secondary: &[Cpx; SUBCARRIERS],
