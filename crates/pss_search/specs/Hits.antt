@@ -58,7 +58,7 @@ hit_at recording t n2 = if is_hit recording t n2 then found recording t n2 ∷ [
 unfoldable pub hits_at : List Sample → ℕ → List Hit
 hits_at recording t = joined_below 3 (hit_at recording t)
 
--- the hits at the first `count` positions of the search range, in order of position, then of n2
+-- the hits at the first `count` positions of the search range, ordered by position, then by n2
 unfoldable pub hits_before : List Sample → ℕ → List Hit
 hits_before recording count = joined_below count (λ i. hits_at recording (first_place + i))
 

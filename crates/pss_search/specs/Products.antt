@@ -16,11 +16,11 @@ pub record IsStretchOf (recording : List Sample) (stretch : Stretch) : Type 0 wh
   pub re : stretch.re ≡ values_below 256 (λ n. (sample_at recording (stretch.from + n)).re)
   pub im : stretch.im ≡ values_below 256 (λ n. (sample_at recording (stretch.from + n)).im)
 
--- the real parts of the 128 samples of the primary signal n2
+-- the real parts of the primary signal n2's 128 samples
 abbrev pub wave_re : ℕ → List ℤ
 wave_re n2 = values_below useful_length (λ n. (wave n2 n).re)
 
--- the imaginary parts of the 128 samples of the primary signal n2
+-- the imaginary parts of the primary signal n2's 128 samples
 abbrev pub wave_im : ℕ → List ℤ
 wave_im n2 = values_below useful_length (λ n. (wave n2 n).im)
 

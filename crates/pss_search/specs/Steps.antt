@@ -30,7 +30,7 @@ pub record IsMetricOf (recording : List Sample) (n2 t : ℕ) (metric : Metric) :
   pub small_energy : metric.energy ≤ 2 ^ 38
 
 -- bounds on the dot products of 128 samples' real or imaginary parts with a signal's real or imaginary parts, which
--- have magnitudes of at most 255
+-- have magnitudes up to 255
 pub record AreSmallProducts (p : ProductSums) : Type 0 where
   pub re_re : nat_abs p.re_re ≤ 1069547520
   pub im_im : nat_abs p.im_im ≤ 1069547520

@@ -100,8 +100,8 @@ fn product(values: &[i16; 256], o: usize, signal: &[i16; USEFUL_LENGTH], n: usiz
     values[o + n] as i32 * signal[n] as i32
 }
 
-// The four dot products of 128 samples' real and imaginary parts with those of a signal. In each name, the samples'
-// part comes first.
+// The four dot products of 128 samples' real and imaginary parts with a signal's real and imaginary parts. In each
+// name, the samples' part comes first.
 #[derive(Clone, Copy)]
 struct ProductSums {
     re_re: i32,
