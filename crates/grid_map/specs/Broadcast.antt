@@ -10,11 +10,11 @@ use Rattle.lte_types.specs.Numerology.{subcarriers}
 abbrev pub is_reserved : ℕ → Place → Bool
 is_reserved shift p = nat_lt p.symbol 9 && nat_eq (p.k % 3) shift
 
--- the resource elements in symbols 7 to 10 that are not reserved, in order of symbol, then of subcarrier
+-- the resource elements in symbols 7 to 10 that are not reserved, ordered by symbol, then by subcarrier
 unfoldable pub free_places : ℕ → List Place
 free_places shift = filter (λ p. not (is_reserved shift p)) (places_of 7 4)
 
--- the PBCH's 240 resource elements, in order of symbol, then of subcarrier
+-- the PBCH's 240 resource elements, ordered by symbol, then by subcarrier
 unfoldable pub pbch_places : ℕ → List Place
 pbch_places identity = free_places (identity % 3)
 

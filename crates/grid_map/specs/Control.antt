@@ -86,12 +86,12 @@ group_number g = 4 * g.first + g.symbol
 abbrev pub is_in_region : ℕ → Reg → Bool
 is_in_region cfi g = is_group g && nat_le g.symbol cfi
 
--- the resource-element groups of the control region, in order of first subcarrier, then of symbol
+-- the resource-element groups of the control region, ordered by first subcarrier, then by symbol
 unfoldable pub region_groups : ℕ → List Reg
 region_groups cfi = filter (is_in_region cfi) (values_below 288 numbered)
 
--- the PDCCH's resource-element groups: the control region's groups that PCFICH and PHICH do not use, in order of first
--- subcarrier, then of symbol
+-- the PDCCH's resource-element groups: the control region's groups that PCFICH and PHICH do not use, ordered by first
+-- subcarrier, then by symbol
 unfoldable pub pdcch_groups : ℕ → ℕ → Duration → Resource → List Reg
 pdcch_groups identity cfi duration resource =
     without (phich_groups identity duration resource) (without (pcfich_groups identity) (region_groups cfi))

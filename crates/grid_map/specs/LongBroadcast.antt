@@ -9,10 +9,10 @@ use Rattle.grid_map.specs.Place.{places_of}
 abbrev pub is_kept : ℕ → Place → Bool
 is_kept shift p = not (nat_eq p.symbol 2) && nat_eq (p.k % 3) shift
 
--- the resource elements in symbols 0 to 3 that are not reserved, in order of symbol, then of subcarrier
+-- the resource elements in symbols 0 to 3 that are not reserved, ordered by symbol, then by subcarrier
 unfoldable pub free_places : ℕ → List Place
 free_places shift = filter (λ p. not (is_kept shift p)) (places_of 0 4)
 
--- the PBCH's 216 resource elements in slot 1, in order of symbol, then of subcarrier
+-- the PBCH's 216 resource elements in slot 1, ordered by symbol, then by subcarrier
 unfoldable pub long_places : ℕ → List Place
 long_places identity = free_places (identity % 3)

@@ -12,7 +12,7 @@ place symbol k = record { symbol = symbol; k = k }
 abbrev pub symbol_places : ℕ → List Place
 symbol_places symbol = map (place symbol) (range_with_len 0 subcarriers)
 
--- all resource elements in `count` symbols from `first`, in order of symbol, then of subcarrier
+-- all resource elements in `count` symbols from `first`, ordered by symbol, then by subcarrier
 unfoldable pub places_of : ℕ → ℕ → List Place
 places_of first count = flat_map symbol_places (range_with_len first count)
 

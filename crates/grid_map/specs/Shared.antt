@@ -38,7 +38,7 @@ is_shared_of carrier identity cfi start blocks p =
     nat_lt cfi p.symbol && nat_lt p.symbol (subframe_symbols carrier) && not (is_synchronisation carrier p.symbol)
     && not (is_pilot_of carrier identity p) && is_in_blocks start blocks p.k
 
--- the PDSCH's resource elements, in order of symbol, then of subcarrier
+-- the PDSCH's resource elements, ordered by symbol, then by subcarrier
 unfoldable pub shared_places_of : Carrier → ℕ → ℕ → ℕ → ℕ → List Place
 shared_places_of carrier identity cfi start blocks =
     filter (is_shared_of carrier identity cfi start blocks) (places_of 0 (subframe_symbols carrier))

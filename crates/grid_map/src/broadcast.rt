@@ -12,8 +12,7 @@ use crate::{Place, skipping};
 use lte_types::CellId;
 
 /// Returns the resource element for PBCH modulation symbol `i`, below 240: symbol by symbol in the first four OFDM
-/// symbols of slot 1 (7 to 10 of the subframe), without those reserved for reference signals (TS 36.211 section
-/// 6.6.4).
+/// symbols of slot 1 (7 to 10 of the subframe), reserved elements left out (TS 36.211 section 6.6.4).
 pub fn pbch(id: CellId, i: usize) -> Place
     requires { i < 240 }
     ensures item { slice_get (pbch_places id) i ≡ Some result }

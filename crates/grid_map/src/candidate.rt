@@ -11,7 +11,7 @@ ghost use Rattle.lte_types.specs.Numerology.{subcarriers};
 use crate::{Place, Reg, quadruplet, reg_places};
 use lte_types::CellId;
 
-// Returns the index, below `count`, of the group that carries quadruplet `q`.
+// Returns the index, below `count`, of the PDCCH resource-element group that carries quadruplet `q`.
 fn group_of(id: CellId, count: u8, q: u8) -> u8
     requires q { q < count }
     ensures value { result ≡ group_of_quadruplet id count q }
@@ -25,7 +25,7 @@ fn group_of(id: CellId, count: u8, q: u8) -> u8
     unreachable!()
 }
 
-// Returns the indices, below `count`, of the groups that carry quadruplets 0 to 35.
+// Returns the indices, below `count`, of the PDCCH resource-element groups that carry quadruplets 0 to 35.
 fn groups_of(id: CellId, count: u8) -> [u8; 36]
     requires enough { 36 ≤ count }
     ensures values { result ≡ values_below 36 (group_of_quadruplet id count) }
@@ -38,7 +38,7 @@ fn groups_of(id: CellId, count: u8) -> [u8; 36]
     groups
 }
 
-// Returns resource element `j`, 0 to 3, of the group with index `number`.
+// Returns resource element `j`, 0 to 3, of the resource-element group with index `number`.
 fn place_of(id: CellId, groups: &[Reg], number: u8, j: usize) -> Place
     requires inside { All (λ g. IsTrue (is_group g)) groups.now }
     requires number { number < length groups.now }

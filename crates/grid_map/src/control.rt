@@ -30,7 +30,7 @@ pub fn pcfich(id: CellId) -> [Reg; 4]
     ]
 }
 
-// Returns PCFICH group `i`.
+// Returns the PCFICH's resource-element group `i`, 0 to 3.
 fn pcfich_number(id: CellId, i: u16) -> Reg
     requires { i < 4 }
     ensures { result ≡ pcfich_group id i }
@@ -41,7 +41,7 @@ fn pcfich_number(id: CellId, i: u16) -> Reg
     }
 }
 
-// Returns the resource element for PCFICH symbol `i`, 0 to 15; each group has four.
+// Returns the resource element for PCFICH symbol `i`, 0 to 15; each resource-element group has four.
 fn pcfich_point(id: CellId, groups: &[Reg; 4], i: usize) -> Place
     requires groups { groups.now ≡ pcfich_groups id }
     requires inside { All (λ g. IsTrue (is_group g) × (g.symbol ≡ 0)) groups.now }
@@ -66,15 +66,15 @@ pub fn pcfich_places(id: CellId) -> [Place; 16]
     places
 }
 
-// Returns the number of groups in `symbol` that the PCFICH leaves unused: 8 in symbol 0, otherwise 18.
+// Returns the number of resource-element groups in `symbol` that the PCFICH does not use: 8 in symbol 0, otherwise 18.
 fn left_in(symbol: u8) -> usize
     ensures { result ≡ (if nat_eq symbol 0 then 8 else 18) }
 {
     if symbol == 0 { 8 } else { 18 }
 }
 
-// Returns the first subcarrier of group `number` among the groups in `symbol` that the PCFICH leaves unused: two of
-// every three groups in symbol 0, all groups in later symbols.
+// Returns the first subcarrier of group `number` among the resource-element groups in `symbol` that the PCFICH does not
+// use: two of every three groups in symbol 0, all groups in later symbols.
 fn left_begins(id: CellId, symbol: u8, number: usize) -> usize
     requires { number < 18 }
     ensures value { result ≡ (if nat_eq symbol 0
@@ -88,7 +88,7 @@ fn left_begins(id: CellId, symbol: u8, number: usize) -> usize
     }
 }
 
-// Returns group `number` among the groups in `symbol` that the PCFICH leaves unused.
+// Returns group `number` among the resource-element groups in `symbol` that the PCFICH does not use.
 fn left_group(id: CellId, symbol: u8, number: usize) -> Reg
     requires symbol { symbol < 3 }
     requires number { number < (if nat_eq symbol 0 then 8 else 18) }
@@ -100,7 +100,7 @@ fn left_group(id: CellId, symbol: u8, number: usize) -> Reg
     }
 }
 
-// Returns the group in `symbol` that carries quadruplet `i` of PHICH group `m`.
+// Returns the resource-element group in `symbol` that carries quadruplet `i` of PHICH group `m`.
 fn phich_in(id: CellId, symbol: u8, m: usize, i: usize) -> Reg
     requires symbol { symbol < 3 }
     requires m { m < 2 }
@@ -135,7 +135,7 @@ fn count_of(resource: Resource) -> usize
     }
 }
 
-// Returns the group that carries quadruplet `i` of PHICH group `m`.
+// Returns the resource-element group that carries quadruplet `i` of PHICH group `m`.
 fn phich_of(id: CellId, duration: Duration, m: usize, i: usize) -> Reg
     requires m { m < 2 }
     requires i { i < 3 }
@@ -157,7 +157,7 @@ fn phich(id: CellId, duration: Duration, resource: Resource) -> ArrayVec<Reg, 6>
     groups
 }
 
-// Returns whether `reg` is a valid group in the control region whose last symbol is `last`.
+// Returns whether `reg` is a valid resource-element group in the control region whose last symbol is `last`.
 fn is_inside(reg: Reg, last: u8) -> bool
     ensures { result ≡ is_in_region last reg }
 {
@@ -165,7 +165,8 @@ fn is_inside(reg: Reg, last: u8) -> bool
     reg.symbol < 4 && reg.first < 72 && reg.first % span == 0 && reg.symbol <= last
 }
 
-// Returns the group with number `n`, below 288, in the order by first subcarrier, then symbol.
+// Returns the resource-element group with number `n`, below 288; groups are numbered by first subcarrier, then by
+// symbol.
 fn numbered_reg(n: u16) -> Reg
     requires { n < 288 }
     ensures { result ≡ numbered n }
@@ -176,7 +177,7 @@ fn numbered_reg(n: u16) -> Reg
     }
 }
 
-// Returns whether `reg` is a valid group in the control region that neither PCFICH nor PHICH uses.
+// Returns whether `reg` is a valid resource-element group in the control region that neither PCFICH nor PHICH uses.
 fn is_left(reg: Reg, last: u8, pcfich: &[Reg], phich: &[Reg]) -> bool
     ensures { result ≡ (is_in_region last reg && not (is_group_in pcfich.now reg) && not (is_group_in phich.now reg)) }
 {

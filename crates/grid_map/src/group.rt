@@ -27,7 +27,7 @@ pub fn reg_places(id: CellId, reg: Reg) -> [Place; 4]
     ]
 }
 
-// Returns resource element `i`, 0 to 3, of a group.
+// Returns resource element `i`, 0 to 3, of a resource-element group.
 fn place_in(id: CellId, reg: Reg, i: usize) -> Place
     requires group { IsTrue (is_group reg) }
     requires i { i < 4 }

@@ -21,7 +21,7 @@ pub fn long_places(id: CellId) -> [Place; 216]
     places
 }
 
-// Returns PBCH resource element `i`. Symbols 0, 1 and 3 have 48 of them each, symbol 2 has 72.
+// Returns PBCH resource element `i`. Symbols 0, 1 and 3 have 48 PBCH elements each, symbol 2 has 72.
 fn place_at(id: CellId, i: u8) -> Place
     requires { i < 216 }
     ensures place { result ≡ slice_index_or (places_of id) i (place 0 0) }
