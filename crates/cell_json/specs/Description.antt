@@ -160,7 +160,7 @@ duration_at json = unwrap_or (at_key duration_of (codes "duration") json) Normal
 abbrev pub resource_at : Data → Resource
 resource_at json = unwrap_or (at_key resource_of (codes "resource") json) OneSixth
 
--- the SystemInformationBlockType1 of a description, or `None` if a value in it is missing or out of range
+-- a description's SystemInformationBlockType1, or `None` if a value in it is missing or out of range
 abbrev pub sib1_at : Data → Option Sib1
 sib1_at json = at_key sib1_in (codes "sib1") json
 

@@ -204,7 +204,7 @@ fn q_offset_at(value: &Value, key: &str) -> Option<Option<u8>>
     Some(Some(natural_within(inner, 1, 8)? as u8))
 }
 
-// Returns the fields of cellAccessRelatedInfo, or `None` if one of them is out of range.
+// Returns the fields of cellAccessRelatedInfo, or `None` if a value is missing or out of range.
 fn access_in(value: &Value) -> Option<CellAccessRelatedInfo>
     ensures { result ≡ described_access (view value.now) }
 {
@@ -219,7 +219,8 @@ fn access_in(value: &Value) -> Option<CellAccessRelatedInfo>
     })
 }
 
-// Returns the fields of cellSelectionInfo, q-RxLevMin and q-RxLevMinOffset, or `None` if one of them is out of range.
+// Returns the fields of cellSelectionInfo, q-RxLevMin and q-RxLevMinOffset, or `None` if a value is missing or out of
+// range.
 fn selection_in(value: &Value) -> Option<CellSelectionInfo>
     ensures { result ≡ described_selection (view value.now) }
 {

@@ -101,7 +101,7 @@ fn plan_of(description: &Description<'_>, sib1: Sib1) -> CellPlan
     }
 }
 
-// Returns the SystemInformationBlockType1 of a description, or `None` if one of its values is out of range.
+// Returns a description's SystemInformationBlockType1, or `None` if a value is missing or out of range.
 fn information_of(value: &Value) -> Option<Sib1>
     ensures value { result ≡ sib1_at (view value.now) }
     ensures valid { IfSome result IsValid }
@@ -131,8 +131,8 @@ fn are_together(one: u128, two: u128, three: u128, four: u128, most: u128) -> bo
         && four <= most - one - two - three
 }
 
-// Returns whether the gains are those of a clean recording: the gain of port 0 is not 0, and the power is at most 784
-// divided by the port count.
+// Returns whether the gains are a clean recording's: port 0's gain is not 0, and the power is at most 784 divided by
+// the port count.
 fn are_gains(carrier: Carrier, gains: &[Cpx; 4]) -> bool
     ensures { result ≡ are_gains carrier gains.now }
 {
