@@ -24,7 +24,7 @@ sent_by load port plan sfn i = prefix_sent (port_prefix port) (sent_element load
 abbrev pub part_of : Carrier → (Port → Cpx) → List Cpx → ℕ → Cpx
 part_of carrier values gains number = times (value_at gains number) (values (port_by carrier number))
 
--- the sum of the values received from all ports of a transmission scheme, one, two or four
+-- the sum of the values received from all of a transmission scheme's one, two or four ports
 abbrev pub mixed : Carrier → (Port → Cpx) → List Cpx → Cpx
 mixed carrier values gains =
     let part = part_of carrier values gains in

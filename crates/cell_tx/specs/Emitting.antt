@@ -107,7 +107,7 @@ pub record Progress : Type 0 where
   pub from : ℕ
   pub at : ℕ
 
--- the end of the piece that begins at `at`: the end of its frame, or the end of the samples
+-- the end of the piece that begins at `at`: the frame's end, or the samples' end
 abbrev pub piece_end : Progress → ℕ
 piece_end p = min (p.at + (frame_length - (p.at + p.offset) % frame_length)) (length p.samples)
 
@@ -115,8 +115,8 @@ piece_end p = min (p.at + (frame_length - (p.at + p.offset) % frame_length)) (le
 abbrev pub piece_of : Progress → List Sample
 piece_of p = take (p.at - p.from) (drop p.from p.samples)
 
--- The invariant of an emitter: the last piece, from `from` to `at`, lies in one frame, and `frame` holds that frame.
--- `begun`: in the middle of the samples, the last piece is not empty.
+-- The invariant of an emitter: the last piece, from `from` to `at`, lies in one frame, which `frame` holds. `begun`: in
+-- the middle of the samples, the last piece is not empty.
 pub record IsMade (s : Source) (from at : ℕ) (frame : List Sample) : Type 0 where
   pub order : from ≤ at
   pub most : at ≤ s.samples

@@ -28,7 +28,7 @@ UsefulPartsStand =
     prefix_frame_sample prefix grid sfn (useful_start prefix 0 slot l + n)
     ≡ useful_at (grid sfn (slot / 2) (symbols_of_slot prefix * (slot % 2) + l)) n
 
--- the cyclic prefix of a symbol repeats the end of the symbol's useful part
+-- a symbol's cyclic prefix repeats the end of its useful part
 abbrev pub PrefixesRepeat : Type 0
 PrefixesRepeat =
     (prefix : Prefix) (grid : Elements) (sfn slot l d : ℕ) → IsPrefix prefix → l < symbols_of_slot prefix → 1 ≤ d →
@@ -50,7 +50,7 @@ FramesBeginAtStart =
     ≡ prefix_frame_sample prefix grid ((number_at_start sfn offset + j) % 1024) i
 
 -- a resource element at any port, with or without load, has components of magnitude at most 127 (`ElementsAreWithin`)
--- and a magnitude of at most 128 (`ElementsAreSmall`)
+-- and a magnitude up to 128 (`ElementsAreSmall`)
 abbrev pub ElementsAreWithin : Type 0
 ElementsAreWithin =
     (load : Option ℕ) (port : Port) (plan : CellPlan) (sfn subframe symbol k : ℕ) →
@@ -68,7 +68,7 @@ SmallElementsMakeSmallSamples =
     ((sfn subframe symbol k : ℕ) → square (grid sfn subframe symbol k) ≤ 128 * 128) → (sfn i : ℕ) →
     square (prefix_sent prefix grid sfn i) ≤ 1153 * 1153
 
--- no sample of a port of a cell has a magnitude above 1,153
+-- no sample that a cell's port sends has a magnitude above 1,153
 abbrev pub SamplesAreSmall : Type 0
 SamplesAreSmall =
     (load : Option ℕ) (port : Port) (plan : CellPlan) (sfn i : ℕ) →
@@ -89,8 +89,8 @@ ReceivedWithErrorsIsClean =
     eps * eps ≤ 4 * square gain → ((i : ℕ) → i < count → IsWithin eps (errors i)) →
     IsCleanOf sequence (received_with sequence offset count gain errors) offset gain eps
 
--- if a sample has a magnitude of at most 1,153, its product with the gain, plus an error of at most twice the gain's
--- magnitude, has components of at most 32,340 and fits 16 bits
+-- if a sample has a magnitude up to 1,153, its product with the gain, plus an error of at most twice the gain's
+-- magnitude, has components up to 32,340 and fits 16 bits
 abbrev pub ReceivedWithErrorsFits : Type 0
 ReceivedWithErrorsFits =
     (clean gain error : Cpx) (eps : ℕ) → square clean ≤ 1153 * 1153 → IsGain gain → eps * eps ≤ 4 * square gain →
@@ -117,15 +117,14 @@ ReceivedOfTwoIsClean =
     IsAllowed gain other eps → ((i : ℕ) → i < count → IsWithin eps (errors i)) →
     IsCleanOfTwo first second (received_of_two_with first second offset count gain other errors) offset gain other eps
 
--- if two samples have magnitudes of at most 1,153, the sum of their products with the gains has components of at most
--- 32,284
+-- if two samples have magnitudes up to 1,153, the sum of their products with the gains has components up to 32,284
 abbrev pub ReceivedOfTwoIsSmall : Type 0
 ReceivedOfTwoIsSmall =
     (first second gain other : Cpx) → square first ≤ 1153 * 1153 → square second ≤ 1153 * 1153 → AreGains gain other →
     IsWithin 32284 (plus (times gain first) (times other second))
 
--- if two samples have magnitudes of at most 1,153, the sum of their products with the gains, plus an error that the
--- gains allow, has components of at most 32,293 and fits 16 bits
+-- if two samples have magnitudes up to 1,153, the sum of their products with the gains, plus an error that the gains
+-- allow, has components up to 32,293 and fits 16 bits
 abbrev pub ReceivedOfTwoFits : Type 0
 ReceivedOfTwoFits =
     (first second gain other error : Cpx) (eps : ℕ) →
@@ -145,7 +144,7 @@ EmittedIsClean =
     IsCleanBy carrier load (values_with count (received_by carrier load plan sfn offset gains) errors)
     plan sfn offset gains eps
 
--- the samples of an emission without errors have components of at most 32,284
+-- the samples of an emission without errors have components up to 32,284
 abbrev pub EmittedIsSmall : Type 0
 EmittedIsSmall =
     (carrier : Carrier) (load : Option ℕ) (plan : CellPlan) (sfn offset : ℕ) (gains : List Cpx) (i : ℕ) →

@@ -3,7 +3,7 @@ use Rattle.std.specs.Prelude.{ℕ, ◌+◌, ◌-◌, ◌*◌, ◌/◌, ◌%◌, 
 use Rattle.lte_types.specs.declared.numerology.Prefix.{Prefix}
 use Rattle.lte_types.specs.Numerology.{slot_length, useful_length, symbol_step, symbols_of_slot, symbol_of}
 
--- the index that sample `i` of a slot has in the useful part of its symbol; a cyclic prefix sample has the index of the
+-- the index that sample `i` of a slot has in its symbol's useful part; a cyclic prefix sample has the index of the
 -- useful sample that it repeats
 abbrev pub useful_place : Prefix → ℕ → ℕ
 useful_place prefix i = (i + (useful_length - prefix.first) - symbol_step prefix * symbol_of prefix i) % useful_length

@@ -242,7 +242,7 @@ pub(crate) fn put_all(mut emitter: Emitter, out: &mut [Sample])
 }
 
 /// Writes all samples of `emission` to `out`, which must have the same length. Sample `i` is the sum, over the ports,
-/// of sample `i + offset` times the port's gain. Components have magnitudes of at most 32,284.
+/// of sample `i + offset` times the port's gain. Components have magnitudes up to 32,284.
 pub fn emit(emission: &Emission, out: &mut [Sample])
     requires { length out.old ≡ emission.now.samples }
     ensures samples { out.new ≡ emitted_samples emission.now }

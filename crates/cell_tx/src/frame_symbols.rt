@@ -182,7 +182,7 @@ fn sum_of(before: Sample, gain: &Cpx, value: Cpx) -> Sample
 }
 
 // Adds the port's samples in one symbol of a frame, times `gain`. The symbol ends with its useful part, and its cyclic
-// prefix repeats the last samples of that part.
+// prefix repeats the useful part's last samples.
 fn add_symbol(signals: &Signals, gain: &Cpx, symbol: usize, out: &mut [Sample])
     requires symbol { symbol < 20 * port_symbols signals.now.port }
     requires gain { square gain.now ≤ 784 }

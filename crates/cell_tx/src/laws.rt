@@ -1,9 +1,8 @@
 //! Laws on the samples of transmitted cells.
 //!
 //! If no sample of a sequence exceeds magnitude 1,153, the samples of a recording fit 16 bits. For one sequence with
-//! errors, components have magnitudes of at most 32,340 (`sent_is_clean`). For two sequences, they are at most 32,284
-//! without errors, and 32,293 with errors (`sum_is_clean`). An emission has components of at most 32,284 without
-//! errors.
+//! errors, components have magnitudes up to 32,340 (`sent_is_clean`). For two sequences, they are at most 32,284
+//! without errors, and 32,293 with errors (`sum_is_clean`). An emission has components up to 32,284 without errors.
 
 ghost use Rattle.cell_tx.specs.Laws.{UsefulPartsStand, PrefixesRepeat, FramesFollow, FramesBeginAtStart};
 ghost use Rattle.cell_tx.specs.Laws.{ElementsAreWithin, ElementsAreSmall};
@@ -26,8 +25,8 @@ pub fn frames_stand()
     ensures begin { FramesBeginAtStart }
 {}
 
-/// A law: at any port, with or without load, resource elements have magnitudes of at most 128, and samples have
-/// magnitudes of at most 1,153. (own amplitudes)
+/// A law: at any port, with or without load, resource elements have magnitudes up to 128, and samples have magnitudes
+/// up to 1,153. (own amplitudes)
 pub fn sizes()
     ensures within { ElementsAreWithin }
     ensures elements { ElementsAreSmall }

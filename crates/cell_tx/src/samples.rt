@@ -35,8 +35,8 @@ const ONLY: Port = Port {
 // The gain of 1.
 const ONE: Cpx = Cpx { re: 1, im: 0 };
 
-// Returns the index that sample `i` of a slot has in the useful part of its symbol. A cyclic prefix sample has the
-// index of the useful sample that it repeats.
+// Returns the index that sample `i` of a slot has in its symbol's useful part. A cyclic prefix sample has the index of
+// the useful sample that it repeats.
 fn place_at(port: Port, i: usize) -> usize
     requires { i < slot_length }
     ensures value { result ≡ useful_place (port_prefix port) i }
@@ -130,7 +130,7 @@ fn amplified(gain: Gain, clean: Sample) -> Sample
 }
 
 /// Returns sample `i` of a transmission: sample `i + offset` of the cell's sequence, times the gain. `i` must be below
-/// the sample count. Components have magnitudes of at most 32,284.
+/// the sample count. Components have magnitudes up to 32,284.
 pub fn send(t: &Transmission, i: u32) -> Sample
     requires { i < t.now.samples }
     ensures value { result ≡ sample_of (received t.now.cell t.now.sfn t.now.offset (gain_of t.now.gain) i) }
