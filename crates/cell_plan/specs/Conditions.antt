@@ -10,7 +10,7 @@ pub record Condition : Type 0 where
 abbrev pub condition : Bool → CellError → Condition
 condition holds cause = record { holds = holds; cause = cause }
 
--- the error of the first failed condition of the list, or `None` if all conditions hold
+-- the error of the first failed condition in the list, or `None` if all conditions hold
 abbrev pub first_failed : List Condition → Option CellError
 first_failed [] = None
 first_failed (c ∷ rest) = if c.holds then first_failed rest else Some c.cause

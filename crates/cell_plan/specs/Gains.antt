@@ -71,7 +71,7 @@ AreGainsOf carrier gains =
 pub are_gains_prop : (carrier : Carrier) (gains : List Cpx) → IsProp (AreGainsOf carrier gains)
 are_gains_prop carrier gains = hlevel props
 
--- a clean recording whose ports have gains `gains` may have errors with components of at most `eps`
+-- a clean recording whose ports have gains `gains` may have errors with components up to `eps`
 abbrev pub IsAllowedBy : Carrier → List Cpx → ℕ → Type 0
 IsAllowedBy carrier gains eps =
     ByPorts carrier (eps * eps ≤ 4 * square (value_at gains 0)) (IsAllowed (value_at gains 0) (value_at gains 1) eps)

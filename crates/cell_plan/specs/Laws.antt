@@ -26,8 +26,8 @@ abbrev pub WholeBlocksAreResolvable : Type 0
 WholeBlocksAreResolvable =
     (plan : CellPlan) → IsSome (size_of plan.mcs plan.column) → is_whole plan ≡ true → is_resolvable plan ≡ true
 
--- a law: for any port count, the gains of clean recordings are exactly those for which port 0's gain is not 0 and the
--- power is at most 784 divided by the port count
+-- a law: for any port count, gains are a clean recording's exactly if port 0's gain is not 0 and the power is at most
+-- 784 divided by the port count
 abbrev pub GainsAreTogether : Type 0
 GainsAreTogether =
     (carrier : Carrier) (gains : List Cpx) →

@@ -259,8 +259,8 @@ impl Cell {
         })
     }
 
-    /// Creates the cell of `plan` for one antenna port and the normal cyclic prefix, or returns the error of the first
-    /// failed condition.
+    /// Creates the cell of `plan` for one antenna port and the normal cyclic prefix, or returns the first failed
+    /// condition's error.
     pub fn new(plan: CellPlan) -> Result<Cell, CellError>
         requires { IsValid plan.sib1 }
         ensures refusal { MatchResult result (λ _. plan_refusal plan ≡ None)

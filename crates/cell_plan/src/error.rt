@@ -18,8 +18,8 @@ pub enum CellError {
     Offset,
     /// The sample count is 57,600 to 1,920,000.
     Samples,
-    /// The gains are those of a clean recording: port 0's gain is not 0, and the squared magnitudes add up to at most
-    /// 784 divided by the port count.
+    /// The gains are a clean recording's: port 0's gain is not 0, and the squared magnitudes add up to at most 784
+    /// divided by the port count.
     Gain,
     /// Each field of SIB1 is in its range.
     Sib1Range,

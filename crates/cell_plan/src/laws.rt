@@ -14,8 +14,8 @@ pub fn accepted_are_sendable()
     ensures whole { WholeBlocksAreResolvable }
 {}
 
-/// A law: gains are those of a clean recording exactly if port 0's gain is not 0 and the sum of squared magnitudes is
-/// at most 784 divided by the port count.
+/// A law: gains are a clean recording's exactly if port 0's gain is not 0 and the sum of squared magnitudes is at most
+/// 784 divided by the port count.
 pub fn gains_are_together()
     ensures { GainsAreTogether }
 {}

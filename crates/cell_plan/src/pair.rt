@@ -7,8 +7,7 @@ ghost use Rattle.cell_plan.specs.Pair.{gain_of};
 
 use cs_num::{Cpx, Gain};
 
-/// Returns the complex number `number` as a pair, real part first. Its components must have magnitudes of at most
-/// 32,767.
+/// Returns the complex number `number` as a pair, real part first. Its components must have magnitudes up to 32,767.
 pub fn pair_of(number: Cpx) -> (i16, i16)
     requires { IsWithin 32767 number }
     ensures { gain_of result ≡ number }
