@@ -31,7 +31,7 @@ pub record IsMadeBy (carrier : Carrier) (n : ℕ) (made : MadeBy) : Type 0 where
   pub bound : IsBound carrier n made.bound
   pub samples_are : made.recording ≡ samples_by carrier n (nat_abs made.bound)
 
--- the recording is clean for recording `n`'s emission, with error components of at most `eps`
+-- the recording is clean for recording `n`'s emission, with error components up to `eps`
 abbrev pub IsCleanNumber : Carrier → ℕ → List Sample → ℕ → Type 0
 IsCleanNumber carrier n recording eps =
     IsCleanBy carrier None recording (plan n) (number n) (offset n) (gains carrier n) eps
@@ -50,7 +50,7 @@ pub record IsMade (n : ℕ) (made : Made) : Type 0 where
   pub bound : IsBound OnePort n made.bound
   pub samples_are : made.recording ≡ samples n (nat_abs made.bound)
 
--- the recording is a clean recording of its transmission, with error components of at most its bound
+-- the recording is a clean recording of its transmission, with error components up to its bound
 abbrev pub IsCleanlyMade : Made → Type 0
 IsCleanlyMade made =
     IsClean made.recording made.sent.cell made.sent.sfn made.sent.offset (gain_of made.sent.gain) (nat_abs made.bound)

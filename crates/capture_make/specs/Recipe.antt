@@ -20,7 +20,7 @@ use Rattle.cell_plan.specs.Gains.{IsAllowedBy}
 abbrev pub network : Plmn
 network = record { mcc = Some (0 ∷ 0 ∷ 1 ∷ []); mnc = TwoDigits (0 ∷ 1 ∷ []); reserved = false }
 
--- a schedule entry, with the codes of its period and of its SIB types
+-- a schedule entry, with the codes of its period and SIB types
 abbrev pub message : ℕ → List ℕ → SiMessage
 message period sibs = record { period = period; sibs = sibs }
 

@@ -44,8 +44,8 @@ fn with_error(clean: Sample, error: Sample) -> Sample
     }
 }
 
-/// Adds the errors of recording `n` to `samples`, whose components have magnitudes of at most 32,284. Error components
-/// have magnitudes of at most `bound`, which is at most 56.
+/// Adds the errors of recording `n` to `samples`, whose components have magnitudes up to 32,284. Error components have
+/// magnitudes up to `bound`, which is at most 56.
 pub(crate) fn add_errors(n: u32, bound: u16, samples: &mut [Sample])
     requires bound { bound ≤ 56 }
     requires room { All (λ s. IsWithin 32284 (value_of s)) samples.old }

@@ -26,7 +26,7 @@ use std::alloc::{AllocError, Global};
 pub struct MadeBy {
     /// The emission that the recording contains.
     pub sent: Emission,
-    /// The maximum magnitude of an error component: the largest bound that a clean recording with the emission's gains
+    /// The maximum error component magnitude: the largest bound that a clean recording with the emission's gains
     /// allows.
     pub bound: i16,
     /// The samples of the recording, errors included.
@@ -38,7 +38,7 @@ pub struct MadeBy {
 pub struct Made {
     /// The transmission that the recording contains.
     pub sent: Transmission,
-    /// The maximum magnitude of an error component: the largest integer that is at most twice the gain's magnitude.
+    /// The maximum error component magnitude: the largest integer that is at most twice the gain's magnitude.
     pub bound: i16,
     /// The samples of the recording, errors included.
     pub recording: Recording,
@@ -53,8 +53,8 @@ fn emitted_samples(alloc: Global, sent: &Emission) -> Result<Vec<Sample>, AllocE
     Ok(samples)
 }
 
-// Returns `samples` plus the errors of recording `n`. Sample components must have magnitudes of at most 32,284; error
-// components have magnitudes of at most `bound`, which is at most 56.
+// Returns `samples` plus the errors of recording `n`. Sample components must have magnitudes up to 32,284; error
+// components have magnitudes up to `bound`, which is at most 56.
 fn with_errors(n: u32, bound: u16, mut samples: Vec<Sample>) -> Vec<Sample>
     requires bound { bound ≤ 56 }
     requires room { All (λ s. IsWithin 32284 (value_of s)) samples.items }

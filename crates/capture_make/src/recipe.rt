@@ -31,7 +31,7 @@ fn networks() -> Plmns
     plmns
 }
 
-// Returns a schedule entry with the codes of its period and of its SIB types.
+// Returns a schedule entry with the codes of its period and SIB types.
 fn message(period: u8, codes: &[u8]) -> SiMessage
     requires { length codes.now ≤ 31 }
     ensures { result ≡ message_of period codes.now }
@@ -257,7 +257,7 @@ fn least(a: u32, b: u32) -> u32
 }
 
 // Returns the error bound for two antenna ports: the largest integer whose square is at most a quarter of the total
-// power, and at most four times the power of port 0.
+// power, and at most four times port 0's power.
 fn bound_of_two(n: u32) -> u16
     ensures bound { IsBound TwoPorts n (pos result) }
     ensures small { result ≤ 56 }
