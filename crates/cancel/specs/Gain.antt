@@ -11,7 +11,7 @@ use Rattle.lte_types.specs.Numerology.{useful_length}
 abbrev pub estimate : (ℕ → Cpx) → (ℕ → Cpx) → Cpx
 estimate samples signal = quotient (correlation_below useful_length samples signal) (energy_below useful_length signal)
 
--- A candidate is a gain with a magnitude from 1 to 28 and a distance of at most 2 from the estimate `middle`.
+-- A candidate is a gain with a magnitude from 1 to 28 and a distance up to 2 from the estimate `middle`.
 pub record IsCandidate (middle gain : Cpx) : Type 0 where
   pub range : IsGain gain
   pub near : square (minus gain middle) ≤ 4

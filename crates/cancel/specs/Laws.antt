@@ -21,7 +21,7 @@ pub record IsGainSeen (eps : ℕ) (gain : Cpx) (samples signal : ℕ → Cpx) : 
   pub near : (n : ℕ) → n < useful_length → IsWithin eps (minus (samples n) (times gain (signal n)))
 
 -- if 128 samples are a signal times a gain, plus errors up to twice the gain's magnitude (`IsGainSeen`), the estimate
--- has a distance of at most 1 from the gain
+-- has a distance up to 1 from the gain
 abbrev pub EstimateIsNear : Type 0
 EstimateIsNear = (eps : ℕ) (gain : Cpx) (samples signal : ℕ → Cpx) → IsGainSeen eps gain samples signal →
     square (minus gain (estimate samples signal)) ≤ 1

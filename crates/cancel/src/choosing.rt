@@ -28,7 +28,7 @@ fn moved(x: i64, by: u8) -> i64
     x + (by as i64 - 2)
 }
 
-// Returns gain `i` of the 25 whose components differ by at most 2 from those of `middle`.
+// Returns gain `i` of the 25 whose components differ by at most 2 from the components of `middle`.
 fn around(middle: Cpx, i: u8) -> Cpx
     requires small { IsWithin (2 ^ 40) middle }
     requires i { i < 25 }
@@ -41,7 +41,7 @@ fn around(middle: Cpx, i: u8) -> Cpx
     }
 }
 
-// Returns `number` as a gain if it is a candidate: a magnitude from 1 to 28, at a distance of at most 2 from `middle`.
+// Returns `number` as a gain if it is a candidate: a magnitude from 1 to 28, at a distance up to 2 from `middle`.
 fn candidate(middle: Cpx, number: Cpx) -> Option<Gain>
     requires middle { IsWithin (2 ^ 40) middle }
     requires number { IsWithin (2 ^ 41) number }
@@ -56,7 +56,7 @@ fn candidate(middle: Cpx, number: Cpx) -> Option<Gain>
     }
 }
 
-// Returns `gain` with its largest residual component, or `None` if that is not below `end`.
+// Returns `gain` with its largest residual component, or `None` if the component is not below `end`.
 fn choice_of(
     samples: &[Sample],
     sent: &[Sample],
@@ -86,8 +86,8 @@ fn limit_of(samples: &[Sample], sent: &[Sample], middle: Cpx) -> Option<u32>
     Some(greatest_of(samples, sent, gain, u32::MAX) + 1)
 }
 
-// Returns the bound that a better gain's largest residual component must stay below: the best gain's component so far,
-// or else `limit`.
+// Returns the bound that a better gain's largest residual component must stay below: the largest residual component of
+// the best gain so far, or `limit` if there is no such gain.
 fn end_of(limit: Option<u32>, found: &Option<GainChoice>) -> Option<u32>
     ensures { result ≡ end_with limit found.now }
 {

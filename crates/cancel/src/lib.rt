@@ -1,7 +1,7 @@
 //! Interference cancellation: subtracts a detected cell from a recording, with the gain at which it was received.
 //!
-//! The gain is estimated by correlation with the PSS. Candidates have a magnitude from 1 to 28 and a distance of at
-//! most 2 from the estimate. The candidate with the smallest residual is used, where a residual counts by its largest
+//! The gain is estimated by correlation with the PSS. Candidates have a magnitude from 1 to 28 and a distance up to 2
+//! from the estimate. The candidate with the smallest residual is used, where a residual counts by its largest
 //! component magnitude. Among equals, the candidate with the lowest real part is used, and then the one with the lowest
 //! imaginary part.
 //!

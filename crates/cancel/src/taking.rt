@@ -147,7 +147,7 @@ pub fn power_of(recording: &Recording) -> u64
     sum
 }
 
-// Returns `samples` as a recording. Their number must be that of `recording`.
+// Returns `samples` as a recording. There must be as many as in `recording`.
 fn recording_of(recording: &Recording, samples: Vec<Sample>) -> Recording
     requires { length samples.items ≡ length recording.now }
     ensures { result ≡ samples.items }
