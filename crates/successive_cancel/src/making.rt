@@ -91,7 +91,7 @@ fn rounds_on(
 }
 
 // Runs a round on a recording with power `power` and cell list `list`, or returns `None` if no cell can be cancelled.
-// Replaces the list's readings in `work` by those of the new list.
+// Replaces the list's readings in `work` by the new list's readings.
 fn round_on(
     alloc: Global,
     recording: &Recording,
