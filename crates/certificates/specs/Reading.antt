@@ -22,7 +22,7 @@ abbrev pub IsAim : List ℕ → ℕ → Type 0
 IsAim part aim = (aim ≡ head_count) ⊎ ((head_count ≤ length part) × (aim ≡ count_of part))
 
 -- the state of a certificate after its bytes `part` were read: incomplete; complete, with the answer whether it is
--- accepted; or broken, with the offset of the first format error
+-- accepted; or broken, with the first format error's offset
 abbrev pub IsStep : List ℕ → Step → Type 0
 IsStep part (Partial aim) = (length part < aim) × IsAim part aim × IsSound part
 IsStep part (Whole answer) = (certificate : Held) × IsAnswer certificate answer × (part ≡ bytes_of certificate)

@@ -109,7 +109,7 @@ fn make(recording: &Recording, entry: &Entry, reading: &Reading, work: &mut Cert
     put(&work.certificate, &mut work.buffer)
 }
 
-// Replaces the content of `buffer`, which has capacity for the longest certificate, with the bytes of a certificate.
+// Replaces the content of `buffer`, which has capacity for the longest certificate, with a certificate's bytes.
 fn put(certificate: &Certificate, buffer: &mut Vec<u8>)
     requires { most_count ≤ vec_capacity buffer.old }
     ensures bytes { buffer.new.items ≡ bytes_of certificate.now }
