@@ -1,4 +1,4 @@
--- The list of cells with two antenna ports in a recording, decoded by transmit diversity pairs. (own)
+-- A recording's list of cells with two antenna ports, decoded by transmit diversity pairs. (own)
 use Rattle.std.specs.Prelude.{List, Some}
 use Rattle.cs_num.specs.declared.Sample.{Sample}
 use Rattle.lte_types.specs.declared.carrier.Carrier.TheVariants.{TwoPorts}
@@ -14,7 +14,7 @@ use Rattle.explain.specs.Readings.{IsReadingFor}
 abbrev pub two_ports_receiver : Receiver
 two_ports_receiver = by_slots TwoPorts (Some 2) (paired_by over_two)
 
--- the list of cells with two antenna ports in a recording
+-- a recording's list of cells with two antenna ports
 abbrev pub IsExplainedOfTwo : List Sample → List Entry → Type 0
 IsExplainedOfTwo = IsListFor two_ports_receiver
 

@@ -74,8 +74,8 @@ SpeakWith gains pairing most least =
 
 -- ---- slots of a recording
 
--- The seven symbols of `slot` are received from all ports with the gains `gains` and error energies of at most `quota`
--- times the gains' total energy. They contain all ports' reference signals; no port sends anything in another port's
+-- The seven symbols of `slot` are received from all ports with the gains `gains` and error energies up to `quota` times
+-- the gains' total energy. They contain all ports' reference signals; no port sends anything in another port's
 -- reference elements.
 pub record IsSlotReceived (carrier : Carrier) (quota : ℕ) (gains : ℕ → Cpx) (recording : List Sample)
     (starts : ℕ → ℕ) (grids : ℕ → ℕ → ℕ → Cpx) (slot : SeenSlot) : Type 0 where
@@ -103,9 +103,9 @@ PairsSpeak pairing least grids slot =
     CarryPair pairing grids i p q (point b c) (point d e) →
     SupportFour least b c d e (pair_values pairing i slot p q)
 
--- in each slot that is received with the gains `gains` and error energies of at most `quota` times the gains' total
--- energy, any two resource elements that carry a pair have four soft values with the pair's bits' signs and magnitudes
--- of at least `least`
+-- in each slot that is received with the gains `gains` and error energies up to `quota` times the gains' total energy,
+-- any two resource elements that carry a pair have four soft values with the pair's bits' signs and magnitudes of at
+-- least `least`
 abbrev pub SpeakReceivedWith : (ℕ → Cpx) → Pairing → ℕ → ℕ → Type 0
 SpeakReceivedWith gains pairing quota least =
     (recording : List Sample) (starts : ℕ → ℕ) (grids : ℕ → ℕ → ℕ → Cpx) (slot : SeenSlot) →
