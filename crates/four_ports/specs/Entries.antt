@@ -22,7 +22,7 @@ four_ports_receiver = record {
   subframe = Err (NotOnePort 4);
 }
 
--- the list of cells with four antenna ports in a recording
+-- a recording's list of cells with four antenna ports
 abbrev pub IsExplainedOfFour : List Sample → List Entry → Type 0
 IsExplainedOfFour = IsListFor four_ports_receiver
 
