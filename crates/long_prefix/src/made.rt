@@ -27,7 +27,7 @@ pub struct LongMade {
     pub offset: u32,
     /// The gain, real part first.
     pub gain: (i16, i16),
-    /// The maximum magnitude of an error component: the largest integer that is at most twice the gain's magnitude.
+    /// The maximum error component magnitude: the largest integer that is at most twice the gain's magnitude.
     pub bound: i16,
     /// The samples, with the errors.
     pub recording: Recording,

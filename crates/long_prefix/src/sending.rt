@@ -13,7 +13,7 @@ use cell_tx::{Port, port_sample};
 use cs_num::Sample;
 use lte_types::{Carrier, Sfn};
 
-// Returns a cell plan with the fields of `plan`; its other fields, which are not sent, are those of recording 0.
+// Returns a cell plan with the fields of `plan`; its other fields, which are not sent, are recording 0's.
 fn cell_plan(plan: &LongPlan) -> CellPlan
     ensures plan { HasPlan result plan.now }
     ensures valid { IsValid result.sib1 }
