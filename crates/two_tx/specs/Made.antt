@@ -22,7 +22,7 @@ pub record IsMade (n : ℕ) (made : TwoMade) : Type 0 where
 abbrev pub gain_at : TwoMade → ℕ → Cpx
 gain_at made port = value_at (map gain_of made.gains) port
 
--- the recording is a clean recording of its transmission, with its gains and with error components of at most its bound
+-- the recording is a clean recording of its transmission, with its gains and with error components up to its bound
 abbrev pub IsCleanlyMade : TwoMade → Type 0
 IsCleanlyMade made =
     IsCleanOfPorts made.recording made.plan made.sfn made.offset (gain_at made 0) (gain_at made 1)

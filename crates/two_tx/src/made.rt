@@ -27,8 +27,8 @@ pub struct TwoMade {
     pub offset: u32,
     /// The gains of ports 0 and 1, real part first; the gain of port 1 may be 0.
     pub gains: [(i16, i16); 2],
-    /// The maximum magnitude of an error component: the largest bound that a clean recording with this transmission's
-    /// gains allows.
+    /// The maximum error component magnitude: the largest bound that a clean recording with this transmission's gains
+    /// allows.
     pub bound: i16,
     /// The samples of the recording: the received sum of both ports, errors included.
     pub recording: Recording,
