@@ -3,7 +3,7 @@ use Rattle.std.specs.Prelude.{ℕ, ◌+◌, ◌-◌, ◌%◌, Bool, false, List,
 use Rattle.finite.specs.Bits.{xor}
 use Rattle.finite.specs.Lists.{values_below}
 
--- the parity of a list of bits: their sum modulo 2
+-- a bit list's parity: the sum of its bits modulo 2
 abbrev pub parity : List Bool → Bool
 parity [] = false
 parity (b ∷ bs) = xor b (parity bs)

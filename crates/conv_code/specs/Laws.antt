@@ -1,4 +1,4 @@
--- Laws of the code and of rate matching. (of TS 36.212 sections 5.1.3.1 and 5.1.4.2)
+-- Laws on the code and rate matching. (own; both are in TS 36.212 sections 5.1.3.1 and 5.1.4.2)
 use Rattle.std.specs.Prelude.{◌≡◌, ℕ, ◌*◌, ◌≤◌, Bool, List, length}
 use Rattle.sub_block.specs.Items.{ReadsEachOnce}
 use Rattle.conv_code.specs.Code.{coded_word}

@@ -22,7 +22,7 @@ stream_order n = map (λ bit. bit.index) (bits_in (nulls n) (cells_read Convolut
 unfoldable pub item_of : ℕ → ℕ → Item
 item_of n i = slice_index_or (reading n) (i % (3 * n)) (item 0 0)
 
--- the value of the coded bit `p` in the codeword `coded`
+-- the coded bit's value `p` in the codeword `coded`
 abbrev pub bit_of_item : List (List Bool) → Item → Bool
 bit_of_item coded p = slice_index_or (slice_index_or coded p.index []) p.stream false
 

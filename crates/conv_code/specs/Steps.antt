@@ -19,8 +19,8 @@ placed_sum n first values m t p =
     (λ i. cond (nat_eq (stream_of n (first + i)) t && nat_eq (place_of n (first + i)) p)
     (slice_index_or values i (pos 0)) (pos 0))
 
--- the table `sums` holds, by stream and position in interleaved order, the sums of the first `m` soft values; the
--- magnitude of each sum is at most m * 2^15
+-- the table `sums` holds, by stream and position in interleaved order, the sums of the first `m` soft values; each
+-- sum's magnitude is at most m * 2^15
 pub record HasPlacedSums (n first : ℕ) (values : List ℤ) (m : ℕ) (sums : List (List ℤ)) : Type 0 where
   pub streams : length sums ≡ 3
   pub places : (t : ℕ) → t < 3 → length (slice_index_or sums t []) ≡ n

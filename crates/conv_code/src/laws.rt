@@ -1,4 +1,4 @@
-//! Laws of the code and of rate matching.
+//! Laws on the code and rate matching.
 
 ghost use Rattle.conv_code.specs.Laws.{IsOneToOne, IsPermuting};
 
