@@ -34,7 +34,7 @@ place_bytes values = flat_map value_bytes values
 unfoldable pub row_bytes : List ℕ → List ℕ
 row_bytes row = flat_map entry_bytes row
 
--- the bytes of a table, step by step
+-- a table's bytes, step by step
 unfoldable pub table_bytes : List (List ℕ) → List ℕ
 table_bytes table = flat_map row_bytes table
 
@@ -47,13 +47,13 @@ set_of tables = values_below 64 (λ i. is_some (slice_index_or tables (63 - i) N
 unfoldable pub set_bytes : List (Option (List (List ℕ))) → List ℕ
 set_bytes tables = little_bytes 8 (number (set_of tables))
 
--- the bytes of a start state's own table; none if it has no table
+-- the bytes of a start state's own table, no bytes if the state has no table
 unfoldable pub maybe_bytes : Option (List (List ℕ)) → List ℕ
 maybe_bytes None = []
 maybe_bytes (Some table) = table_bytes table
 
--- the bytes of a certificate: the mark, the values by position and stream, the word, the cost, the general table, the
--- set of start states that have tables, and their tables. A table has its bounds by step, then by state.
+-- a certificate's bytes: the mark, the values by position and stream, the word, the cost, the general table, the set of
+-- start states that have tables, and their tables. A table has its bounds by step, then by state.
 unfoldable pub bytes_of : Held → List ℕ
 bytes_of c =
     mark ++ flat_map place_bytes c.values ++ word_bytes c.word ++ entry_bytes c.cost
@@ -74,7 +74,7 @@ head_count = 10501
 abbrev pub table_count : ℕ
 table_count = 10240
 
--- the length in bytes of the longest certificate, with tables for all start states
+-- the longest certificate's length in bytes, with tables for all start states
 abbrev pub most_count : ℕ
 most_count = 665861
 

@@ -30,7 +30,7 @@ pub(crate) const SET_PLACE: usize = HEAD_BYTES - 8;
 /// The length of a table in bytes.
 pub const TABLE_BYTES: usize = 10_240;
 
-/// The length in bytes of the longest certificate, with tables for all 64 start states.
+/// The longest certificate's length in bytes, with tables for all 64 start states.
 pub const MOST_BYTES: usize = HEAD_BYTES + 64 * TABLE_BYTES;
 
 const _: () = prove!(MOST_BYTES == 665_861);

@@ -217,7 +217,7 @@ pub fn head(bytes: &[u8]) -> Result<usize, BadCertificate>
     }
 }
 
-/// Returns the offset of the first format error in a certificate, including an early end; `None` if there is no error.
+/// Returns the first format error's offset in a certificate, including an early end; `None` if there is no error.
 fn first_break_of_whole(bytes: &[u8]) -> Option<usize>
     ensures some { IfSome result (λ p. IsFirstBreak bytes.now p) }
     ensures none { IsNone result → ((p : ℕ) → Breaks bytes.now p → ⊥) }

@@ -122,7 +122,7 @@ fn put_word(word: &Bits<40>, at: usize, out: &mut [u8])
     BigEndian::write_uint(&mut out[at..], number_of(word.slice()), 5);
 }
 
-/// Writes the bytes of a certificate to `out`, whose length is the value of `length`.
+/// Writes a certificate's bytes to `out`, whose length is the value of `length`.
 pub fn to_bytes(certificate: &Certificate, out: &mut [u8])
     requires { length out.old ≡ head_count + table_count * tables_there certificate.now.tables }
     ensures bytes { out.new ≡ bytes_of certificate.now }
