@@ -17,8 +17,8 @@ use Rattle.lte_types.specs.Numerology.{subcarriers}
 
 -- ---- words
 
--- Each soft value has the sign of a scrambled bit of the codeword, read from bit `first`. `enough`: there are at least
--- as many values as coded bits.
+-- Soft value `i` has the sign of the codeword's scrambled bit `first` + `i`, read cyclically. `enough`: there are at
+-- least as many values as coded bits.
 pub record SpeakOfWord (c_init first : ℕ) (word : List Bool) (values : List ℤ) : Type 0 where
   pub enough : 3 * length word ≤ length values
   pub value : (i : ℕ) → i < length values →

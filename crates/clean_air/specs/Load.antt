@@ -34,8 +34,8 @@ received_from carrier grids sfn offset gains i =
     mixed carrier (λ port. prefix_sent (port_prefix port) (grids port) sfn (i + offset)) gains
 
 -- A recording is clean for elements of each port that carry the plan, from frame number `sfn`, whatever the elements
--- are outside the plan: each sample component is within `eps` of the received signal, and `eps` is small enough for the
--- gains.
+-- are outside the plan: each sample component is within `eps` of the received signal, and the gains allow `eps`
+-- (`IsAllowedBy`).
 pub record IsLoadedBy (carrier : Carrier) (recording : List Sample) (plan : CellPlan) (grids : Port → Elements)
     (sfn offset : ℕ) (gains : List Cpx) (eps : ℕ) : Type 0 where
   pub number : sfn ≤ 1023
@@ -62,15 +62,15 @@ OpenPlacesAreSilent =
     (port : Port) (plan : CellPlan) (sfn subframe symbol k : ℕ) → is_taken port plan sfn subframe symbol k ≡ false →
     (has_control port && is_indicator plan symbol k) ≡ false → port_element port plan sfn subframe symbol k ≡ nothing
 
--- Port `number` is silent in symbol `i` of a channel, and the other pair of ports sends the symbol: with four ports,
--- transmit diversity alternates between ports 0 and 2 and ports 1 and 3 (TS 36.211 section 6.3.4.3).
+-- Whether port `number` is silent in symbol `i` of a channel because the other pair of ports sends the symbol: with
+-- four ports, transmit diversity alternates between ports 0 and 2 and ports 1 and 3 (TS 36.211 section 6.3.4.3).
 abbrev pub is_of_others_by : Carrier → ℕ → ℕ → Bool
 is_of_others_by carrier number i = nat_lt 2 (ports_of carrier) && not (nat_eq (i / 2 % 2) (number % 2))
 
 abbrev pub is_of_others : Port → ℕ → Bool
 is_of_others port i = is_of_others_by port.carrier port.number i
 
--- a broadcast channel resource element holds a symbol that the other pair of ports sends
+-- whether a broadcast channel resource element holds a symbol that the other pair of ports sends
 abbrev pub is_other_pair : Port → CellPlan → ℕ → ℕ → ℕ → Bool
 is_other_pair port plan subframe symbol k =
     has_broadcast port plan.identity subframe symbol k

@@ -117,7 +117,7 @@ pub record IsCellThrough (recording : List Sample) (plan : CellPlan) (grid : Ele
   pub system : (slot : ℕ) → slot / 2 ≡ 5 →
       IsFrameSlotThrough recording plan.identity grid sfn offset (even_frame (number_at_start sfn offset) 0) slot
 
--- the laws on channels cover transmission scheme `carrier`: one port and the normal cyclic prefix
+-- whether the laws on channels cover transmission scheme `carrier`: one port and the normal cyclic prefix
 abbrev pub is_seen_through : Carrier → Bool
 is_seen_through carrier = nat_eq (ports_of carrier) 1 && not (is_extended (prefix_of carrier))
 
