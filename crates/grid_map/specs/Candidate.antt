@@ -13,12 +13,13 @@ unfoldable pub group_of_quadruplet : ℕ → ℕ → ℕ → ℕ
 group_of_quadruplet identity count q =
     position_or_len (λ r. nat_eq (quadruplet_at identity count r) q) (range_with_len 0 count)
 
--- the resource-element group among the PDCCH's, `groups`, that carries quadruplet `q`
+-- the resource-element group, among the PDCCH groups `groups`, that carries quadruplet `q`
 abbrev pub quadruplet_group : ℕ → List Reg → ℕ → Reg
 quadruplet_group identity groups q =
     slice_index_or groups (group_of_quadruplet identity (length groups) q) (group 0 0)
 
--- the resource-element groups among the PDCCH's, `groups`, that carry the candidate's quadruplets, 0 to 35, in order
+-- the resource-element groups, among the PDCCH groups `groups`, that carry the candidate's quadruplets, 0 to 35, in
+-- order
 unfoldable pub candidate_groups : ℕ → List Reg → List Reg
 candidate_groups identity groups = values_below 36 (quadruplet_group identity groups)
 

@@ -154,8 +154,8 @@ pub fn pdsch(id: CellId, cfi: Cfi, start: u8, blocks: u8, i: usize) -> Place
     }
 }
 
-/// A law: the PDSCH occupies `block_places` resource elements per allocated resource block, in increasing order, and
-/// they are exactly the ones that its definition admits.
+/// A law: for `cfi` 2 and 3, the PDSCH occupies `block_places` resource elements per allocated resource block, in
+/// increasing order: exactly the subframe's elements that `is_shared_of` admits.
 pub fn shared_order()
     ensures { (carrier : Carrier) (identity cfi start blocks : ℕ) → 2 ≤ cfi → cfi ≤ 3 → start + blocks ≤ block_count →
         AreInOrder place_number (shared_places_of carrier identity cfi start blocks)
