@@ -185,8 +185,8 @@ plan_of json sib1 = record {
 
 -- ---- the conditions
 
--- the gains are a clean recording's, except that a transmit diversity pair may be weak: port 0's gain is not 0, and the
--- total power is at most 784 divided by the port count
+-- whether the gains are a clean recording's, except that a transmit diversity pair may be weak: port 0's gain is not 0,
+-- and the total power is at most 784 divided by the port count
 abbrev pub are_gains : Carrier → List Cpx → Bool
 are_gains carrier gains =
     nat_le 1 (square (value_at gains 0)) && nat_le (power_of carrier gains) (784 / ports_of carrier)
