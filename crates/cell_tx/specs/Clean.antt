@@ -39,7 +39,7 @@ received_of_two first second offset gain other i =
     plus (times gain (first (i + offset))) (times other (second (i + offset)))
 
 -- The samples of a recording are the sum of both sequences, each times its gain. Each component is off by at most
--- `eps`, which is small enough for the gains.
+-- `eps`, which the gains allow (`IsAllowed`).
 pub record IsCleanOfTwo (first second : ℕ → Cpx) (recording : List Sample) (offset : ℕ) (gain other : Cpx) (eps : ℕ) :
     Type 0 where
   pub within : IsOffset offset

@@ -46,7 +46,7 @@ abbrev pub emitted_samples : Emission → List Sample
 emitted_samples e = values_below e.samples (λ i. sample_of (emitted e i))
 
 -- A recording is clean for a cell of a transmission scheme: the samples are the received sum over all ports, and each
--- component is off by at most `eps`, which is small enough for the gains.
+-- component is off by at most `eps`, which the gains allow (`IsAllowedBy`).
 pub record IsCleanBy (carrier : Carrier) (load : Option ℕ) (recording : List Sample) (plan : CellPlan)
     (sfn offset : ℕ) (gains : List Cpx) (eps : ℕ) : Type 0 where
   pub number : sfn ≤ 1023

@@ -143,11 +143,11 @@ pub fn send(t: &Transmission, i: u32) -> Sample
 #[derive(Drop)]
 pub struct Sender<'a> {
     /// The cell that is transmitted. With the extended cyclic prefix or four antenna ports, its system information is
-    /// not.
+    /// not transmitted.
     pub cell: &'a Cell,
     /// The antenna port that transmits.
     pub port: Port,
-    /// The number of the first frame, and the first sample of this frame that is sent.
+    /// The number of the first frame, and the index, within this frame, of the first sample sent.
     pub timing: Timing,
     /// The number of the load in the resource elements that the plan leaves open, or `None` for no load.
     pub load: Option<u32>,
