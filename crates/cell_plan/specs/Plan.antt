@@ -38,9 +38,9 @@ pub record IsSendableWith (Enough : Type 0) (plan : CellPlan) : Type 0 where
 abbrev pub IsSendable : CellPlan → Type 0
 IsSendable plan = IsSendableWith (is_resolvable plan ≡ true) plan
 
--- Two antenna ports must send each coded bit of a transport block, in the resource elements that neither port's
--- reference signals occupy. With the extended cyclic prefix, or four ports, no transport block is sent; with one port,
--- the bits that are sent need only resolve the block.
+-- Whether a transmission scheme must send each coded bit of a transport block: two antenna ports must, in the resource
+-- elements that neither port's reference signals occupy. With the extended cyclic prefix, or four ports, no transport
+-- block is sent; with one port, the bits that are sent need only resolve the block.
 abbrev pub needs_each_bit : Carrier → Bool
 needs_each_bit carrier = has_control_by carrier && nat_eq (ports_of carrier) 2
 
@@ -65,8 +65,8 @@ conditions_with enough plan =
     ∷ condition (text_fits plan) Sib1Long
     ∷ []
 
--- A transmission scheme sends enough of the plan's transport block. With two antenna ports that is each coded bit.
--- Otherwise one antenna port sends each coded bit, or the plan has a block that the sent bits resolve.
+-- Whether a transmission scheme sends enough of the plan's transport block. With two antenna ports, enough is each
+-- coded bit. Otherwise one antenna port sends each coded bit, or the plan has a block that the sent bits resolve.
 abbrev pub is_enough : Carrier → CellPlan → Bool
 is_enough carrier plan =
     if needs_each_bit carrier then is_whole_of carrier plan

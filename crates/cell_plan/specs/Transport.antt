@@ -78,18 +78,20 @@ assigned_bits plan = assigned_bits_of OnePort plan
 abbrev pub coded_count : CellPlan → ℕ
 coded_count plan = 3 * (checked_size plan + 4)
 
--- a transmission scheme sends each coded bit of the transport block at least once
+-- whether a transmission scheme sends each coded bit of the transport block at least once
 abbrev pub is_whole_of : Carrier → CellPlan → Bool
 is_whole_of carrier plan = nat_le (coded_count plan) (assigned_bits_of carrier plan)
 
--- each coded bit of the transport block is sent at least once with one antenna port
+-- whether each coded bit of the transport block is sent at least once with one antenna port
 abbrev pub is_whole : CellPlan → Bool
 is_whole plan = is_whole_of OnePort plan
 
--- for each redundancy version, the first `count` bits after rate matching resolve an information word of `k` bits
+-- whether, for each redundancy version, the first `count` bits after rate matching resolve an information word of `k`
+-- bits
 unfoldable pub is_resolvable_by : ℕ → ℕ → List Bool → Bool
 is_resolvable_by k count word = every_below 4 (λ rv. resolvable (row_with k) (sent_of k rv count) word)
 
--- the bits that one antenna port sends resolve the plan's transport block and its CRC
+-- whether, for each redundancy version, the bits that one antenna port sends resolve the plan's transport block and its
+-- CRC
 abbrev pub is_resolvable : CellPlan → Bool
 is_resolvable plan = is_resolvable_by (checked_size plan) (assigned_bits plan) (shared_word plan)

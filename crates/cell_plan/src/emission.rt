@@ -16,7 +16,7 @@ pub struct Emission {
     pub cell: Cell,
     /// The transmission scheme: the cyclic prefix and the antenna ports.
     pub carrier: Carrier,
-    /// The number of the first frame, and the first sample of this frame that is sent.
+    /// The number of the first frame, and the index, within this frame, of the first sample sent.
     pub timing: Timing,
     /// The number of samples, 57,600 to 1,920,000.
     pub samples: u32,

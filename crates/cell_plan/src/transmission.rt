@@ -18,7 +18,7 @@ pub struct Transmission {
     pub cell: Cell,
     /// The first frame number, 0 to 1023.
     pub sfn: Sfn,
-    /// The first sample of the first frame that is sent, 0 to 19,199.
+    /// The index, within the first frame, of the first sample sent: 0 to 19,199.
     pub offset: u32,
     /// The number of samples, 57,600 to 1,920,000.
     pub samples: u32,
@@ -53,7 +53,7 @@ impl Transmission {
         }
     }
 
-    /// Returns the number of the first frame, and the first sample of this frame that is sent.
+    /// Returns the number of the first frame, and the index, within this frame, of the first sample sent.
     pub fn timing(&self) -> Timing
         ensures sfn { result.sfn ≡ self.now.sfn }
         ensures offset { result.offset ≡ self.now.offset }
