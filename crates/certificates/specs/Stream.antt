@@ -45,6 +45,6 @@ pub record IsBrokenAt (bytes : List ℕ) (place : ℕ) : Type 0 where
   pub first : IsFirstBroken bytes place
   pub within : (place < most_bytes) ⊎ (length bytes ≤ most_bytes)
 
--- none of `bytes` breaks the format; only an early end may
+-- no byte of `bytes` breaks the format; only an early end of `bytes` may break it
 abbrev pub IsUnbroken : List ℕ → Type 0
 IsUnbroken bytes = (place : ℕ) → IsFirstBroken bytes place → length bytes ≤ place
