@@ -23,7 +23,7 @@ pub struct TwoMade {
     pub plan: CellPlan,
     /// The number of the first frame.
     pub sfn: Sfn,
-    /// The first sample of the first frame that is sent, 0 to 19,199.
+    /// The index, within the first frame, of the first sample sent: 0 to 19,199.
     pub offset: u32,
     /// The gains of ports 0 and 1, real part first; the gain of port 1 may be 0.
     pub gains: [(i16, i16); 2],
