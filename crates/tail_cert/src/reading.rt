@@ -99,7 +99,7 @@ fn get_place(bytes: &[u8], at: usize, values: &mut [i32; 3])
     }
 }
 
-/// Reads the soft values of all 40 positions.
+/// Reads the soft values of all 40 positions, which begin at offset 4.
 fn get_values(bytes: &[u8], values: &mut [[i32; 3]; 40])
     requires room { 244 ≤ length bytes.now }
     requires magnitudes { (j : ℕ) → j < 120 → nat_abs (value_at bytes.now (4 + 2 * j)) ≤ 2032 }
@@ -139,7 +139,7 @@ fn get_table(bytes: &[u8], at: usize, table: &mut Table)
     }
 }
 
-/// Reads the set of start states that have their own tables.
+/// Reads the set of start states that have their own tables, at offset 10,493.
 fn get_set(bytes: &[u8]) -> Bits<64>
     requires { head_count ≤ length bytes.now }
     ensures states { (s : ℕ) → s < 64 → has_table result s ≡ tells_table bytes.now s }
