@@ -33,7 +33,7 @@ shared_cost costs x b = slice_index costs (shift x (xor b (odd x)))
 abbrev pub shared_least : List ℕ → List ℕ → ℕ → ℕ
 shared_least costs row x = least_in (shared_cost costs) row (first_from x) (newest_bit x) (second_from x) (newest_bit x)
 
--- the table `costs` has the step costs for one position's values
+-- the table `costs` has the step costs for one position's values, each at most 3 * 2 ^ 20
 pub record AreCosts (values : List ℤ) (costs : List ℕ) : Type 0 where
   pub cost : (x : ℕ) (b : Bool) → x < 64 → shared_cost costs x b ≡ branch_cost values x b
   pub small : (y : ℕ) → y < 64 → slice_index costs y ≤ 3 * 2 ^ 20
