@@ -129,9 +129,9 @@ over paths symbol k = channel_over paths k
 
 -- ---- demodulation
 
--- the demodulated value of a cyclically shifted useful part, unrounded and times 16384, is the useful part's own value
--- times the delay's phase rotation, within 25 * 2^28; the deviation arises because the table is not exactly
--- multiplicative
+-- for elements of magnitude up to 256, the demodulated value of a cyclically shifted useful part, unrounded and times
+-- 16384, is the useful part's own value times the delay's phase rotation, within 25 * 2^28; the deviation arises
+-- because the table is not exactly multiplicative
 abbrev pub TurnedPartIsSeen : Type 0
 TurnedPartIsSeen =
     (grid : ℕ → Cpx) (delay k : ℕ) → AreAmplitudes grid → delay ≤ useful_length →
@@ -144,16 +144,16 @@ TurnedPartIsSeen =
 abbrev pub turned_off : (ℕ → Cpx) → Cpx → ℕ → Cpx
 turned_off sent number k = minus (multiple (2 ^ 31) (spectrum_at sent k)) (multiple (2 ^ 35) number)
 
--- the transmit error of a cyclically shifted useful part, times 16384, has a magnitude up to 123 * 2^45; the amplitude
--- is rotated by the delay's phase
+-- for elements of magnitude up to 256, the transmit error of a cyclically shifted useful part, times 16384, has a
+-- magnitude up to 123 * 2^45; the amplitude is rotated by the delay's phase
 abbrev pub TurnedSendingIsSmall : Type 0
 TurnedSendingIsSmall =
     (grid : ℕ → Cpx) (delay k : ℕ) → AreAmplitudes grid → delay ≤ useful_length → k < subcarriers →
     square (turned_off (turned_round delay (useful_at grid)) (times (delayed delay k) (grid k)) k) ≤
     (123 * 2 ^ 45) * (123 * 2 ^ 45)
 
--- over faint later paths, the transmit error is at most 106 * 2^31 times the first gain in magnitude, if the first
--- gain's magnitude is at least 1
+-- over faint later paths, the transmit error is at most 106 * 2^31 times the first gain in magnitude, if the elements
+-- have magnitudes up to 256 and the first gain's magnitude is at least 1
 abbrev pub SendingOverIsSmall : Type 0
 SendingOverIsSmall =
     (magnitudes : ℕ → ℕ) (paths : Paths) (grid : ℕ → Cpx) (k : ℕ) → AreAmplitudes grid → AreFaint magnitudes paths →
@@ -161,8 +161,9 @@ SendingOverIsSmall =
     square (sending_off (received_over paths (useful_at grid)) (times (channel_over paths k) (grid k)) k) ≤
     (106 * 2 ^ 31) * (106 * 2 ^ 31) * square paths.first
 
--- over faint later paths, each amplitude is demodulated through the paths' channel with a deviation up to 1880 times
--- the first gain's magnitude, if the error energy is at most 1024 times the first gain's square
+-- over faint later paths, each amplitude of magnitude at most 256 is demodulated through the paths' channel with a
+-- deviation up to 1880 times the first gain's magnitude, if the error energy is at most 1024 times the first gain's
+-- square
 abbrev pub AmplitudeIsSeenOver : Type 0
 AmplitudeIsSeenOver =
     (magnitudes : ℕ → ℕ) (paths : Paths) (grid samples : ℕ → Cpx) (k : ℕ) → AreAmplitudes grid →

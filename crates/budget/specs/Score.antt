@@ -30,21 +30,24 @@ pub record AreSeen (gain : Cpx) (n1 n2 : ℕ) (half : Half) (pss_seen sss_seen :
   pub primary : (n : ℕ) → n < 62 → IsSeenAs 2316 gain (pss_at n2 n) (pss_seen (middle n))
   pub secondary : (n : ℕ) → n < 62 → IsSeenAs 2316 gain (sss_amplitude n1 n2 half n) (sss_seen (middle n))
 
--- each of the 62 terms in the score of the transmitted identity group and half-frame is positive
+-- if both synchronisation signals are demodulated as `AreSeen` states, each of the 62 terms in the score of the
+-- transmitted identity group and half-frame is positive
 abbrev pub TermsArePositive : Type 0
 TermsArePositive =
     (gain : Cpx) (n1 n2 : ℕ) (half : Half) (pss_seen sss_seen : ℕ → Cpx) → AreSeen gain n1 n2 half pss_seen sss_seen →
     (n : ℕ) → n < 62 →
     pos 0 <ℤ (sss_at n1 n2 half n *ℤ agreement pss_seen sss_seen n2 n)
 
--- every other pair of an identity group and a half-frame has a smaller score than the transmitted pair
+-- if both synchronisation signals are demodulated as `AreSeen` states, every other pair of an identity group and a
+-- half-frame has a smaller score than the transmitted pair
 abbrev pub SentPairIsGreatest : Type 0
 SentPairIsGreatest =
     (gain : Cpx) (n1 n2 : ℕ) (half : Half) (pss_seen sss_seen : ℕ → Cpx) → AreSeen gain n1 n2 half pss_seen sss_seen →
     (m : ℕ) (other : Half) → m ≤ 167 →
     ((m ≡ n1) × (other ≡ half) → ⊥) → score pss_seen sss_seen n2 m other <ℤ score pss_seen sss_seen n2 n1 half
 
--- a law: the transmitted identity group and half-frame are `best_pair`
+-- a law: if both synchronisation signals are demodulated as `AreSeen` states, the transmitted identity group and
+-- half-frame are `best_pair`
 abbrev pub SentPairIsBest : Type 0
 SentPairIsBest =
     (gain : Cpx) (n1 n2 : ℕ) (half : Half) (pss_seen sss_seen : ℕ → Cpx) → AreSeen gain n1 n2 half pss_seen sss_seen →
@@ -59,7 +62,8 @@ pub record AreSignals (prefix : Prefix) (recording : List Sample) (t n1 n2 : ℕ
   pub primary : IsReceived 1800 gain (pss_grid n2) (samples_from recording t)
   pub secondary : IsReceived 1800 gain (sss_grid n1 n2 half) (samples_from recording (t - symbol_step prefix))
 
--- a PSS detection at the primary signal identifies the transmitted identity group and half-frame
+-- a PSS detection at the primary signal identifies the transmitted identity group and half-frame, if both
+-- synchronisation signals are received with one gain, each with error energy up to 1800 times the gain's square
 abbrev pub SentPairIsIdentified : Type 0
 SentPairIsIdentified =
     (prefix : Prefix) (recording : List Sample) (hit : Hit) (n1 : ℕ) (half : Half) →
