@@ -94,8 +94,8 @@ pub record IsMasterEntry (master : SentMaster) (number : ℕ) (entry : Entry) : 
 
 -- ---- the list
 
--- `list` contains each cell of the receiver's transmission scheme that the receiver hears, for any plan, first frame
--- number and offset
+-- `list` contains each cell of the receiver's transmission scheme that the receiver hears, for any known plan, first
+-- frame number and offset
 abbrev pub HoldsHeardBy : Receiver → List Sample → List Entry → Type 0
 HoldsHeardBy receiver recording list =
     (plan : CellPlan) (sfn offset : ℕ) → IsKnownBy receiver.carrier plan →
@@ -112,24 +112,24 @@ HoldsMasterBy receiver recording list =
     HoldsOne list identity (start_of offset) (number_at_start sfn offset)
     (IsMasterEntry master (number_at_start sfn offset))
 
--- `list` contains each cell of a transmission scheme to which the recording is faithful, for any plan, elements outside
--- the plan, first frame number, offset and gains
+-- `list` contains each cell of a transmission scheme to which the recording is faithful, for any known plan, elements
+-- outside the plan, first frame number, offset and gains
 abbrev pub HoldsFaithfulBy : Carrier → List Sample → List Entry → Type 0
 HoldsFaithfulBy carrier recording list =
     (plan : CellPlan) (grids : Port → Elements) (sfn offset : ℕ) (gains : List Cpx) →
     IsKnownBy carrier plan → IsFaithfulBy carrier recording plan grids sfn offset gains →
     HoldsCellBy carrier list plan (start_of offset) (number_at_start sfn offset)
 
--- `list` contains each cell of a transmission scheme that is received through channels, for any plan, elements outside
--- the plan, first frame number, offset and channels
+-- `list` contains each cell of a transmission scheme that is received through channels, for any known plan, elements
+-- outside the plan, first frame number, offset and channels
 abbrev pub HoldsThroughBy : Carrier → List Sample → List Entry → Type 0
 HoldsThroughBy carrier recording list =
     (plan : CellPlan) (grids : Port → Elements) (sfn offset : ℕ) →
     IsKnownBy carrier plan → IsSeenThroughBy carrier recording plan grids sfn offset →
     HoldsCellBy carrier list plan (start_of offset) (number_at_start sfn offset)
 
--- `list` contains each cell of a transmission scheme for which the recording is clean, for any plan, elements outside
--- the plan, first frame number, offset, gains and errors
+-- `list` contains each cell of a transmission scheme for which the recording is clean, for any known plan, elements
+-- outside the plan, first frame number, offset, gains and errors
 abbrev pub HoldsBy : Carrier → List Sample → List Entry → Type 0
 HoldsBy carrier recording list =
     (plan : CellPlan) (grids : Port → Elements) (sfn offset : ℕ) (gains : List Cpx) (eps : ℕ) →
