@@ -204,8 +204,8 @@ pub fn pdcch(id: CellId, cfi: Cfi, mib: Mib) -> ArrayVec<Reg, 66>
     groups
 }
 
-/// A law: the PCFICH has four resource-element groups. The PDCCH has the control region's others except the PHICH's,
-/// each once, in order: two control channel elements with indicator 1, at least four with 2 and 3.
+/// A law: the PCFICH has four resource-element groups. The PDCCH has all other groups in the control region except the
+/// PHICH's, each once, in order: two control channel elements with indicator 1, at least four with 2 and 3.
 pub fn control_groups()
     ensures pcfich_inside { (identity i : ℕ) → i < 4 → IsTrue (is_group (pcfich_group identity i)) }
     ensures pcfich_apart { (identity i j : ℕ) → i < 4 → j < 4 →
