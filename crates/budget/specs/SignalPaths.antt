@@ -15,7 +15,7 @@ use Rattle.budget.specs.Paths.{Paths, AreFaint, IsReceivedOver}
 
 -- Both synchronisation signals are demodulated through a channel whose bounds leave room, the PSS at sample `t` of a
 -- recording and the SSS one symbol earlier (a symbol with `prefix`). Bounds are relative to a magnitude whose square is
--- `size`.
+-- `square`.
 pub record AreSignalsThrough (prefix : Prefix) (recording : List Sample) (t n1 n2 : ℕ) (half : Half) : Type 0 where
   pub most : ℕ
   pub least : ℕ
