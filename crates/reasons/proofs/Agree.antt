@@ -1,104 +1,59 @@
 -- Two recordings that agree in their first 17 frames have the same reasons.
-use Rattle.std.proofs.Common.{◌≡◌, ℕ, zero, suc, ◌+◌, ◌*◌, ◌-◌, ◌%◌, ◌<◌, ◌≤◌, Bool, true, false, cond, List, [], ◌∷◌, ℤ, arith, refl, ap, ap₂, subst, ◌∙◌}
+use Rattle.std.proofs.Common.{◌≡◌, ℕ, suc, ◌+◌, ◌*◌, ◌%◌, ◌<◌, Bool, true, false, List, [], ◌∷◌, ℤ, arith, refl, ap, subst, ◌∙◌}
 use Rattle.std.proofs.Math.Path.{fun_ext}
 use Rattle.std.specs.Prelude.{All, MatchBool, nat_eq, filter}
 use Rattle.std.specs.List.{AllZip, flat_map}
 use Rattle.std.proofs.lemmas.List.Elements.{All-filter}
-use Rattle.finite.proofs.Sums.{total_below_same}
 use Rattle.finite.proofs.Lists.{values_below_same}
 use Rattle.cs_num.specs.declared.Sample.{Sample}
-use Rattle.cs_num.specs.Complex.{times, conjugate, square}
-use Rattle.cs_num.proofs.Sums.{complex_sum_below_same}
 use Rattle.lte_types.specs.CellPlace.{Place}
 use Rattle.lte_types.specs.Carrier.{prefix_of}
 use Rattle.lte_types.specs.Frames.{frames_from}
-use Rattle.lte_types.specs.Numerology.{frame_length, symbol_step}
+use Rattle.lte_types.specs.Numerology.{frame_length}
 use Rattle.lte_types.specs.declared.entry.Entry.{Entry}
 use Rattle.lte_types.specs.declared.hit.Hit.{Hit}
 use Rattle.sample_file.specs.Recording.{AgreeBefore}
-use Rattle.sample_file.proofs.Agree.{sample_agrees}
-use Rattle.observe.specs.Seen.{seen}
-use Rattle.observe.proofs.Agree.{seen_agrees}
 use Rattle.pss_search.specs.declared.measure.Metric.{Metric}
-use Rattle.pss_search.specs.Correlation.{wave, peak, peak_term, energy, energy_term}
-use Rattle.pss_search.specs.Metrics.{metric_at}
 use Rattle.pss_search.specs.Hits.{IsInSpan, hits_of}
-use Rattle.pss_search.proofs.Agree.{hits_agree}
+use Rattle.pss_search.proofs.Agree.{metric_agrees, strongest_agrees, hits_agree}
 use Rattle.pss_search.proofs.Listed.{listed_in_span}
-use Rattle.sss_detect.specs.Identity.{prefix_scores}
-use Rattle.sss_detect.proofs.Agree.{prefix_agrees, place_agrees}
+use Rattle.sss_detect.proofs.Agree.{scores_agree, prefix_agrees, place_agrees}
 use Rattle.pbch.specs.Values.{summed_values}
 use Rattle.explain.specs.Deciding.{deciding_length, LooksAtFirstFrames}
 use Rattle.explain.specs.Receiver.{Receiver, has_step_before, place_by, sums_by}
 use Rattle.explain.proofs.Deciding.{decided}
 use Rattle.reasons.specs.declared.reason.Reason.{Reason}
-use Rattle.reasons.specs.declared.reason.Reason.TheVariants.{NoHit, OtherIdentity, NoMib}
+use Rattle.reasons.specs.declared.reason.Reason.TheVariants.{OtherIdentity, NoMib}
 use Rattle.reasons.specs.Attempt.{IsClosest}
-use Rattle.reasons.specs.Strongest.{thousandths, is_stronger, strongest_among, strongest_place}
-use Rattle.reasons.specs.Reason.{has_identity, has_root, ratio_of, no_room, other_cell, HasNoMib, IsFirstFailing, AreReasons}
+use Rattle.reasons.specs.Strongest.{thousandths}
+use Rattle.reasons.specs.Reason.{has_identity, has_root, ratio_of, no_room, other_cell, HasNoHit, HasNoMib, IsFirstFailing, AreReasons}
 use Rattle.reasons.specs.Laws.{FirstFramesDecideReasons}
 
 -- ---- the strongest sample
 
-module _ (a b : List Sample) (agree : AgreeBefore deciding_length a b) (n2 : ℕ) where
-  peak_agrees : (t : ℕ) → t + 128 ≤ 19473 → peak a n2 t ≡ peak b n2 t
-  unfolding peak
-  peak_agrees t within = ap square
-      (complex_sum_below_same 128 (peak_term (wave n2) a t) (peak_term (wave n2) b t)
-      (λ n l. ap (λ s. times s (conjugate (wave n2 n))) (sample_agrees deciding_length (t + n) a b agree (omega (arith, within, l)))))
-
-  energy_agrees : (t : ℕ) → t + 128 ≤ 19473 → energy a t ≡ energy b t
-  unfolding energy
-  energy_agrees t within =
-      total_below_same 128 (energy_term a t) (energy_term b t) (λ n l. ap square (sample_agrees deciding_length (t + n) a b agree (omega (arith, within, l))))
-
-  metric_agrees : (t : ℕ) → t + 128 ≤ 19473 → metric_at a t n2 ≡ metric_at b t n2
-  metric_agrees t within i = record { peak = peak_agrees t within i; energy = energy_agrees t within i }
-
-  within_of : (n : ℕ) → strongest_among a n2 n ≤ 128 + n
-  unfolding strongest_among
-  within_of zero = omega arith
-  within_of (suc n) = by (is_stronger (metric_at a (strongest_among a n2 n) n2) (metric_at a (129 + n) n2)) (within_of n)
-    where
-      by : (s : Bool) → strongest_among a n2 n ≤ 128 + n → cond s (129 + n) (strongest_among a n2 n) ≤ 128 + suc n
-      by true before = omega arith
-      by false before = omega (arith, before)
-
-  strongest_agrees : (n : ℕ) → n ≤ 19217 → strongest_among a n2 n ≡ strongest_among b n2 n
-  unfolding strongest_among
-  strongest_agrees zero few = refl
-  strongest_agrees (suc n) few =
-      let before = strongest_agrees n (omega (arith, few)) in
-      let bound = within_of n in
-      let best = metric_agrees (strongest_among a n2 n) (omega (arith, few, bound)) ∙ ap (λ t. metric_at b t n2) before in
-      let next = metric_agrees (129 + n) (omega (arith, few)) in
-      ap₂ (λ (s : Bool) (t : ℕ). cond s (129 + n) t) (ap₂ is_stronger best next) before
-
-  place_is : strongest_place a n2 ≡ strongest_place b n2
-  place_is =
-      let bound = within_of 19217 in
-      let same = strongest_agrees 19217 (omega arith) in
-      let metric = metric_agrees (strongest_among a n2 19217) (omega (arith, bound)) ∙ ap (λ t. metric_at b t n2) same in
-      ap₂ (λ (t : ℕ) (m : Metric). record { t = t; ratio = thousandths m.peak m.energy n2 }) same metric
+no_hit_agrees : (n2 : ℕ) (a b : List Sample) (reasons : List Reason) → AgreeBefore deciding_length a b → HasNoHit a n2 reasons → HasNoHit b n2 reasons
+no_hit_agrees n2 a b reasons agree is = record {
+  place = is.place;
+  strongest =
+      let last = is.strongest.strongest.before_end in
+      let same = metric_agrees deciding_length is.place.t n2 a b agree (omega (arith, last)) in
+      record {
+        strongest = strongest_agrees deciding_length n2 is.place.t a b agree (omega arith) is.strongest.strongest;
+        ratio = is.strongest.ratio ∙ ap (λ (m : Metric). thousandths m.peak m.energy n2) same;
+      };
+  is = is.is;
+}
 
 -- ---- hits
 
 module _ (receiver : Receiver) (look : LooksAtFirstFrames receiver) (a b : List Sample) (agree : AgreeBefore deciding_length a b) where
-  scores_agree : (hit : Hit) → IsInSpan hit → prefix_scores (prefix_of receiver.carrier) a hit ≡ prefix_scores (prefix_of receiver.carrier) b hit
-  scores_agree hit span =
-      let step = symbol_step (prefix_of receiver.carrier) in
-      let last = span.to_last in
-      let primary : seen a hit.t ≡ seen b hit.t = fun_ext (seen_agrees deciding_length hit.t a b agree (omega (arith, last))) in
-      let secondary : seen a (hit.t - step) ≡ seen b (hit.t - step) = fun_ext (seen_agrees deciding_length (hit.t - step) a b agree (omega (arith, last))) in
-      rw (primary, secondary) refl
-
   same_place : (hit : Hit) → IsInSpan hit → place_by receiver.carrier a hit ≡ place_by receiver.carrier b hit
   same_place hit span = place_agrees (prefix_of receiver.carrier) deciding_length a b hit agree (let last = span.to_last in omega (arith, last))
 
   other_agrees : (identity : ℕ) (hit : Hit) → IsInSpan hit → other_cell receiver.carrier a identity hit ≡ other_cell receiver.carrier b identity hit
   other_agrees identity hit span =
       let best = prefix_agrees (prefix_of receiver.carrier) deciding_length a b hit agree (let last = span.to_last in omega (arith, last)) in
-      rw (scores_agree hit span, best) refl
+      rw (scores_agree (prefix_of receiver.carrier) deciding_length a b hit agree (let last = span.to_last in omega (arith, last)), best) refl
 
   early : (hit : Hit) → (place_by receiver.carrier a hit).start < frame_length
   early hit = omega arith
@@ -145,7 +100,7 @@ module _ (receiver : Receiver) (look : LooksAtFirstFrames receiver) (a b : List 
 
   are_agree : (identity : ℕ) (kept : List Entry) (hits : List Hit) (reasons : List Reason) → All IsInSpan hits → AreReasons receiver a identity kept hits reasons → AreReasons receiver b identity kept hits reasons
   are_agree identity (e ∷ es) hits reasons span are = are
-  are_agree identity [] [] reasons span are = are ∙ ap (λ place. NoHit place ∷ []) (place_is a b agree (identity % 3))
+  are_agree identity [] [] reasons span are = no_hit_agrees (identity % 3) a b reasons agree are
   are_agree identity [] (hit ∷ hits) reasons span are = each_agrees identity (hit ∷ hits) reasons span are
 
 pub first_frames_decide_reasons : FirstFramesDecideReasons

@@ -11,10 +11,8 @@ use Rattle.explain.specs.Receiver.{Receiver, has_step_before, place_by}
 use Rattle.explain.proofs.Listed.{is_one_list}
 use Rattle.explain.proofs.Sorted.{in_none, in_cons, Contains-here, Contains-later}
 use Rattle.finite.proofs.Lists.{only_one}
-use Rattle.reasons.specs.declared.reason.ListedCell.{ListedCell}
 use Rattle.reasons.specs.declared.reason.Reason.{Reason}
 use Rattle.reasons.specs.declared.reason.Reason.TheVariants.{Listed, NoHit, NoRoom, OtherIdentity, NoMib}
-use Rattle.reasons.specs.Strongest.{strongest_place}
 use Rattle.reasons.specs.Reason.{has_identity, has_root, listed, other_cell, no_room, HasNoMib, IsFirstFailing, AreReasons, IsReasonFor}
 use Rattle.reasons.specs.Laws.{HasEntry, SaysListed, ListedIsInList}
 
@@ -87,7 +85,7 @@ has : (receiver : Receiver) (recording : List Sample) (identity : ℕ) (kept : L
     AreReasons receiver recording identity kept hits reasons → SaysListed reasons → (entry : Entry) × Contains kept entry
 has receiver recording identity (e ∷ es) hits reasons are s = (e, Contains-here e es)
 has receiver recording identity [] [] reasons are s =
-    let only = only_one (NoHit (strongest_place recording (identity % 3))) (Listed s.cell) (subst (λ (all : List Reason). Contains all (Listed s.cell)) are s.inside) in
+    let only = only_one (NoHit are.place) (Listed s.cell) (subst (λ (all : List Reason). Contains all (Listed s.cell)) are.is s.inside) in
     absurd (false≢true (ap is_listed only))
 has receiver recording identity [] (hit ∷ hits) reasons are s =
     absurd (false≢true (sym (none_listed receiver recording identity (hit ∷ hits) reasons (Listed s.cell) are s.inside)))

@@ -1,7 +1,6 @@
 -- A recording has one answer for an identity.
 use Rattle.std.proofs.Common.{◌≡◌, ℕ, ◌%◌, Bool, true, false, List, [], ◌∷◌, Option, Some, None, ℤ, arith, refl, ap, ap₂, sym, subst, ◌∙◌}
 use Rattle.std.specs.Prelude.{MatchOption, MatchBool, nat_eq, filter}
-use Rattle.std.specs.List.{AllZip}
 use Rattle.cs_num.specs.declared.Sample.{Sample}
 use Rattle.cs_bits.specs.Numbers.{field}
 use Rattle.cs_bits.proofs.Numbers.{field_below}
@@ -14,15 +13,18 @@ use Rattle.tailbite.proofs.Only.{one_word}
 use Rattle.pbch.specs.Master.{DecodesNothing, DecodesMaster}
 use Rattle.pbch.specs.declared.master.Master.{Master}
 use Rattle.pbch.proofs.Words.{one_master}
+use Rattle.pss_search.specs.Correlation.{energy, peak}
 use Rattle.pss_search.specs.Hits.{hits_of}
+use Rattle.pss_search.proofs.Stronger.{one_strongest}
 use Rattle.explain.specs.Receiver.{Receiver, has_step_before, place_by, sums_by}
-use Rattle.explain.proofs.Listed.{is_one_list}
+use Rattle.explain.proofs.Listed.{each_once, is_one_list}
 use Rattle.reasons.specs.declared.reason.Attempt.{Attempt}
 use Rattle.reasons.specs.declared.reason.Reason.{Reason}
-use Rattle.reasons.specs.declared.reason.Reason.TheVariants.{NoMib}
+use Rattle.reasons.specs.declared.reason.Reason.TheVariants.{NoHit, NoMib}
 use Rattle.reasons.specs.Attempt.{HasPorts, IsAttempt, IsClosest, closer}
-use Rattle.reasons.specs.Reason.{has_identity, has_root, ratio_of, no_room, other_cell, HasNoMib, IsFirstFailing, AreReasons, IsReasonFor}
+use Rattle.reasons.specs.Reason.{has_identity, has_root, ratio_of, no_room, HasNoHit, HasNoMib, IsFirstFailing, AreReasons}
 use Rattle.reasons.specs.Laws.{HasOneReason}
+use Rattle.reasons.specs.Strongest.{thousandths}
 
 -- ---- attempts
 
@@ -93,21 +95,21 @@ one_failing receiver recording identity hit a b p q =
     one_by (has_step_before receiver.carrier hit) (nat_eq (place_by receiver.carrier recording hit).id identity) (HasNoMib receiver recording hit)
     _ (no_room receiver.carrier hit) a b (one_missing receiver recording hit a b) p q
 
-each_once : {A B : Type 0} (R : A → B → Type 0) → ((x : A) (a b : B) → R x a → R x b → a ≡ b) → (xs : List A) (first second : List B) → AllZip R xs first → AllZip R xs second → first ≡ second
-each_once R once [] [] [] a b = refl
-each_once R once [] [] (y ∷ ys) a b = absurd b
-each_once R once [] (x ∷ xs) second a b = absurd a
-each_once R once (entry ∷ entries) [] second a b = absurd a
-each_once R once (entry ∷ entries) (x ∷ xs) [] a b = absurd b
-each_once R once (entry ∷ entries) (x ∷ xs) (y ∷ ys) a b =
-    ap (λ e. e ∷ xs) (once entry x y a.0 b.0) ∙ ap (λ es. y ∷ es) (each_once R once entries xs ys a.1 b.1)
+-- only one place is the strongest
+one_no_hit : (recording : List Sample) (n2 : ℕ) (a b : List Reason) → HasNoHit recording n2 a → HasNoHit recording n2 b → a ≡ b
+one_no_hit recording n2 a b p q =
+    let place = one_strongest recording n2 19346 p.place.t q.place.t p.strongest.strongest q.strongest.strongest in
+    p.is
+    ∙ ap₂ (λ (t ratio : ℕ). NoHit (record { t = t; ratio = ratio }) ∷ []) place
+    (p.strongest.ratio ∙ ap (λ (t : ℕ). thousandths (peak recording n2 t) (energy recording t) n2) place ∙ sym q.strongest.ratio)
+    ∙ sym q.is
 
 -- ---- identities
 
 one_answer : (receiver : Receiver) (recording : List Sample) (identity : ℕ) (entries : List Entry) (hits : List Hit) (a b : List Reason) →
     AreReasons receiver recording identity entries hits a → AreReasons receiver recording identity entries hits b → a ≡ b
 one_answer receiver recording identity (entry ∷ entries) hits a b p q = p ∙ sym q
-one_answer receiver recording identity [] [] a b p q = p ∙ sym q
+one_answer receiver recording identity [] [] a b p q = one_no_hit recording (identity % 3) a b p q
 one_answer receiver recording identity [] (hit ∷ hits) a b p q =
     each_once (IsFirstFailing receiver recording identity) (one_failing receiver recording identity) (hit ∷ hits) a b p q
 

@@ -2,5 +2,3 @@ pub mod Strongest
 pub mod Attempt
 pub mod Reason
 pub mod Laws
-pub mod Swept
-pub mod Terms

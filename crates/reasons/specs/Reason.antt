@@ -1,26 +1,24 @@
 -- Why a cell identity is in a recording's list or not: the first rule that fails. (own)
-use Rattle.std.specs.Prelude.{◌≡◌, ℕ, ◌/◌, ◌%◌, Bool, nat_eq, int_lt, if◌then◌else◌, MatchBool, List, [], ◌∷◌, filter, map, ℤ}
+use Rattle.std.specs.Prelude.{◌≡◌, ℕ, ◌/◌, ◌%◌, Bool, nat_eq, MatchBool, List, [], ◌∷◌, filter, map}
 use Rattle.std.specs.List.{AllZip}
 use Rattle.cs_num.specs.declared.Sample.{Sample}
-use Rattle.lte_types.specs.CellPlace.{Place}
 use Rattle.lte_types.specs.Frames.{frames_from}
 use Rattle.lte_types.specs.Carrier.{prefix_of}
 use Rattle.lte_types.specs.Numerology.{symbol_step}
 use Rattle.lte_types.specs.declared.carrier.Carrier.{Carrier}
 use Rattle.lte_types.specs.declared.entry.Entry.{Entry}
-use Rattle.lte_types.specs.declared.frame.Half.{Half}
-use Rattle.lte_types.specs.declared.frame.Half.TheVariants.{Zero, Five}
 use Rattle.lte_types.specs.declared.hit.Hit.{Hit}
 use Rattle.pss_search.specs.Hits.{hits_of}
 use Rattle.sss_detect.specs.Identity.{prefix_scores, prefix_identity}
-use Rattle.sss_detect.specs.Second.{choice_of}
+use Rattle.sss_detect.specs.Second.{choice_of, prefix_group_choice}
 use Rattle.explain.specs.Receiver.{Receiver, has_step_before, place_by, sums_by}
 use Rattle.explain.specs.Entries.{IsListFor}
 use Rattle.reasons.specs.declared.reason.Reason.{Reason}
 use Rattle.reasons.specs.declared.reason.Reason.TheVariants.{Listed, NoHit, NoRoom, OtherIdentity, NoMib}
 use Rattle.reasons.specs.declared.reason.Attempt.{Attempt}
 use Rattle.reasons.specs.declared.reason.OtherCell.{OtherCell}
-use Rattle.reasons.specs.Strongest.{thousandths, strongest_place}
+use Rattle.reasons.specs.declared.reason.StrongestPlace.{StrongestPlace}
+use Rattle.reasons.specs.Strongest.{thousandths, IsStrongestPlace}
 use Rattle.reasons.specs.Attempt.{IsClosest}
 
 -- ---- what is listed
@@ -55,21 +53,17 @@ no_room carrier hit = NoRoom (record {
   step = symbol_step (prefix_of carrier);
 })
 
--- the greater of a group's scores in the two half-frames
-abbrev pub group_score : (ℕ → Half → ℤ) → ℕ → ℤ
-group_score scores n1 = if int_lt (scores n1 Zero) (scores n1 Five) then scores n1 Five else scores n1 Zero
-
--- the report on a hit whose cell has another identity: that identity, the score of its group and half-frame, and the
--- score of the group of `identity`
+-- the report on a hit whose cell has another identity: the identity, the score of its group and half-frame, and the
+-- half-frame that scores better with the group of `identity`, with its score
 abbrev pub other_cell : Carrier → List Sample → ℕ → Hit → OtherCell
 other_cell carrier recording identity hit =
-    let scores = prefix_scores (prefix_of carrier) recording hit in
+    let prefix = prefix_of carrier in
     record {
       t = hit.t;
       ratio = ratio_of hit;
       id = (place_by carrier recording hit).id;
-      best = choice_of scores (prefix_identity (prefix_of carrier) recording hit);
-      own = record { score = group_score scores (identity / 3) };
+      best = choice_of (prefix_scores prefix recording hit) (prefix_identity prefix recording hit);
+      own = prefix_group_choice prefix recording hit (identity / 3);
     }
 
 -- the reason if no frames of the hit's cell carry a MIB that the receiver accepts. Its attempt is that on the cell's
@@ -101,13 +95,18 @@ IsFirstFailing receiver recording identity hit reason =
 abbrev pub has_root : ℕ → Hit → Bool
 has_root n2 hit = nat_eq hit.n2 n2
 
+-- `reasons` has one item: the PSS `n2` has no hit, and is strongest at the sample `place`
+pub record HasNoHit (recording : List Sample) (n2 : ℕ) (reasons : List Reason) : Type 0 where
+  pub place : StrongestPlace
+  pub strongest : IsStrongestPlace recording n2 place
+  pub is : reasons ≡ NoHit place ∷ []
+
 -- `reasons` has each listed entry of the identity. If there is none, it has for each hit of the identity's primary
 -- signal the first rule that fails there. If there is no such hit either, it has the sample at which that signal is
 -- strongest.
 abbrev pub AreReasons : Receiver → List Sample → ℕ → List Entry → List Hit → List Reason → Type 0
 AreReasons receiver recording identity (entry ∷ entries) hits reasons = reasons ≡ map listed (entry ∷ entries)
-AreReasons receiver recording identity [] [] reasons =
-    reasons ≡ NoHit (strongest_place recording (identity % 3)) ∷ []
+AreReasons receiver recording identity [] [] reasons = HasNoHit recording (identity % 3) reasons
 AreReasons receiver recording identity [] (hit ∷ hits) reasons =
     AllZip (IsFirstFailing receiver recording identity) (hit ∷ hits) reasons
 

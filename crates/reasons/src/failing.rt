@@ -4,16 +4,16 @@ ghost use Rattle.std.specs.Prelude.{◌≡◌, ◌%◌, ◌≤◌, true, false};
 ghost use Rattle.lte_types.specs.CellPlace.{Place};
 ghost use Rattle.pss_search.specs.Hits.{IsInSpan, IsSmallHit};
 ghost use Rattle.explain.specs.Receiver.{HasRoom, has_step_before, place_by};
-ghost use Rattle.reasons.specs.Reason.{IsFirstFailing, HasNoMib, no_room, other_cell as other_cell_of, ratio_of as ratio_in};
+ghost use Rattle.reasons.specs.Reason.{IsFirstFailing, HasNoMib, no_room, other_cell as other_cell_of};
+ghost use Rattle.reasons.specs.Reason.{ratio_of as ratio_in};
 
 use crate::attempts::closest_attempt;
 use crate::reason::{EarlyHit, OtherCell, Reason, UnreadCell};
-use crate::scores::own_score;
 use crate::strongest::thousandths;
 use explain::FrameReader;
 use lte_types::{Carrier, CellId, CellPlace, Hit};
 use sample_file::Recording;
-use sss_detect::{place_with, ranking_with};
+use sss_detect::{group_choice_with, place_with, ranking_with};
 use tailbite::Trellis;
 
 /// Returns the first rule that the cell with identity `id` fails at `hit`, which belongs to its primary signal. The
@@ -109,7 +109,7 @@ fn other_cell(recording: &Recording, hit: &Hit, carrier: Carrier, id: CellId) ->
     prove!(hit.t as usize + 128 <= end);
     let prefix = carrier.prefix();
     let ranking = ranking_with(recording, hit, prefix);
-    let own = own_score(recording, hit, prefix, id.n1());
+    let own = group_choice_with(recording, hit, prefix, id.n1());
     OtherCell {
         t: hit.t,
         ratio: ratio_of(hit),

@@ -6,11 +6,8 @@ mod failing;
 mod laws;
 mod reason;
 mod reasons;
-mod scores;
 mod strongest;
 
 pub use laws::{reasons_in_plain_words, the_first_frames_decide_the_reasons};
-pub use reason::{
-    Attempt, EarlyHit, ListedCell, OtherCell, OwnScore, Reason, StrongestPlace, UnreadCell,
-};
+pub use reason::{Attempt, EarlyHit, ListedCell, OtherCell, Reason, StrongestPlace, UnreadCell};
 pub use reasons::reasons_by;

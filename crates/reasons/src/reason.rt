@@ -64,15 +64,8 @@ pub struct OtherCell {
     pub id: CellId,
     /// The identity group and the half-frame with the maximum score, with that score.
     pub best: Choice,
-    /// The score of the identity asked for.
-    pub own: OwnScore,
-}
-
-/// The greater of an identity's scores in the two half-frames. (own)
-#[derive(Clone, Copy, Debug, PartialEq, Eq)]
-pub struct OwnScore {
-    /// The score: a sum over the subcarriers of the secondary signal, as in `Choice`.
-    pub score: i128,
+    /// The half-frame that scores better with the requested identity's group, with its score.
+    pub own: Choice,
 }
 
 /// A cell without a MIB that the receiver accepts. (own)

@@ -6,13 +6,14 @@ ghost use Rattle.lte_types.specs.declared.hit.Hit.{Hit as HitValue};
 ghost use Rattle.pss_search.specs.Hits.{IsInSpan, IsSmallHit, hits_of};
 ghost use Rattle.reasons.specs.Reason.{has_identity, has_root, listed as listed_of, AreListed, AreReasons};
 ghost use Rattle.reasons.specs.Reason.{IsFirstFailing, IsReasonFor};
+ghost use Rattle.reasons.specs.Strongest.{IsStrongestPlace};
 
 use crate::failing::first_failing;
-use crate::reason::{ListedCell, Reason};
-use crate::strongest::strongest;
+use crate::reason::{ListedCell, Reason, StrongestPlace};
+use crate::strongest::hits_and_place;
 use explain::{EntryList, FrameReader, Workspace, explain_hits};
 use lte_types::{CellId, Entry, Hit};
-use pss_search::{HitList, hits};
+use pss_search::HitList;
 use sample_file::Recording;
 use std::alloc::{AllocError, Global};
 use tailbite::Trellis;
@@ -28,10 +29,10 @@ pub fn reasons_by<F: FrameReader>(
     ensures { IfOk result (λ reasons. IsReasonFor F.receiver recording.now id reasons.items) }
 {
     let mut found = HitList::new(alloc)?;
-    hits(recording, &mut found);
+    let best = hits_and_place(recording, id.n2() as u8, &mut found);
     let listed = listed_by(alloc, reader, recording, found.slice(), id)?;
     if listed.is_empty() {
-        unlisted_by(alloc, reader, recording, found.slice(), id)
+        unlisted_by(alloc, reader, recording, found.slice(), id, best)
     } else {
         Ok(listed)
     }
@@ -95,15 +96,17 @@ fn unlisted_by<F: FrameReader>(
     recording: &Recording,
     hits: &[Hit],
     id: CellId,
+    best: StrongestPlace,
 ) -> Result<Vec<Reason>, AllocError>
     requires span { All IsInSpan hits.now }
     requires small { All IsSmallHit hits.now }
+    requires best { IsStrongestPlace recording.now (id % 3) best }
     ensures { IfOk result (λ reasons.
         AreReasons F.receiver recording.now id [] (filter (has_root (id % 3)) hits.now) reasons.items) }
 {
     let mut reasons = failing_at(alloc, reader, recording, hits, id)?;
     if reasons.is_empty() {
-        reasons.push(Reason::NoHit(strongest(recording, id.n2() as u8)))?;
+        reasons.push(Reason::NoHit(best))?;
     }
     Ok(reasons)
 }
