@@ -339,7 +339,8 @@ class Frame:
                 is_open[14 * subframe, [k for n in mine for k in self.groups(0)[n]]] = True
         self.grid[is_open] = drawn(size, is_open.sum(), self.identity, self.sfn, self.port)
 
-    def samples(self):
+    def elements(self):
+        """Returns the grid with everything that the port sends in the frame."""
         self.synchronisation()
         self.broadcast()
         taken = []
@@ -351,7 +352,10 @@ class Frame:
             self.load(self.cell["load"])
         if "traffic" in self.cell:
             self.traffic(self.cell["traffic"], taken)
-        (re, im), (a, b) = np.moveaxis(self.grid, 2, 0), self.cell[("gain", "gain2", "gain3", "gain4")[self.port]]
+        return self.grid
+
+    def samples(self):
+        (re, im), (a, b) = np.moveaxis(self.elements(), 2, 0), self.cell[("gain", "gain2", "gain3", "gain4")[self.port]]
         wave = np.stack([rounded(re @ W_REAL - im @ W_IMAG, 17), rounded(re @ W_IMAG + im @ W_REAL, 17)], 2)
         prefixes = [symbol[-self.PREFIXES[i % self.SYMBOLS] :] for i, symbol in enumerate(wave)]
         x, y = np.concatenate([part for pair in zip(prefixes, wave) for part in pair]).T
