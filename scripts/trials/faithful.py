@@ -1,14 +1,12 @@
-"""Recordings that are faithful to a cell (crates/clean_air/specs/Faithful.antt), for held.py: what is sent, where a list
-looks, whole samples that are off by an energy, and whether the list holds the cell.
+"""Recordings that are faithful to a cell (crates/clean_air/specs/Faithful.antt), for held.py: what is sent, whole
+samples that are off by an energy, and whether the list holds the cell.
 
 Gains and values are in parts, 16,384 of them one. They are whole numbers below 2^53 in complex arrays, whose sums and
 products are exact; energies are sums of whole numbers of 64 bits. Debian: python3-numpy.
 """
-import itertools
 import json
 import math
 import subprocess
-from typing import NamedTuple
 
 import numpy as np
 
@@ -35,38 +33,6 @@ def said(words, data):
     """What lte_cli writes, or nothing where it refuses."""
     done = subprocess.run([machine.program("lte_cli"), *words], input=data, capture_output=True, check=False)
     return done.stdout if done.returncode == 0 else None
-
-
-# ---- where a list looks
-
-
-class Symbol(NamedTuple):
-    """A symbol that a list looks at, and the sample at which its useful part begins."""
-
-    frame: int
-    slot: int
-    number: int
-    start: int
-
-
-def looked_at(rule, sfn, offset):
-    """The symbols that the list of a carrier looks at."""
-    first = int(offset > 0)
-    even = first + (sfn + first) % 2
-    for frame, slot, number in itertools.product(range(3), range(20), range(rule.symbols)):
-        start = FRAME * frame + 960 * slot + rule.first + rule.step * number - offset
-        signal = number - rule.symbols if slot in (0, 10) else 0
-        if start >= 0 and (
-            (frame, slot) == (first, 1)
-            or (frame, slot // 2) == (even, 5)
-            and not rule.unread
-            or signal == -1
-            and 137 <= start + 9
-            and start <= 19_336 + 9
-            or signal == -2
-            and 137 <= start + rule.step <= 19_336
-        ):
-            yield Symbol(frame, slot, number, start)
 
 
 # ---- what is sent

@@ -10,6 +10,8 @@ looks at errors of as much energy as the premise allows, of several shapes; and 
 holds is checked in whole numbers. A line for each cell that is not held, and one for each kind with the count; the
 status is 1 where one is not held. A test, no proof.
 
+    near-one, near-two, near-long, near-four    errors relative to the waveform before rounding, with as much energy as
+                   crates/waveform/specs/Waveform.antt allows; that this premise holds is checked too
     quiet, one     one antenna port; the energy of the errors is 1,024 or 1,800 times the gain's square
     two, long, four    the other carriers
     channel        each symbol has a gain of its own, as far as inequality (I) below allows
@@ -34,6 +36,7 @@ import faithful
 import seen_through
 from adverse import ATTACKS, TURNS, Leaking, Slot, elements, traffic_against
 from faithful import LATEST, PARTS, UNIT, energy, fitted, squares_of
+from lte_reference import waveform
 from lte_reference.search import RULES
 from lte_tools.arguments import Parser
 from seen_through import READ
@@ -70,11 +73,12 @@ class Trial:
                 self.described |= faithful.hardly_resolved(self.draw, self.draw.choice(HARD[self.kind.hard]))
             self.load = self.draw.choice([None, self.draw.randrange(2**32), self.draw.randrange(2**32)])
             ports = faithful.sent(self.carrier, self.described, self.load)
+        self.cell = {**self.described, **({} if self.load is None else {"load": self.load})}
         if self.load and not self.is_beyond and self.draw.random() < 0.5:
-            traffic = self.draw.choice([256, 200, 10])
-            ports = faithful.sent_by_second(self.carrier, {**self.described, "traffic": traffic})
+            self.cell = {**self.described, "traffic": self.draw.choice([256, 200, 10])}
+            ports = faithful.sent_by_second(self.carrier, self.cell)
         self.ports = ports
-        self.symbols = list(faithful.looked_at(self.rule, self.described["sfn"], self.described["offset"]))
+        self.symbols = list(waveform.read_symbols(self.rule, self.described))
         self.first = int(self.described["offset"] > 0)
         self.even = self.first + (self.described["sfn"] + self.first) % 2
 
@@ -95,7 +99,14 @@ class Trial:
             samples[symbol.start : symbol.start + 128] = found
         if not self.is_beyond:
             assert all(energy(samples[s.start : s.start + 128], its) <= limits[s] for s, its in values.items())
+            assert self.kind.through != by_waveform or self.is_near(samples)
         return samples
+
+    def is_near(self, samples):
+        """Whether the samples meet the premise on the waveform, in whole numbers."""
+        r = np.stack([samples.real, samples.imag], 1).astype(np.int64)
+        gains = [(int(gain.real), int(gain.imag)) for gain in self.gains]
+        return waveform.excess(r, self.cell, self.carrier, self.rule, gains).is_near
 
     def data(self):
         return np.stack([self.samples.real, self.samples.imag], 1).astype("<i2").tobytes()
@@ -189,6 +200,20 @@ def by_one_gain(trial):
     if trial.carrier in BY_FIRST:
         limit = min(limit, BY_FIRST[trial.carrier] * squares[0])
     return {s: trial.flat(s) for s in trial.symbols}, dict.fromkeys(trial.symbols, int(trial.times * limit))
+
+
+def by_waveform(trial):
+    """What the ports transmit before rounding, each times its gain. Values are rounded to parts, which takes less than a
+    4,096th of the errors."""
+    sent, squares = waveform.Sent(trial.cell, trial.carrier), squares_of(trial.gains)
+    values, limits = {}, {}
+    for s in trial.symbols:
+        values[s] = np.round(trial.gains @ [port @ (1, 1j) / 2**17 for port in sent.ports(s)])
+        signal, slot = waveform.SIGNAL_QUOTA * squares[0], trial.kind.number * sum(squares)
+        is_signal, is_decoded = waveform.is_signal(trial.rule, s), waveform.is_decoded(trial.rule, trial.cell, s)
+        limit = min(signal if is_signal else slot, slot if is_decoded else signal)
+        limits[s] = int(trial.times * (limit * 4095 // 4096))
+    return values, limits
 
 
 def by_offset(trial):
@@ -299,6 +324,10 @@ class Kind(NamedTuple):
 KINDS = {
     "quiet": Kind("one", by_one_gain, 1_024),
     **{carrier: Kind(carrier, by_one_gain, quota, hard=carrier) for carrier, quota in QUOTA.items()},
+    **{
+        f"near-{carrier}": Kind(carrier, by_waveform, waveform.SLOT_QUOTA[rule.ports], hard=carrier)
+        for carrier, rule in ((carrier, RULES[faithful.WORDS[carrier]]) for carrier in QUOTA)
+    },
     "channel": Kind("one", by_own_gains, 1),
     "offset30": Kind("one", by_offset, 30, 700),
     "offset60": Kind("one", by_offset, 60, 144),
