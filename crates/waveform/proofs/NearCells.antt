@@ -72,7 +72,7 @@ module _ (recording : List Sample) (plan : CellPlan) (grids : Port → Elements)
       let f : ℕ = frame_at (start_of offset) j in
       record {
         bounds = level_bounds;
-        size = square gain;
+        square = square gain;
         channel = level gain;
         through = seen_slot_is_through gain (slot_grid (grids only_port) number slot) (seen_slot recording f slot plan.identity) pilots places;
       }

@@ -163,7 +163,7 @@ module _ (carrier : Carrier) (recording : List Sample) (plan : CellPlan) (grids 
       record {
         most = 3340;
         least = 1000;
-        size = square gain;
+        square = square gain;
         channel = λ k. gain;
         room = omega arith;
         through = record {
