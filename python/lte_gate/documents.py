@@ -40,7 +40,7 @@ BUDGETS = {
     "docs/PROOF_NOTES.md": 5400,
     "docs/RECORDINGS.md": 4600,
     "scripts/README.md": 340,
-    "python/lte_reference/README.md": 450,
+    "python/lte_reference/README.md": 620,
 }
 EXAMPLES = TOP / "scripts/examples/outputs"
 OUTPUTS = ("hits", "ids", "search", "search_all", "search_cancel", "evidence", "why", "tell", "survey")
