@@ -1,0 +1,97 @@
+"""The reference implementation at any bandwidth: what `wide_sender` sends, `wide_block` reads; and its halving."""
+import numpy as np
+import pytest
+
+from lte_reference import wide_block, wide_sender, wide_slots
+from lte_reference.cell import text
+from lte_reference.wide_places import WIDTHS, Cell
+
+SIB1 = {
+    "plmns": [{"mcc": "001", "mnc": "01", "reserved": False}],
+    "tac": 4660,
+    "cell": 27447297,
+    "barred": False,
+    "intra": True,
+    "csg": False,
+    "csg_identity": None,
+    "q_rx": -70,
+    "q_offset": None,
+    "p_max": None,
+    "band": 3,
+    "scheduling": [{"period": 16, "sibs": [0]}],
+    "window": 10,
+    "tag": 5,
+}
+FORMS = {"1A": "1A", "1Ad": "1A distributed", "1C": "1C"}
+# each width with each port count, of which each has each format twice
+CELLS = [(n, p, list(FORMS)[(i + j) % 3]) for i, n in enumerate(WIDTHS) for j, p in enumerate((1, 2, 4))]
+
+
+def plan_for(blocks, ports, form, draw):
+    """Returns a plan with any identity; six virtual blocks, or eight from 50 blocks."""
+    second = blocks >= 50 and ports == 4 and form != "1A"
+    plan = wide_sender.Plan(int(draw.integers(504)), blocks, ports, text(SIB1), cfi=3, form=form, scheme=9)
+    return plan._replace(extended=ports == 2, length=6 if blocks < 50 else 8, gap=int(second))
+
+
+def answer_at_20_db(plan, sfn, draw):
+    """Returns what subframe 5 of one frame tells."""
+    rate = wide_sender.rate_of(plan.blocks)
+    frame = wide_sender.Frame(plan, sfn, draw, (4, 5, 6))
+    samples = wide_sender.received(frame.samples(rate), draw, 20)
+    cell = Cell(plan.identity, plan.ports, plan.blocks, plan.extended, plan.resource)
+    return wide_block.read(samples, rate, cell, 0, sfn)
+
+
+def is_read(plan, sfn, draw):
+    answer = answer_at_20_db(plan, sfn, draw)
+    return (
+        answer.block == (plan.text + [0] * plan.size)[: plan.size]
+        and answer.cfi == plan.cfi
+        and FORMS[plan.form] in [grant.form for _, grant in answer.grants]
+        and answer.text.startswith("sib1 tac 4660 cell 27447297 open allowed")
+    )
+
+
+@pytest.mark.parametrize("blocks, ports, form", CELLS)
+def test_a_sent_cell_is_read(blocks, ports, form):
+    draw = np.random.default_rng((blocks, ports))
+    assert is_read(plan_for(blocks, ports, form, draw), 2 * WIDTHS.index(blocks), draw)
+
+
+@pytest.mark.parametrize("blocks", (15, 25, 75))
+def test_the_blocks_that_the_synchronisation_signals_cut_are_read(blocks):
+    draw = np.random.default_rng(blocks)
+    assert is_read(plan_for(blocks, 4, "1A", draw)._replace(start=blocks // 2 - 3, length=7), 2, draw)
+
+
+@pytest.mark.parametrize("version", range(4))
+def test_each_redundancy_version_is_read(version):
+    draw = np.random.default_rng(version)
+    assert is_read(plan_for(25, 2, "1A", draw)._replace(version=version), 0, draw)
+
+
+@pytest.mark.parametrize("place, taps", ((20, wide_slots.TAPS[1::2]), (21, wide_slots.TAPS[0::2])))
+def test_an_impulse_leaves_every_second_tap(place, taps):
+    samples = np.zeros((64, 2), np.int64)
+    samples[place] = 4096, -8192
+    found = wide_slots.halved(samples)
+    first = (place - 6) // 2
+    assert found[first : first + len(taps), 0].tolist() == list(taps)
+    assert found[first : first + len(taps), 1].tolist() == [-2 * tap for tap in taps]
+    assert abs(found).sum() == 3 * sum(map(abs, taps))
+
+
+def test_a_constant_stays():
+    narrow = wide_slots.narrowed(np.full((4096, 2), -32_768), 4)
+    assert len(narrow) == 256 and (narrow[8:-8] == -32_768).all()
+
+
+@pytest.mark.parametrize("rate, blocks", ((0, 6), (2, 25), (4, 100)))
+def test_the_folded_sum_is_the_plain_one(rate, blocks):
+    draw = np.random.default_rng(1)
+    symbol = draw.integers(-32_768, 32_768, (128 << rate, 2))
+    found = wide_slots.seen(rate, symbol[None], blocks)
+    for k in draw.integers(0, 12 * blocks, 8):
+        total = wide_slots.plain_sum(rate, symbol, int(wide_slots.frequencies(blocks)[k]))
+        assert tuple(found[:, 0, k]) == tuple(x + (1 << 15 + rate) >> 16 + rate for x in total)
