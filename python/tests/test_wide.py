@@ -2,7 +2,7 @@
 import numpy as np
 import pytest
 
-from lte_reference import wide_block, wide_sender, wide_slots
+from lte_reference import wide_block, wide_frames, wide_sender, wide_slots
 from lte_reference.cell import text
 from lte_reference.wide_places import WIDTHS, Cell
 
@@ -69,6 +69,16 @@ def test_the_blocks_that_the_synchronisation_signals_cut_are_read(blocks):
 def test_each_redundancy_version_is_read(version):
     draw = np.random.default_rng(version)
     assert is_read(plan_for(25, 2, "1A", draw)._replace(version=version), 0, draw)
+
+
+def test_frames_of_a_period_are_read_together():
+    draw = np.random.default_rng(1)
+    plan = wide_sender.Plan(101, 15, 2, text(SIB1), cfi=3, scheme=9)
+    frames = [wide_sender.Frame(plan, sfn, draw, (5,)).samples(1) for sfn in range(8)]
+    samples = wide_sender.received(np.concatenate(frames, 1), draw, -2)
+    cell = Cell(plan.identity, plan.ports, plan.blocks)
+    assert all(wide_block.read(samples, 1, cell, 19_200 * j, j).block is None for j in (0, 2, 4, 6))
+    assert wide_frames.read_frames(samples, 1, cell, 0, 0).startswith("sib1 tac 4660 cell 27447297")
 
 
 @pytest.mark.parametrize("place, taps", ((20, wide_slots.TAPS[1::2]), (21, wide_slots.TAPS[0::2])))
