@@ -1,15 +1,31 @@
-"""A transmitter of cells of any bandwidth, 6 to 100 resource blocks, with 1, 2 or 4 antenna ports: whole frames with PSS,
-SSS, PBCH, reference signals, PCFICH, PHICH, PDCCH, SIB1 by format 1A or 1C, and load on the other blocks.
+#!/usr/bin/python3
+"""python3 -m lte_reference.wide_sender [--frames N] [--sfn N] [--level DB] [--seed N] < DESCRIPTION > RECORDING
 
-In floating point, at 1.92 * 2^r million samples per second, and apart from `wide_places.py` and `wide_grants.py`: here
+A transmitter of cells of any bandwidth, 6 to 100 resource blocks, with 1, 2 or 4 antenna ports: whole frames (4) with
+PSS, SSS, PBCH, reference signals, PCFICH, PHICH, PDCCH, SIB1 by format 1A or 1C, and load on the other blocks. The
+recording has the lowest rate of 1.92 * 2^r million samples per second that holds the cell, and noise (20 dB below an
+element; its generator is numpy's, so a recording depends on numpy's version). The description is JSON: the keys of
+`Plan`, with `sib1` as in `cell.py` for `text`. In Bash, a cell of 10 MHz with its list:
+
+    S='{"plmns": [{"mcc": "001", "mnc": "01", "reserved": false}], "tac": 1, "cell": 1, "barred": false, "intra": true,
+        "csg": false, "csg_identity": null, "q_rx": -70, "q_offset": null, "p_max": null, "band": 1,
+        "scheduling": [{"period": 8, "sibs": []}], "window": 1, "tag": 0}'
+    python3 -m lte_reference.wide_sender <<< "{\"identity\": 301, \"blocks\": 50, \"ports\": 2, \"sib1\": $S}" |
+        python3 -m lte_reference.wide_search 15.36 --ports 2
+
+In floating point, and apart from `wide_places.py` and `wide_grants.py`: here
 elements are claimed on a grid in the standard's order, and virtual blocks go through the interleaver's matrix (TS
 36.211 section 6.2.3.2). From `cell.py`: the codes and the text of SIB1; from `search.py`: the sequences.
+Debian: python3-numpy.
 """
+import argparse
+import json
+import sys
 from typing import NamedTuple
 
 import numpy as np
 
-from .cell import RESOURCES, bits_of, convolutional, master_word, turbo, with_check
+from .cell import RESOURCES, bits_of, convolutional, master_word, text, turbo, with_check
 from .search import COLUMNS, primary, pseudo_random, secondary
 from .wide_grants import SHORT_SIZES, SIZES
 
@@ -313,3 +329,20 @@ def received(waves, draw, level, scale=2_500):
     total = gains @ waves + noise[0] + 1j * noise[1]
     total *= scale / np.sqrt(np.mean(abs(total) ** 2))
     return np.clip(np.rint(np.stack([total.real, total.imag], 1)), -32_768, 32_767).astype(np.int64)
+
+
+def main():
+    words = argparse.ArgumentParser(usage=__doc__)
+    words.add_argument("--frames", type=int, default=4)
+    words.add_argument("--sfn", type=int, default=0)
+    words.add_argument("--level", type=float, default=20)
+    words.add_argument("--seed", type=int, default=1)
+    args, described = words.parse_args(), json.load(sys.stdin)
+    plan = Plan(text=text(described.pop("sib1")), **described)
+    draw = np.random.default_rng(args.seed)
+    waves = sent(plan, args.sfn, args.frames, rate_of(plan.blocks), draw)
+    sys.stdout.buffer.write(received(waves, draw, args.level).astype("<i2").tobytes())
+
+
+if __name__ == "__main__":
+    main()

@@ -2,7 +2,7 @@
 import numpy as np
 import pytest
 
-from lte_reference import wide_block, wide_frames, wide_sender, wide_slots
+from lte_reference import search, wide_block, wide_frames, wide_search, wide_sender, wide_slots
 from lte_reference.cell import text
 from lte_reference.wide_places import WIDTHS, Cell
 
@@ -79,6 +79,15 @@ def test_frames_of_a_period_are_read_together():
     cell = Cell(plan.identity, plan.ports, plan.blocks)
     assert all(wide_block.read(samples, 1, cell, 19_200 * j, j).block is None for j in (0, 2, 4, 6))
     assert wide_frames.read_frames(samples, 1, cell, 0, 0).startswith("sib1 tac 4660 cell 27447297")
+
+
+def test_a_wide_recording_is_listed():
+    draw = np.random.default_rng(2)
+    plan = wide_sender.Plan(302, 25, 4, text(SIB1), form="1C", level=8, scheme=9, extended=True, cfi=3, resource=3)
+    waves = wide_sender.sent(plan, 1021, 4, 2, draw)[:, 4 * 7_000 :]
+    lines = wide_search.list_lines(wide_sender.received(waves, draw, 10), 2, search.FOUR_PORTS)
+    assert lines[:2] == ["cells 1", "cell 302 at 12200 sfn 1022 ports 4 n25 phich extended two br 0 spare 0"]
+    assert lines[2].startswith("sib1 tac 4660 cell 27447297 open allowed")
 
 
 @pytest.mark.parametrize("place, taps", ((20, wide_slots.TAPS[1::2]), (21, wide_slots.TAPS[0::2])))
