@@ -13,10 +13,9 @@ element; its generator is numpy's, so a recording depends on numpy's version). T
     python3 -m lte_reference.wide_sender <<< "{\"identity\": 301, \"blocks\": 50, \"ports\": 2, \"sib1\": $S}" |
         python3 -m lte_reference.wide_search 15.36 --ports 2
 
-In floating point, and apart from `wide_places.py` and `wide_grants.py`: here
-elements are claimed on a grid in the standard's order, and virtual blocks go through the interleaver's matrix (TS
-36.211 section 6.2.3.2). From `cell.py`: the codes and the text of SIB1; from `search.py`: the sequences.
-Debian: python3-numpy.
+In floating point, and apart from `wide_places.py` and `wide_grants.py`: here elements are claimed on a grid in the
+standard's order, and virtual blocks go through the interleaver's matrix (TS 36.211 section 6.2.3.2). From `cell.py`: the
+codes and the text of SIB1; from `search.py`: the sequences. Debian: python3-numpy.
 """
 import argparse
 import json
@@ -68,17 +67,20 @@ class Plan(NamedTuple):
 
 
 def indication(count, start, length):
+    """Returns the resource indication value (TS 36.213 section 7.1.6.3)."""
     if length - 1 <= count // 2:
         return count * (length - 1) + start
     return count * (count - length + 1) + (count - 1 - start)
 
 
 def virtual_blocks(plan, gap):
+    """Returns the number of distributed virtual blocks."""
     n, apart = plan.blocks, GAPS[plan.blocks][gap]
     return n // (2 * apart) * 2 * apart if gap else 2 * min(apart, n - apart)
 
 
 def version_of(plan, sfn):
+    """Returns the redundancy version in a frame of even number."""
     if plan.version is not None and plan.form != "1C":
         return plan.version
     return (0, 2, 3, 1)[sfn // 2 % 4]
@@ -123,6 +125,7 @@ def physical_blocks(plan):
 
 
 def qpsk(bits, c_init):
+    """Returns scrambled bits as points of power 1."""
     sent = 1 - 2.0 * (np.array(bits) ^ np.array(pseudo_random(c_init, len(bits))))
     return (sent[0::2] + 1j * sent[1::2]) / np.sqrt(2)
 
@@ -161,6 +164,7 @@ class Frame:
         self.grid[:, symbols, subcarriers] = self.spread(points)
 
     def spread(self, points):
+        """Returns each port's points."""
         if self.plan.ports == 1:
             return points[None, :]
         sent = np.zeros((self.plan.ports, len(points)), complex)
@@ -172,6 +176,7 @@ class Frame:
         return sent / np.sqrt(2)
 
     def references(self):
+        """Sends each port's reference signals (TS 36.211 section 6.10.1)."""
         n, shift = self.plan.identity, self.plan.identity % 6
         for slot in (2 * subframe + half for subframe in self.subframes for half in (0, 1)):
             odd = slot % 2
@@ -185,6 +190,7 @@ class Frame:
                 self.kept[7 * slot + l, k] = REFERENCE
 
     def synchronisation(self):
+        """Sends PSS and SSS on port 0 (TS 36.211 section 6.11)."""
         n1, n2 = divmod(self.plan.identity, 3)
         at = slice(self.middle + 5, self.middle + 67)
         for slot in (2 * subframe for subframe in self.subframes if subframe in (0, 5)):
@@ -193,6 +199,7 @@ class Frame:
             self.kept[7 * slot + 5 : 7 * slot + 7, self.middle : self.middle + 72] = TAKEN
 
     def broadcast(self):
+        """Sends PBCH (TS 36.211 section 6.6)."""
         plan = self.plan
         described = {
             "duration": ("normal", "extended")[plan.extended],
@@ -212,37 +219,38 @@ class Frame:
         return self.plan.cfi + (self.plan.blocks <= 10)
 
     def groups(self, symbol):
-        """Lists a symbol's groups in a subframe, each as its subcarriers."""
-        has_references = symbol == 0 or symbol == 1 and self.plan.ports == 4
-        if not has_references:
-            return [range(k, k + 4) for k in range(0, self.width, 4)]
-        shift = self.plan.identity % 3
-        return [[k for k in range(first, first + 6) if k % 3 != shift] for first in range(0, self.width, 6)]
+        """Lists a symbol's groups in a subframe by frequency, each as the list of its four subcarriers."""
+        if symbol == 0 or symbol == 1 and self.plan.ports == 4:
+            shift = self.plan.identity % 3
+            return [[k for k in range(first, first + 6) if k % 3 != shift] for first in range(0, self.width, 6)]
+        return [list(range(k, k + 4)) for k in range(0, self.width, 4)]
 
     def control(self, subframe):
         """Sends PCFICH, PHICH and PDCCH (TS 36.211 sections 6.7 to 6.9)."""
-        plan, first = self.plan, 14 * subframe
+        plan = self.plan
         groups = [self.groups(symbol) for symbol in range(4)]
         quarter = [(plan.identity % (2 * plan.blocks) + i * plan.blocks // 2) % (2 * plan.blocks) for i in range(4)]
         bits = [INDICATORS[plan.cfi][i % 3] for i in range(32)]
-        places = [(first, k) for number in quarter for k in groups[0][number]]
+        places = [(14 * subframe, k) for number in quarter for k in groups[0][number]]
         self.send(places, qpsk(bits, (subframe + 1) * (2 * plan.identity + 1) * 512 + plan.identity))
         groups[0] = [group for i, group in enumerate(groups[0]) if i not in quarter]
-        taken = self.acknowledgements(first, groups)
+        taken = self.acknowledgements(subframe, groups)
         left = [
-            (self.lowest(l, group), l, group)
+            [(14 * subframe + l, k) for k in group]
             for l in range(self.control_symbols())
             for i, group in enumerate(groups[l])
             if (l, i) not in taken
         ]
-        self.channel(subframe, sorted(left, key=lambda row: row[:2]))
+        self.channel(subframe, sorted(left, key=self.order))
 
-    def lowest(self, symbol, group):
-        """Returns the first subcarrier of a group, with reference signals or not."""
-        size = 6 if symbol == 0 or symbol == 1 and self.plan.ports == 4 else 4
-        return group[0] // size * size
+    def order(self, places):
+        """Returns the place of a group in the order of PDCCH: its first subcarrier, with that of a reference signal,
+        and its symbol."""
+        symbol, k = places[0]
+        is_wide = symbol % 14 == 0 or symbol % 14 == 1 and self.plan.ports == 4
+        return k - k % (6 if is_wide else 4), symbol
 
-    def acknowledgements(self, first, groups):
+    def acknowledgements(self, subframe, groups):
         """Sends any points in the groups of PHICH, and returns symbol and number of each."""
         plan, taken = self.plan, set()
         for unit in range(int(np.ceil((1 / 6, 1 / 2, 1, 2)[plan.resource] * plan.blocks / 8 - 1e-9))):
@@ -252,11 +260,11 @@ class Frame:
                 number = (plan.identity * count // len(groups[0]) + unit + i * count // 3) % count
                 taken.add((l, number))
                 points = self.draw.choice([-1, 0, 1], 4) + 1j * self.draw.choice([-1, 0, 1], 4)
-                self.send([(first + l, k) for k in groups[l][number]], points / np.sqrt(2))
+                self.send([(14 * subframe + l, k) for k in groups[l][number]], points / np.sqrt(2))
         return taken
 
     def channel(self, subframe, left):
-        """Sends PDCCH: SIB1's candidate, and other bits in most of the other elements."""
+        """Sends PDCCH in the groups that are left: SIB1's candidate, and any bits in most of the other elements."""
         plan, count = self.plan, len(left)
         bits, is_sent = self.draw.integers(0, 2, 8 * count), np.zeros(8 * count, bool)
         for element in range(count // 9):
@@ -267,15 +275,12 @@ class Frame:
             bits[at], is_sent[at] = convolutional(word, 72 * plan.level), True
         points = np.where(is_sent[0::2], qpsk(bits, subframe * 512 + plan.identity), 0)
         order = in_order(range(count))
-        shifted = [order[(i + plan.identity) % count] for i in range(count)]
-        places = {
-            quadruplet: [(14 * subframe + l, k) for k in group] for quadruplet, (_, l, group) in zip(shifted, left)
-        }
+        places = {order[(i + plan.identity) % count]: group for i, group in enumerate(left)}
         self.send([place for quadruplet in range(count) for place in places[quadruplet]], points)
 
     def system_information(self):
-        plan = self.plan
-        places = []
+        """Sends PDSCH with SIB1 in subframe 5 (TS 36.211 sections 6.3 and 6.4)."""
+        plan, places = self.plan, []
         for l in range(self.control_symbols(), 14):
             for block in sorted(physical_blocks(plan)[l // 7]):
                 for k in range(12 * block, 12 * block + 12):
@@ -296,7 +301,7 @@ class Frame:
                 self.grid[:, l, k] = (levels[0] + 1j * levels[1]) / np.sqrt(42 * self.plan.ports)
 
     def samples(self, rate):
-        """Returns each port's samples, 19,200 * 2^rate of mean power `width` / 128 / 2^rate or less."""
+        """Returns each port's 19,200 * 2^rate samples; noise of power 1 has power 1 in each element too."""
         size, half = 128 << rate, self.width // 2
         spectrum = np.zeros((len(self.grid), 140, size), complex)
         spectrum[:, :, size - half :] = self.grid[:, :, :half]
