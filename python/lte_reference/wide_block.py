@@ -11,7 +11,8 @@ import numpy as np
 from . import turbo
 from .search import INTERLEAVER, Refused, added, coded_reading, crc, fields_lines, least, turbo_reading
 from .wide_grants import long_grant, long_size, number, short_grant, short_size
-from .wide_places import candidate_elements, candidates, element_count, indicator_elements, shared_elements
+from .wide_places import candidate_elements, candidates, control_init, element_count, indicator_elements
+from .wide_places import indicator_init, shared_elements, shared_init
 from .wide_slots import slots_of, values_at
 
 MOST_VALUES = 5_760  # of PDSCH, 24 blocks of 120 elements: at most 32 for one coded bit (own)
@@ -32,7 +33,7 @@ class Answer(NamedTuple):
 
 def indicator(cell, slots):
     """Returns the control format indicator with the least cost (TS 36.212 section 5.3.4)."""
-    values = values_at(slots, indicator_elements(cell), 6 * (2 * cell.identity + 1) * 2**9 + cell.identity)
+    values = values_at(slots, indicator_elements(cell), indicator_init(cell))
     zero = [np.arange(32) % 3 == cfi - 1 for cfi in (1, 2, 3)]
     return 1 + int(np.argmin([abs(values[(values < 0) == bits]).sum() for bits in zero]))
 
@@ -50,7 +51,7 @@ def grants_of(cell, sfn, slots, cfi):
     found = []
     for level, first in candidates(cell, cfi):
         elements = candidate_elements(cell, cfi, level, first)
-        values = values_at(slots, elements, 5 * 2**9 + cell.identity, 72 * first)
+        values = values_at(slots, elements, control_init(cell), 72 * first)
         for size, read in (
             (long_size(cell.blocks), lambda bits: long_grant(cell.blocks, bits)),
             (short_size(cell.blocks), lambda bits: short_grant(cell.blocks, bits, sfn)),
@@ -68,7 +69,7 @@ def grants_of(cell, sfn, slots, cfi):
 def block_sums(cell, slots, cfi, grant):
     """Returns the sums of the values of each coded bit of a grant's block, by place and stream."""
     elements = shared_elements(cell, cfi, grant.blocks)[: MOST_VALUES // 2]
-    values = values_at(slots, elements, 0xFFFF * 2**14 + 5 * 2**9 + cell.identity)
+    values = values_at(slots, elements, shared_init(cell))
     return added(values.tolist(), turbo_reading(grant.size + 24, grant.version))
 
 

@@ -37,6 +37,26 @@ def reference_symbols(cell, slot, port):
     return [(symbol, (shift + cell.identity) % 6) for symbol, shift in shifts]
 
 
+# ---- c_init of the pseudo-random sequences (TS 36.211 sections 6.3.1, 6.7.1, 6.8.2 and 6.10.1.1)
+
+
+def reference_init(cell, slot, symbol):
+    return 2**10 * (7 * (slot + 1) + symbol + 1) * (2 * cell.identity + 1) + 2 * cell.identity + 1
+
+
+def indicator_init(cell):
+    return 6 * (2 * cell.identity + 1) * 2**9 + cell.identity
+
+
+def control_init(cell):
+    return 5 * 2**9 + cell.identity
+
+
+def shared_init(cell):
+    """Returns c_init of PDSCH with SI-RNTI."""
+    return 0xFFFF * 2**14 + 5 * 2**9 + cell.identity
+
+
 # ---- the control region
 
 

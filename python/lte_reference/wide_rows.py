@@ -14,7 +14,8 @@ import numpy as np
 
 from .wide_grants import distributed, long_grant, long_size, physical, short_grant, short_size, virtual_count
 from .wide_places import WIDTHS, Cell, acknowledgement_groups, candidate_elements, candidates, control_groups
-from .wide_places import indicator_elements, quadruplet_groups, shared_elements
+from .wide_places import control_init, indicator_elements, indicator_init, quadruplet_groups, reference_init
+from .wide_places import shared_elements, shared_init
 from .wide_slots import Slot, halved, seen, values_at
 
 PORTS = (1, 2, 4)
@@ -87,6 +88,26 @@ def rows_of_lists(lists_of, is_each):
                 sums = [checksum(x for each in column for x in each) for column in zip(*(lists for _, lists in group))]
                 name = f"{blocks}, {ports}" + (f", {group[0][0].identity}" if is_each else "")
                 print(f"({name}, {counts}, {sums}),")
+
+
+def whole_rows():
+    """Prints N, P and identity of a cell with indicator 2; PCFICH's elements, PHICH's first three groups, the groups of
+    quadruplets 0 to 8, and the first twelve elements of the first candidate."""
+    for blocks in WIDTHS:
+        for ports in PORTS:
+            cell, cfi = cells(blocks, ports)[13]
+            lists = control_lists(cell, cfi)
+            cut = [part[:count] for part, count in zip(lists, (16, 3, 0, 9, 12)) if count]
+            print(f"({blocks}, {ports}, {cell.identity}, {', '.join(map(str, cut))}),")
+
+
+def init_rows():
+    """Prints for each identity c_init of PCFICH, PDCCH and PDSCH, and of the reference signals in symbols 0, 1 and 4 of
+    slots 10 and 11."""
+    for cell, _ in cells(6, 1):
+        row = [indicator_init(cell), control_init(cell), shared_init(cell)]
+        row += [reference_init(cell, slot, symbol) for slot in (10, 11) for symbol in (0, 1, 4)]
+        print(f"({cell.identity}, {row}),")
 
 
 def distributed_rows():
@@ -169,12 +190,12 @@ def value_rows():
         for ports in PORTS:
             for cell, cfi in cells(blocks, ports)[5::9]:
                 slots, n = slots_for(cell), cell.identity
-                row = [checksum(values_at(slots, indicator_elements(cell), 6 * (2 * n + 1) * 2**9 + n))]
+                row = [checksum(values_at(slots, indicator_elements(cell), indicator_init(cell)))]
                 candidate = candidate_elements(cell, cfi, 4, 0)
                 is_there = (4, 0) in candidates(cell, cfi)
-                row += [checksum(values_at(slots, candidate, 5 * 2**9 + n)) if is_there else 0]
+                row += [checksum(values_at(slots, candidate, control_init(cell))) if is_there else 0]
                 shared = shared_elements(cell, cfi, assigned(cell, cfi))
-                row += [checksum(values_at(slots, shared, 0xFFFF * 2**14 + 5 * 2**9 + n))]
+                row += [checksum(values_at(slots, shared, shared_init(cell)))]
                 print(f"({blocks}, {ports}, {n}, {row}),")
 
 
@@ -186,21 +207,25 @@ def halving_rows():
         print(f"({times}, {samples[:8].tolist()}, {checksum(samples.ravel())}),")
 
 
+TOPICS = {
+    "control": lambda is_each: rows_of_lists(control_lists, is_each),
+    "shared": lambda is_each: rows_of_lists(shared_lists, is_each),
+    "whole": lambda _: whole_rows(),
+    "inits": lambda _: init_rows(),
+    "distributed": lambda _: distributed_rows(),
+    "grants": lambda _: grant_rows(),
+    "halving": lambda _: halving_rows(),
+    "slots": lambda _: slot_rows(),
+    "values": lambda _: value_rows(),
+}
+
+
 def main():
     words = argparse.ArgumentParser(usage=__doc__)
-    words.add_argument("topic", choices=["control", "shared", "distributed", "grants", "slots", "values", "halving"])
+    words.add_argument("topic", choices=TOPICS)
     words.add_argument("--each", action="store_true")
     args = words.parse_args()
-    calls = {
-        "control": lambda: rows_of_lists(control_lists, args.each),
-        "shared": lambda: rows_of_lists(shared_lists, args.each),
-        "distributed": distributed_rows,
-        "grants": grant_rows,
-        "slots": slot_rows,
-        "values": value_rows,
-        "halving": halving_rows,
-    }
-    calls[args.topic]()
+    TOPICS[args.topic](args.each)
 
 
 if __name__ == "__main__":

@@ -10,7 +10,7 @@ import functools
 import numpy as np
 
 from .search import pair_parts, pseudo_random, rounded, times_conjugate
-from .wide_places import reference_symbols
+from .wide_places import reference_init, reference_symbols
 
 TAPS = (-21, 0, 97, 0, -311, 0, 1257, 2052, 1257, 0, -311, 0, 97, 0, -21)  # of 4,096
 PERIOD, HEIGHT = 2048, 18  # of the table of roots of unity: 2^18 cos(2 pi m / 2048)
@@ -113,8 +113,9 @@ def subframe_symbols(recording, rate, frame):
 
 def reference(cell, slot, symbol):
     """Returns the sent reference values of a symbol, the middle of the sequence for 110 blocks, times 90 sqrt 2."""
-    c_init = 2**10 * (7 * (slot + 1) + symbol + 1) * (2 * cell.identity + 1) + 2 * cell.identity + 1
-    bits = np.array(pseudo_random(c_init, 440)[2 * (110 - cell.blocks) : 2 * (110 + cell.blocks)])
+    bits = np.array(
+        pseudo_random(reference_init(cell, slot, symbol), 440)[2 * (110 - cell.blocks) : 2 * (110 + cell.blocks)]
+    )
     return 90 - 180 * bits[0::2], 90 - 180 * bits[1::2]
 
 
