@@ -73,12 +73,13 @@ def test_each_redundancy_version_is_read(version):
 
 def test_frames_of_a_period_are_read_together():
     draw = np.random.default_rng(1)
-    plan = wide_sender.Plan(101, 15, 2, text(SIB1), cfi=3, scheme=9)
+    plan = wide_sender.Plan(101, 15, 2, text(SIB1), cfi=3, scheme=5, start=9, length=3)
     frames = [wide_sender.Frame(plan, sfn, draw, (5,)).samples(1) for sfn in range(8)]
     samples = wide_sender.received(np.concatenate(frames, 1), draw, -2)
     cell = Cell(plan.identity, plan.ports, plan.blocks)
-    assert all(wide_block.read(samples, 1, cell, 19_200 * j, j).block is None for j in (0, 2, 4, 6))
-    assert wide_frames.read_frames(samples, 1, cell, 0, 0).startswith("sib1 tac 4660 cell 27447297")
+    frames = list(wide_frames.tries(samples, 1, cell, 0, 0))
+    assert len(frames) == 4 and all(frame.answer.block is None for frame in frames)
+    assert wide_frames.read_together(cell, frames).startswith("sib1 tac 4660 cell 27447297")
 
 
 def test_a_wide_recording_is_listed():
