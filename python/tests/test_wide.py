@@ -3,8 +3,9 @@ import numpy as np
 import pytest
 
 from lte_reference import search, wide_block, wide_frames, wide_search, wide_sender, wide_slots
-from lte_reference.cell import text
+from lte_reference.cell import sent, text
 from lte_reference.wide_places import WIDTHS, Cell
+from tests.conftest import CELL
 
 SIB1 = {
     "plmns": [{"mcc": "001", "mnc": "01", "reserved": False}],
@@ -69,6 +70,13 @@ def test_the_blocks_that_the_synchronisation_signals_cut_are_read(blocks):
 def test_each_redundancy_version_is_read(version):
     draw = np.random.default_rng(version)
     assert is_read(plan_for(25, 2, "1A", draw)._replace(version=version), 0, draw)
+
+
+def test_a_cell_of_the_six_block_transmitter_is_read():
+    described = {"gain2": [3, -4], "duration": "extended", "resource": "two", "cfi": 3, "mcs": 5, "load": 7}
+    samples = sent({**CELL, **described, "offset": 0, "sfn": 4, "samples": 57_600}, "two").astype(np.int64)
+    answer = wide_block.read(samples, 0, Cell(CELL["identity"], 2, 6, True, 3), 0, 4)
+    assert answer.cfi == 3 and answer.text.startswith(f"sib1 tac {CELL['sib1']['tac']} ")
 
 
 def test_frames_of_a_period_are_read_together():
