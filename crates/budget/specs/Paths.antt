@@ -83,7 +83,8 @@ ArrivingIsReceived =
 
 -- ---- faint later paths
 
--- the weight of a path with delay `delay`: a greater delay makes the channel differ more between subcarriers
+-- the weight with which the gain bound of a path with delay `delay` counts in `AreFaint`; beyond 7 samples it grows
+-- with the delay, since the channel then differs more between subcarriers
 abbrev pub weight : ℕ → ℕ
 weight delay = if nat_le delay 7 then 17 else 2 * delay + 3
 
@@ -170,8 +171,9 @@ AmplitudeIsSeenOver =
     AreFaint magnitudes paths → IsReceivedOver 1024 paths grid samples → k < subcarriers →
     IsSeenNear 1880 (square paths.first) (times (channel_over paths k) (grid k)) (seen_in samples k)
 
--- the bound over faint later paths also holds in a recording, for the demodulated values that `observe` computes from
--- sample `start`
+-- over faint later paths, `observe` demodulates each amplitude (up to 256) of the symbol whose useful part begins at
+-- sample `start` with a deviation of at most 1880 times the first gain's magnitude, if the error energy is at most 1024
+-- times the first gain's square
 abbrev pub AmplitudeIsSeenOverInRecording : Type 0
 AmplitudeIsSeenOverInRecording =
     (magnitudes : ℕ → ℕ) (paths : Paths) (grid : ℕ → Cpx) (recording : List Sample) (start k : ℕ) →

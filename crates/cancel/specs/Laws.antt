@@ -40,7 +40,7 @@ BestLeavesLeast =
     ((i : ℕ) → i < count → IsWithin bound (left gain i)) →
     (greatest_below count (left best) ≤ bound) × ((i : ℕ) → i < count → IsWithin bound (left best i))
 
--- each recording and cell have a result of cancellation: the cell is cancelled, or there is no candidate
+-- for each recording and cell, cancellation has a result: the cell is cancelled, or no gain is a candidate
 abbrev pub IsSomeSubtraction : Type 0
 IsSomeSubtraction = (recording : List Sample) (plan : CellPlan) (start number : ℕ) →
     (answer : Option Subtracted) × IsSubtraction recording plan start number answer
@@ -60,7 +60,7 @@ AnswerTakesCleanOff =
     IsRecording recording → IsSubtraction recording plan start number answer →
     TakesCleanOff recording plan start number answer
 
--- there is at most one best candidate
+-- there is at most one best candidate gain
 abbrev pub IsOneBest : Type 0
 IsOneBest = (greatest : Cpx → ℕ) (middle gain other : Cpx) → IsBest greatest middle gain →
     IsBest greatest middle other → gain ≡ other

@@ -66,7 +66,7 @@ pub record IsSubtracted (recording : List Sample) (plan : CellPlan) (start numbe
   pub before : taken.before ≡ power_of recording
   pub after : taken.after ≡ power_of taken.residue
 
--- the cell is cancelled with the best gain, or the result is `None` since there is no candidate
+-- the cell is cancelled with the best gain, or the result is `None` since no gain is a candidate
 abbrev pub IsSubtraction : List Sample → CellPlan → ℕ → ℕ → Option Subtracted → Type 0
 IsSubtraction recording plan start number (Some taken) = IsSubtracted recording plan start number taken
 IsSubtraction recording plan start number None = (gain : Cpx) → IsCandidate (estimate_at recording plan start) gain → ⊥

@@ -11,7 +11,7 @@ pub fn clean_gain_is_candidate()
     ensures least { BestLeavesLeast }
 {}
 
-/// A law: there is at most one best candidate, so `subtract` has only one result. (own)
+/// A law: there is at most one best candidate gain, so `subtract` has only one result. (own)
 pub fn best_candidate_is_one()
     ensures best { IsOneBest }
     ensures answer { IsOneSubtraction }

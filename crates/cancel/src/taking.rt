@@ -21,7 +21,7 @@ use sample_file::Recording;
 use std::alloc::{AllocError, Global};
 
 /// Cancels a cell that begins the frame numbered `sfn` at sample `start`, below 19,200: subtracts its samples times the
-/// best gain. Returns `None` if there is no candidate. Fails only if an allocation fails. (own)
+/// best gain. Returns `None` if no gain is a candidate. Fails only if an allocation fails. (own)
 pub fn subtract(
     alloc: Global,
     recording: &Recording,

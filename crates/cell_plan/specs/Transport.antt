@@ -44,11 +44,11 @@ shared_word plan = with_check_24 (filled (block_size plan) (system_text plan))
 unfoldable pub row_with : ℕ → Row
 row_with k = slice_index_or rows (position_or_len (λ r. nat_eq r.k k) rows) (row k 0 0)
 
--- whether the bits of SIB1 fit in the transport block, or false if SIB1 has no encoding; the plan has a block
--- (`has_block`) if SIB1 also has neither TDD-Config nor an extension
+-- whether the encoded SIB1 fits in the transport block; false if SIB1 cannot be encoded
 abbrev pub text_fits : CellPlan → Bool
 text_fits plan = option_map_or (λ text. nat_le (length text) (block_size plan)) (text_of plan.sib1) false
 
+-- whether the plan has a transport block: the encoded SIB1 fits, and has neither TDD-Config nor an extension
 abbrev pub has_block : CellPlan → Bool
 has_block plan = (is_none plan.sib1.tdd && not plan.sib1.extended) && text_fits plan
 

@@ -99,7 +99,7 @@ AreSilent there samples = (i : ℕ) → i < frame_length → there i ≡ true �
 
 -- ---- pieces in order
 
--- The samples of an emission and the current position: the last piece begins at sample `from`, and the next piece at
+-- The samples of an emission and the current position: the current piece begins at sample `from`, and the next piece at
 -- sample `at`. The first frame begins `offset` samples before the emission.
 pub record Progress : Type 0 where
   pub samples : List Sample
@@ -111,12 +111,12 @@ pub record Progress : Type 0 where
 abbrev pub piece_end : Progress → ℕ
 piece_end p = min (p.at + (frame_length - (p.at + p.offset) % frame_length)) (length p.samples)
 
--- the samples of the last piece
+-- the samples of the current piece
 abbrev pub piece_of : Progress → List Sample
 piece_of p = take (p.at - p.from) (drop p.from p.samples)
 
--- The invariant of an emitter: the last piece, from `from` to `at`, lies in one frame, which `frame` holds. `begun`: in
--- the middle of the samples, the last piece is not empty.
+-- The invariant of an emitter: the current piece, from `from` to `at`, lies in one frame, which `frame` holds. `begun`:
+-- in the middle of the samples, the current piece is not empty.
 pub record IsMade (s : Source) (from at : ℕ) (frame : List Sample) : Type 0 where
   pub order : from ≤ at
   pub most : at ≤ s.samples

@@ -131,8 +131,8 @@ impl<'a> FrameMaker<'a> {
 }
 
 /// Computes an emission's samples frame by frame, and holds one frame. Samples that are equal in all frames are
-/// computed once. Contracts see an emitter as the emission's samples, and the positions `from` and `at` at which the
-/// last and the next piece begin. (own)
+/// computed once. Contracts see an emitter as the emission's samples, the offset of the emission in its first frame,
+/// and the positions at which the current piece (`from`) and the next piece (`at`) begin. (own)
 #[derive(Drop)]
 pub struct Emitter<'a> {
     maker: FrameMaker<'a>,
@@ -207,7 +207,7 @@ impl<'a> Emitter<'a> {
         more
     }
 
-    /// Returns the samples of the last piece, at most one frame.
+    /// Returns the samples of the current piece, at most one frame.
     pub fn piece(&self) -> &[Sample]
         ensures { result.now ≡ piece_of self.now }
     {

@@ -55,8 +55,8 @@ abbrev pub SentElementsCarry : Type 0
 SentElementsCarry =
     (load : Option ℕ) (port : Port) (plan : CellPlan) → CarriesPlan port plan (sent_element load port plan)
 
--- a law: without load, the element is zero in each resource element that the plan leaves open, except control format
--- indicators
+-- a law: without load, a cell sends zero in each resource element that the plan leaves open, except in the resource
+-- elements of the PCFICH
 abbrev pub OpenPlacesAreSilent : Type 0
 OpenPlacesAreSilent =
     (port : Port) (plan : CellPlan) (sfn subframe symbol k : ℕ) → is_taken port plan sfn subframe symbol k ≡ false →

@@ -8,8 +8,8 @@ ghost use Rattle.explain.specs.Receiver.{one_port_receiver};
 ghost use Rattle.clean_air.specs.HeardLaws.{PrimaryStandsOutByRule, ShownIdentityIsBest};
 ghost use Rattle.clean_air.specs.HeardLaws.{ThroughIsHeard, FaithfulIsHeard, FadingIsHeard, EchoesAreHeard};
 
-/// A law: the receiver hears a cell with one antenna port, part by part (`IsHeardBy`), if the recording is faithful to
-/// the cell, or the cell is received through channels, with a slowly varying gain, or over several paths.
+/// A law: the receiver hears a cell with one antenna port (`IsHeardBy`), if the recording is faithful to the cell, or
+/// the cell is received through channels, or with a slowly varying gain, or over several paths.
 pub fn cells_are_heard()
     ensures primary { PrimaryStandsOutByRule }
     ensures identity { ShownIdentityIsBest }

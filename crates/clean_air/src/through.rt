@@ -1,4 +1,4 @@
-//! Slots that are received through channels.
+//! Slots that are received through a channel with its own gain at each resource element.
 //!
 //! A channel may have a different gain at each resource element. If only the seven symbols of a slot have different
 //! gains, the soft values still have the right signs under one of these bounds on each symbol's error energy and on the
@@ -26,8 +26,8 @@ pub fn slot_through_is_heard()
     ensures { SlotThroughIsHeard }
 {}
 
-/// A law: a cell with one antenna port to which a recording is faithful is received through channels (`cell`), and so
-/// is each slot that is received with one gain (`slot`).
+/// A law: a cell with one antenna port to which a recording is faithful is received through channels (`IsCellThrough`;
+/// `cell`), and so is each slot that is received with one gain (`slot`).
 pub fn faithful_is_seen_through()
     ensures slot { ReceivedSlotIsThrough }
     ensures cell { FaithfulIsThrough }
@@ -42,15 +42,16 @@ pub fn fading_slot_is_seen_through()
     ensures still { LeaveFadingRoom 1800 0 }
 {}
 
-/// A law: a cell with one antenna port whose gain varies slowly is received through channels. A faithful recording is
-/// the special case of a constant gain (`faithful`).
+/// A law: a cell with one antenna port whose gain varies slowly is received through channels (`IsCellThrough`), if the
+/// bounds leave room (`LeaveFadingRoom`). A faithful recording is the special case of a constant gain (`faithful`).
 pub fn fading_is_seen_through()
     ensures through { FadingIsThrough }
     ensures faithful { FaithfulIsFading }
 {}
 
-/// A law: a cell with one antenna port that arrives over several paths with faint later ones is received through
-/// channels (`cell`), and so is such a slot (`slot`). A clean recording has one path (`clean`).
+/// A law: a cell with one antenna port that arrives over several paths, with faint later ones (`AreFaint`), is received
+/// through channels (`IsCellThrough`; `cell`), and so is such a slot (`slot`). A clean recording has one path
+/// (`clean`).
 pub fn echoes_are_seen_through()
     ensures slot { SlotOverIsThrough }
     ensures cell { EchoesAreThrough }

@@ -61,12 +61,13 @@ second_sent row sent = record {
 abbrev pub first_found : Row → (ℕ → ℕ → Bool) → (ℕ → Bool) → ℕ → Bool
 first_found row sent known = found row.k (first_sent row sent) known
 
--- whether the second decoder, which works in its own order, finds bit `k` from the sent bits and the `known` bits
+-- whether the second decoder, which reads the bits in interleaved order, finds bit `k` from the sent bits and the
+-- `known` bits
 abbrev pub second_found : Row → (ℕ → ℕ → Bool) → (ℕ → Bool) → ℕ → Bool
 second_found row sent known k = found row.k (second_sent row sent) (λ i. known (interleaver row i)) (step_of row k)
 
--- whether the second decoder found bit `k` in the last of n iterations; in each iteration it knows the bits that the
--- first decoder found
+-- whether the second decoder finds bit `k` in the last of `n` iterations, given the bits that the first decoder found
+-- in the same iteration; false if `n` is 0
 unfoldable pub known_after : Row → (ℕ → ℕ → Bool) → ℕ → ℕ → Bool
 known_after row sent zero k = false
 known_after row sent (suc n) k = second_found row sent (first_found row sent (known_after row sent n)) k

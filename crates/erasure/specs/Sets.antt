@@ -31,8 +31,8 @@ tail_step_hides tail j x = not (tail_bit x && bit_at tail (2 * j)) && not (tail_
 abbrev pub tail_hides : List Bool → ℕ → Bool
 tail_hides tail x = (tail_step_hides tail 0 x && tail_step_hides tail 1 (x / 2)) && tail_step_hides tail 2 (x / 2 / 2)
 
--- whether the step from state `x` in the set `before`, with input bit 1, leads into the set `after`; the input bit
--- counts as unknown, and the parity bit is not a known 1
+-- whether `x` is in the set `before`, the step from state `x` with input bit 1 leads into the set `after`, and the
+-- step's parity bit is not a known 1. The input bit counts as unknown.
 abbrev pub leads_through : Bool → List Bool → List Bool → ℕ → Bool
 leads_through parity before after x = (bit_at before x && hides false parity x true) && bit_at after (next x true)
 

@@ -1,10 +1,11 @@
 //! The cell list of a recording, for any receiver. (own)
 //!
-//! A PSS detection (hit) gives a place, a cell identity and a frame start, if the recording contains the useful part of
-//! the preceding symbol, which carries the secondary signal. The cell's frames 0 to 7 are searched, as far as they lie
-//! within the recording. The first frame that carries a MIB at any phase gives an entry for each of its MIBs, by phase.
-//! If no single frame does, groups of two, then three, then four consecutive frames in one period are searched by the
-//! sums of their soft values, at most as many frames as the receiver combines.
+//! A PSS detection (hit) gives a cell's place, that is its identity and frame start, if the recording contains the
+//! useful part of the preceding symbol, which carries the secondary signal. The cell's frames 0 to 7 are searched, as
+//! far as they lie within the recording. The first frame that carries a MIB at any of the four phases of the PBCH
+//! period gives an entry for each of its MIBs, by phase. If no single frame does, groups of two, then three, then four
+//! consecutive frames in one period are searched by the sums of their soft values, at most as many frames as the
+//! receiver combines.
 //!
 //! An entry has the cell's system information, or a `Sib1Reason` (`system_in`). The fields, which are in their ranges,
 //! are those of the first frame that has any among the cell's first eight even-numbered frames. An entry is dropped if

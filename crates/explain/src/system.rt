@@ -27,8 +27,8 @@ pub struct Informed {
     pub granted: Option<(Cfi, Grant)>,
 }
 
-/// Reads a cell's system information: the first fields in its first eight even-numbered frames, or else the reason of
-/// the first such frame. `sfn` is the number of the cell's first frame. `NotOnePort` and `Bandwidth` take precedence.
+/// Returns the SIB1 fields of the first of the cell's first eight even-numbered frames that carries any, or else the
+/// first such frame's reason. `sfn` is the first frame's number. No frame is read for `NotOnePort` and `Bandwidth`.
 pub fn system_in<S: ReadSlot>(
     recording: &Recording,
     place: CellPlace,

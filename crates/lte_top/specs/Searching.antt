@@ -20,9 +20,9 @@ use Rattle.lte_top.specs.Line.{as_line, IsLine}
 
 -- ---- one transmission scheme
 
--- the cell list for one transmission scheme, as defined by the scheme's receiver. The list contains every cell that is
--- detected, among them each cell that is received through channels, and each cell for which the recording is faithful
--- or clean
+-- the cell list for one transmission scheme, as defined by the scheme's receiver. It contains every cell that is heard
+-- (`IsHeardBy`). Among these are all cells that are received through channels (`IsCellThrough`), and all for which the
+-- recording is faithful or clean.
 abbrev pub IsListOf : Carrier → List Sample → List Entry → Type 0
 IsListOf carrier = IsListBy (receiver_of carrier)
 

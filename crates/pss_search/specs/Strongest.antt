@@ -18,7 +18,7 @@ abbrev pub IsAsStrong : Metric → Metric → Type 0
 IsAsStrong first second =
     0 < second.energy → (0 < first.energy) × (second.peak * first.energy ≤ first.peak * second.energy)
 
--- position `t` is the first at which the PSS `n2` is strongest, among the positions from 128 on and before `end`
+-- position `t` is the first, among positions 128 to `end` - 1, at which the PSS `n2` is strongest
 pub record IsStrongestBefore (recording : List Sample) (n2 end t : ℕ) : Type 0 where
   pub from_first : useful_length ≤ t
   pub before_end : t < end

@@ -75,7 +75,8 @@ abbrev pub objects_json : List Reason → List ℕ
 objects_json [] = []
 objects_json (first ∷ rest) = reason_json first ++ flat_map (λ reason. codes "," ++ reason_json reason) rest
 
--- the JSON before the objects: the cell identity and the rule of the list
+-- the start of the JSON, before the objects of the reasons: the cell identity, and the name of the list's transmission
+-- scheme (key `list`)
 abbrev pub front_json : ℕ → List ℕ → List ℕ
 front_json id rule =
     codes "{\"identity\":" ++ decimal id ++ codes ",\"list\":\"" ++ rule ++ codes "\",\"reasons\":["

@@ -25,7 +25,8 @@ abbrev pub strongest_line : List ℕ → ℕ → ℕ → List ℕ
 strongest_line word t ratio =
     word ++ codes " best " ++ decimal t ++ codes " ratio " ++ decimal ratio ++ codes " needs 250\n"
 
--- the part with the rule that a hit fails, the hit's sample, and its energy fraction in thousandths
+-- the start of a line for a hit that fails a rule: `word` for the rule, the hit's sample, and the energy fraction there
+-- that the PSS explains, in thousandths
 abbrev pub hit_part : List ℕ → ℕ → ℕ → List ℕ
 hit_part word t ratio = word ++ codes " hit " ++ decimal t ++ codes " ratio " ++ decimal ratio
 
@@ -61,7 +62,7 @@ reason_line (NoMib cell) = unread_line cell
 
 -- ---- the text
 
--- the first line: the cell identity, the rule of the list, and the number of reasons
+-- the first line: the cell identity, the name of the list's transmission scheme, and the number of reasons
 abbrev pub reasons_head : ℕ → List ℕ → ℕ → List ℕ
 reasons_head id rule count =
     codes "why " ++ decimal id ++ codes " " ++ rule ++ codes " " ++ decimal count ++ codes "\n"

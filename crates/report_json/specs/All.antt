@@ -10,11 +10,11 @@ use Rattle.lte_types.specs.Carrier.{carriers}
 use Rattle.report_parts.specs.Words.{rule_word}
 use Rattle.report_json.specs.Cells.{entry_members}
 
--- the object for a cell, with the rule of its list
+-- the object for a cell, with the name of its list's transmission scheme (key `rule`)
 abbrev pub ruled_value : Carrier → Entry → Data
 ruled_value carrier entry = object (put (codes "rule") (string (rule_word carrier)) (entry_members entry))
 
--- the objects for the cells in a list, each with the rule of the list
+-- the objects for the cells in a list, each with the name of the list's transmission scheme (key `rule`)
 abbrev pub ruled_values : Carrier → List Entry → List Data
 ruled_values carrier entries = map (ruled_value carrier) entries
 

@@ -7,7 +7,7 @@ use Rattle.lte_types.specs.Carrier.{carriers}
 use Rattle.report_parts.specs.Words.{rule_word}
 use Rattle.report_text.specs.Lines.{report_text}
 
--- the line above a cell list, with the name of the list's rule
+-- the line above a cell list, with the name of the list's transmission scheme
 abbrev pub rule_line : List ℕ → List ℕ
 rule_line word = codes "rule " ++ word ++ codes "\n"
 

@@ -3,7 +3,7 @@ use Rattle.std.specs.Prelude.{ℕ, List, ◌++◌, codes}
 use Rattle.std.specs.Fmt.{decimal, signed_decimal}
 use Rattle.cs_num.specs.declared.Cpx.{Cpx}
 
--- the part with the gain used to cancel the cell
+-- the part of a `cancelled` line with the gain that cancels the cell
 abbrev pub gain_part : Cpx → List ℕ
 gain_part gain = codes " gain " ++ signed_decimal gain.re ++ codes " " ++ signed_decimal gain.im
 

@@ -5,7 +5,7 @@ use Rattle.std.specs.Fmt.{decimal}
 use Rattle.lte_types.specs.declared.evidence.Evidence.{Evidence}
 use Rattle.report_parts.specs.Numbers.{numbers_in}
 
--- the part with the cell identity, frame start and frame number
+-- the start of an evidence line: the cell identity, frame start and frame number
 abbrev pub entry_part : ℕ → ℕ → ℕ → List ℕ
 entry_part id start sfn = decimal id ++ codes " " ++ decimal start ++ codes " " ++ decimal sfn
 

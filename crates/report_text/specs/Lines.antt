@@ -16,13 +16,13 @@ use Rattle.report_text.specs.Words.{or_dash, bit_word, barred_word, intra_word, 
 use Rattle.report_parts.specs.Words.{digits_word}
 use Rattle.report_text.specs.Words.{tdd_word, sibs_word}
 
--- the part with a cell's identity, frame start, frame number and antenna port count
+-- the start of a cell's line: its identity, frame start, frame number and antenna port count
 abbrev pub place_part : ℕ → ℕ → ℕ → ℕ → List ℕ
 place_part id start sfn ports =
     codes "cell " ++ decimal id ++ codes " at " ++ decimal start ++ codes " sfn " ++ decimal sfn ++ codes " ports "
     ++ decimal ports
 
--- the part with a cell's MIB; schedulingInfoSIB1-BR (`br`) precedes the bits that are still spare
+-- the rest of a cell's line: its MIB; schedulingInfoSIB1-BR (`br`) precedes the bits that are still spare
 abbrev pub block_part : List ℕ → List ℕ → List ℕ → ℕ → ℕ → List ℕ
 block_part bandwidth duration resource br spare =
     codes " " ++ bandwidth ++ codes " phich " ++ duration ++ codes " " ++ resource ++ codes " br " ++ decimal br
@@ -42,8 +42,7 @@ none_line reason = codes "sib1 none " ++ reason_words reason ++ codes "\n"
 
 -- ---- system information
 
--- the part with the cell's tracking area code and identity, whether the cell is barred, and whether a terminal may
--- reselect other cells on its frequency
+-- the start of the `sib1` line: the tracking area code, the 28-bit cellIdentity, cellBarred and intraFreqReselection
 abbrev pub access_part : ℕ → ℕ → List ℕ → List ℕ → List ℕ
 access_part tac cell barred intra =
     codes "sib1 tac " ++ decimal tac ++ codes " cell " ++ decimal cell ++ codes " " ++ barred ++ codes " " ++ intra
@@ -51,14 +50,14 @@ access_part tac cell barred intra =
 abbrev pub access_part_of : Sib1 → List ℕ
 access_part_of sib1 = access_part sib1.tac sib1.cell (barred_word sib1.barred) (intra_word sib1.intra)
 
--- the part with the cell's closed subscriber group: csg-Indication and csg-Identity
+-- the next part of the `sib1` line: csg-Indication and csg-Identity
 abbrev pub group_part : List ℕ → List ℕ → List ℕ
 group_part csg identity = codes " csg " ++ csg ++ codes " " ++ identity
 
 abbrev pub group_part_of : Sib1 → List ℕ
 group_part_of sib1 = group_part (bit_word sib1.csg) (or_dash decimal sib1.csg_identity)
 
--- the part with the levels for cell selection (q-RxLevMin, q-RxLevMinOffset, p-Max) and the frequency band
+-- the next part of the `sib1` line: q-RxLevMin, q-RxLevMinOffset, p-Max and freqBandIndicator
 abbrev pub level_part : ℤ → List ℕ → List ℕ → ℕ → List ℕ
 level_part level offset power band =
     codes " rx " ++ signed_decimal level ++ codes " offset " ++ offset ++ codes " pmax " ++ power ++ codes " band "
@@ -68,7 +67,7 @@ abbrev pub level_part_of : Sib1 → List ℕ
 level_part_of sib1 =
     level_part sib1.q_rx (or_dash decimal sib1.q_offset) (or_dash signed_decimal sib1.p_max) sib1.band
 
--- the part with the window for system information, systemInfoValueTag, the TDD configuration, and whether an extension
+-- the end of the `sib1` line: si-WindowLength, systemInfoValueTag, the TDD configuration, and whether an extension
 -- follows
 abbrev pub window_part : List ℕ → ℕ → List ℕ → List ℕ → List ℕ
 window_part window tag tdd extension =

@@ -6,8 +6,8 @@ ghost use Rattle.sync_seq.specs.Primary.{root_of, pss_at, pss_list};
 use cs_num::Cpx;
 use fold128::z63;
 
-/// Returns the 62 PSS values for the identity `n2` within the group, 0 to 2 (TS 36.211 section 6.11.1). The values are
-/// entries in the table of 63rd roots of unity.
+/// Returns the 62 PSS values for the identity `n2` within the group, 0 to 2 (TS 36.211 section 6.11.1): 63rd roots of
+/// unity times 127, rounded to integers (`z63`).
 pub fn pss(n2: u8) -> [Cpx; 62]
     requires { n2 ≤ 2 }
     ensures { result ≡ pss_list n2 }

@@ -4,8 +4,8 @@ use Rattle.conv_code.specs.Code.{tapped_bit, taps_0, taps_1, taps_2}
 use Rattle.cs_bits.specs.Signs.{SpeaksFor}
 use Rattle.tailbite.specs.LeastWord.{IsLeastWord}
 
--- each of the three values at position k agrees in sign with the word's coded bit there (positive for 0, negative for
--- 1)
+-- each of the three soft values `v` has the sign of its own coded bit of `word` at position `k`: positive for 0,
+-- negative for 1
 pub record PlaceSpeaks (v : List ℤ) (word : List Bool) (k : ℕ) : Type 0 where
   pub first : SpeaksFor (slice_index_or v 0 (pos 0)) (tapped_bit taps_0 word k)
   pub second : SpeaksFor (slice_index_or v 1 (pos 0)) (tapped_bit taps_1 word k)
