@@ -366,7 +366,7 @@ def first_lost(name, count, counts):
         fault = Trial(name, seed, times).fault()
         return fault if fault and counts(fault) else None
 
-    least, best, found = 1e3 if KINDS[name].through == by_one_gain else 8, None, None
+    least, best, found = 1e3 if KINDS[name].through in (by_one_gain, by_waveform) else 8, None, None
     for seed in range(count):
         if lost(0.99 * least):
             low, high = 1, 0.99 * least
