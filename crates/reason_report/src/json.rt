@@ -127,7 +127,7 @@ fn unread_json(alloc: Global, cell: &UnreadCell) -> Result<String, AllocError>
 
 // ---- parts
 
-fn identity_part(alloc: Global, t: u32, id: u16, own: i128) -> Result<String, AllocError>
+fn identity_part(alloc: Global, t: u32, id: u16, own: i64) -> Result<String, AllocError>
     ensures { IfOk result (λ part. string_bytes part ≡ identity_of t id own) }
 {
     format!(in alloc; "{{\"hit\":{t},\"identity\":{id},\"own\":{own}")

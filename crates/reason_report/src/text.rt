@@ -126,7 +126,7 @@ fn room_part(alloc: Global, step: usize) -> Result<String, AllocError>
     format!(in alloc; " needs {step}\n")
 }
 
-fn scores_part(alloc: Global, id: u16, score: i64, own: i128) -> Result<String, AllocError>
+fn scores_part(alloc: Global, id: u16, score: i64, own: i64) -> Result<String, AllocError>
     ensures { IfOk result (λ part. string_bytes part ≡ scores_of id score own) }
 {
     format!(in alloc; " identity {id} score {score} own {own}\n")
