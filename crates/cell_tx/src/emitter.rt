@@ -228,10 +228,10 @@ fn put_piece(at: usize, piece: &[Sample], out: &mut [Sample])
 
 /// Writes all samples of `emitter` to `out`, which must have the same length. The emitter must be positioned before its
 /// first piece.
-pub(crate) fn put_all(mut emitter: Emitter, out: &mut [Sample])
-    requires start { emitter.at ≡ 0 }
-    requires room { length out.old ≡ length emitter.samples }
-    ensures { out.new ≡ emitter.entry.samples }
+pub(crate) fn put_all(emitter: &mut Emitter, out: &mut [Sample])
+    requires start { emitter.old.at ≡ 0 }
+    requires room { length out.old ≡ length emitter.old.samples }
+    ensures { out.new ≡ emitter.old.samples }
 {
     let mut at = 0;
     while emitter.advance() {
@@ -248,5 +248,6 @@ pub fn emit(emission: &Emission, out: &mut [Sample])
     ensures samples { out.new ≡ emitted_samples emission.now }
     ensures magnitude { (i : ℕ) → IsWithin 32284 (emitted emission.now i) }
 {
-    put_all(Emitter::new(emission), out);
+    // Lent, since an emitter that is moved takes up twice its size, 137 kB, on the stack.
+    put_all(&mut Emitter::new(emission), out);
 }

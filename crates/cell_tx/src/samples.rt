@@ -160,7 +160,7 @@ pub fn sequence(sender: &Sender, out: &mut [Sample])
     ensures { out.new ≡ values_below (length out.old) (λ i. sample_of (sample_by sender.now i)) }
 {
     let source = Source::of_port(sender, ONE, out.len());
-    put_all(Emitter::by(&source), out);
+    put_all(&mut Emitter::by(&source), out);
 }
 
 /// Writes all samples of a transmission to `out`, which must have the same length: item `i` is `send` for index `i`.
@@ -175,5 +175,5 @@ pub fn send_all(t: &Transmission, out: &mut [Sample])
         load: None,
     };
     let source = Source::of_port(&sender, t.gain().value(), out.len());
-    put_all(Emitter::by(&source), out);
+    put_all(&mut Emitter::by(&source), out);
 }

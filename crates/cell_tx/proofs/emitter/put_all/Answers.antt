@@ -29,17 +29,17 @@ put_piece-requires c =
     let p = c.loop-emitter.emitter in
     let q = c.advance.new.self in
     let a = c.advance.ensures in
-    let s = step c.args.emitter.samples c.loop-emitter.at p q c.loop-emitter.invariant.samples c.loop-emitter.invariant.at a.samples a.from a.at
+    let s = step c.args.emitter.now.samples c.loop-emitter.at p q c.loop-emitter.invariant.samples c.loop-emitter.invariant.at a.samples a.from a.at
     (ltb-true p.at (length p.samples) (sym a.more ∙ c.loop-emitter-test.true)) in
     let piece : length c.piece-piece.result.now ≡ length (piece_of q) = ap length c.piece-piece.ensures in
     omega (arith, piece, s.there, s.within, c.loop-emitter.invariant.whole)
 
 module _ (c : goal.After-out-1) where
-  stepped : IsStep c.args.emitter.samples c.loop-emitter.at c.advance.new.self
+  stepped : IsStep c.args.emitter.now.samples c.loop-emitter.at c.advance.new.self
   stepped =
       let p = c.loop-emitter.emitter in
       let a = c.advance.ensures in
-      step c.args.emitter.samples c.loop-emitter.at p c.advance.new.self c.loop-emitter.invariant.samples c.loop-emitter.invariant.at a.samples a.from a.at
+      step c.args.emitter.now.samples c.loop-emitter.at p c.advance.new.self c.loop-emitter.invariant.samples c.loop-emitter.invariant.at a.samples a.from a.at
       (ltb-true p.at (length p.samples) (sym a.more ∙ c.loop-emitter-test.true))
 
   reached : c.loop-emitter.at + length c.piece-piece.result.now ≡ c.advance.new.self.at
@@ -51,7 +51,7 @@ loop-emitter-smaller c = omega (arith, reached c, (stepped c).more, (stepped c).
 pub loop-emitter-preserved : goal.loop-emitter-preserved
 loop-emitter-preserved c =
     let s = stepped c in
-    let samples = c.args.emitter.samples in
+    let samples = c.args.emitter.now.samples in
     record {
       samples = c.advance.ensures.samples ∙ c.loop-emitter.invariant.samples;
       at = sym (reached c);
@@ -67,7 +67,7 @@ loop-emitter-preserved c =
 
 pub returns : goal.returns
 returns c =
-    let samples = c.args.emitter.samples in
+    let samples = c.args.emitter.now.samples in
     let i = c.loop-emitter.invariant in
     let past : length c.loop-emitter.emitter.samples ≤ c.loop-emitter.emitter.at =
     ltb-false c.loop-emitter.emitter.at (length c.loop-emitter.emitter.samples) (sym c.advance.ensures.more ∙ c.loop-emitter-test.false) in
