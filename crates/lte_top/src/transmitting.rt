@@ -80,7 +80,19 @@ fn write_emission<K: Sink>(emission: &Emission, sink: &mut K) -> Result<(), Fail
     ensures fault { OnErr result (Rose (K.state sink.old).faults (K.state sink.new).faults) }
     ensures never_falls { (K.state sink.old).faults ≤ (K.state sink.new).faults }
 {
-    let mut emitter = Emitter::new(emission);
+    write_pieces(&mut Emitter::new(emission), sink)
+}
+
+// Writes all samples of an emitter, positioned before its first piece, in pieces of one length.
+fn write_pieces<K: Sink>(emitter: &mut Emitter, sink: &mut K) -> Result<(), Failed>
+    requires { emitter.old.at ≡ 0 }
+    ensures ok { OnOk result (HasWritten (bytes_of emitter.old.samples) (K.state sink.old) (K.state sink.new)) }
+    ensures front { OnErr result
+        (HasWrittenFront (bytes_of emitter.old.samples) (K.state sink.old) (K.state sink.new)) }
+    ensures full { OnErr result (IsShortOf (length (bytes_of emitter.old.samples)) (K.state sink.old)) }
+    ensures fault { OnErr result (Rose (K.state sink.old).faults (K.state sink.new).faults) }
+    ensures never_falls { (K.state sink.old).faults ≤ (K.state sink.new).faults }
+{
     let mut writer = PieceWriter::new();
     while emitter.advance() {
         match writer.push(sink, emitter.piece()) {

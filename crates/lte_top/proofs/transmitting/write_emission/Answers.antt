@@ -1,82 +1,24 @@
-use Rattle.std.proofs.Common.{◌≡◌, ◌<◌, ℕ, List, ◌++◌, drop, length, sym, ap, ap₂, ◌∙◌, arith}
-use Rattle.std.proofs.lemmas.Bool.{ltb-true, ltb-false}
-use Rattle.std.proofs.lemmas.List.{drop_all}
+use Rattle.std.proofs.Common.{List, length, subst}
 use Rattle.std.proofs.lemmas.Result.{on_ok_weaker, on_err_weaker}
 use Rattle.cs_num.specs.declared.Sample.{Sample}
+use Rattle.cs_outside.specs.Streams.{HasWritten, HasWrittenFront, IsShortOf}
 use Rattle.sample_file.specs.Recording.{bytes_of}
-use Rattle.sample_file.proofs.Waiting.{waiting_all, waiting_then, pieces_on, pieces_front, pieces_short, pieces_whole, last_front, last_short, none_left}
-use Rattle.cell_tx.specs.Emission.{emitted_samples}
-use Rattle.cell_tx.specs.Emitting.{Progress, piece_end, piece_of}
-use Rattle.cell_tx.proofs.Advancing.{rest_is}
 use Rattle.lte_top.proofs.transmitting.write_emission.Goals as goal
-
--- before a piece, the remaining samples are the piece and the samples after it
-left_is : (p q : Progress) (piece : List Sample) → q.samples ≡ p.samples → q.from ≡ p.at → q.at ≡ piece_end p → piece ≡ piece_of q → p.at < length p.samples
-    → drop p.at p.samples ≡ piece ++ drop q.at q.samples
-left_is p q piece samples from ends is below =
-    rest_is p q samples from ends below ∙ ap₂ (λ (a b : List Sample). a ++ b) (sym is) (ap (drop q.at) (sym samples))
-
--- the buffered bytes and the remaining samples' bytes stay the same when a piece is moved to the buffer
-waiting_is : (waiting : List ℕ) (p q : Progress) (piece : List Sample) → q.samples ≡ p.samples → q.from ≡ p.at → q.at ≡ piece_end p → piece ≡ piece_of q
-    → p.at < length p.samples → waiting ++ bytes_of (drop p.at p.samples) ≡ (waiting ++ bytes_of piece) ++ bytes_of (drop q.at q.samples)
-waiting_is waiting p q piece samples from ends is below =
-    waiting_then waiting (drop p.at p.samples) piece (drop q.at q.samples) (left_is p q piece samples from ends is below)
-
-pub loop-emitter-init : goal.loop-emitter-init
-loop-emitter-init g c =
-    let is = c.new-emitter.ensures in
-    record {
-      samples = is.samples;
-      so_far = rw (c.new-writer.ensures, is.at, is.samples) (waiting_all (bytes_of (emitted_samples c.args.emission.now)) (g.K.Sink.state c.args.sink.now));
-      later = omega arith;
-    }
-
-pub loop-emitter-preserved : goal.loop-emitter-preserved
-loop-emitter-preserved g c =
-    let p = c.loop-emitter.emitter in
-    let q = c.advance.new.self in
-    let a = c.advance.ensures in
-    let i = c.loop-emitter.invariant in
-    let below = ltb-true p.at (length p.samples) (sym a.more ∙ c.loop-emitter-test.true) in
-    record {
-      samples = a.samples ∙ i.samples;
-      so_far = pieces_on _ _ _ _ _ _ _ _ i.so_far (waiting_is c.loop-emitter.writer p q _ a.samples a.from a.at c.piece.ensures below) c.in-Ok.ensures.ok;
-      later = omega (arith, i.later, c.push.ensures.never_falls);
-    }
-
-pub returns-in-Err-clause-front : goal.returns-in-Err-clause-front
-returns-in-Err-clause-front g c =
-    let p = c.loop-emitter.emitter in
-    let q = c.advance.new.self in
-    let a = c.advance.ensures in
-    let below = ltb-true p.at (length p.samples) (sym a.more ∙ c.loop-emitter-test.true) in
-    pieces_front _ _ _ _ _ _ _ c.loop-emitter.invariant.so_far (waiting_is c.loop-emitter.writer p q _ a.samples a.from a.at c.piece.ensures below) c.in-Err.ensures.front
-
-pub returns-in-Err-clause-full : goal.returns-in-Err-clause-full
-returns-in-Err-clause-full g c =
-    let p = c.loop-emitter.emitter in
-    let q = c.advance.new.self in
-    let a = c.advance.ensures in
-    let below = ltb-true p.at (length p.samples) (sym a.more ∙ c.loop-emitter-test.true) in
-    pieces_short _ _ _ _ _ _ c.loop-emitter.invariant.so_far (waiting_is c.loop-emitter.writer p q _ a.samples a.from a.at c.piece.ensures below) c.in-Err.ensures.full
 
 pub returns-clause-ok : goal.returns-clause-ok
 returns-clause-ok g c =
-    let p = c.loop-emitter.emitter in
-    let none = drop_all p.at p.samples (ltb-false p.at (length p.samples) (sym c.advance.ensures.more ∙ c.loop-emitter-test.false)) in
-    let w = none_left _ _ _ _ _ none c.loop-emitter.invariant.so_far in
-    on_ok_weaker c.finish.result (λ e. pieces_whole _ _ _ _ _ w e) c.finish.ensures.ok
+    on_ok_weaker c.write_pieces.result
+    (subst (λ (samples : List Sample). HasWritten (bytes_of samples) (g.K.Sink.state c.args.sink.now) (g.K.Sink.state c.write_pieces.new.sink)) c.new.ensures.samples)
+    c.write_pieces.ensures.ok
 
 pub returns-clause-front : goal.returns-clause-front
 returns-clause-front g c =
-    let p = c.loop-emitter.emitter in
-    let none = drop_all p.at p.samples (ltb-false p.at (length p.samples) (sym c.advance.ensures.more ∙ c.loop-emitter-test.false)) in
-    let w = none_left _ _ _ _ _ none c.loop-emitter.invariant.so_far in
-    on_err_weaker c.finish.result (λ e. last_front _ _ _ _ _ w e) c.finish.ensures.front
+    on_err_weaker c.write_pieces.result
+    (subst (λ (samples : List Sample). HasWrittenFront (bytes_of samples) (g.K.Sink.state c.args.sink.now) (g.K.Sink.state c.write_pieces.new.sink)) c.new.ensures.samples)
+    c.write_pieces.ensures.front
 
 pub returns-clause-full : goal.returns-clause-full
 returns-clause-full g c =
-    let p = c.loop-emitter.emitter in
-    let none = drop_all p.at p.samples (ltb-false p.at (length p.samples) (sym c.advance.ensures.more ∙ c.loop-emitter-test.false)) in
-    let w = none_left _ _ _ _ _ none c.loop-emitter.invariant.so_far in
-    on_err_weaker c.finish.result (λ e. last_short _ _ _ _ w e) c.finish.ensures.full
+    on_err_weaker c.write_pieces.result
+    (subst (λ (samples : List Sample). IsShortOf (length (bytes_of samples)) (g.K.Sink.state c.args.sink.now)) c.new.ensures.samples)
+    c.write_pieces.ensures.full
