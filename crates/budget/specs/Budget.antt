@@ -98,7 +98,7 @@ pub record HasFourCauses (gain other : Cpx) (grid second_grid samples : ℕ → 
   pub errors_small : square errors ≤
       2 ^ 41
       * energy_below useful_length
-          (off_by samples (λ n. with_gains gain other (useful_at grid n) (useful_at second_grid n)))
+      (off_by samples (λ n. with_gains gain other (useful_at grid n) (useful_at second_grid n)))
       * (16385 * 16385)
   pub rounding_small : square rounding ≤ 2 ^ 85
 
