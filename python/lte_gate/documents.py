@@ -28,11 +28,11 @@ from .repository import TOP, report, run
 CRATES = TOP / "crates"
 HISTORY = ("CHANGELOG.md",)
 BUDGETS = {
-    "README.md": 1700,
+    "README.md": 1900,
     "CONTRIBUTING.md": 2000,
-    "CHANGELOG.md": 1700,
+    "CHANGELOG.md": 2100,
     "docs/ARCHITECTURE.md": 2900,
-    "docs/CLAIMS.md": 4300,
+    "docs/CLAIMS.md": 5000,
     "docs/DECISIONS.md": 4200,
     "docs/DEFINITION.md": 6700,
     "docs/FORMATS.md": 9900,
