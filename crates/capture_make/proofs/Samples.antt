@@ -230,7 +230,7 @@ is_clean law n made m =
     let clean = law OnePort n made.bound m.bound in
     let whole : IsClean (samples n eps) (plan n) (number n) (offset n) (gain n) eps = record {
       number = clean.number;
-      samples = record { within = clean.within; size = clean.gains_are; bound = clean.bound; near = clean.near };
+      samples = record { within = clean.within; range = clean.gains_are; bound = clean.bound; near = clean.near };
     } in
     subst (λ l. IsClean l t.cell t.sfn t.offset (gain_of t.gain) eps) (sym m.samples_are)
     (subst (λ p. IsClean (samples n eps) p t.sfn t.offset (gain_of t.gain) eps) (sym m.plan_is)

@@ -73,7 +73,7 @@ holds_plans recording list holds plan sfn offset gain eps known clean =
     let cell = cell_with plan in
     let samples = subst (λ (sequence : ℕ → Cpx). IsCleanOf sequence recording offset gain eps) (sym (same_sent cell plan (has_plan (plan_of_number 0) plan) sfn)) clean.samples in
     holds None cell sfn offset (gain ∷ []) eps (record { identity = known.identity; spare = known.spare })
-    (record { number = clean.number; within = samples.within; gains_are = samples.size; bound = samples.bound; near = samples.near })
+    (record { number = clean.number; within = samples.within; gains_are = samples.range; bound = samples.bound; near = samples.near })
 
 -- each entry in the list was read from one frame
 pub frames_are_single : (recording : List Sample) (list : List Entry) → IsExplainedOfLong recording list → All (λ entry. entry.frames ≡ 1) list

@@ -28,7 +28,7 @@ is_clean law n made m =
     let whole : IsCleanOfLong (samples_by LongPrefix n eps) made.plan (number n) (offset n) (gain n) eps = record {
       number = clean.number;
       samples = subst (λ (sequence : ℕ → Cpx). IsCleanOf sequence (samples_by LongPrefix n eps) (offset n) (gain n) eps) sequence
-          (record { within = clean.within; size = clean.gains_are; bound = clean.bound; near = clean.near });
+          (record { within = clean.within; range = clean.gains_are; bound = clean.bound; near = clean.near });
     } in
     subst (λ l. IsCleanOfLong l made.plan made.sfn made.offset (gain_of made.gain) eps) (sym m.samples_are)
     (subst (λ s. IsCleanOfLong (samples_by LongPrefix n eps) made.plan s made.offset (gain_of made.gain) eps) (sym m.number_is)

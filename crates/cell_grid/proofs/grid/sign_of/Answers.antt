@@ -16,7 +16,7 @@ returns-then-subframe-eq0 c =
     let identity : ℕ = c.args.signals.now.cell.now.identity in
     let e = sign_at_list c.args.signals.now.layout.now.zero (identity / 3) (identity % 3) Zero c.args.n c.args.signals.now.layout_is.zero c.requires in
     let kept = kept_sign (sss_at (identity / 3) (identity % 3) Zero c.args.n) (sss-size (identity / 3) (identity % 3) Zero c.args.n) in
-    rw (e, kept, c.if-subframe-eq0.true) (record { value = refl; size = sss-size (identity / 3) (identity % 3) Zero c.args.n })
+    rw (e, kept, c.if-subframe-eq0.true) (record { value = refl; magnitude = sss-size (identity / 3) (identity % 3) Zero c.args.n })
 
 pub returns-else-subframe-eq0 : goal.returns-else-subframe-eq0
 returns-else-subframe-eq0 c =
@@ -24,4 +24,4 @@ returns-else-subframe-eq0 c =
     let e = sign_at_list c.args.signals.now.layout.now.five (identity / 3) (identity % 3) Five c.args.n c.args.signals.now.layout_is.five c.requires in
     let kept = kept_sign (sss_at (identity / 3) (identity % 3) Five c.args.n) (sss-size (identity / 3) (identity % 3) Five c.args.n) in
     let other : nat_eq c.args.subframe 0 ≡ false = grind (arith, nat_tests) in
-    rw (e, kept, other) (record { value = refl; size = sss-size (identity / 3) (identity % 3) Five c.args.n })
+    rw (e, kept, other) (record { value = refl; magnitude = sss-size (identity / 3) (identity % 3) Five c.args.n })
