@@ -1,20 +1,21 @@
 -- An identity is in the list exactly where the reasons say so.
 use Rattle.std.proofs.Common.{◌≡◌, ◌⊎◌, inl, inr, ℕ, ◌%◌, Bool, true, false, cond, List, [], ◌∷◌, eqb-true, eq-eqb, refl, ap, sym, subst, ◌∙◌}
 use Rattle.std.proofs.lemmas.Bool.{false≢true}
-use Rattle.std.specs.Prelude.{MatchBool, nat_eq, filter, map}
+use Rattle.std.specs.Prelude.{MatchBool, nat_eq, nat_le, ◌&&◌, filter, map}
 use Rattle.std.specs.List.{AllZip, Contains}
 use Rattle.cs_num.specs.declared.Sample.{Sample}
 use Rattle.lte_types.specs.declared.entry.Entry.{Entry}
 use Rattle.lte_types.specs.declared.hit.Hit.{Hit}
 use Rattle.pss_search.specs.Hits.{hits_of}
 use Rattle.explain.specs.Receiver.{Receiver, has_step_before, place_by}
-use Rattle.explain.proofs.Listed.{is_one_list}
+use Rattle.explain.specs.Entries.{is_same_cell, distance, epoch}
+use Rattle.explain.proofs.Listed.{is_complete, is_one_list}
 use Rattle.explain.proofs.Sorted.{in_none, in_cons, Contains-here, Contains-later}
 use Rattle.finite.proofs.Lists.{only_one}
 use Rattle.reasons.specs.declared.reason.Reason.{Reason}
 use Rattle.reasons.specs.declared.reason.Reason.TheVariants.{Listed, NoHit, NoRoom, OtherIdentity, NoMib}
 use Rattle.reasons.specs.Reason.{has_identity, has_root, listed, other_cell, no_room, HasNoMib, IsFirstFailing, AreReasons, IsReasonFor}
-use Rattle.reasons.specs.Laws.{HasEntry, SaysListed, ListedIsInList}
+use Rattle.reasons.specs.Laws.{HasEntry, SaysListed, ListedIsInList, UnlistedHasNoMib}
 
 -- ---- filters
 
@@ -70,6 +71,24 @@ none_listed receiver recording identity (hit ∷ hits) (x ∷ xs) r all inside =
   | inl is ↦ ap is_listed (sym is) ∙ not_listed receiver recording identity hit x all.0
   | inr later ↦ none_listed receiver recording identity hits xs r all.1 later
 ]
+
+-- ---- entries
+
+same_identity : (a b : Entry) → is_same_cell a b ≡ true → a.id ≡ b.id
+same_identity a b same = eqb-true a.id b.id (and_left (nat_eq a.id b.id) (nat_le (distance (epoch a) (epoch b)) 9) same)
+  where
+    and_left : (p q : Bool) → (p && q) ≡ true → p ≡ true
+    and_left true q e = refl
+    and_left false q e = e
+
+pub unlisted_has_no_mib : UnlistedHasNoMib
+unlisted_has_no_mib receiver recording identity list hit entry is_list none listed named is_of =
+    let (other, stands) = is_complete receiver recording list entry is_list (record { hit = hit; listed = listed; is_of = is_of }) in
+    none (record { entry = other; inside = stands.inside; same = by_same stands.same ∙ is_of.id ∙ named })
+  where
+    by_same : {other : Entry} → (other ≡ entry) ⊎ (is_same_cell other entry ≡ true) → other.id ≡ entry.id
+    by_same (inl is) = ap (λ (e : Entry). e.id) is
+    by_same {other} (inr same) = same_identity other entry same
 
 -- ---- identities
 

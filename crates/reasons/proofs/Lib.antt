@@ -1,4 +1,5 @@
 pub mod Agree
+pub mod Closest
 pub mod OneReason
 pub mod InList
 pub mod Steps

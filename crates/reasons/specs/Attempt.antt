@@ -1,5 +1,5 @@
 -- The attempt to decode a MIB from one frame. (own)
-use Rattle.std.specs.Prelude.{◌≡◌, ℕ, ◌*◌, Bool, nat_lt, if◌then◌else◌, List, ℤ, MatchOption}
+use Rattle.std.specs.Prelude.{◌≡◌, ◌⊎◌, ℕ, ◌*◌, ◌<◌, ◌≤◌, Bool, List, ℤ, MatchOption}
 use Rattle.conv_code.specs.Cost.{word_cost}
 use Rattle.tailbite.specs.LeastWord.{IsLeastWord}
 use Rattle.pbch.specs.Master.{total, Decodes, DecodesNothing}
@@ -21,17 +21,20 @@ pub record IsAttempt (values : List (List ℤ)) (phase : ℕ) (attempt : Attempt
   pub ports : MatchOption attempt.ports (DecodesNothing values) (HasPorts values)
 
 -- the attempt with the lower ratio of cost to total, or `first` if the ratios are equal
-abbrev pub closer : Attempt → Attempt → Attempt
-closer first second = if nat_lt (second.cost * first.total) (first.cost * second.total) then second else first
+abbrev pub Counts : Attempt → Type 0
+Counts attempt = (attempt.phase ≡ 0) ⊎ (0 < attempt.total)
 
--- `attempt` has the minimum ratio of cost to total among the four phases of a frame; ties go to the lowest phase
-pub record IsClosest (values : ℕ → List (List ℤ)) (attempt : Attempt) : Type 0 where
-  pub first : Attempt
-  pub second : Attempt
-  pub third : Attempt
-  pub fourth : Attempt
-  pub is_first : IsAttempt (values 0) 0 first
-  pub is_second : IsAttempt (values 1) 1 second
-  pub is_third : IsAttempt (values 2) 2 third
-  pub is_fourth : IsAttempt (values 3) 3 fourth
-  pub is : attempt ≡ closer (closer (closer first second) third) fourth
+-- `attempt` is the first with the minimum ratio of cost to total, among the attempts that count at the phases below
+-- `end`; a ratio 0 / 0 at phase 0 is the minimum
+pub record IsClosestBefore (values : ℕ → List (List ℤ)) (end : ℕ) (attempt : Attempt) : Type 0 where
+  pub before_end : attempt.phase < end
+  pub is : IsAttempt (values attempt.phase) attempt.phase attempt
+  pub counts : Counts attempt
+  pub none_closer : (other : Attempt) → other.phase < end → IsAttempt (values other.phase) other.phase other →
+      Counts other → attempt.cost * other.total ≤ other.cost * attempt.total
+  pub first : (other : Attempt) → other.phase < attempt.phase → IsAttempt (values other.phase) other.phase other →
+      Counts other → attempt.cost * other.total < other.cost * attempt.total
+
+-- `attempt` is the closest to a MIB among the attempts at the four phases of a frame
+abbrev pub IsClosest : (ℕ → List (List ℤ)) → Attempt → Type 0
+IsClosest values attempt = IsClosestBefore values 4 attempt

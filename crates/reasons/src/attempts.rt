@@ -1,6 +1,6 @@
 //! How close a cell's first frame is to a MIB.
 
-ghost use Rattle.std.specs.Prelude.{◌≡◌, ◌*◌, ◌<◌, ◌≤◌, MatchOption};
+ghost use Rattle.std.specs.Prelude.{◌≡◌, ℕ, ℤ, ◌+◌, ◌*◌, ◌<◌, ◌≤◌, List, MatchOption};
 ghost use Rattle.std.specs.List.{flat_map};
 ghost use Rattle.finite.specs.Sizes.{RowsWithin};
 ghost use Rattle.lte_types.specs.Frames.{frames_from};
@@ -8,7 +8,7 @@ ghost use Rattle.pbch.specs.Values.{summed_values};
 ghost use Rattle.pbch.specs.Master.{DecodesNothing};
 ghost use Rattle.explain.specs.Frame.{IsWhole};
 ghost use Rattle.explain.specs.Receiver.{sums_by};
-ghost use Rattle.reasons.specs.Attempt.{HasPorts, IsAttempt, IsClosest, closer as closer_of};
+ghost use Rattle.reasons.specs.Attempt.{HasPorts, IsAttempt, IsClosest, IsClosestBefore};
 
 use crate::reason::Attempt;
 use explain::FrameReader;
@@ -82,10 +82,11 @@ fn ports_of(sums: &[[i32; 3]; 40], work: &mut Trellis) -> Option<u8>
 }
 
 // Returns the attempt with the lower ratio of cost to total, or `first` if the ratios are equal.
-fn closer(first: Attempt, second: Attempt) -> Attempt
-    ensures { result ≡ closer_of first second }
+fn closer(best: Attempt, next: Attempt) -> Attempt
+    ensures { (values : ℕ → List (List ℤ)) → IsClosestBefore values next.phase best →
+        IsAttempt (values next.phase) next.phase next → IsClosestBefore values (next.phase + 1) result }
 {
-    let ours = first.cost as u64 * second.total as u64;
-    let theirs = second.cost as u64 * first.total as u64;
-    if theirs < ours { second } else { first }
+    let ours = best.cost as u64 * next.total as u64;
+    let theirs = next.cost as u64 * best.total as u64;
+    if theirs < ours { next } else { best }
 }

@@ -1,12 +1,13 @@
 //! Laws of the reasons for an identity.
 
-ghost use Rattle.reasons.specs.Laws.{FirstFramesDecideReasons, HasOneReason, ListedIsInList};
+ghost use Rattle.reasons.specs.Laws.{FirstFramesDecideReasons, HasOneReason, ListedIsInList, UnlistedHasNoMib};
 
 /// A law: an identity is in a recording's list if and only if one of its reasons is `Listed`, and there is at most one
 /// list of reasons for it. (own)
 pub fn reasons_in_plain_words()
     ensures listed { ListedIsInList }
     ensures one { HasOneReason }
+    ensures unread { UnlistedHasNoMib }
 {}
 
 /// A law: recordings of at least 326,400 samples (17 frames) that agree in the first 326,400 have equal reasons for an
