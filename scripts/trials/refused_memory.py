@@ -67,6 +67,9 @@ def forms(program):
         yield from of_both(words + " --json", recording)
     for rule in CARRIERS:
         yield from of_both(f"certify {rule}", recording)
+        for identity in range(3):
+            yield from of_both(f"why {identity} {rule}", recording)
+            yield from of_both(f"why {identity} {rule} --json", recording)
     yield ["check"], 3 * certificates
     for rule in CARRIERS:
         description = (HERE.parent / "examples" / EXAMPLES.get(rule, "plain_cell.json")).read_bytes()

@@ -2,7 +2,8 @@
 
 use crate::forms::{
     APPLYING, AS_JSON, BY_OTHER_RULES, BY_OTHER_RULES_AND_WORDS, CANCELLING, Form, OF_8_BITS,
-    OF_8_BITS_AS_JSON, OF_ALL, OF_LISTS_BY_OTHER_RULES, OTHERS, PAGES, REPORTS, SENDING, TELLING,
+    OF_8_BITS_AS_JSON, OF_ALL, OF_LISTS_BY_OTHER_RULES, OTHERS, PAGES, REASONS, REPORTS, SENDING,
+    TELLING,
 };
 use crate::inputs::{Input, bytes_of, recording};
 use cs_outside::{FailSink, FailSource, MemSource, StdSink, StdSource};
@@ -187,6 +188,11 @@ fn each_call_of_lists_by_other_rules_and_words_that_fails_is_a_fault(
 #[test]
 fn each_failing_call_in_lists_by_other_rules_is_a_fault(rt: HostRuntime) -> Result<(), Fail> {
     fail_each(&rt, rt.alloc(), Program::Receiver, &OF_LISTS_BY_OTHER_RULES)
+}
+
+#[test]
+fn each_call_of_reasons_that_fails_is_a_fault(rt: HostRuntime) -> Result<(), Fail> {
+    fail_each(&rt, rt.alloc(), Program::Receiver, &REASONS)
 }
 
 #[test]

@@ -74,6 +74,20 @@ pub const OF_LISTS_BY_OTHER_RULES: [Form; 9] = [
     ("certify --prefix long", Input::LongPrefix),
 ];
 
+/// The reasons for an identity: of the cell, of another one with its root, and of one with another root; and by the
+/// other lists.
+pub const REASONS: [Form; 9] = [
+    ("why 0", Input::Cell16),
+    ("why 3", Input::Cell16),
+    ("why 1", Input::Cell16),
+    ("why 0 --json", Input::Cell16),
+    ("why 3 --format cu8", Input::Cell8),
+    ("why 1 --json --format cu8", Input::Cell8),
+    ("why 90 --ports 2", Input::TwoPorts),
+    ("why 90 --ports 4 --json", Input::FourPorts),
+    ("why 90 --prefix long", Input::LongPrefix),
+];
+
 /// The lists of residuals after cancellation.
 pub const CANCELLING: [Form; 4] = [
     ("search --cancel", Input::Cell16),

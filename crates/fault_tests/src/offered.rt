@@ -1,7 +1,7 @@
 //! The bytes that each call of a sink is offered: always the rest of a piece. Each piece except the last has at least
 //! 4,096 bytes.
 
-use crate::forms::{APPLYING, Form, OTHERS, PAGES, REPORTS, SENDING, TELLING};
+use crate::forms::{APPLYING, Form, OTHERS, PAGES, REASONS, REPORTS, SENDING, TELLING};
 use crate::inputs::{bytes_of, description_with, recording, sixteen_cells};
 use cs_outside::{MemSource, StdSink};
 use lte_top::{Program, Status, run_program};
@@ -226,6 +226,7 @@ fn are_one_piece(
 #[test]
 fn each_other_output_of_the_receiver_is_one_piece(rt: HostRuntime) -> Result<(), Fail> {
     are_one_piece(&rt, rt.alloc(), Program::Receiver, &REPORTS)?;
+    are_one_piece(&rt, rt.alloc(), Program::Receiver, &REASONS)?;
     are_one_piece(&rt, rt.alloc(), Program::Receiver, &OTHERS)?;
     are_one_piece(&rt, rt.alloc(), Program::Receiver, &PAGES)
 }

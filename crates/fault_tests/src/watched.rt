@@ -1,6 +1,6 @@
 //! No read follows a read that returned the end or failed, and each read asks for many bytes.
 
-use crate::forms::{APPLYING, Form, OTHERS, REPORTS, SENDING};
+use crate::forms::{APPLYING, Form, OTHERS, REASONS, REPORTS, SENDING};
 use crate::inputs::{Input, bytes_of};
 use cs_outside::{MemSink, StdSource};
 use lte_top::{Program, Status, run_program};
@@ -138,6 +138,7 @@ fn end_each(rt: &impl Abort, alloc: Global, program: Program, forms: &[Form]) ->
 #[test]
 fn no_call_follows_the_end_or_a_fault_of_a_recording(rt: HostRuntime) -> Result<(), Fail> {
     end_each(&rt, rt.alloc(), Program::Receiver, &REPORTS)?;
+    end_each(&rt, rt.alloc(), Program::Receiver, &REASONS)?;
     end_each(&rt, rt.alloc(), Program::Tuner, &APPLYING)
 }
 
