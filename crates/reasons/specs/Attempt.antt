@@ -20,7 +20,7 @@ pub record IsAttempt (values : List (List ℤ)) (phase : ℕ) (attempt : Attempt
   pub total : attempt.total ≡ total values
   pub ports : MatchOption attempt.ports (DecodesNothing values) (HasPorts values)
 
--- the attempt with the lower ratio of cost to total, or `first` if the ratios are equal
+-- `attempt` counts if one of its soft values is not 0, or its phase is 0
 abbrev pub Counts : Attempt → Type 0
 Counts attempt = (attempt.phase ≡ 0) ⊎ (0 < attempt.total)
 

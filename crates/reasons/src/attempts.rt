@@ -81,7 +81,7 @@ fn ports_of(sums: &[[i32; 3]; 40], work: &mut Trellis) -> Option<u8>
     }
 }
 
-// Returns the attempt with the lower ratio of cost to total, or `first` if the ratios are equal.
+// Returns `next` if its ratio of cost to total is lower than that of `best`, otherwise `best`.
 fn closer(best: Attempt, next: Attempt) -> Attempt
     ensures { (values : ℕ → List (List ℤ)) → IsClosestBefore values next.phase best →
         IsAttempt (values next.phase) next.phase next → IsClosestBefore values (next.phase + 1) result }

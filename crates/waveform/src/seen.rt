@@ -7,8 +7,8 @@
 //! - two gains: less than 23 units at 992 times the sum;
 //! - four gains: little more than 14 units at 350 times the sum.
 //!
-//! The deviation has three causes: the leakage of the tables, at most 6.1 units for each port, the errors, and the
-//! rounding of the demodulated value.
+//! The deviation has three causes: the leakage of the tables, at most 0.4 units of amplitude for each port, the
+//! errors, and the rounding of the demodulated value.
 
 ghost use Rattle.waveform.specs.WaveformLaws.{WaveformIsSeen};
 
