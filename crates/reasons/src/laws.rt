@@ -2,8 +2,8 @@
 
 ghost use Rattle.reasons.specs.Laws.{FirstFramesDecideReasons, HasOneReason, ListedIsInList, UnlistedHasNoMib};
 
-/// A law: an identity is in a recording's list if and only if one of its reasons is `Listed`. There is at most one list
-/// of its reasons, and no frames of an unlisted identity give a MIB (`unread`). (own)
+/// A law: an identity is in a recording's list if and only if a reason for it is `Listed`. There is at most one list of
+/// reasons, and an unlisted identity has no MIB in any frames (`unread`). (own)
 pub fn reasons_in_plain_words()
     ensures listed { ListedIsInList }
     ensures one { HasOneReason }
