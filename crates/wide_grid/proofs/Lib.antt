@@ -1,0 +1,4 @@
+pub mod Loops
+pub mod Groups
+pub mod Inside
+pub mod Carried

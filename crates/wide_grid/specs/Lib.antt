@@ -1,0 +1,4 @@
+pub mod Group
+pub mod Control
+pub mod Candidate
+pub mod Shared
