@@ -1,0 +1,4 @@
+pub mod Units
+pub mod Any
+pub mod Values
+pub mod Matrix
