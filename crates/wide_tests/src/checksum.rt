@@ -1,0 +1,39 @@
+// The checksum of the reference implementation, `python/lte_reference/wide_rows.py`.
+
+use wide_cell::WidePlace;
+use wide_grid::WideReg;
+
+const MODULUS: u64 = 4_294_967_291;
+
+// Returns the checksum after one more number, below 4,294,967,291.
+pub(crate) fn after(sum: u64, number: usize) -> u64 {
+    (31 * (sum % MODULUS) + number as u64 % MODULUS + 67_108_864) % MODULUS
+}
+
+pub(crate) fn after_places(sum: u64, places: &[WidePlace]) -> u64 {
+    let mut sum = sum;
+    for place in places {
+        sum = after(sum, 1200 * place.symbol as usize + place.k as usize);
+    }
+    sum
+}
+
+pub(crate) fn after_groups(sum: u64, groups: &[WideReg]) -> u64 {
+    let mut sum = sum;
+    for group in groups {
+        sum = after(sum, 1200 * group.symbol as usize + group.first as usize);
+    }
+    sum
+}
+
+// Returns the checksum after the number of allocated blocks, and the blocks.
+pub(crate) fn after_blocks(sum: u64, allocated: &[bool]) -> u64 {
+    let count = allocated.iter().filter(|is| **is).count();
+    let mut sum = after(sum, count);
+    for (block, is) in allocated.iter().enumerate() {
+        if *is {
+            sum = after(sum, block);
+        }
+    }
+    sum
+}
