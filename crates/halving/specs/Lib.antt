@@ -1,0 +1,3 @@
+pub mod Halved
+pub mod Wide
+pub mod Steps
