@@ -1,0 +1,5 @@
+pub mod Entries
+pub mod Laws
+pub mod Folds
+pub mod Sizes
+pub mod Rows

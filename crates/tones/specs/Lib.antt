@@ -1,0 +1,4 @@
+pub mod Tones
+pub mod Seen
+pub mod Folding
+pub mod Laws
