@@ -63,6 +63,6 @@ cosine m = half_turn (folded m)
 unfoldable pub t_at : ℕ → Cpx
 t_at m = record { re = cosine m; im = cosine (m + 1536) }
 
--- the same roots with period 128 * 2^rate: every 2^(4 - rate)th entry of T
+-- roots of unity with period 128 * 2^rate: every 2^(4 - rate)th entry of T
 abbrev pub tone_at : ℕ → ℕ → Cpx
 tone_at rate m = t_at (2 ^ (4 - rate) * m)

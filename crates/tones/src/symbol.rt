@@ -14,9 +14,9 @@ use lte_types::Prefix;
 use std::alloc::{AllocError, Global};
 use wide_cell::points;
 
-/// Demodulates the symbol whose useful part begins at sample `start`: the DFT at all subcarriers of a cell with `blocks`
-/// resource blocks, lowest frequency first, divided by 2^(16 + rate) and rounded. Components are within 2^25. Fails only
-/// if an allocation fails. (own; TS 36.211 section 6.12 inverted)
+/// Demodulates the symbol whose useful part begins at sample `start`: the DFT at a cell's subcarriers, divided by
+/// 2^(16 + rate) and rounded. Components are within 2^25. Fails only if an allocation fails. (own; TS 36.211 section
+/// 6.12 inverted)
 pub fn demodulate(
     alloc: Global,
     tones: &Tones,
@@ -79,8 +79,8 @@ fn frequency_of(rate: u8, blocks: u8, k: usize) -> usize
     }
 }
 
-/// Returns the sample at which the useful part of a symbol begins, at 2^`rate` times 1.92 million samples per second,
-/// for a frame that begins at sample `frame` at 1.92 million. `rate` is at most 4, and `frame` below 2^40.
+/// Returns the sample at which a symbol's useful part begins, for a frame that begins at sample `frame` at 1.92 million
+/// samples per second. `rate` is at most 4, and `frame` below 2^40.
 pub fn wide_start(rate: u8, frame: usize, slot: u8, symbol: u8) -> usize
     requires rate { rate ≤ 4 }
     requires frame { frame < 2 ^ 40 }

@@ -48,9 +48,8 @@ impl Model for WideSlot {
 }
 
 impl WideSlot {
-    /// Receives a slot of a cell in a frame that begins at sample `frame` at 1.92 million samples per second. `number`
-    /// is 0 to 19; `weights` smooth the pilots. The recording contains the slot and all subcarriers of the cell. Fails
-    /// only if an allocation fails. (own)
+    /// Receives slot `number`, 0 to 19, of a frame that begins at sample `frame` at 1.92 million samples per second. The
+    /// recording contains the slot and all subcarriers. Fails only if an allocation fails. (own)
     pub fn receive(
         alloc: Global,
         tones: &Tones,
