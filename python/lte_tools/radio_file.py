@@ -108,10 +108,15 @@ class RadioFile:
 
     def recording(self, start: float, seconds: float, offset: float = 0) -> tuple[bytes, float]:
         """Returns the recording of a window that begins at second `start`, and what full scale of the file is in it."""
-        first, count = round(start * self.rate), round(seconds * self.rate)
-        samples = self.samples(first, count)
         if self.is_recording() and offset == 0:
+            samples = self.samples(round(start * self.rate), round(seconds * self.rate))
             return radio.to_bytes(samples * (radio.FULL + 1)), radio.FULL + 1
+        return self.filtered(start, seconds, offset)
+
+    def filtered(self, start: float, seconds: float, offset: float = 0) -> tuple[bytes, float]:
+        """Returns such a recording filtered to six resource blocks, as `to_ci16.py` makes it of any file."""
+        first = round(start * self.rate)
+        samples = self.samples(first, round(seconds * self.rate))
         window = converted(samples, self.rate, self.shift_at(first) + offset)
         scale = radio.FULL / 2 / (radio.peak(window) or 1)
         return radio.to_bytes(window * scale), scale

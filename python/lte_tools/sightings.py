@@ -64,7 +64,7 @@ class Window(NamedTuple):
 def window_of(task: Task) -> Window:
     """Returns a window with the task's offset corrected, if there is one."""
     offset = task.offset if abs(task.offset) > FINE else 0
-    return Window(*task.file.recording(task.start, task.length, offset), offset)
+    return Window(*task.file.filtered(task.start, task.length, offset), offset)
 
 
 def energy(task: Task) -> float:

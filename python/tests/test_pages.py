@@ -81,7 +81,7 @@ def test_schema_has_the_fields_of_the_survey(survey):
 
 def test_table(survey):
     head, names, row, *last = survey_table.table_of(survey)
-    assert head == "crates/capture_example/stdin: 0.03 s, 1 window, offset 1 Hz"
+    assert head == "crates/capture_example/stdin: 0.03 s, 1 window, offset 0 Hz"
     assert names.split()[:3] == ["PCI", "rule", "first"] and row.split()[:2] == ["271", "one-port"] and last == []
     assert survey_table.table_of(dataclasses.replace(survey, cells=(), hint="why")) == [head, "why"]
     assert survey_table.table_of(with_cells(survey, 2))[-1] == columns.CHANCE
@@ -121,7 +121,7 @@ def test_table_of_a_scan_in_dbm(survey):
 @pytest.mark.parametrize("name", ["=1+1.cu8", "+a", "-b", "@c", "\td"])
 def test_no_formula_reaches_a_spreadsheet(survey, name):
     (line,) = csv.DictReader(io.StringIO(survey_table.csv_of(dataclasses.replace(survey, file=name))))
-    assert line["file"] == f"'{name}" and line["level"] == "-52.3" and line["offset"] == "0.9"
+    assert line["file"] == f"'{name}" and line["level"] == "-52.3" and line["offset"] == "0.3"
 
 
 def test_csv_of_what_is_not_known(survey):
