@@ -65,6 +65,19 @@ def decibels(text: str) -> float:
     return value
 
 
+def gain(text: str) -> float | tuple[tuple[float, float], ...]:
+    """Returns a number of decibels, or pairs of a second and the decibels from there on, as 0:-20,14.5:-14."""
+    if ":" not in text:
+        return decibels(text)
+    pairs = [part.split(":") for part in text.split(",")]
+    if any(len(pair) != 2 for pair in pairs):
+        raise argparse.ArgumentTypeError(f"{text!r} is not a list such as 0:-20,14.5:-14")
+    found = tuple((not_negative(second), decibels(level)) for second, level in pairs)
+    if any(b <= a for (a, _), (b, _) in zip(found, found[1:])):
+        raise argparse.ArgumentTypeError(f"{text!r}: seconds have to rise")
+    return found
+
+
 def not_negative(text: str) -> float:
     """Returns a number of 0 or more."""
     value = number(text)

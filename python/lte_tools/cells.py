@@ -1,4 +1,4 @@
-"""The cells of a radio's file or stream over time: which sightings are of one cell, and all that is known of it.
+"""The cells of a radio's file or stream over time: which sightings are of one cell, and what they say together.
 
 Debian: python3-numpy.
 """
@@ -11,37 +11,41 @@ import numpy as np
 
 from . import radio
 from .answers import Cell
-from .options import SurveyOptions
-from .radio_file import RadioFile
-from .sightings import DEAR, NEAR, WINDOW, Sighting, distance, saying
-from .survey_data import Echo, Seen, Survey, SurveyCell
+from .sightings import CYCLE, DEAR, NEAR, Sighting, distance, saying
+from .survey_data import Echo
 
 CLOCK = 100e-6  # by which a radio's clock may be off
-SAME_OFFSET, DRIFT = 1_000, 200  # hertz, and hertz per second, by which the offset of one cell may change
-SURE, BESIDE, LINE = 15, 0.5, 4  # hertz of an error; seconds about a sighting, and sightings that give a straight line
-DOPPLER = 60  # hertz by which the offset of one cell mostly differs from another's
 SAME_PATH = 1.1  # microseconds by which a path's delay may change
 FEW = 1_000  # a total of values that are nearly all 0
 
 
 class SeenCell:
-    """The sightings of one cell."""
+    """The sightings of one cell, and after how many frames its frame number begins again: 0 if it is always the same, None
+    if it runs on."""
 
     def __init__(self, first: Sighting) -> None:
         self.seen = [first]
+        self.repeats: int | None = None
 
     def add(self, one: Sighting) -> None:
         self.seen.append(one)
 
+    def take(self, other: SeenCell) -> None:
+        """Adds the sightings of another line that is the same cell."""
+        self.seen = sorted([*self.seen, *other.seen], key=lambda one: one.seconds)
+
+    def correct(self, second: float, samples: float) -> None:
+        """Counts samples that are missing in the file at a second."""
+        self.seen = [one.later(samples) if one.seconds > second else one for one in self.seen]
+
     def is_same(self, new: Sighting) -> bool:
         """Returns whether a later sighting is of this cell, as far as a radio's clock and offset allow."""
         last = self.seen[-1]
-        gap = new.seconds - last.seconds
-        apart = min(abs(last.taken - new.taken), abs(last.offset - new.offset))
+        cycle = CYCLE if self.repeats is None else radio.FRAME * (self.repeats or 1)
         return (
             last.line.identity == new.line.identity
-            and distance(last.epoch, new.epoch) <= NEAR + CLOCK * radio.RATE * gap
-            and apart <= SAME_OFFSET + DRIFT * gap
+            and distance(last.epoch, new.epoch, cycle) <= NEAR + CLOCK * radio.RATE * (new.seconds - last.seconds)
+            and last.has_offset_of(new)
         )
 
     @property
@@ -50,7 +54,7 @@ class SeenCell:
 
     @property
     def strongest(self) -> Sighting:
-        return max(self.seen, key=lambda one: -1e9 if one.level is None else one.level)
+        return max(self.seen, key=lambda one: -1e9 if one.evened is None else one.evened)
 
     @property
     def line(self) -> Cell:
@@ -102,33 +106,6 @@ class SeenCell:
 C = TypeVar("C", bound=SeenCell)
 
 
-def surest_of(cells: Sequence[SeenCell]) -> dict[float, Sighting]:
-    """Returns by each window the sighting whose offset is surest."""
-    found: dict[float, Sighting] = {}
-    for one in (one for cell in cells for one in cell.seen):
-        found[one.task.start] = min(found.get(one.task.start, one), one, key=lambda sighting: sighting.error)
-    return found
-
-
-def smoothed(seen: Sequence[Sighting], surest: dict[float, Sighting]) -> list[float]:
-    """Returns the offset at each sighting: its own where that is sure, else by those within half a second, and nearer to
-    that of the surest cell of its window, from which it differs by a Doppler shift."""
-    times, offsets = (np.array([getattr(one, key) for one in seen]) for key in ("seconds", "offset"))
-    weights = 1 / np.maximum([one.error for one in seen], SURE)
-    found = []
-    for one, time in zip(seen, times):
-        near = slice(*np.searchsorted(times, (time - BESIDE, time + BESIDE)))
-        offset, other = one.offset, surest[one.task.start]
-        if one.error > SURE and near.stop - near.start > 1:
-            degree = int(near.stop - near.start >= LINE)
-            offset = float(np.polyfit(times[near] - time, offsets[near], degree, w=weights[near])[-1])
-        if one.error > SURE and other is not one:
-            share = one.error**2 / (one.error**2 + other.error**2 + DOPPLER**2)
-            offset += share * (other.offset - offset)
-        found.append(offset)
-    return found
-
-
 def fixed_text(line: Cell) -> str:
     """Returns what stays of a line from window to window."""
     return json.dumps({key: value for key, value in line.to_json().items() if key not in ("at", "sfn")}, sort_keys=True)
@@ -158,96 +135,10 @@ def in_windows_order(cells: Sequence[C]) -> list[C]:
     return sorted(cells, key=lambda cell: (-cell.windows, cell.seen[0].seconds))
 
 
-# ---- the survey's data
+def less(number: float, digits: int = 1) -> float:
+    """Returns a number in `digits` digits, without the sign of a 0."""
+    return round(float(number), digits) + 0.0
 
 
-def survey_of_cells(
-    options: SurveyOptions,
-    file: RadioFile,
-    windows: int,
-    spoiled: Sequence[float],
-    hint: str | None,
-    offsets: Sequence[tuple[float, float]],
-    cells: Sequence[SeenCell],
-) -> Survey:
-    """Returns the survey of these cells: its count of windows, those without numbers, and the offsets that were found."""
-    return Survey(
-        file=str(options.file),
-        datetime=file.time_at(file.stretches[0].first / file.rate) if file.stretches else None,
-        form=file.form,
-        exchanged=file.is_exchanged,
-        rate=file.rate,
-        rate_error=round(file.rate_error, 3),
-        shift=file.shift,
-        carrier=file.carrier or None,
-        unit="dBFS" if options.gain is None else "dBm",
-        seconds=round(file.seconds, 6),
-        window=round(WINDOW, 6),
-        every=round(options.every, 6),
-        windows=windows,
-        spoiled=tuple(spoiled),
-        hint=hint,
-        offsets=tuple(offsets),
-        cells=tuple(surveyed(cell, cells, file, options.gain or 0, surest_of(cells)) for cell in cells),
-    )
-
-
-def surveyed(
-    cell: SeenCell, cells: Sequence[SeenCell], file: RadioFile, gain: float, surest: dict[float, Sighting]
-) -> SurveyCell:
-    """Returns a cell as the survey has it."""
-    line, strongest, offsets = cell.line, cell.strongest, smoothed(cell.seen, surest)
-    offset = offsets[cell.seen.index(strongest)]
-    return SurveyCell(
-        identity=line.identity,
-        rule=str(line.rule),
-        rules=tuple(sorted({rule for one in cell.seen for rule in one.rules})),
-        first=round(cell.seen[0].seconds, 4),
-        last=round(cell.seen[-1].seconds, 4),
-        datetime=file.time_at(cell.seen[0].seconds),
-        windows=cell.windows,
-        ports=line.ports,
-        bandwidth=line.bandwidth,
-        duration=line.duration,
-        resource=line.resource,
-        br=line.br,
-        spare=line.spare,
-        sib1=line.sib1,
-        no_sib1=line.no_sib1,
-        level=less_or_none(strongest.level, gain),
-        ratio=less_or_none(strongest.ratio),
-        offset=less(offset),
-        ppm=less(1e6 * offset / file.carrier, digits=3) if file.carrier else None,
-        echoes=cell.echoes,
-        share=less(cell.share, digits=4),
-        chance=cell.is_chance(cells),
-        seen=tuple(seen_of(one, file, gain, own) for one, own in zip(cell.seen, offsets)),
-    )
-
-
-def seen_of(one: Sighting, file: RadioFile, gain: float, offset: float) -> Seen:
-    """Returns a sighting as the survey has it."""
-    return Seen(
-        seconds=round(one.seconds, 4),
-        at=round(one.seconds * file.rate),
-        datetime=file.time_at(one.seconds),
-        sfn=one.line.sfn,
-        level=less_or_none(one.level, gain),
-        ratio=less_or_none(one.ratio),
-        offset=less(offset),
-        error=less(one.error),
-        echoes=tuple((less(delay), less(level)) for delay, level in one.echoes),
-        cost=one.cost,
-        total=one.total,
-        mib=one.mib,
-        sib1_block=one.sib1_block,
-    )
-
-
-def less(number: float, gain: float = 0, digits: int = 1) -> float:
-    """Returns a number minus another in `digits` digits, without the sign of a 0."""
-    return round(float(number) - gain, digits) + 0.0
-
-
-def less_or_none(number: float | None, gain: float = 0) -> float | None:
-    return None if number is None else less(number, gain)
+def less_or_none(number: float | None) -> float | None:
+    return None if number is None else less(number)

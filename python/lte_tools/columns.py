@@ -1,12 +1,14 @@
 """The columns of a survey: of the table, the CSV, the page with its tooltips, and docs/RECORDINGS.md, one row each here.
 
-A further column is a row of COLUMNS and its key in CSV_KEYS, a field of survey_data.SurveyCell with its line in cells.py,
-that field's definition in report.schema.json, and both in docs/FORMATS.md. The rest is made: the page's table and the
-manual page by `scripts/gate.sh made --write`, the example in scripts/examples/outputs by
+A further column is a row of COLUMNS and its key in CSV_KEYS, a field of survey_data.SurveyCell with its line in
+summary.py, that field's definition in report.schema.json, and both in docs/FORMATS.md. The rest is made: the page's table
+and the manual page by `scripts/gate.sh made --write`, the example in scripts/examples/outputs by
 `LTE_RECORD=1 python3 -m pytest tests/test_survey.py` (in python/).
 """
 from __future__ import annotations
 
+import bisect
+import statistics
 from dataclasses import dataclass
 from typing import Callable, Union
 
@@ -15,6 +17,12 @@ from .survey_data import Survey, SurveyCell
 
 Value = Union[str, int, float, None]
 CHANCE = "? chance explains this line: it was seen once, or at another's place, and no SIB1 was read"
+# doubts about a cell that is no false detection: words of the JSON, and what they mean in the table
+DOUBTS = {
+    "test-model": "the MIB has zeros alone, as a generator's test model sends it",
+    "wider-carrier": "the MIB states 6 resource blocks, and a carrier sends on both sides of them",
+    "pilots-of": "a synchronous neighbour has its pilots at those of this cell: level, S/N and offset are not certain",
+}
 
 
 @dataclass(frozen=True)
@@ -58,6 +66,38 @@ def megahertz_text(cell: SurveyCell) -> str:
 
 def echo_text(cell: SurveyCell) -> str:
     return f"{cell.echo.delay} us {cell.echo.level} dB" if cell.echo else ""
+
+
+def ratios_text(cell: SurveyCell) -> str:
+    """Returns the range of signal to noise, if there is more than one window."""
+    return f"{cell.ratios[0]} to {cell.ratios[1]}" if cell.ratios and cell.windows > 1 else ""
+
+
+def doubt_text(word: str) -> str:
+    """Returns a doubt as the table has it."""
+    return word.replace("-", " ")
+
+
+def doubt_meaning(word: str) -> str:
+    """Returns what a doubt means, by its word in the JSON or its text in the table."""
+    word = word.replace(" ", "-")
+    return next(meaning for name, meaning in DOUBTS.items() if word.startswith(name))
+
+
+def chance_text(cell: SurveyCell) -> str:
+    """Returns `?` for a false detection or a doubt, and the doubts."""
+    return " ".join(["?"] * (cell.chance or bool(cell.doubts)) + [", ".join(map(doubt_text, cell.doubts))]).strip()
+
+
+def power_of(cell: SurveyCell, survey: Survey, key: str) -> float | None:
+    """Returns the median over a cell's windows of a key of `powers`, or None."""
+    starts, found = [one.seconds for one in survey.powers], []
+    for one in cell.seen if starts else ():
+        power = survey.powers[max(bisect.bisect_right(starts, one.seconds + 1e-4) - 1, 0)]
+        value: float | None = getattr(power, key)
+        if value is not None:
+            found.append(value)
+    return round(statistics.median(found), 1) if found else None
 
 
 def networks_of(cell: SurveyCell) -> str | None:
@@ -192,8 +232,48 @@ COLUMNS = (
         "S/N dB",
         "dB",
         None,
-        "signal to noise of a reference element where it was strongest",
+        "signal to noise of a reference element: the median over the windows",
         lambda cell, survey: cell.ratio,
+    ),
+    Column(
+        None,
+        "S/N range",
+        "dB",
+        None,
+        "minimum and maximum of it over the windows",
+        lambda cell, survey: ratios_text(cell),
+    ),
+    Column(
+        "ratio_least",
+        None,
+        "dB",
+        None,
+        "the minimum of `ratio` over the windows",
+        lambda cell, survey: cell.ratios[0] if cell.ratios else None,
+    ),
+    Column(
+        "ratio_greatest",
+        None,
+        "dB",
+        None,
+        "the maximum of `ratio` over the windows",
+        lambda cell, survey: cell.ratios[1] if cell.ratios else None,
+    ),
+    Column(
+        "noise",
+        None,
+        "dBFS",
+        None,
+        "noise floor in 15 kHz, the median over its windows",
+        lambda cell, survey: power_of(cell, survey, "noise"),
+    ),
+    Column(
+        "total",
+        None,
+        "dBFS",
+        None,
+        "power of all samples, the median over its windows",
+        lambda cell, survey: power_of(cell, survey, "total"),
     ),
     Column(
         "offset",
@@ -235,10 +315,19 @@ COLUMNS = (
         "",
         "",
         None,
-        "`?` marks a line that is probably a false detection",
+        "`?` marks a line that is probably a false detection; with a word, a doubt about the cell or its numbers",
         lambda cell, survey: "yes" if cell.chance else "no",
-        lambda cell, survey: "?" if cell.chance else "",
+        lambda cell, survey: chance_text(cell),
         is_left=True,
+    ),
+    Column("doubts", None, "", None, "words of doubts, joined by spaces", lambda cell, survey: " ".join(cell.doubts)),
+    Column(
+        "repeats",
+        None,
+        "s",
+        None,
+        "seconds after which the frame number begins again; 0 if it is always the same",
+        lambda cell, survey: cell.repeats,
     ),
     Column(
         "no_sib1",
@@ -260,7 +349,8 @@ COLUMNS = (
     Column("datetime", None, "", None, "time of `first`", lambda cell, survey: cell.datetime),
 )
 CSV_KEYS = """file identity rule first last windows of ports bandwidth duration resource plmn tac cell band level unit
-ratio offset ppm share chance echo echo_level enodeb sector sfn no_sib1 datetime frequency earfcn""".split()
+ratio offset ppm share chance echo echo_level enodeb sector sfn no_sib1 datetime frequency earfcn
+ratio_least ratio_greatest noise total doubts repeats""".split()
 BY_KEY = {column.key: column for column in COLUMNS if column.key}
 BY_HEADING = {column.heading: column for column in COLUMNS if column.heading is not None}
 # of a page with a map
@@ -325,7 +415,9 @@ def word_meaning(heading: str, word: str) -> str:
         return f"eNodeB {int(word) >> 8}, its cell {int(word) & 255}"
     if heading == "no SIB1":
         return REASONS.get(first, "")
-    return CHANCE.removeprefix("? ") if word == "?" else ""
+    if word == "?":
+        return CHANCE.removeprefix("? ")
+    return "; ".join(map(doubt_meaning, word[2:].split(", "))) if word.startswith("? ") else ""
 
 
 # ---- the table of docs/RECORDINGS.md

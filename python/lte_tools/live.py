@@ -25,19 +25,22 @@ from typing import Any, Callable
 
 import numpy as np
 
-from . import hints, places, radio, radio_file, stream, survey_data
-from .cells import SeenCell, add_sighting, in_windows_order, survey_of_cells
+from . import hints, levels, places, radio, radio_file, stream, survey_data, survey_table
+from .cells import SeenCell, add_sighting, in_windows_order
+from .continuity import Jump, as_one
 from .forms import FORMS, fault_of
 from .machine import Refused
-from .options import SurveyOptions
+from .options import Gain, SurveyOptions
 from .radio_file import RadioFile
 from .sightings import VAGUE, WINDOW, Sighting, Task, offset_in, saying, sightings
-from .survey_data import Survey
+from .summary import Looked, survey_of_cells
+from .survey_data import Power, Survey
 
 STDIN = 0
 WAITING = 2  # windows in the ring for each process
 LOST = 6  # windows without a sure cell after which the offset is asked anew
 KEPT = 300  # sightings of a cell
+MOST_POWERS = 20_000  # windows whose power is kept
 FORGET = 60  # seconds
 ENDING = 10  # seconds that a signal leaves for what is being looked at
 PROBE = 1 << 19  # bytes that are looked at for their form
@@ -59,11 +62,11 @@ def opened(options: SurveyOptions) -> RadioFile:
 # ---- one window, in a process of its own
 
 
-def look(task: Task, is_known: bool) -> list[Sighting] | None:
-    """Returns the cells of a window without its samples; None where these are not numbers."""
+def look(task: Task, is_known: bool) -> tuple[list[Sighting] | None, Power | None]:
+    """Returns the cells of a window without its samples, and its power; None where these are not numbers."""
     offset = task.offset if is_known else offset_in(task)
     found = [] if offset is None else sightings(task.with_offset(offset))
-    return found and [one.bare() for one in found]
+    return found and [one.bare() for one in found], levels.power_of(task)
 
 
 def begin_process() -> None:
@@ -82,6 +85,10 @@ class LiveCell(SeenCell):
     def __init__(self, first: Sighting) -> None:
         super().__init__(first)
         self.count, self.least, self.is_old = 1, first.share, False
+
+    def take(self, other: SeenCell) -> None:
+        super().take(other)
+        self.count, self.least = self.count + other.windows, min(self.least, other.share)
 
     def add(self, one: Sighting) -> None:
         self.count += one.task.start != self.seen[-1].task.start
@@ -115,6 +122,8 @@ class Live:
         self.spoiled: list[float] = []
         self.offsets: list[tuple[float, float]] = [] if options.offset is None else [(0, options.offset)]
         self.windows, self.skipped, self.forgotten, self.behind = 0, 0, 0, 0.0
+        self.jumps: list[Jump] = []
+        self.powers: collections.deque[Power] = collections.deque(maxlen=MOST_POWERS)
         self.empty: Task | None = None  # the last window that lists nothing
 
     def task(self, window: stream.Window) -> Task:
@@ -125,7 +134,7 @@ class Live:
         file = dataclasses.replace(self.file, held=window.data, begins=-width * first, count=first + count)
         return Task(file, window.first / file.rate, count / file.rate, self.offset)
 
-    def add(self, start: float, came: float, found: list[Sighting] | None) -> None:
+    def add(self, start: float, came: float, found: list[Sighting] | None, power: Power | None = None) -> None:
         """Adds what was found in a window that begins at second `start` and came at time `came`."""
         behind = time.monotonic() - came
         self.windows, self.behind = self.windows + 1, max(self.behind, behind)
@@ -133,15 +142,27 @@ class Live:
         if found is None:
             self.spoiled = [*self.spoiled, round(start, 6)][-KEPT:]
             return
-        sure = []
+        if power is not None:
+            self.powers.append(power)
+        missing, count, sure = sum(jump.samples for jump in self.jumps), len(self.cells), []
         for one in found:
-            cell = add_sighting(self.cells, one, LiveCell)
+            cell = add_sighting(self.cells, one.later(missing), LiveCell)
             if not cell.is_chance(self.cells):
                 sure.append(one)
             if self.options.follow:
                 self.report(line_of(one, cell, self.cells, self.options.gain) + f"  {behind:.1f} s behind")
+        if len(self.cells) > count:
+            self.join()
         self.learn(start, sure)
         self.forget(start)
+
+    def join(self) -> None:
+        """Joins lines that are one cell, and reports samples that are missing."""
+        self.cells, jumps = as_one(self.cells)
+        self.cells.sort(key=lambda cell: cell.seen[-1].seconds)
+        self.jumps += jumps
+        for jump in jumps if self.options.follow else ():
+            self.report(f"{jump.last:10.3f} s  {survey_table.gap_text(jump.gap(self.file.rate), self.file.rate)}")
 
     def learn(self, start: float, sure: list[Sighting]) -> None:
         """Sets the offset for the windows to come, by the surest cell found that is no false detection."""
@@ -179,9 +200,11 @@ class Live:
     def survey(self) -> Survey:
         """Returns the survey."""
         count, cells = self.ring.size // width_of(self.file), in_windows_order(self.cells)
+        powers, steps = levels.even(cells, list(self.powers), self.options.gain)
         hint = self.hint(cells) if all(cell.is_chance(cells) for cell in cells) else None
         file = begun(self, count)
-        found = survey_of_cells(self.options, file, self.windows, self.spoiled, hint, self.offsets, cells)
+        looked = Looked(self.windows, self.spoiled, self.offsets, self.jumps, powers, steps)
+        found = survey_of_cells(self.options, file, cells, looked, hint)
         ended = survey_data.Live(self.ring.skipped, self.forgotten, round(self.behind, 2))
         return dataclasses.replace(found, live=ended)
 
@@ -206,12 +229,12 @@ def width_of(file: RadioFile) -> int:
     return FORMS[file.form].width
 
 
-def line_of(one: Sighting, cell: LiveCell, cells: list[LiveCell], gain: float | None) -> str:
+def line_of(one: Sighting, cell: LiveCell, cells: list[LiveCell], gain: Gain) -> str:
     """Returns a cell in a window as a line, with its SIB1 once that was read."""
     sib1 = cell.line.sib1
     level, ratio = (f"{value:6.1f}" if value is not None else "     -" for value in (one.level, one.ratio))
     if one.level is not None and gain is not None:
-        level = f"{one.level - gain:6.1f}"
+        level = f"{one.level - levels.gains_of(gain).at(one.seconds):6.1f}"
     names = f"  {' '.join(sib1.networks)} TAC {sib1.tac} cell {sib1.cell}" if sib1 else ""
     return (
         f"{one.seconds:10.3f} s  PCI {one.line.identity:3}  SFN {one.line.sfn:4}  "
@@ -270,10 +293,10 @@ def look_at_all(live: Live, pool: Any, jobs: int) -> None:
             asked.append((window, answer))
         if asked and asked[0][1].ready():
             window, answer = asked.popleft()
-            found = answer.get()
+            found, power = answer.get()
             if found == []:
                 live.empty = live.task(window)
-            live.add(window.first / live.file.rate, window.came, found)
+            live.add(window.first / live.file.rate, window.came, found, power)
         elif last is not None and time.monotonic() > last:
             ring.skipped += len(asked)
             return

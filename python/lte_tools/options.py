@@ -10,15 +10,16 @@ import datetime
 import os
 import pathlib
 from dataclasses import dataclass
-from typing import Any, TypeVar
+from typing import Any, TypeVar, Union
 
 from . import bands, machine, track
-from .arguments import Parser, apart, at_least_one, decibels, not_negative, number, rate
+from .arguments import Parser, apart, at_least_one, gain, not_negative, number, rate
 from .machine import Refused
 
 WINDOW = 0.17  # seconds of a window: the 17 frames that a list depends on
 EVERY_OF_SCAN = 10.0  # seconds from one window of a scan to the next
 LOWEST = 1e6  # hertz of a carrier: a lower number was meant in megahertz
+Gain = Union[float, "tuple[tuple[float, float], ...]", None]  # in dB, or pairs of a second and dB
 FORMS = ("u8", "s8", "s16", "f32", "sigmf")
 
 
@@ -44,11 +45,12 @@ class FileOptions:
 
 @dataclass(frozen=True)
 class SurveyOptions(FileOptions):
-    """Options of a survey: `every` in seconds, `offset` in hertz, `gain` in dB, `jobs` processes."""
+    """Options of a survey: `every` in seconds, `offset` in hertz, `gain` in dB, or pairs of a second of the file and the dB
+    from there on, `jobs` processes."""
 
     every: float = WINDOW
     offset: float | None = None
-    gain: float | None = None
+    gain: Gain = None
     jobs: int = 1
     scan: bool = False
     earfcn: int | None = None
@@ -114,7 +116,11 @@ def survey_parser(text: str | None) -> argparse.ArgumentParser:
     add: Any = parser.add_argument
     add("--every", type=apart, help="seconds from one window to the next (0.17, of --scan 10)")
     add("--offset", type=number, help="hertz to take off at first, in place of what lte_tune tells")
-    add("--gain", type=decibels, help="dBFS of a signal of 0 dBm at the antenna: levels are in dBm then")
+    add(
+        "--gain",
+        type=gain,
+        help="dBFS of a signal of 0 dBm at the antenna: levels are in dBm then; or 0:-20,14:-14 by time",
+    )
     add("--jobs", type=at_least_one, default=os.cpu_count() or 1, help="processes (one a processor)")
     add("--scan", action="store_true", help="look at each carrier of the 100 kHz raster in the file")
     add("--earfcn", type=int, metavar="N", help="the cell's carrier by its number, for --carrier")

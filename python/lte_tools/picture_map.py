@@ -317,6 +317,7 @@ def map_sheet(found: Survey, title: str | None = None) -> Any:
     signs = {id(found.cells[number]): sign for number, sign in drawn.signs.items()}
     ax = axes_at(figure, TABLE[0], HEAD + 0.3, TABLE[1], table)
     picture_survey.draw_table(ax, found, cells, signs)
+    picture_survey.draw_notes(ax, found, (0.05, -0.06 / table), "top")
     return figure
 
 

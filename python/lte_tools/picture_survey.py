@@ -20,6 +20,8 @@ Signs = Mapping[int, tuple[str, str, str]]  # letter, mark and colour of a cell,
 
 ROW, TALL = 0.48, 0.9  # inches of a cell's row, of many cells and of few
 MOST = 100  # rows
+NOTES, WRAP = 8, 76  # lines of notes, and characters of one
+GREY = "#707070"
 TOP, BOTTOM = 0.1, 0.82  # of a row, between which its values stand; below are the windows that list it
 
 
@@ -38,10 +40,12 @@ def survey_sheet(found: Survey, title: str | None = None, signs: Signs | None = 
     strongest = signs or {id(cell): ("", mark, colour) for cell, mark, colour in marked}
     draw_together(levels, found, cells, strongest, "level")
     draw_together(offsets, found, cells, strongest, "offset")
+    draw_powers(levels, found)
     levels.set(title="Level of a reference element", ylabel=found.unit)
     offsets.set(title="Frequency offset that was taken off", ylabel="Hz")
     offsets.ticklabel_format(axis="y", useOffset=False)
     draw_names(names, found, cells, strongest)
+    draw_notes(names, found, (0, 0), "bottom")
     draw_table(table, found, cells, strongest)
     for ax, key, name in zip(lanes, ("level", "ratio"), (f"level, {found.unit}", "signal to noise, dB")):
         draw_lanes(ax, found, cells, key)
@@ -66,7 +70,7 @@ def strong_first(cells: Sequence[SurveyCell]) -> list[SurveyCell]:
 
 
 def name_of(cell: SurveyCell) -> str:
-    return f"PCI {cell.identity}" + "?" * cell.chance
+    return f"PCI {cell.identity}" + "?" * (cell.chance or bool(cell.doubts))
 
 
 def number_of(cell: SurveyCell) -> str:
@@ -90,6 +94,23 @@ def draw_together(ax: Any, found: Survey, cells: Sequence[SurveyCell], strongest
     if found.scan:
         first, last = found.scan.first / 1e6, found.scan.last / 1e6
         ax.set(xlabel="MHz" if found.carrier else "MHz beside the centre", xlim=(first - 0.5, last + 0.5))
+
+
+def draw_powers(ax: Any, found: Survey) -> None:
+    """Draws total power and noise floor over time, with marks where the radio's gain steps and where samples are missing."""
+    seconds = [one.seconds for one in found.powers]
+    for key, name in (("total", "all samples"), ("noise", "noise floor in 15 kHz")) if seconds else ():
+        values = [math.nan if value is None else value for value in (getattr(one, key) for one in found.powers)]
+        ax.plot(seconds, values, lw=0.9, ls="-" if key == "total" else ":", color=GREY, zorder=1)
+        last = next((value for value in reversed(values) if math.isfinite(value)), 0)
+        ax.text(1, last, name, fontsize=6.5, color=GREY, ha="right", va="bottom", transform=ax.get_yaxis_transform())
+    keys: dict[str, Any] = {"fontsize": 6.5, "va": "bottom", "ha": "center", "transform": ax.get_xaxis_transform()}
+    for step in found.steps:
+        ax.axvline(step.seconds, lw=0.8, ls="--", color=GREY)
+        ax.text(step.seconds, 0.01, f"{step.decibels:+.1f} dB", **keys)
+    for gap in found.gaps if not found.scan else ():
+        ax.axvline((gap.first + gap.last) / 2, lw=0.8, ls=":", color="black")
+        ax.text((gap.first + gap.last) / 2, 0.01, "gap", **keys)
 
 
 def megahertz(cell: SurveyCell) -> float:
@@ -162,9 +183,13 @@ def draw_table(ax: Any, found: Survey, cells: Sequence[SurveyCell], strongest: S
         ax.text(0.69, i + 0.5, f"{cell.windows} of {found.windows}\n{seconds}", **keys)
         ax.text(0.99, i + 0.5, f"{number_text(cell.level)}\n{number_text(cell.ratio)}", **keys, ha="right")
         ax.axhline(i + 1, color="#cccccc", lw=0.6, clip_on=False)
-    if any(cell.chance for cell in cells):
-        note = columns.CHANCE.replace(": ", ":\n").replace(", and", ",\nand")
-        ax.text(0.05, len(cells) + 0.1, note, va="top", fontsize=7, clip_on=False)
+
+
+def draw_notes(ax: Any, found: Survey, place: tuple[float, float], side: str) -> None:
+    """Draws sentences on marks, gaps, loops and gain steps, with their `side` (top or bottom) at a place of axes."""
+    lines = [line for note in survey_table.notes_of(found) for line in textwrap.wrap(note, WRAP)]
+    text = "\n".join(lines[:NOTES])
+    ax.text(*place, text, va=side, fontsize=6.5, clip_on=False, transform=ax.transAxes).set_in_layout(False)
 
 
 def identity_lines(cell: SurveyCell) -> list[str]:

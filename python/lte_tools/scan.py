@@ -15,12 +15,15 @@ from typing import TYPE_CHECKING, Any, NamedTuple, Sequence
 import numpy as np
 from scipy import fft
 
-from . import bands, hints, radio, radio_file
-from .cells import SeenCell, joined, survey_of_cells
+from . import bands, hints, levels, radio, radio_file
+from .cells import SeenCell, joined
+from .continuity import Jump, as_one
+from .doubts import doubts_of
 from .machine import Refused
 from .options import SurveyOptions
 from .radio_file import RadioFile
 from .sightings import NEAR, WINDOW, Sighting, Task, distance, energy, offset_in, sightings
+from .summary import Looked, survey_of_cells
 from .survey_data import Scan, Survey, SurveyCell
 from .to_ci16 import ratio_of
 
@@ -163,11 +166,23 @@ def scanned(options: SurveyOptions, file: RadioFile, ask: Ask) -> Survey:
     for look, one in found:
         for shift, seen in zip(look.shifts, one or []):
             seen_by_shift[shift] += seen
-    by_shift = {shift: joined(seen) for shift, seen in seen_by_shift.items()}
+    whole = {shift: as_one(joined(seen)) for shift, seen in seen_by_shift.items()}
+    by_shift = {shift: cells for shift, (cells, _) in whole.items()}
+    levels.even([cell for cells in by_shift.values() for cell in cells], [], options.gain)
     cells = tuple(cell_at(options, file, shift, cell, by_shift) for shift, cell in nearest(by_shift))
     hint = None if any(not cell.chance for cell in cells) else why_none(ask, found, by_shift)
-    survey = survey_of_cells(options, file, len(starts), spoiled, hint, [], [])
+    jumps = different([jump for _, own in whole.values() for jump in own])
+    survey = survey_of_cells(options, file, [], Looked(len(starts), spoiled, jumps=jumps), hint)
     return dataclasses.replace(survey, cells=cells, scan=frequencies(file, shifts))
+
+
+def different(jumps: Sequence[Jump]) -> list[Jump]:
+    """Returns the jumps that cells of different frequencies have, each once."""
+    found: list[Jump] = []
+    for jump in sorted(jumps):
+        if not any(jump.is_like(other) for other in found):
+            found.append(jump)
+    return found
 
 
 def why_none(
@@ -227,10 +242,11 @@ def cell_at(
     """Returns a cell as the survey has it, and its frequency."""
     centre = centre_of(file)
     here = dataclasses.replace(file, carrier=radio_file.whole(centre + shift) if centre else 0)
-    (found,) = survey_of_cells(options, here, 1, [], None, [], [cell]).cells
+    (found,) = survey_of_cells(options, here, [cell], Looked(1)).cells
     return dataclasses.replace(
         found,
         chance=cell.is_chance(by_shift[shift]),
+        doubts=() if cell.is_chance(by_shift[shift]) else doubts_of(cell, by_shift[shift]),
         shift=radio_file.whole(shift),
         frequency=here.carrier or None,
         earfcns=tuple(bands.earfcns_of(here.carrier)) if centre else (),

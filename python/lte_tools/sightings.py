@@ -10,7 +10,7 @@ from typing import NamedTuple
 
 import numpy as np
 
-from . import pilots, programs, radio
+from . import neighbours, pilots, programs, radio, spectrum
 from .answers import STEP_HERTZ, Cell, Evidence
 from .radio_file import LEAST, RadioFile, Spoiled
 from .rules import BY_NAME, RULES, Rule, reads
@@ -19,9 +19,11 @@ WINDOW = 17 * radio.FRAME / radio.RATE  # seconds: what a list depends on
 CYCLE = 1024 * radio.FRAME  # samples until a frame number repeats
 NEAR = 9  # samples by which one cell's frames may differ in a list (docs/DEFINITION.md, rule 12)
 ECHO = 40  # samples by which a path of a cell may be later than its strongest one, or earlier
+SAME_OFFSET, DRIFT = 1_000, 200  # hertz, and hertz per second, by which the offset of one cell may change
 TURNS = 3  # times that a window is corrected by what is left
 FINE = 8  # hertz that may be left
 VAGUE = 250  # hertz of error from which on pilots do not give an offset
+LOW_RATIO = 16  # dB of signal to noise below which another cell may be at a cell's pilots
 DEAR = 0.07  # cost by total from which on a line that was seen once is probably a false detection
 PARTS, PART = (3, 6, 9, 12), 4  # frames of a window from which on pilots are read again, and how many frames that takes
 
@@ -65,6 +67,14 @@ def window_of(task: Task) -> Window:
     """Returns a window with the task's offset corrected, if there is one."""
     offset = task.offset if abs(task.offset) > FINE else 0
     return Window(*task.file.filtered(task.start, task.length, offset), offset)
+
+
+def samples_of(task: Task) -> radio.Complex:
+    """Returns a window's samples without their mean, where 1 is full scale."""
+    file = task.file
+    x = file.samples(round(task.start * file.rate), round(task.length * file.rate))
+    found: radio.Complex = x - x.mean()
+    return found
 
 
 def energy(task: Task) -> float:
@@ -232,6 +242,10 @@ class Sighting:
     others: tuple[tuple[float, int], ...]  # where frame 0 begins on other paths, and their peaks
     mib: str | None  # hexadecimal digits of the MIB's bits
     sib1_block: str | None  # and of those of SIB1's transport block, where it was read
+    neighbour: int | None = None  # the identity of a cell whose pilots are at the same resource elements
+    beside: float | None = None  # dBFS in 15 kHz outside the middle 1.08 MHz, where the MIB states 6 resource blocks
+    missing: float = 0  # samples of a recording that are missing before it in the file
+    gain: float = 0  # dB of the radio's gain, which its level includes
 
     @property
     def seconds(self) -> float:
@@ -240,8 +254,23 @@ class Sighting:
 
     @property
     def epoch(self) -> float:
-        """Where frame number 0 begins, in samples of a recording, modulo the cycle."""
+        """Where frame number 0 begins, in samples of a recording, modulo the cycle; with those that are missing."""
+        return (self.begin + self.missing) % CYCLE
+
+    @property
+    def begin(self) -> float:
+        """Where frame number 0 begins in the file."""
         return (self.seconds * radio.RATE - radio.FRAME * self.line.sfn) % CYCLE
+
+    @property
+    def evened(self) -> float | None:
+        """The level without the radio's gain, or None."""
+        return None if self.level is None else self.level - self.gain
+
+    def has_offset_of(self, later: Sighting) -> bool:
+        """Returns whether a later sighting has this offset, as far as that of a radio drifts."""
+        apart = min(abs(self.taken - later.taken), abs(self.offset - later.offset))
+        return apart <= SAME_OFFSET + DRIFT * (later.seconds - self.seconds)
 
     @property
     def share(self) -> float:
@@ -253,10 +282,14 @@ class Sighting:
         """Pairs of the microseconds by which a path is later than the strongest one, and its decibels by that."""
         half, found = CYCLE / 2, list[tuple[float, float]]()
         for place, peak in sorted(self.others):
-            later = (place - self.epoch + half) % CYCLE - half
+            later = (place - self.begin + half) % CYCLE - half
             if abs(later) > NEAR and all(abs(later - other) > NEAR for other, _ in found):
                 found.append((later, radio.decibels(peak / self.peak) or 0.0))
         return [(1e6 * later / radio.RATE, level) for later, level in found]
+
+    def later(self, samples: float) -> Sighting:
+        """Returns the sighting with further samples that are missing before it."""
+        return dataclasses.replace(self, missing=self.missing + samples)
 
     def bare(self) -> Sighting:
         """Returns the sighting without the samples that its task may hold."""
@@ -274,7 +307,28 @@ def sightings(task: Task) -> list[Sighting] | None:
     found: list[Sighting] = []
     for one in detections:
         add_line(found, sighting_of(task, *by_itself(window, one)))
-    return found
+    return [with_beside(one) if is_narrow(one.line) else one for one in found]
+
+
+def is_narrow(line: Cell) -> bool:
+    """Returns whether a line has 6 resource blocks by its MIB alone."""
+    return line.bandwidth == "n6" and line.sib1 is None
+
+
+def with_beside(one: Sighting) -> Sighting:
+    """Returns a sighting with the power outside its 6 resource blocks."""
+    task = one.task
+    centre = task.file.shift_at(round(task.start * task.file.rate)) + one.taken
+    power = spectrum.beside(samples_of(task), task.file.rate, centre)
+    return dataclasses.replace(one, beside=radio.decibels(power))
+
+
+def neighbour_of(window: Window, one: Detection) -> int | None:
+    """Returns the identity of another cell at the pilots of a detection, or None."""
+    ratio = one.measured.ratio
+    if ratio is None or ratio > LOW_RATIO or one.share >= DEAR:
+        return None
+    return neighbours.in_pilots(radio.from_bytes(window.data), one.line.at, one.line.identity, one.rule)
 
 
 def sighting_of(task: Task, window: Window, one: Detection) -> Sighting:
@@ -294,6 +348,7 @@ def sighting_of(task: Task, window: Window, one: Detection) -> Sighting:
         others=(),
         mib=first.mib,
         sib1_block=first.sib1_block,
+        neighbour=neighbour_of(window, one),
     )
 
 
@@ -334,7 +389,7 @@ def by_another_rule(old: Sighting, new: Sighting) -> Sighting:
 def on_another_path(old: Sighting, new: Sighting) -> Sighting:
     """Returns the line of the stronger path, or of the first of equals."""
     strong, weak = (old, new) if old.peak >= new.peak else (new, old)
-    others = strong.others + weak.others + ((weak.epoch, weak.peak),)
+    others = strong.others + weak.others + ((weak.begin, weak.peak),)
     return dataclasses.replace(strong, others=others, rules=tuple(sorted({*old.rules, *new.rules})))
 
 

@@ -6,15 +6,18 @@ survey.py FILE --scan [--carrier CENTRE]
 rtl_sdr -f 796e6 -s 1.92e6 - | survey.py - --form u8 --rate 1.92e6 --follow
 
 One table of the cells in a radio's file of any length: identity, when it was first and last seen and in how many
-windows, master block, SIB1, the greatest level and its signal to noise, and the frequency offset. `?` marks what chance
-explains. docs/RECORDINGS.md, "A whole file", says what each column is.
+windows, master block, SIB1, the greatest level, signal to noise, and the frequency offset. `?` marks what chance
+explains, and with a word what is doubtful. docs/RECORDINGS.md, "A whole file", says what each column is.
 
 The file is read in windows of 17 frames, as far as a list looks, one after the other or every S seconds. Each becomes
 a recording as to_ci16.py makes it. `lte_tune tell` tells the offset of the strongest window and of some along the
 file, and of more where it drifts; between them it is a straight line. `lte_cli search --all`, and `lte_cli evidence` of
 each list with a cell, tell of each window, one process a processor; by the pilots that `evidence` writes (pilots.py)
 the rest of the offset is taken off, and each cell has its own. Lines are one cell where identity, frame numbers and
-offset fit, and one with an echo where they come within 40 samples. Where no cell is sure, I and Q are tried exchanged.
+offset fit, and one with an echo where they come within 40 samples; samples that are missing, a radio that was restarted,
+and a generator's loop are stated below the table. Where no cell is sure, I and Q are tried exchanged. Where the noise and
+all cells step together, the radio's gain has changed: levels are those at the first gain. --gain states it by time, as
+0:-20,14:-14: dBFS of a signal of 0 dBm from second 0 and from second 14.
 
 With --track each window gets the place of its time: the file's time is SigMF's, else --start. --html writes a page with
 the table, which sorts, the cells over time, and a map where there are places. --pcap writes the blocks of MIB and SIB1 for

@@ -3,7 +3,7 @@ from __future__ import annotations
 
 import datetime
 from dataclasses import dataclass, fields
-from typing import Any
+from typing import Any, Optional
 
 from . import foreign, records
 from .answers import Answer, Sib1, sib1_json, sib1_of
@@ -23,7 +23,8 @@ class Echo(Answer):
 class Seen(Answer):
     """A cell in a window: its first frame there (second and sample of the file, time, frame number), level in the survey's
     unit, signal to noise in dB, frequency offset and its standard error in hertz, other paths (pairs of microseconds and
-    dB), cost and total of `evidence`, MIB and SIB1 in hexadecimal digits, and of a track longitude and latitude."""
+    dB), cost and total of `evidence`, MIB and SIB1 in hexadecimal digits, of a track longitude and latitude, and the
+    radio's `gain` in dB: `level` and `gain` add up to the level in dBFS."""
 
     seconds: float
     at: int
@@ -39,6 +40,7 @@ class Seen(Answer):
     mib: str | None
     sib1_block: str | None
     place: tuple[float, float] | None = None
+    gain: float = 0.0
 
     @property
     def time(self) -> float | None:
@@ -48,11 +50,14 @@ class Seen(Answer):
 
 @dataclass(frozen=True)
 class SurveyCell(Answer):
-    """A cell of a survey: the fields of its list's line, when it was seen, and its numbers where it was strongest.
+    """A cell of a survey: the fields of its list's line, when it was seen, and its numbers.
 
-    `first` and `last` are seconds of the file, `level` is in the survey's unit, `ratio` in dB, `offset` in hertz, `ppm` in
-    millionths of the carrier, `share` the least cost by total; `chance` says whether it is probably a false detection. Of
-    a scan `shift` is in hertz above the file's centre, `frequency` in hertz, `earfcns` pairs of band and EARFCN.
+    `first` and `last` are seconds of the file, `level` is the maximum in the survey's unit, `ratio` the median and `ratios`
+    the range in dB, `offset` in hertz and `ppm` in millionths of the carrier are those of its strongest window, `share` is
+    the minimum cost by total. `chance` states whether it is probably a false detection, `doubts` has words of DOUBTS
+    (columns.py). `repeats` is the number of seconds after which its frame number begins again: 0 if it is the same in every
+    window, None if it runs on. For a scan `shift` is in hertz above the file's centre, `frequency` in hertz, and `earfcns`
+    has pairs of band and EARFCN.
     """
 
     identity: int
@@ -81,13 +86,20 @@ class SurveyCell(Answer):
     shift: float | None = None
     frequency: float | None = None
     earfcns: tuple[tuple[int, int], ...] = ()
+    ratios: tuple[float, float] | None = None
+    repeats: float | None = None
+    doubts: tuple[str, ...] = ()
 
     @classmethod
     def from_json(cls, value: dict[str, Any]) -> SurveyCell:
         """Returns a cell of the survey's JSON, which the schema has accepted."""
         sib1, reason = sib1_of(value["sib1"])
         kinds: dict[str, Any] = {"rules": tuple[str, ...], "echoes": tuple[Echo, ...], "seen": tuple[Seen, ...]}
-        kinds["earfcns"] = tuple[tuple[int, int], ...]
+        kinds |= {
+            "earfcns": tuple[tuple[int, int], ...],
+            "ratios": Optional[tuple[float, float]],
+            "doubts": tuple[str, ...],
+        }
         found: dict[str, Any] = {one.name: value[one.name] for one in fields(cls) if one.name in value}
         found |= {key: records.typed(kind, found[key]) for key, kind in kinds.items() if key in found}
         found["sib1"], found["no_sib1"] = sib1, reason
@@ -133,6 +145,35 @@ class Track(Answer):
 
 
 @dataclass(frozen=True)
+class Gap(Answer):
+    """Missing samples: the seconds of the file between which they are missing, and their number at the file's rate, modulo
+    10.24 s. A radio that was restarted has such a gap too."""
+
+    first: float
+    last: float
+    samples: int
+
+
+@dataclass(frozen=True)
+class Power(Answer):
+    """The power of a window that begins at `seconds`, in the survey's unit: of all samples without DC, and of the noise
+    floor in 15 kHz; None where all samples are one. `gain` is that of `Seen`."""
+
+    seconds: float
+    total: float | None
+    noise: float | None
+    gain: float = 0.0
+
+
+@dataclass(frozen=True)
+class Step(Answer):
+    """A step of the radio's gain, by which the noise and all cells are stronger from a second of the file on, in dB."""
+
+    seconds: float
+    decibels: float
+
+
+@dataclass(frozen=True)
 class Scan(Answer):
     """The frequencies of a scan: first and last in hertz, or above the centre where that is not known, and the count."""
 
@@ -156,7 +197,8 @@ class Survey(Answer):
     looked at, the frequency offsets that were found (pairs of a second and hertz), and the cells.
 
     `shift` is where the cells stand in hertz above the file's centre, `carrier` their frequency in hertz, `rate_error` in
-    millionths, `unit` that of levels, `spoiled` the seconds of windows without numbers, `hint` what may be wrong.
+    millionths, `unit` that of levels, `spoiled` the seconds of windows without numbers, `hint` what may be wrong. Levels
+    are those at the gain of the first window, where the radio's gain has `steps`.
     """
 
     file: str
@@ -179,6 +221,9 @@ class Survey(Answer):
     track: Track | None = None
     scan: Scan | None = None
     live: Live | None = None
+    gaps: tuple[Gap, ...] = ()
+    powers: tuple[Power, ...] = ()
+    steps: tuple[Step, ...] = ()
 
     @classmethod
     def from_json(cls, value: Any, name: str = "survey") -> Survey:
@@ -204,6 +249,7 @@ class Survey(Answer):
         if not has_windows:
             for cell in found["cells"]:
                 del cell["seen"]
+            del found["powers"]
             found.get("track", {}).pop("windows", None)
         return found
 

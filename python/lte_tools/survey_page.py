@@ -7,7 +7,7 @@ from __future__ import annotations
 import pathlib
 
 from . import machine, picture_map, survey_table
-from .columns import BY_HEADING, CHANCE, meaning_of, word_meaning
+from .columns import BY_HEADING, meaning_of, word_meaning
 from .page import details, image, page, text
 from .picture_style import begin, facts_of
 from .survey_data import Survey
@@ -56,7 +56,7 @@ def page_of(found: Survey, title: str | None = None) -> bytes:
     if found.hint:
         parts.append(f"<p><b>{text(found.hint)}</b>")
     parts.append(table(rows) if rows else "<p>No cell.")
-    parts += [f"<p>{CHANCE}."] * found.has_chance
+    parts += [f"<p>{text(note)}." for note in survey_table.notes_of(found)]
     if found.is_placed:
         says = "Map: at each place the strongest cell by letter and mark, its level by size"
         parts += ["<h2>Map</h2>", image(picture_map.map_alone(found), says)]

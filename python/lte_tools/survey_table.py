@@ -3,10 +3,11 @@ from __future__ import annotations
 
 import csv
 import io
+from typing import Sequence
 
 from .answers import STEP_HERTZ
-from .columns import BY_KEY, CHANCE, CSV_KEYS, Value, table_columns
-from .survey_data import Live, Scan, Survey
+from .columns import BY_KEY, CHANCE, CSV_KEYS, Value, doubt_meaning, doubt_text, table_columns
+from .survey_data import Gap, Live, Scan, Step, Survey, SurveyCell
 
 FORMULA = ("=", "+", "-", "@", "\t", "\r")  # with which a spreadsheet begins a formula
 
@@ -26,7 +27,7 @@ def saying(rows: list[dict[str, str]]) -> list[str]:
 
 def table_of(survey: Survey) -> list[str]:
     """Returns the table as lines of text."""
-    head, last = head_of(survey), [survey.hint] if survey.hint else []
+    head, last = head_of(survey), notes_of(survey) + ([survey.hint] if survey.hint else [])
     rows = rows_of(survey)
     if not rows:
         return [head, *last]
@@ -38,7 +39,42 @@ def table_of(survey: Survey) -> list[str]:
         "  ".join(line[n].ljust(width[n]) if n in left else line[n].rjust(width[n]) for n in names).rstrip()
         for line in lines
     ]
-    return [head, *text, *[CHANCE] * survey.has_chance, *last]
+    return [head, *text, *last]
+
+
+# ---- the lines below the table
+
+
+def notes_of(survey: Survey) -> list[str]:
+    """Returns sentences on the marks of the table, on missing samples, loops and gain steps."""
+    words = dict.fromkeys(word for cell in survey.cells for word in cell.doubts)
+    return [
+        *[CHANCE] * survey.has_chance,
+        *(f"? {doubt_text(word)}: {doubt_meaning(word)}" for word in words),
+        *(gap_text(gap, survey.rate) for gap in survey.gaps),
+        *(loop_text(cell) for cell in survey.cells if cell.repeats is not None),
+        *([steps_text(survey.steps)] if survey.steps else []),
+    ]
+
+
+def gap_text(gap: Gap, rate: float) -> str:
+    """Returns a sentence on missing samples; a radio that was restarted looks as if many were missing."""
+    more = " or the radio was restarted" if gap.samples > rate else ""
+    return f"{gap.samples:,} samples are missing{more} between {gap.first:.2f} and {gap.last:.2f} s"
+
+
+def loop_text(cell: SurveyCell) -> str:
+    """Returns a sentence on a cell whose frame number begins again."""
+    if not cell.repeats:
+        return f"PCI {cell.identity}: the frame number is the same in every window, as in a generator's loop"
+    return f"PCI {cell.identity}: the frame number begins again every {1000 * cell.repeats:,.0f} ms, as in a loop"
+
+
+def steps_text(steps: Sequence[Step]) -> str:
+    """Returns a sentence on steps of the radio's gain."""
+    sizes = ", ".join(f"{one.decibels:+.1f}" for one in steps)
+    seconds = ", ".join(f"{one.seconds:.1f}" for one in steps)
+    return f"the radio's gain steps by {sizes} dB at {seconds} s: levels are those at the first gain"
 
 
 # ---- the line above the table

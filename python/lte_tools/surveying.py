@@ -14,12 +14,14 @@ from typing import Any, Callable, Iterator, Sequence, TypeVar
 
 import numpy as np
 
-from . import hints, live, machine, places, radio_file, scan
-from .cells import SeenCell, joined, survey_of_cells
+from . import hints, levels, live, machine, places, radio_file, scan
+from .cells import SeenCell, joined
+from .continuity import as_one
 from .options import SurveyOptions
 from .radio_file import RadioFile
 from .sightings import WINDOW, Sighting, Task, energy, offset_in, sightings
-from .survey_data import Survey
+from .summary import Looked, survey_of_cells
+from .survey_data import Power, Survey
 
 TELL_EVERY = 10  # seconds from one window whose offset is asked for to the next
 STEEP = 350  # hertz between two windows with offsets above which one between them is asked too
@@ -77,11 +79,17 @@ def surveyed(options: SurveyOptions, file: RadioFile, ask: Ask) -> Survey:
         offsets = np.interp(range(len(tasks)), [i for i, _ in points], [offset for _, offset in points])
     tasks = [task.with_offset(float(offset)) for task, offset in zip(tasks, offsets)]
     found = ask("cells", sightings, tasks)
-    cells = joined(flat(found))
+    cells, jumps = as_one(joined(flat(found)))
+    powers, steps = levels.even(cells, powers_of(ask, tasks), options.gain)
     hint = why_none(ask, tasks, found, cells) if all(cell.is_chance(cells) for cell in cells) else None
     spoiled = [round(task.start, 6) for task, one in zip(tasks, found) if one is None]
     asked = [(round(tasks[i].start, 6), round(offset, 1)) for i, offset in points]
-    return survey_of_cells(options, file, len(tasks), spoiled, hint, asked, cells)
+    return survey_of_cells(options, file, cells, Looked(len(tasks), spoiled, asked, jumps, powers, steps), hint)
+
+
+def powers_of(ask: Ask, tasks: Sequence[Task]) -> list[Power]:
+    """Returns the powers of the windows that have numbers."""
+    return [one for one in ask("power", levels.power_of, tasks) if one is not None]
 
 
 def flat(found: Sequence[list[Sighting] | None]) -> list[Sighting]:

@@ -67,6 +67,13 @@ SPOILED = [
     (("cells", 0, "sib1", "plmns"), [], "plmns"),
     (("cells", 0, "seen"), [], "seen: 0 items"),
     (("cells", 0, "rule"), "other", "rule"),
+    (("cells", 0, "doubts"), ["pilots-of-x"], "doubts[0]"),
+    (("cells", 0, "ratios"), [1.0], "ratios"),
+    (("cells", 0, "repeats"), -1, "repeats"),
+    (("cells", 0, "seen", 0, "gain"), "x", "gain"),
+    (("gaps",), [{"first": 0, "last": 1, "samples": 0.5}], "gaps[0].samples"),
+    (("powers", 0, "noise"), 1e300, "powers[0].noise"),
+    (("steps",), [{"seconds": 1}], "no key decibels"),
     (("offsets",), [[0.0]], "offsets[0]: 1 items"),
     (("unit",), "dB", "unit"),
     (("every",), 0, "every: 0 is not above 0"),
@@ -89,6 +96,17 @@ def test_spoiled_survey(tool, tmp_path, survey_json, path, value, text):
 
 def test_unknown_keys_are_allowed(survey_json):
     assert survey_data.Survey.from_json({**survey_json, "later": 1}).windows == 1
+
+
+def test_survey_of_an_earlier_version(survey_json):
+    cell = survey_json["cells"][0]
+    for part, keys in ((survey_json, ("gaps", "powers", "steps")), (cell, ("doubts", "ratios", "repeats"))):
+        for key in keys:
+            del part[key]
+    del cell["seen"][0]["gain"]
+    found = survey_data.Survey.from_json(survey_json)
+    assert found.gaps == found.powers == found.steps == () and found.cells[0].doubts == ()
+    assert found.cells[0].ratios is None and found.cells[0].seen[0].gain == 0
 
 
 def test_survey_and_answers_return(survey_json):
@@ -181,6 +199,8 @@ def test_options_of_a_survey():
     found = survey_options("x.cu8", "--shift", "-80e3", "--earfcn", "303", "--jobs", "1")
     assert (found.shift, found.carrier, found.every, found.file) == (-80e3, 2140.3e6, 0.17, pathlib.Path("x.cu8"))
     assert survey_options("x.cu8", "--scan").every == 10 and survey_options("x", "--scan", "--every", "2").every == 2
+    assert survey_options("x", "--gain", "-20").gain == -20
+    assert survey_options("x", "--gain", "0:-20,14.5:-14").gain == ((0, -20), (14.5, -14))
     start = survey_options("x", "--start", "2026-05-01T09:30:00+02:00").start
     assert start == datetime.datetime(2026, 5, 1, 7, 30, tzinfo=datetime.timezone.utc)
 
@@ -217,6 +237,10 @@ def test_options_that_are_refused(words, text):
         ["x", "--at", "-1"],
         ["x", "--jobs", "0"],
         ["x", "--gain", "5000"],
+        ["x", "--gain", "0:1,x"],
+        ["x", "--gain", "0:1,0:2"],
+        ["x", "--gain", "-1:1"],
+        ["x", "--gain", "0:1:2"],
         ["x", "--start", "yesterday"],
         ["x", "--csv", "--json"],
         ["x", "--form", "u16"],

@@ -11,7 +11,7 @@ import pytest
 from tests.conftest import EXAMPLES, TOP
 from lte_tools import columns, foreign, page, picture_map, picture_style, survey_page, survey_table
 from lte_tools.rules import BY_NAME
-from lte_tools.survey_data import Echo, Scan, Survey
+from lte_tools.survey_data import Echo, Gap, Power, Scan, Step, Survey
 
 
 @pytest.fixture
@@ -231,6 +231,42 @@ def test_picture_of_a_walk(tool, tmp_path, walk, form, options):
     assert out.read_bytes().startswith(begin)
     if form == "html":
         assert out.read_text().count("<h2>Map</h2>") == 1
+
+
+@pytest.fixture
+def marked(survey):
+    """A survey with a gap, a gain step, a loop and doubts."""
+    (cell,) = survey.cells
+    doubtful = dataclasses.replace(
+        cell, repeats=0.16, doubts=("test-model", "pilots-of-36"), ratios=(30.0, 40.0), windows=3
+    )
+    powers = tuple(Power(0.01 * i, -42.3, None if i == 1 else -90.1) for i in range(3))
+    more = {"gaps": (Gap(0.01, 0.02, 12_345),), "powers": powers, "steps": (Step(0.015, 6.1),)}
+    return dataclasses.replace(survey, cells=(doubtful, dataclasses.replace(cell, repeats=0.0)), **more)
+
+
+def test_notes_below_the_table(marked):
+    head, _, row, _, *notes = survey_table.table_of(marked)
+    assert row.endswith("? test model, pilots of 36") and "30.0 to 40.0" in row
+    assert [note.split(":")[0] for note in notes] == [
+        "? test model",
+        "? pilots of 36",
+        "12,345 samples are missing between 0.01 and 0.02 s",
+        "PCI 271",
+        "PCI 271",
+        "the radio's gain steps by +6.1 dB at 0.0 s",
+    ]
+    assert "begins again every 160 ms" in notes[3] and "same in every window" in notes[4]
+    (line, _) = csv.DictReader(io.StringIO(survey_table.csv_of(marked)))
+    assert (line["doubts"], line["repeats"], line["chance"]) == ("test-model pilots-of-36", "0.16", "no")
+    assert (line["noise"], line["total"], line["ratio_least"]) == ("-90.1", "-42.3", "30.0")
+
+
+def test_page_and_picture_with_notes(marked):
+    text = survey_page.page_of(marked).decode()
+    assert "12,345 samples are missing" in text and "<p>? test model: the MIB has zeros alone" in text
+    assert page.saved(picture_map.time_sheet(marked), "png").startswith(b"\x89PNG")
+    assert Survey.from_json(marked.to_json()) == marked
 
 
 def test_picture_of_a_scan(survey):

@@ -1,0 +1,172 @@
+"""Levels of a survey: total power and noise floor of each window, and the steps that the radio's gain makes in them.
+
+Where the noise floor steps, and the cells step with it, the radio's gain has changed: levels are then those at the gain of
+the first window.
+
+Debian: python3-numpy.
+"""
+from __future__ import annotations
+
+import bisect
+import dataclasses
+import math
+from typing import NamedTuple, Sequence
+
+import numpy as np
+
+from . import radio, spectrum
+from .cells import SeenCell
+from .radio_file import Spoiled
+from .sightings import WINDOW, Sighting, Task, samples_of
+from .survey_data import Power, Step
+
+STEP = 2  # dB: the minimum of a gain step
+ALIKE = 1.2  # dB by which windows of one gain differ, at most
+FEW = 5  # windows on either side of a step that give the noise
+AGREED = 3  # dB by which a cell's step may differ from that of the noise
+MIXED = 0.1  # of a window that is on either side of a step, at least
+PARTS = np.linspace(MIXED, 1 - MIXED, 17)  # of a window at which its gain is looked at
+CLOSE = 3  # seconds on either side of a step in which a cell is compared
+
+
+# ---- one window
+
+
+def power_of(task: Task) -> Power | None:
+    """Returns the power of a window in dBFS, or None where its samples are not numbers."""
+    try:
+        x = samples_of(task)
+    except Spoiled:
+        return None
+    total, floor = float(np.mean(np.abs(x) ** 2)), spectrum.floor_of(x, task.file.rate)
+    return Power(round(task.start, 6), rounded(total), rounded(floor))
+
+
+def rounded(power: float) -> float | None:
+    found = radio.decibels(power)
+    return None if found is None else round(found, 1) + 0.0
+
+
+# ---- steps of the gain
+
+
+def steps_of(powers: Sequence[Power], cells: Sequence[SeenCell]) -> list[Step]:
+    """Returns the steps of the radio's gain, by windows in the order of time and the cells in them."""
+    found: list[Step] = []
+    known = [one for one in powers if one.noise is not None and one.total is not None]
+    first = 0
+    for i in range(1, len(known)):
+        before = known[max(first, i - FEW) : i]
+        after = [one for one in known[i : i + FEW + 1]]
+        if before and (step := step_between(before, after)) and is_agreed(step, cells):
+            found.append(step)
+            first = i + 1
+    return found
+
+
+def step_between(before: Sequence[Power], after: Sequence[Power]) -> Step | None:
+    """Returns the step from windows to those after them, or None."""
+    old, here = median(before), noise_of(after[0])
+    if abs(here - old) < ALIKE or len(after) < 2:
+        return None
+    further = [one for one in after[1:] if abs(noise_of(one) - noise_of(after[1])) < ALIKE]
+    decibels = median(further) - old
+    if abs(decibels) < STEP or decibels * (here - old) < 0 or len(further) < min(2, len(after) - 1):
+        return None
+    return Step(round(begin_of_step(before, after[0], further), 2), round(decibels, 1))
+
+
+def begin_of_step(before: Sequence[Power], here: Power, after: Sequence[Power]) -> float:
+    """Returns the second of a step: within a window whose total power is between that of those before and after, else at
+    the begin of the first window after it."""
+    old, new = (np.median([10 ** ((one.total or 0) / 10) for one in part]) for part in (before[:-1] or before, after))
+    for mixed in (before[-1], here):
+        part = float((new - 10 ** ((mixed.total or 0) / 10)) / (new - old)) if new != old else 0.0
+        if MIXED < part < 1 - MIXED:
+            return mixed.seconds + part * WINDOW
+    return here.seconds
+
+
+def noise_of(one: Power) -> float:
+    return one.noise or 0.0
+
+
+def median(powers: Sequence[Power]) -> float:
+    return float(np.median([noise_of(one) for one in powers]))
+
+
+def is_agreed(step: Step, cells: Sequence[SeenCell]) -> bool:
+    """Returns whether the cells that are no false detections step with the noise, and there is one."""
+    changes = [change_at(step.seconds, cell) for cell in cells if not cell.is_chance(cells)]
+    known = [change for change in changes if change is not None]
+    return bool(known) and abs(float(np.median(known)) - step.decibels) <= AGREED
+
+
+def change_at(second: float, cell: SeenCell) -> float | None:
+    """Returns the dB by which a cell is stronger after a second than before it, or None."""
+    before = [one.level for one in near(second - CLOSE, second, cell)][-FEW:]
+    after = [one.level for one in near(second, second + CLOSE, cell)][:FEW]
+    levels = [[level for level in part if level is not None] for part in (before, after)]
+    return float(np.median(levels[1]) - np.median(levels[0])) if all(levels) else None
+
+
+def near(first: float, last: float, cell: SeenCell) -> list[Sighting]:
+    return [one for one in cell.seen if first <= one.seconds < last]
+
+
+# ---- the gain over time
+
+
+class Gains(NamedTuple):
+    """The radio's gain in dB from seconds of a file on; before the first of them it is the first one's."""
+
+    points: tuple[tuple[float, float], ...] = ((0.0, 0.0),)
+
+    def at(self, second: float) -> float:
+        place = bisect.bisect_right([point[0] for point in self.points], second) - 1
+        return self.points[max(place, 0)][1]
+
+    def within(self, start: float) -> tuple[float, bool]:
+        """Returns the mean gain of a window that begins at a second, and whether it does not step within it."""
+        found = [self.at(start + WINDOW * part) for part in PARTS]
+        if min(found) == max(found):
+            return found[0], True
+        return 10 * math.log10(sum(10 ** (gain / 10) for gain in found) / len(found)), False
+
+    def with_steps(self, steps: Sequence[Step]) -> Gains:
+        """Returns a constant gain with steps."""
+        sums = self.at(0) + np.cumsum([0.0, *(step.decibels for step in steps)])
+        return Gains(tuple(zip([0.0, *(step.seconds for step in steps)], map(float, sums))))
+
+
+def even(
+    cells: Sequence[SeenCell], powers: Sequence[Power], gain: float | Sequence[tuple[float, float]] | None
+) -> tuple[list[Power], list[Step]]:
+    """Sets the gain of all sightings, by the steps of a constant gain or as options name it over time; those of a window
+    within which it steps have no level. Returns the powers of the windows at the first gain, and the steps."""
+    gains = gains_of(gain)
+    steps = steps_of(powers, cells) if len(gains.points) == 1 else []
+    gains = gains.with_steps(steps) if steps else gains
+    for cell in cells:
+        cell.seen = [at_gains(one, gains) for one in cell.seen]
+    return [at_gain(one, gains) for one in powers], steps
+
+
+def at_gains(one: Sighting, gains: Gains) -> Sighting:
+    """Returns a sighting with its gain, and without a level where the gain steps within its window."""
+    gain, is_one = gains.within(one.task.start)
+    return dataclasses.replace(one, gain=gain, level=one.level if is_one else None)
+
+
+def at_gain(one: Power, gains: Gains) -> Power:
+    """Returns a power at the first gain, without a noise floor where the gain steps within its window."""
+    gain, is_one = gains.within(one.seconds)
+    total, noise = (None if value is None else round(value - gain, 1) + 0.0 for value in (one.total, one.noise))
+    return Power(one.seconds, total, noise if is_one else None, round(gain, 1) + 0.0)
+
+
+def gains_of(gain: float | Sequence[tuple[float, float]] | None) -> Gains:
+    """Returns the gain that options name: none, one in dB, or pairs of a second and dB."""
+    if gain is None:
+        return Gains()
+    return Gains(((0.0, float(gain)),) if isinstance(gain, (int, float)) else tuple(gain))
