@@ -6,14 +6,18 @@ in the list of one antenna port.
 """
 from __future__ import annotations
 
+import math
 from typing import NamedTuple, Sequence
 
-from . import programs
+from . import programs, recorded, spectrum
 from .answers import Identity
 from .cells import SeenCell
-from .radio_file import Spoiled
+from .radio_file import RadioFile, Spoiled
 from .rules import BY_NAME, ONE_PORT, Rule
 from .sightings import Sighting, Task, window_of
+
+LOUDEST = -37.4  # dBFS of a reference element that `search --cancel` cancels at most: that of the gain 28
+STILL = 60  # hertz that a hidden cell may feign; above them its one gain cancels nothing
 
 
 class Question(NamedTuple):
@@ -53,6 +57,35 @@ def sentence(asked: Asked) -> str | None:
     return None if found.is_listed else f"the strongest detection of {where} is {found.text}"
 
 
+def carriers_of(task: Task) -> str | None:
+    """Returns a sentence on the carriers that a window's spectrum shows elsewhere than looked for, or None."""
+    file, shift = task.file, task.file.shift_at(round(task.start * task.file.rate))
+    try:
+        seen = recorded.recorded(file, task.start, task.length)
+    except Spoiled:
+        return None
+    found = spectrum.carriers_of(seen, shift, file.carrier - shift if file.carrier else 0)
+    return f"the spectrum shows {'; '.join(one.text for one in found)}" if found else None
+
+
+def of_cancelling(cells: Sequence[SeenCell], file: RadioFile) -> str | None:
+    """Returns why `search --cancel` does not cancel the only sure cell of a file that is a recording, or None."""
+    sure = [cell for cell in cells if not cell.is_chance(cells)]
+    if len(sure) != 1 or not file.is_recording() or sure[0].line.sib1 is None or sure[0].line.ports != 1:
+        return None
+    one, faults = sure[0].strongest, list[str]()
+    if one.level is not None and one.level > LOUDEST:
+        faults.append(f"divide the samples by {math.ceil(10 ** ((one.level - LOUDEST) / 20))}")
+    if abs(one.offset) > STILL:
+        faults.append(f"correct the offset of {one.offset:+,.0f} Hz")
+    if not faults:
+        return None
+    return (
+        f"if PCI {one.line.identity} hides a weaker cell: {' and '.join(faults)}, since lte_cli search --cancel cancels "
+        f"cells of up to {LOUDEST} dBFS without a frequency offset"
+    )
+
+
 def order(cell: SeenCell) -> tuple[int, float]:
     """Returns the key by which doubtful cells are asked for: those in most windows first, then those at least cost."""
     return -cell.windows, cell.share
@@ -87,6 +120,6 @@ def identities(found: Sequence[Sighting]) -> tuple[int, ...]:
     return tuple(one.line.identity for one in found)
 
 
-def added(hint: str, reason: str | None) -> str:
-    """Returns a hint with the reason of one window."""
-    return f"{hint}. {reason[0].upper()}{reason[1:]}" if reason else hint
+def added(hint: str, *reasons: str | None) -> str:
+    """Returns a hint with further sentences, those that are not None."""
+    return ". ".join([hint, *(reason[0].upper() + reason[1:] for reason in reasons if reason)])

@@ -213,7 +213,8 @@ class Live:
         if self.empty is None:
             return NO_CELL
         question = hints.about(min(cells, key=hints.order)) if cells else hints.Question()
-        return hints.added(NO_CELL, hints.sentence(hints.Asked(self.empty, question)))
+        reason = hints.sentence(hints.Asked(self.empty, question))
+        return hints.added(NO_CELL, hints.carriers_of(self.empty), reason)
 
 
 def begun(live: Live, count: int) -> RadioFile:

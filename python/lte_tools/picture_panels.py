@@ -15,12 +15,12 @@ from matplotlib.ticker import MaxNLocator
 import lte_reference.cell
 import lte_reference.search
 
-from . import radio
+from . import columns, radio
 from .answers import Cell, Identity
 from .picture_style import COLOURS, LINES, WIDTH, carrier_text, headed, number_text
 from .picture_view import BAND, View
 from .radio import Real
-from .rules import BY_NAME, RULES
+from .rules import RULES
 
 
 reference: Any = lte_reference.search
@@ -355,10 +355,9 @@ def fields_of(view: View, line: Cell, reading: Reading) -> list[str]:
             f"q-RxLevMin {2 * sib1.q_rx} dBm",
         ]
     lines += ["", f"cost {100 * reading.cost / (reading.total or 1):.1f} %, frames added: {reading.frames}"]
-    ratio = radio.ratio(support.power, support.noise, BY_NAME[str(line.rule)])
-    lines.append(f"level {number_text(view.level(line))} dBFS, S/N {number_text(ratio)} dB")
+    lines.append(f"level {number_text(view.level(line))} dBFS, S/N {number_text(view.ratio(line))} dB")
     lines.append(f"primary signal {support.peak / 10:.1f} %")
-    return lines
+    return lines + [f"? {columns.doubt_text(word)}" for word in view.doubts(line)]
 
 
 # ---- the sheet

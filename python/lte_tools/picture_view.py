@@ -10,7 +10,7 @@ from typing import Any
 import numpy as np
 import numpy.typing as npt
 
-from . import programs, radio, recorded, sightings
+from . import doubts, programs, radio, recorded, sightings, spectrum
 from .answers import Cell, Evidence, Identity, Offset, Tuning
 from .options import PictureOptions
 from .picture_style import dbfs, facts_of
@@ -40,6 +40,7 @@ class View:
     tuning: Tuning
     lines: Answers[Cell]  # of all lists
     supports: dict[str, Answers[Evidence]]  # by a rule's name
+    beside: float | None = None  # dBFS in 15 kHz outside the middle 1.08 MHz
 
     @property
     def said(self) -> dict[str, Any]:
@@ -57,13 +58,59 @@ class View:
         return self.tuning.offset
 
     @property
-    def cells(self) -> list[Cell]:
-        """The listed cells, each by the rule that says most, what is sure and strong first."""
+    def listed(self) -> list[Cell]:
+        """The lines of all lists, each position by the rule that says most."""
         found: dict[tuple[int, int, int], Cell] = {}
         for line in self.lines:
             key = sightings.place_of(line)
             found[key] = max(found.get(key, line), line, key=sightings.saying)
-        return sorted(found.values(), key=lambda line: (line.sib1 is None, -(self.level(line) or -1e9)))
+        return list(found.values())
+
+    @property
+    def paths(self) -> list[list[Cell]]:
+        """The lines of each cell, that of its strongest path first."""
+        found: list[list[Cell]] = []
+        for line in sorted(self.listed, key=lambda line: -self.evidence(line).peak):
+            cell = next((cell for cell in found if is_echo(line, cell[0])), None)
+            if cell:
+                cell.append(line)
+            else:
+                found.append([line])
+        return found
+
+    @property
+    def cells(self) -> list[Cell]:
+        """The listed cells by their strongest paths, what is sure and strong first."""
+        lines = [cell[0] for cell in self.paths]
+        return sorted(lines, key=lambda line: (line.sib1 is None, -(self.level(line) or -1e9)))
+
+    @property
+    def echoes(self) -> list[str]:
+        """The further paths of cells, as the survey has them."""
+        return [self.echo_text(cell[0], line) for cell in self.paths for line in cell[1:]]
+
+    def echo_text(self, cell: Cell, line: Cell) -> str:
+        half = sightings.CYCLE // 2
+        later = (sightings.epoch_of(line) - sightings.epoch_of(cell) + half) % sightings.CYCLE - half
+        level = radio.decibels(self.evidence(line).peak / self.evidence(cell).peak) or 0.0
+        return f"echo of PCI {cell.identity}: {1e6 * later / radio.RATE:.1f} us {level:.1f} dB"
+
+    def ratio(self, line: Cell) -> float | None:
+        """Returns signal to noise of a line in dB."""
+        support = self.evidence(line)
+        return radio.ratio(support.power, support.noise, BY_NAME[str(line.rule)])
+
+    def doubts(self, line: Cell) -> list[str]:
+        """Returns the words of doubts about a line."""
+        if line.sib1 is not None:
+            return []
+        is_wider = sightings.is_narrow(line) and doubts.is_carrier(self.beside, self.level(line), self.ratio(line))
+        return [doubts.TEST_MODEL] * (self.evidence(line).mib == doubts.ZEROS) + [doubts.WIDER] * is_wider
+
+    @property
+    def carriers(self) -> list[spectrum.Carrier]:
+        """The carriers in the file elsewhere than looked for."""
+        return spectrum.carriers_of(self.seen, self.carrier, self.centre)
 
     def evidence(self, line: Cell) -> Evidence:
         """Returns the numbers of `evidence` about a line, of its rule's list."""
@@ -78,7 +125,7 @@ class View:
         """Returns the listed cell, by whichever rule, whose primary signal stands at a hit's place, or None."""
         there = [
             line
-            for line in self.cells
+            for line in self.listed
             if line.identity % 3 == hit.n2 and sightings.distance(hit.t, line.at + PRIMARY, HALF) <= sightings.NEAR
         ]
         return max(there, key=lambda line: line.identity == hit.identity) if there else None
@@ -122,6 +169,7 @@ class View:
             "",
             f"hits: {len(hits)}" + (f", {sum(map(bool, map(self.cell_of, hits)))} of listed cells" if hits else ""),
             f"cells: {count}",
+            *self.echoes,
             *self.offset_lines(),
         ]
         if not count:
@@ -144,6 +192,8 @@ class View:
             return ["All samples are one: nothing was received."]
         if self.nothing:
             return ["Noise only: level over frequency and time,", "and no symbol's end comes again as a prefix."]
+        if self.carriers:
+            return ["The spectrum shows", *(one.text for one in self.carriers)]
         if not self.tuned:
             return [
                 "No signal: the rate or the form of",
@@ -196,11 +246,24 @@ def view_of(options: PictureOptions, file: RadioFile) -> View:
         is_as_it_is=file.is_recording() and offset == 0,
         samples=np.frombuffer(data, "<i2").astype(np.int64).reshape(-1, 2),
         full=full,
+        beside=beside_of(file, start, seconds, shift + offset),
         hits=programs.ids(data),
         tuning=tuning,
         lines=programs.search(data, all=True),
         supports={rule.name: programs.listed(Evidence, rule.evidence, recording, "evidence") for rule in RULES},
     )
+
+
+def is_echo(line: Cell, other: Cell) -> bool:
+    """Returns whether a line is another path of a line's cell."""
+    apart = sightings.distance(sightings.epoch_of(line), sightings.epoch_of(other))
+    return apart <= sightings.ECHO and sightings.is_of_one_cell(line, other)
+
+
+def beside_of(file: RadioFile, start: float, seconds: float, centre: float) -> float | None:
+    """Returns the power in 15 kHz outside the middle 1.08 MHz of a file in dBFS."""
+    x = file.samples(round(start * file.rate), round(seconds * file.rate))
+    return radio.decibels(spectrum.beside(x - x.mean(), file.rate, centre))
 
 
 def recording_of(

@@ -81,7 +81,8 @@ def surveyed(options: SurveyOptions, file: RadioFile, ask: Ask) -> Survey:
     found = ask("cells", sightings, tasks)
     cells, jumps = as_one(joined(flat(found)))
     powers, steps = levels.even(cells, powers_of(ask, tasks), options.gain)
-    hint = why_none(ask, tasks, found, cells) if all(cell.is_chance(cells) for cell in cells) else None
+    is_none = all(cell.is_chance(cells) for cell in cells)
+    hint = why_none(ask, tasks, found, cells) if is_none else hints.of_cancelling(cells, file)
     spoiled = [round(task.start, 6) for task, one in zip(tasks, found) if one is None]
     asked = [(round(tasks[i].start, 6), round(offset, 1)) for i, offset in points]
     return survey_of_cells(options, file, cells, Looked(len(tasks), spoiled, asked, jumps, powers, steps), hint)
@@ -113,12 +114,14 @@ def why_none(ask: Ask, tasks: Sequence[Task], found: Sequence[list[Sighting] | N
     if sure:
         names = f"PCI {' and '.join(map(str, sure))}"
         return f"I and Q are exchanged: {'without' if file.is_exchanged else 'with'} --exchanged there is {names}"
+    (carriers,) = ask("spectrum", hints.carriers_of, [tasks[strongest[0]]])
     number, question = hints.chosen(cells, found, strength)
     (reason,) = ask("why", hints.sentence, [hints.Asked(tasks[number], question)])
     return hints.added(
         f"no sure cell: tried {file.form} at {file.rate:,} samples per second, {file.shift:+,.0f} Hz beside the "
         "centre, offsets up to 60 kHz, I and Q both ways; "
         "--form, --rate, --shift and --offset say another, --scan looks beside",
+        carriers,
         reason,
     )
 

@@ -129,3 +129,34 @@ def test_doubtful_cell_of_a_pipe(seen, undecodable, tmp_path):
     assert state.survey().hint == live.NO_CELL
     state.empty = Task(file, 0, 0.05)
     assert ". The window at 0.00 s does not list PCI 217: no MIB, the CRC fails" in state.survey().hint
+
+
+def test_cell_that_cannot_be_cancelled(seen, recording, sent):
+    file = RadioFile(recording, "s16", radio.RATE, len(sent), 0, 0)
+    one = dataclasses.replace(seen, line=cell_with_sib1(seen, recording, sent), cost=0, offset=3.0)
+
+    def hint(level, offset, of=file):
+        return hints.of_cancelling([SeenCell(dataclasses.replace(one, level=level, offset=offset))], of)
+
+    assert hint(-37.5, 59) is None and hint(-20, 900, dataclasses.replace(file, form="u8")) is None
+    assert "PCI 217 hides a weaker cell: divide the samples by 2, since" in hint(-37.3, 0)
+    assert "divide the samples by 8 and correct the offset of -100 Hz" in hint(-20, -100)
+    assert hints.of_cancelling([SeenCell(one), SeenCell(dataclasses.replace(one, level=-20))], file) is None
+
+
+def cell_with_sib1(seen, recording, sent):
+    (found,) = sightings(Task(RadioFile(recording, "s16", radio.RATE, len(sent), 0, 0), 0, 0.05))
+    return found.line
+
+
+def test_carriers_of_a_window(tmp_path):
+    draw = np.random.default_rng(3)
+    x = draw.standard_normal(800_000) + 1j * draw.standard_normal(800_000)
+    spectrum = np.fft.fft(x)
+    hertz = np.fft.fftfreq(len(x), 1 / 8e6)
+    wide = np.fft.ifft(np.where(abs(hertz - 1.53e6) < 2.25e6, 10, 1) * spectrum)
+    file = RadioFile(written(tmp_path / "x.ci16", 300 * wide), "s16", 8_000_000, len(x), 0, 0)
+    assert hints.carriers_of(Task(file, 0, 0.1)) == ("the spectrum shows a carrier of 5 MHz at +1.5 MHz: --shift 1.5e6")
+    assert hints.carriers_of(Task(dataclasses.replace(file, shift=1_500_000), 0, 0.1)) is None
+    file = RadioFile(written(tmp_path / "y.ci16", 300 * x), "s16", 8_000_000, len(x), 0, 0)
+    assert hints.carriers_of(Task(file, 0, 0.1)) is None

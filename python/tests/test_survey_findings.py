@@ -1,4 +1,4 @@
-"""Surveys of synthetic recordings by the proved programs: lost samples, loops, gain steps, doubts and filters.
+"""Surveys of synthetic recordings by the proved programs: lost samples, loops, gain steps, doubts, filters and echoes.
 
 Each recording is of cells that `lte_cli transmit` sends, a second at most, with white noise.
 """
@@ -9,7 +9,8 @@ import pytest
 from scipy import signal
 
 import lte_tools
-from lte_tools import radio, survey_table
+from lte_tools import picture_view, radio, radio_file, survey_table
+from lte_tools.options import PictureOptions
 from tests.conftest import EXAMPLES, FULL
 
 pytestmark = pytest.mark.program
@@ -86,7 +87,7 @@ def test_loop(survey, frames, repeats, text):
 # ---- doubts
 
 
-def test_model_and_wider_carrier(survey):
+def test_model_and_wider_carrier(survey, tmp_path):
     x = np.tile(model(), 25)
     found = survey(with_noise(x))
     assert [line.doubts for line in found.cells if not line.chance] == [("test-model",)]
@@ -96,6 +97,8 @@ def test_model_and_wider_carrier(survey):
     found = survey(with_noise(x + ELEMENT * 8 * beside))
     assert [line.doubts for line in found.cells if not line.chance] == [("test-model", "wider-carrier")]
     assert "? test model, wider carrier" in survey_table.table_of(found)[2]
+    view = view_of(tmp_path / "x.ci16")
+    assert [view.doubts(line) for line in view.cells] == [["test-model", "wider-carrier"]]
 
 
 def model():
@@ -167,3 +170,43 @@ def test_recording_is_filtered_as_other_files(survey, tmp_path):
     x = x + 30 * ELEMENT * signal.oaconvolve(noise, signal.firwin(257, 740e3, fs=radio.RATE, pass_zero=False), "same")
     assert len(lte_tools.search(radio.to_bytes(LOUD * x))) == 0
     assert lines_of(survey(x)) == [(30, 2)]
+
+
+# ---- pictures and hints
+
+
+def view_of(path, **keys):
+    options = PictureOptions(path, **keys)
+    return picture_view.view_of(options, radio_file.opened(options))
+
+
+def test_echo_is_no_cell_of_the_picture(tmp_path):
+    x = cell(200, 0.1)
+    x = with_noise(x + 0.7j * np.concatenate([np.zeros(19), x[:-19]]), 30)
+    (tmp_path / "x.ci16").write_bytes(radio.to_bytes(LOUD * x))
+    view = view_of(tmp_path / "x.ci16")
+    assert len(view.listed) == 2 and [line.identity for line in view.cells] == [200]
+    assert [text for text in view.summary() if text.startswith("echo of PCI 200: 9.9 us -3.")]
+    assert all(view.cell_of(hit) for hit in view.hits)
+
+
+def test_carrier_next_to_the_centre(tool, tmp_path):
+    draw = np.random.default_rng(4)
+    count = 8_000_000 // 4
+    noise = draw.standard_normal(count) + 1j * draw.standard_normal(count)
+    carrier = signal.oaconvolve(noise, signal.firwin(1_025, 2.25e6, fs=8e6), "same")
+    x = 20 * radio.shifted(carrier, 1.5e6, 8e6) + noise
+    (tmp_path / "x.cs8").write_bytes(np.round(np.stack([x.real, x.imag], 1)).astype("i1").tobytes())
+    text = "a carrier of 5 MHz at +1.5 MHz: --shift 1.5e6"
+    run = tool("survey", tmp_path / "x.cs8", "--rate", "8e6", "--jobs", "1")
+    assert run.status == 0 and f"The spectrum shows {text}" in run.out
+    assert text in view_of(tmp_path / "x.cs8", rate=8e6).summary()
+
+
+def test_cell_that_is_too_loud_to_be_cancelled(survey):
+    x = with_noise(cell(30, 0.2), 35)
+    assert survey(x, loud=25).hint is None
+    assert "if PCI 30 hides a weaker cell: divide the samples by 2, since" in survey(x, loud=40).hint
+    seconds = np.arange(len(x)) / radio.RATE
+    hint = survey(x * np.exp(400j * np.pi * seconds), loud=20).hint
+    assert "hides a weaker cell: correct the offset of +" in hint and "divide" not in hint
