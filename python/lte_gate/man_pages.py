@@ -128,8 +128,8 @@ def option_text(action):
 
 
 def place_text(action):
-    """Returns a positional argument, in brackets if it is optional."""
-    name = rf"\fI{tool_parsers.value_of(action)}\fR"
+    """Returns a positional argument, in brackets if it is optional, with dots if there may be several."""
+    name = rf"\fI{tool_parsers.value_of(action)}\fR" + r"...\&" * (action.nargs == "+")
     return f"[{name}]" if action.nargs == "?" else name
 
 

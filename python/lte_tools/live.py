@@ -25,16 +25,17 @@ from typing import Any, Callable
 
 import numpy as np
 
-from . import hints, levels, places, radio, radio_file, stream, survey_data, survey_table
+from . import gpsd, hints, levels, places, radio, radio_file, sources, stream, survey_data, survey_table
 from .cells import SeenCell, add_sighting, in_windows_order
 from .continuity import Jump, as_one
 from .forms import FORMS, fault_of
-from .machine import Refused
+from .machine import Refused, note
 from .options import Gain, SurveyOptions
 from .radio_file import RadioFile
 from .sightings import VAGUE, WINDOW, Sighting, Task, offset_in, saying, sightings
 from .summary import Looked, survey_of_cells
 from .survey_data import Power, Survey
+from .track import Track
 
 STDIN = 0
 WAITING = 2  # windows in the ring for each process
@@ -53,7 +54,7 @@ def opened(options: SurveyOptions) -> RadioFile:
         raise Refused("-: SigMF is read from a file: --form says how its samples are written")
     if os.isatty(STDIN):
         raise Refused("-: standard input is a terminal, and samples are read from a pipe")
-    form, rate = options.form or "s16", radio_file.whole(options.rate or radio.RATE)
+    form, rate = options.form or "s16", sources.whole(options.rate or radio.RATE)
     file = RadioFile(options.file, form, rate, 0, options.shift or 0, options.carrier, is_exchanged=options.exchanged)
     file.check_holds(file.shift, f"{file.shift:+,.0f} Hz")
     return file
@@ -124,6 +125,8 @@ class Live:
         self.windows, self.skipped, self.forgotten, self.behind = 0, 0, 0, 0.0
         self.jumps: list[Jump] = []
         self.powers: collections.deque[Power] = collections.deque(maxlen=MOST_POWERS)
+        self.starts: collections.deque[float] = collections.deque(maxlen=MOST_POWERS)
+        self.pauses = 0  # that were reported
         self.empty: Task | None = None  # the last window that lists nothing
 
     def task(self, window: stream.Window) -> Task:
@@ -138,6 +141,8 @@ class Live:
         """Adds what was found in a window that begins at second `start` and came at time `came`."""
         behind = time.monotonic() - came
         self.windows, self.behind = self.windows + 1, max(self.behind, behind)
+        self.starts.append(start)
+        self.report_pauses()
         self.report_skipped(start)
         if found is None:
             self.spoiled = [*self.spoiled, round(start, 6)][-KEPT:]
@@ -193,6 +198,13 @@ class Live:
             self.report(f"{start:10.3f} s  no time for {count} window{'s' if count > 1 else ''} behind it")
         self.skipped = self.ring.skipped
 
+    def report_pauses(self) -> None:
+        pauses, width = self.ring.pauses, width_of(self.file)
+        for one in pauses[self.pauses :] if self.options.follow else ():
+            second = one.place / width / self.file.rate
+            self.report(f"{second:10.3f} s  samples came again after {one.seconds:.1f} s without any")
+        self.pauses = len(pauses)
+
     def report(self, line: str) -> None:
         """Writes a line at once, on standard error if the table is for other programs."""
         print(line, file=sys.stderr if self.options.json or self.options.csv else sys.stdout, flush=True)
@@ -218,11 +230,43 @@ class Live:
 
 
 def begun(live: Live, count: int) -> RadioFile:
-    """Returns the stream as a file of `count` samples, with the time at which it began unless it is a file's."""
-    file, start = dataclasses.replace(live.file, count=count), live.options.start
-    if start is None and not live.ring.waits and live.ring.begun is not None:
-        start = datetime.datetime.fromtimestamp(live.ring.begun, datetime.timezone.utc)
-    return places.begun(file, start)
+    """Returns the stream as a file of `count` samples, with the time at which it began unless it is a file's, and those at
+    which samples came again after a pause."""
+    file, start, ring = dataclasses.replace(live.file, count=count), live.options.start, live.ring
+    if ring.waits or ring.begun is None:
+        return places.begun(file, start)
+    first = start or datetime.datetime.fromtimestamp(ring.begun, datetime.timezone.utc)
+    begins = [(0, 0.0, 0.0)] + [
+        (one.place // width_of(file), one.time - ring.begun, one.seconds) for one in ring.pauses
+    ]
+    ends = [sample for sample, _, _ in begins[1:]] + [count]
+    stretches = tuple(
+        radio_file.Stretch(
+            sample, end, file.shift, (first + datetime.timedelta(seconds=later)).isoformat(), round(gap, 3)
+        )
+        for (sample, later, gap), end in zip(begins, ends)
+        if sample < end
+    )
+    return dataclasses.replace(file, stretches=stretches)
+
+
+def with_places(live: Live, receiver: gpsd.Receiver | None, found: Survey) -> Survey:
+    """Returns the survey with the places of its windows. What was surveyed is not lost if there are none: a line says why."""
+    options, file = live.options, begun(live, live.ring.size // width_of(live.file))
+    try:
+        track: Track | None
+        if receiver:
+            track = receiver.track()
+            places.check_span(options.file, file, track, receiver.path)
+        else:
+            track = places.track_of(options, file)
+        if track:
+            found = places.with_places(found, file, track, list(live.starts))
+    except (Refused, OSError) as fault:
+        note(f"no places: {fault}")
+    if options.geojson:
+        places.write(options.geojson, found, file)
+    return found
 
 
 def width_of(file: RadioFile) -> int:
@@ -250,8 +294,12 @@ def line_of(one: Sighting, cell: LiveCell, cells: list[LiveCell], gain: Gain) ->
 def survey(options: SurveyOptions, file: RadioFile) -> Survey:
     """Looks at standard input until it ends, or a signal comes, and returns the survey."""
     waits = options.wait or stat.S_ISREG(os.fstat(STDIN).st_mode)
-    ring = stream.Ring(WAITING * options.jobs, waits)
-    live = Live(options, file, ring)
+    ring = stream.Ring(WAITING * options.jobs, waits, options.follow and is_named_pipe())
+    live, receiver = Live(options, file, ring), None
+    if options.track:
+        places.check_track(options.track)
+    if options.gpsd:
+        receiver = gpsd.Receiver(options.gpsd)
     shape = stream.Shape(
         width_of(file), options.at * file.rate, round(WINDOW * file.rate), options.every * file.rate, least_of(file)
     )
@@ -263,7 +311,17 @@ def survey(options: SurveyOptions, file: RadioFile) -> Survey:
         signal.signal(kind, before)
     if not live.windows:
         raise Refused(f"-: {ring.size} bytes came, and no window of 0.03 s was looked at")
-    return live.survey()
+    found = live.survey()
+    return with_places(live, receiver, found) if options.has_places else found
+
+
+def is_named_pipe() -> bool:
+    """Returns whether standard input is a pipe with a name, which may get another writer."""
+    try:
+        is_named = not os.readlink(f"/proc/self/fd/{STDIN}").startswith("pipe:")
+    except OSError:
+        return False
+    return is_named and stat.S_ISFIFO(os.fstat(STDIN).st_mode)
 
 
 def least_of(file: RadioFile) -> int:

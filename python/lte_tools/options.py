@@ -26,7 +26,7 @@ FORMS = ("u8", "s8", "s16", "f32", "sigmf")
 @dataclass(frozen=True)
 class FileOptions:
     """Where samples are, and how they are read: `rate` in samples per second, `shift` in hertz above the file's centre,
-    `carrier` in hertz (0: not known), `at` the second at which to begin."""
+    `carrier` in hertz (0: not known), `at` the second at which to begin. The samples of `further` files follow."""
 
     file: pathlib.Path
     form: str | None = None
@@ -36,6 +36,12 @@ class FileOptions:
     at: float = 0
     exchanged: bool = False
     channel: int | None = None
+    further: tuple[pathlib.Path, ...] = ()
+
+    @property
+    def files(self) -> tuple[pathlib.Path, ...]:
+        """The file, and those that go on where it ends."""
+        return (self.file, *self.further)
 
     @property
     def is_input(self) -> bool:
@@ -57,12 +63,18 @@ class SurveyOptions(FileOptions):
     follow: bool = False
     wait: bool = False
     track: pathlib.Path | None = None
+    gpsd: pathlib.Path | None = None
     start: datetime.datetime | None = None
     geojson: pathlib.Path | None = None
     pcap: pathlib.Path | None = None
     html: pathlib.Path | None = None
     csv: bool = False
     json: bool = False
+
+    @property
+    def has_places(self) -> bool:
+        """Whether a track is asked for."""
+        return self.track is not None or self.gpsd is not None
 
 
 @dataclass(frozen=True)
@@ -83,19 +95,25 @@ T = TypeVar("T", bound=FileOptions)
 def options_of(kind: type[T], args: argparse.Namespace) -> T:
     """Returns the options that arguments name; the others keep their defaults."""
     names = {one.name for one in dataclasses.fields(kind)}
-    return kind(**{key: value for key, value in vars(args).items() if key in names and value is not None})
+    found = {key: value for key, value in vars(args).items() if key in names and value is not None}
+    if isinstance(found["file"], list):
+        first, *further = found["file"]
+        found |= {"file": first, "further": tuple(further)}
+    return kind(**found)
 
 
 # ---- parsers
 
 
-def add_file_arguments(parser: argparse.ArgumentParser) -> None:
-    """Adds what a tool asks of a file."""
-    parser.add_argument("file", metavar="FILE", type=pathlib.Path)
+def add_file_arguments(parser: argparse.ArgumentParser, **keys: Any) -> None:
+    """Adds what a tool asks of a file; `keys` say how many there may be."""
+    parser.add_argument("file", metavar="FILE", type=pathlib.Path, **keys)
     parser.add_argument("--form", choices=FORMS, help="by the file's name where it is left out, else s16")
-    parser.add_argument("--rate", type=rate, help="samples per second; of SigMF what it says, else 1.92e6")
+    parser.add_argument("--rate", type=rate, help="samples per second; of SigMF and WAV what they say, else 1.92e6")
     parser.add_argument("--shift", type=number, help="hertz above the file's centre at which the cell stands (0)")
-    parser.add_argument("--carrier", type=number, default=0, help="the cell's frequency in hertz, for ppm and SigMF")
+    parser.add_argument(
+        "--carrier", type=number, default=0, help="the cell's frequency in hertz, for ppm, SigMF and WAV"
+    )
     parser.add_argument("--at", type=not_negative, default=0, help="the second at which to begin (0)")
     parser.add_argument("--exchanged", action="store_true", help="Q comes before I in the file")
     parser.add_argument("--channel", type=int, help="of several channels of SigMF this one, from 0")
@@ -112,7 +130,7 @@ def time_of(text: str) -> datetime.datetime:
 def survey_parser(text: str | None) -> argparse.ArgumentParser:
     """Returns the parser of lte_survey."""
     parser = Parser(text)
-    add_file_arguments(parser)
+    add_file_arguments(parser, nargs="+", help="a file, or several that are one drive")
     add: Any = parser.add_argument
     add("--every", type=apart, help="seconds from one window to the next (0.17, of --scan 10)")
     add("--offset", type=number, help="hertz to take off at first, in place of what lte_tune tells")
@@ -124,9 +142,14 @@ def survey_parser(text: str | None) -> argparse.ArgumentParser:
     add("--jobs", type=at_least_one, default=os.cpu_count() or 1, help="processes (one a processor)")
     add("--scan", action="store_true", help="look at each carrier of the 100 kHz raster in the file")
     add("--earfcn", type=int, metavar="N", help="the cell's carrier by its number, for --carrier")
-    add("--follow", action="store_true", help="of -: a line a window and cell as it is found")
+    add(
+        "--follow",
+        action="store_true",
+        help="of -: a line a window and cell as it is found; a named pipe may begin again",
+    )
     add("--wait", action="store_true", help="of -: a pipe from a file, which waits: nothing is skipped")
-    add("--track", type=pathlib.Path, help="places by time: a .gpx, .nmea or .csv file")
+    add("--track", type=pathlib.Path, help="places by time: a .gpx, .nmea or .csv file, or .json of gpsd")
+    add("--gpsd", type=pathlib.Path, metavar="PIPE", help="places by time: JSON of gpsd, as gpspipe -w writes it")
     add("--start", type=time_of, help="when the first sample was, as 2026-05-01T09:30:00+02:00")
     add("--geojson", type=pathlib.Path, metavar="OUT", help="a file for the cells and their places")
     add("--pcap", type=pathlib.Path, metavar="OUT", help="a file for Wireshark with MIB and SIB1")
@@ -169,8 +192,10 @@ def checked_survey(options: SurveyOptions, has_every: bool = True) -> SurveyOpti
     if options.scan and not has_every:
         options = dataclasses.replace(options, every=EVERY_OF_SCAN)
     check_input(options)
-    if options.geojson and not options.track:
+    if options.geojson and not options.has_places:
         raise Refused("--geojson: --track FILE says where the places are")
+    if options.track and options.gpsd:
+        raise Refused("--track and --gpsd: one of them says where the places are")
     for out in (options.geojson, options.pcap, options.html):
         if out:
             machine.check_place(out)
@@ -191,9 +216,12 @@ def carrier_of(options: SurveyOptions) -> float:
 
 def check_input(options: SurveyOptions) -> None:
     """Refuses options that are only for standard input, or only for a file."""
+    if options.further and pathlib.Path("-") in options.files:
+        raise Refused("-: standard input is not one of several files")
     if options.is_input:
-        for name in ("track", "geojson", "scan"):
-            if getattr(options, name):
-                raise Refused(f"-: --{name} needs a file")
+        if options.scan:
+            raise Refused("-: --scan needs a file")
+        if options.wait and options.has_places and options.start is None:
+            raise Refused("-: with --wait the samples come later than they were received: --start says when that was")
     elif options.follow or options.wait:
         raise Refused(f"{options.file}: --{'follow' if options.follow else 'wait'} is for -, standard input")

@@ -8,32 +8,33 @@ Debian: python3-numpy, python3-matplotlib.
 from __future__ import annotations
 
 import bisect
-import collections
 import itertools
 import math
-import string
-from typing import Any, Iterable, NamedTuple, Sequence
+from collections import Counter
+from typing import Any, NamedTuple, Sequence
 
 import numpy as np
-from matplotlib import patheffects, pyplot, ticker
+from matplotlib import collections, patheffects, pyplot, ticker
 
-from . import picture_survey
-from .picture_style import COLOURS, MARKS, WIDTH, headed
+from . import picture_labels, picture_scan, picture_survey
+from .picture_labels import Point, Sign
+from .picture_style import MARKS, WIDTH, fitted, headed, number_text
 from .survey_data import Survey, SurveyCell
 
 Windows = Sequence[tuple[float, float, float]]
-Sign = tuple[str, str, str]  # letter, mark and colour
 
 DEGREE = 111_195  # metres of a degree of latitude on a round earth
 LEAST = 40  # metres from the map's one side to the other
 MARGIN = 1.16  # by which the map is wider than what is on it
-APART = 1 / 55  # of the map's width: windows within it are one mark
+APART, NARROW = 1 / 55, 6.1  # of the map's width, of these inches at most: windows within it are one mark
 SMALL, GREAT = 9, 110  # square points of marks
 WINDOW_SLACK = 1e-4  # seconds to which the survey's times are rounded
 LOW, HIGH = 3.4, 6.2  # inches of a map's height
 MAP, TABLE = (0.85, 6.1), (7.3, 4.55)  # inches from the left, and of width
-HEAD, FOOT = 0.75, 0.95  # inches above and below the map
+HEAD, FOOT, NOTES = 0.75, 0.95, 0.5  # inches above and below the map, and below the table
 ALONE = 7.2  # inches of a map without a table
+FEW = 9  # cells whose table is beside the map; that of more is below it, a line for each
+BROAD, COLUMNS, LINE = 10.9, 3, 0.175  # inches of a map's width above its table, columns of that, and inches of a line
 HALO = [patheffects.withStroke(linewidth=2.5, foreground="white")]
 NOTHING = "#808080"
 
@@ -117,20 +118,8 @@ def middle_of(group: Sequence[Spot]) -> Spot:
 
 def leaders_of(spots: Sequence[Spot]) -> list[int]:
     """Returns the cells that are strongest somewhere, by number, those at most places first."""
-    named = collections.Counter(spot.cell for spot in spots if spot.cell is not None)
+    named = Counter(spot.cell for spot in spots if spot.cell is not None)
     return sorted(named, key=lambda number: (-named[number], number))
-
-
-def signs_of(leaders: Iterable[int]) -> dict[int, Sign]:
-    """Returns a letter, a mark and a colour for each cell."""
-    letters = map(
-        "".join, itertools.chain.from_iterable(itertools.product(string.ascii_uppercase, repeat=n) for n in (1, 2))
-    )
-    count = len(MARKS)
-    return {
-        number: (letter, MARKS[i % count], COLOURS[(i + i // count) % len(COLOURS)])
-        for i, (number, letter) in enumerate(zip(leaders, letters))
-    }
 
 
 # ---- the map
@@ -139,26 +128,38 @@ def signs_of(leaders: Iterable[int]) -> dict[int, Sign]:
 class Map:
     """What is drawn of a survey's places, for axes of so many inches."""
 
-    def __init__(self, found: Survey, width: float) -> None:
+    def __init__(self, found: Survey, width: float, highest: float = HIGH) -> None:
         self.found = found
         self.spots, self.ground = spots_of(found)
-        self.signs = signs_of(leaders_of(self.spots))
         east, north = (np.array(values) for values in list(zip(*self.spots))[:2])
         wide, tall = (MARGIN * max(float(np.ptp(values)), LEAST / MARGIN) for values in (east, north))
-        self.width, self.height = width, min(HIGH, max(LOW, width * tall / wide))
+        self.width, self.height = width, min(highest, max(LOW, width * tall / wide))
         self.metres = max(wide / self.width, tall / self.height)  # of an inch
-        self.marks = marks_of(self.spots, APART * self.metres * self.width)
-        self.low, self.high = picture_survey.bounds([mark.level for mark in self.marks if mark.level is not None])
+        self.marks = marks_of(self.spots, self.near)
+        self.levels = [mark.level for mark in self.marks if mark.level is not None]
+        self.low, self.high = picture_survey.bounds(self.levels)
+        self.points = [self.point(mark) for mark in self.marks]
+        self.signs = picture_labels.signs_of(leaders_of(self.spots), self.points)
 
     @property
     def limits(self) -> tuple[tuple[float, float], tuple[float, float]]:
         wide, tall = self.metres * self.width / 2, self.metres * self.height / 2
         return (-wide, wide), (-tall, tall)
 
+    @property
+    def near(self) -> float:
+        """Metres within which windows are one mark."""
+        return APART * self.metres * min(self.width, NARROW)
+
     def area(self, level: float | None) -> float:
         """Returns the square points of a mark."""
         part = 0 if level is None else (level - self.low) / (self.high - self.low)
         return SMALL + (GREAT - SMALL) * part
+
+    def point(self, mark: Spot) -> Point:
+        """Returns a mark in points on the paper."""
+        points = 72 / self.metres
+        return Point(points * mark.east, points * mark.north, math.sqrt(self.area(mark.level)) / 2, mark.cell)
 
     def name(self, number: int) -> str:
         cell = self.found.cells[number]
@@ -172,6 +173,7 @@ def draw_map(ax: Any, drawn: Map) -> None:
     ax.set(xlim=xlim, ylim=ylim)
     ax.spines[["top", "right"]].set_visible(True)
     draw_way(ax, drawn)
+    draw_best(ax, drawn)
     for number, (_, mark, colour) in drawn.signs.items():
         marks = [one for one in drawn.marks if one.cell == number]
         areas = [drawn.area(one.level) for one in marks]
@@ -180,7 +182,10 @@ def draw_map(ax: Any, drawn: Map) -> None:
     draw_letters(ax, drawn)
     draw_scale(ax, drawn)
     draw_degrees(ax, drawn)
-    ax.set_title(f"Strongest cell, by letter and mark; its level in {drawn.found.unit} by size")
+    if drawn.signs:
+        ax.set_title(f"Strongest cell, by letter, mark and colour; its level in {drawn.found.unit} by size")
+    else:
+        ax.set_title("No cell is certain at any place")
 
 
 def draw_way(ax: Any, drawn: Map) -> None:
@@ -213,28 +218,28 @@ def beside(mark: Spot, other: Spot, ahead: float, left: float) -> tuple[float, f
     return mark.east + ahead * east - left * north, mark.north + ahead * north + left * east
 
 
-def runs_of(marks: Sequence[Spot]) -> list[tuple[int, int]]:
-    """Returns places in the list of marks, from one up to another, with the same strongest cell, the longest first."""
-    runs = []
-    for number, group in itertools.groupby(range(len(marks)), key=lambda i: marks[i].cell):
-        places = list(group)
-        if number is not None:
-            runs.append((places[0], places[-1] + 1))
-    return sorted(runs, key=lambda run: run[0] - run[1])
+def draw_best(ax: Any, drawn: Map) -> None:
+    """Draws the way in the colour of the strongest cell, as far as one is certain."""
+    every, windows = 1.5 * drawn.found.every, windows_of(drawn.found)
+    lines: dict[str, list[Any]] = {}
+    for i, (one, other) in enumerate(zip(drawn.spots, drawn.spots[1:])):
+        if one.cell is not None and one.cell == other.cell and windows[i + 1][0] - windows[i][0] <= every:
+            lines.setdefault(drawn.signs[one.cell][2], []).append((one[:2], other[:2]))
+    for colour, parts in lines.items():
+        ax.add_collection(collections.LineCollection(parts, colors=colour, linewidths=3, alpha=0.4, zorder=2.5))
 
 
 def draw_letters(ax: Any, drawn: Map) -> None:
-    """Draws a letter beside each run of marks that has room for one."""
-    taken: list[tuple[float, float]] = []
+    """Draws a letter beside the longest run of marks of each cell, and beside others that have room for one."""
     points = drawn.metres / 72
-    for first, end in runs_of(drawn.marks):
-        mark = drawn.marks[(first + end - 1) // 2]
-        place = beside(mark, drawn.marks[min(end, len(drawn.marks) - 1)], 0, 13 * points)
-        if mark.cell is not None and all(math.dist(place, other) > 13 * points for other in taken):
-            letter, _, colour = drawn.signs[mark.cell]
-            keys = {"ha": "center", "va": "center", "fontweight": "bold", "path_effects": HALO, "zorder": 7}
-            ax.text(*place, letter, fontsize=10, color=colour, **keys)
-            taken.append(place)
+    names = {number: letter for number, (letter, _, _) in drawn.signs.items()}
+    for label in picture_labels.labels_of(drawn.points, names, (72 * drawn.width, 72 * drawn.height)):
+        letter, _, colour = drawn.signs[label.cell]
+        place, mark = (points * label.x, points * label.y), (points * label.mark.x, points * label.mark.y)
+        if label.has_line:
+            ax.plot(*zip(mark, place), color=colour, lw=0.6, zorder=5)
+        keys = {"ha": "center", "va": "center", "fontweight": "bold", "path_effects": HALO, "zorder": 7}
+        ax.text(*place, letter, fontsize=9, color=colour, **keys)
 
 
 def round_below(value: float) -> float:
@@ -284,16 +289,17 @@ def degrees_text(value: float, digits: int, names: str) -> str:
 
 def draw_sizes(ax: Any, drawn: Map) -> None:
     """Draws what sizes and rings stand for, below the map."""
-    for level in np.linspace(drawn.high, drawn.low, 3):
+    for level in (drawn.high, (drawn.high + drawn.low) / 2, drawn.low) if drawn.levels else ():
         label = f"{level:g} {drawn.found.unit}"
         ax.scatter([], [], drawn.area(level), color="#555555", edgecolors="white", linewidths=0.4, label=label)
     if any(spot.cell is None for spot in drawn.marks):
         ax.scatter([], [], 22, facecolors="white", edgecolors=NOTHING, linewidths=0.9, label="no sure cell")
     keys = {"loc": "upper left", "borderaxespad": 0, "frameon": False, "handletextpad": 0.2, "columnspacing": 1.4}
     ax.legend(bbox_to_anchor=(0, -0.36 / drawn.height), ncol=4, fontsize=8, **keys)
-    near = metres_text(float(f"{APART * drawn.metres * drawn.width:.1g}"))
-    text = f"Windows within {near} are one mark, of their median level. A cell without a letter is strongest nowhere."
-    ax.text(0, -0.66 / drawn.height, text, transform=ax.transAxes, fontsize=7.5, color="#555555", va="top")
+    text = f"Windows within {metres_text(float(f'{drawn.near:.1g}'))} are one mark"
+    if drawn.signs:
+        text += ", of their median level. A cell without a letter is strongest nowhere"
+    ax.text(0, -0.66 / drawn.height, f"{text}.", transform=ax.transAxes, fontsize=7.5, color="#555555", va="top")
 
 
 def in_order(found: Survey, signs: dict[int, Sign]) -> list[SurveyCell]:
@@ -303,26 +309,89 @@ def in_order(found: Survey, signs: dict[int, Sign]) -> list[SurveyCell]:
 
 
 def map_sheet(found: Survey, title: str | None = None) -> Any:
+    """Returns the map, with the table of a few cells beside it, or that of many below."""
+    return (sheet_beside if len(found.cells) <= FEW else sheet_below)(found, title)
+
+
+def sheet_beside(found: Survey, title: str | None) -> Any:
     """Returns the map, and beside it the table of the cells."""
     drawn = Map(found, MAP[1])
-    cells = in_order(found, drawn.signs)[: picture_survey.MOST]
-    table = max(picture_survey.ROW * len(cells), min(picture_survey.TALL * len(cells), drawn.height))
+    cells = in_order(found, drawn.signs)
+    table = max(picture_survey.ROW, min(picture_survey.TALL * len(cells), drawn.height))
     tall = max(drawn.height + FOOT, table + 0.75) + HEAD
     figure = pyplot.figure(figsize=(WIDTH, tall))
-    more = len(found.cells) - len(cells)
-    facts = picture_survey.facts_line(found, title) + (f"; {more} further cells" if more else "")
-    headed(figure, title or found.file, facts).set(y=1 - 0.12 / tall, va="top")
+    headed(figure, title or found.file, picture_survey.facts_line(found, title)).set(y=1 - 0.12 / tall, va="top")
     draw_map(axes_at(figure, MAP[0], HEAD, MAP[1], drawn.height), drawn)
     draw_sizes(figure.axes[0], drawn)
     signs = {id(found.cells[number]): sign for number, sign in drawn.signs.items()}
     ax = axes_at(figure, TABLE[0], HEAD + 0.3, TABLE[1], table)
     picture_survey.draw_table(ax, found, cells, signs)
+    if not cells:
+        ax.text(0.05, 1, "No cell.\n" + fitted(found.hint or "", 60, 12), va="top", transform=ax.transAxes)
     picture_survey.draw_notes(ax, found, (0.05, -0.06 / table), "top")
     return figure
 
 
+def sheet_below(found: Survey, title: str | None) -> Any:
+    """Returns the map over the full width, and below it the table of the cells, a line for each."""
+    drawn = Map(found, BROAD, BROAD)
+    cells = in_order(found, drawn.signs)
+    rows = math.ceil(len(cells) / COLUMNS)
+    table = LINE * (rows + 1)
+    tall = HEAD + drawn.height + FOOT + table + NOTES
+    figure = pyplot.figure(figsize=(WIDTH, tall))
+    headed(figure, title or found.file, picture_survey.facts_line(found, title)).set(y=1 - 0.12 / tall, va="top")
+    draw_map(axes_at(figure, MAP[0], HEAD, drawn.width, drawn.height), drawn)
+    draw_sizes(figure.axes[0], drawn)
+    ax = axes_at(figure, 0.3, HEAD + drawn.height + FOOT, WIDTH - 0.5, table)
+    draw_lines(ax, found, [cells[i : i + rows] for i in range(0, len(cells), rows)], drawn)
+    picture_survey.draw_notes(ax, found, (0, -0.1 / table), "top")
+    return figure
+
+
+# heads of the lines' parts, and where each is in a column
+LINES = (
+    (0.03, "left", ""),
+    (0.09, "left", "PCI"),
+    (0.2, "left", "PLMN, TAC; eNodeB, cell"),
+    (0.67, "right", "windows"),
+)
+LEVELS = ((0.81, "right", "{}"), (0.94, "right", "S/N dB"))
+
+
+def draw_lines(ax: Any, found: Survey, columns: Sequence[Sequence[SurveyCell]], drawn: Map) -> None:
+    """Draws a line for each cell, in columns: letter and mark, identity, network, windows, level and signal to noise."""
+    ax.axis("off")
+    rows = max(map(len, columns))
+    ax.set(xlim=(0, COLUMNS), ylim=(rows + 0.5, -0.5))
+    signs = {id(found.cells[number]): sign for number, sign in drawn.signs.items()}
+    for left, cells in enumerate(columns):
+        for place, side, head in (*LINES, *LEVELS):
+            ax.text(left + place, 0, head.format(found.unit), fontsize=7, color="#555555", ha=side, va="center")
+        for row, cell in enumerate(cells, 1):
+            letter, mark, colour = signs.get(id(cell), ("", "", ""))
+            if mark:
+                ax.plot([left + 0.012], [row], mark, color=colour, ms=5, clip_on=False)
+            texts = [letter, picture_survey.name_of(cell).removeprefix("PCI "), network_of(cell)]
+            texts += [str(cell.windows), number_text(cell.level), number_text(cell.ratio)]
+            for (place, side, _), text in zip((*LINES, *LEVELS), texts):
+                weight = "bold" if place < LINES[2][0] else "normal"
+                ax.text(left + place, row, text, fontsize=7, ha=side, va="center", fontweight=weight)
+
+
+def network_of(cell: SurveyCell) -> str:
+    """Returns network, area, eNodeB and cell in one line, or why they are not known."""
+    sib1 = cell.sib1
+    if sib1 is None:
+        return f"no SIB1: {cell.no_sib1}"[:34]
+    return f"{' '.join(sib1.networks[:1])}, {sib1.tac}; {sib1.enodeb}, {sib1.sector}"
+
+
 def time_sheet(found: Survey, title: str | None = None) -> Any:
-    """Returns the cells over time; where there is a map, those at the front of it have its letters, marks and colours."""
+    """Returns the cells over time, of a scan over frequency; where there is a map, those at the front of it have its
+    letters, marks and colours."""
+    if found.scan:
+        return picture_scan.scan_sheet(found, title)
     signs = Map(found, ALONE).signs if found.is_placed else {}
     some = itertools.islice(signs.items(), len(MARKS))
     return picture_survey.survey_sheet(found, title, {id(found.cells[number]): sign for number, sign in some})
@@ -331,7 +400,8 @@ def time_sheet(found: Survey, title: str | None = None) -> Any:
 def map_alone(found: Survey) -> Any:
     """Returns the map with the names of its cells below."""
     drawn = Map(found, ALONE - 1)
-    rows = -(-len(drawn.signs) // 2)
+    columns = 2 if len(drawn.signs) <= 2 * FEW else 3
+    rows = math.ceil(len(drawn.signs) / columns)
     names = 0.19 * rows
     figure = pyplot.figure(figsize=(ALONE, drawn.height + FOOT + names + 0.35))
     ax = axes_at(figure, 0.85, 0.3, drawn.width, drawn.height)
@@ -341,7 +411,13 @@ def map_alone(found: Survey) -> Any:
         ax.plot([], [], mark, color=colour, ms=6, label=f"{letter}  {drawn.name(number)}")[0]
         for number, (letter, mark, colour) in drawn.signs.items()
     ]
-    keys = {"loc": "upper left", "borderaxespad": 0, "frameon": False, "ncol": 2, "fontsize": 8.5}
+    keys = {
+        "loc": "upper left",
+        "borderaxespad": 0,
+        "frameon": False,
+        "ncol": columns,
+        "fontsize": 8.5 if columns < 3 else 7,
+    }
     ax.add_artist(ax.get_legend())  # that of the sizes, in place of which the next one comes
     ax.legend(handles=handles, bbox_to_anchor=(0, -0.9 / drawn.height), **keys)
     return figure

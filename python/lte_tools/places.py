@@ -12,7 +12,7 @@ import json
 import pathlib
 from typing import Any, Sequence
 
-from . import machine, track
+from . import gpsd, machine, track
 from .machine import Refused, note
 from .options import SurveyOptions
 from .radio_file import RadioFile, Stretch
@@ -36,7 +36,7 @@ def begun(file: RadioFile, start: datetime.datetime | None) -> RadioFile:
 
 def with_time(stretch: Stretch, file: RadioFile, start: datetime.datetime) -> Stretch:
     try:
-        later = datetime.timedelta(seconds=stretch.first / file.rate)
+        later = datetime.timedelta(seconds=stretch.first / file.rate + stretch.later)
         return stretch._replace(datetime=(start + later).isoformat())
     except OverflowError:
         raise Refused(f"{file.path}: --start {start.isoformat()}: the file ends after the year 9999") from None
@@ -51,23 +51,35 @@ def time_at(file: RadioFile, second: float) -> float | None:
 def track_of(options: SurveyOptions, file: RadioFile) -> Places | None:
     """Returns the track that options name; notes where it does not have all of the file's time, and refuses one that has
     none of it."""
-    if not options.track:
+    source = options.track or options.gpsd
+    if source is None:
         return None
-    places = track.read(options.track)
+    places = track.read(source) if options.track else gpsd.read(source)
     if places.wrong:
-        note(f"{options.track}: {places.wrong} lines with a wrong checksum or none were not read")
+        kind = "that are not JSON" if options.gpsd else "with a wrong checksum or none"
+        note(f"{source}: {places.wrong} lines {kind} were not read")
+    check_span(options.file, file, places, source)
+    return places
+
+
+def check_track(path: pathlib.Path) -> None:
+    """Refuses a track that is not there, or that its name does not say how to read; it may still grow."""
+    if not track.is_named_as_one(path):
+        track.read(path)
+    path.stat()
+
+
+def check_span(name: pathlib.Path, file: RadioFile, places: Places, source: pathlib.Path) -> None:
+    """Notes where a track does not have all of a file's time, and refuses one that has none of it."""
     ends = [time_at(file, sample / file.rate) for one in file.stretches for sample in (one.first, one.end - 1)]
     times = sorted(time for time in ends if time is not None)
     if not times:
-        raise Refused(
-            f"{options.file}: no time in it: --start 2026-05-01T09:30:00+02:00 says when its first sample was"
-        )
-    between = f"is from {span(times[0], times[-1])}, and {options.track} from {span(places.first, places.last)}"
+        raise Refused(f"{name}: no time in it: --start 2026-05-01T09:30:00+02:00 says when its first sample was")
+    between = f"is from {span(times[0], times[-1])}, and {source} from {span(places.first, places.last)}"
     if times[0] > places.last or times[-1] < places.first:
-        raise Refused(f"{options.file}: {between}: no place for any of it")
+        raise Refused(f"{name}: {between}: no place for any of it")
     if times[0] < places.first or times[-1] > places.last:
-        note(f"{options.file}: {between}: no places before and after that")
-    return places
+        note(f"{name}: {between}: no places before and after that")
 
 
 def span(first: float, last: float) -> str:

@@ -15,7 +15,7 @@ from typing import TYPE_CHECKING, Any, NamedTuple, Sequence
 import numpy as np
 from scipy import fft
 
-from . import bands, hints, levels, radio, radio_file
+from . import bands, hints, levels, radio, radio_file, recorded, sources
 from .cells import SeenCell, joined
 from .continuity import Jump, as_one
 from .doubts import doubts_of
@@ -24,7 +24,7 @@ from .options import SurveyOptions
 from .radio_file import RadioFile
 from .sightings import NEAR, WINDOW, Sighting, Task, distance, energy, offset_in, sightings
 from .summary import Looked, survey_of_cells
-from .survey_data import Scan, Survey, SurveyCell
+from .survey_data import Scan, Spectrum, Survey, SurveyCell
 from .to_ci16 import ratio_of
 
 if TYPE_CHECKING:
@@ -32,6 +32,7 @@ if TYPE_CHECKING:
 
 SAME = 2_000  # hertz by which one cell may seem to stand elsewhere, by the raster's other frequency
 HELD = 8  # bytes of a sample in memory
+SPECTRA, BRIEF, FLOOR = 4, 0.05, 1e-20  # windows of a spectrum, seconds of each, and the least power of it
 TOGETHER, EACH = 8, 4  # least frequencies that a process takes from one transform, and how often each has its turn
 
 
@@ -173,7 +174,8 @@ def scanned(options: SurveyOptions, file: RadioFile, ask: Ask) -> Survey:
     hint = None if any(not cell.chance for cell in cells) else why_none(ask, found, by_shift)
     jumps = different([jump for _, own in whole.values() for jump in own])
     survey = survey_of_cells(options, file, [], Looked(len(starts), spoiled, jumps=jumps), hint)
-    return dataclasses.replace(survey, cells=cells, scan=frequencies(file, shifts))
+    spectrum = spectrum_of(ask, file, starts)
+    return dataclasses.replace(survey, cells=cells, scan=frequencies(file, shifts, spectrum))
 
 
 def different(jumps: Sequence[Jump]) -> list[Jump]:
@@ -205,10 +207,30 @@ def why_none(
     return hints.added("no sure cell at any of these frequencies", ask("why", reason_in, [asked])[0])
 
 
-def frequencies(file: RadioFile, shifts: Sequence[float]) -> Scan:
+def frequencies(file: RadioFile, shifts: Sequence[float], spectrum: Spectrum | None = None) -> Scan:
     """Returns which frequencies were looked at, in hertz, or above the centre where it is not known."""
     centre = centre_of(file)
-    return Scan(radio_file.whole(centre + shifts[0]), radio_file.whole(centre + shifts[-1]), len(shifts))
+    return Scan(sources.whole(centre + shifts[0]), sources.whole(centre + shifts[-1]), len(shifts), spectrum)
+
+
+def spectrum_of(ask: Ask, file: RadioFile, starts: Sequence[tuple[float, float]]) -> Spectrum | None:
+    """Returns the mean spectrum of some windows, None if none has numbers."""
+    some = [starts[i] for i in sorted({len(starts) * k // SPECTRA for k in range(SPECTRA)})]
+    tasks = [Task(file, start, min(length, BRIEF)) for start, length in some]
+    found = [one for one in ask("spectrum", recorded_in, tasks) if one is not None]
+    if not found:
+        return None
+    power = np.mean([one.power.mean(1) for one in found], axis=0)
+    levels = tuple(round(float(level), 1) for level in 10 * np.log10(np.maximum(power, FLOOR)))
+    return Spectrum(round(centre_of(file) + found[0].lowest, 1), round(found[0].step, 3), levels)
+
+
+def recorded_in(task: Task) -> recorded.Recorded | None:
+    """Returns what a window of the file is like, None if its samples are not numbers."""
+    try:
+        return recorded.recorded(task.file, task.start, task.length)
+    except radio_file.Spoiled:
+        return None
 
 
 def nearest(by_shift: dict[float, list[SeenCell]]) -> list[tuple[float, SeenCell]]:
@@ -241,13 +263,13 @@ def cell_at(
 ) -> SurveyCell:
     """Returns a cell as the survey has it, and its frequency."""
     centre = centre_of(file)
-    here = dataclasses.replace(file, carrier=radio_file.whole(centre + shift) if centre else 0)
+    here = dataclasses.replace(file, carrier=sources.whole(centre + shift) if centre else 0)
     (found,) = survey_of_cells(options, here, [cell], Looked(1)).cells
     return dataclasses.replace(
         found,
         chance=cell.is_chance(by_shift[shift]),
         doubts=() if cell.is_chance(by_shift[shift]) else doubts_of(cell, by_shift[shift]),
-        shift=radio_file.whole(shift),
+        shift=sources.whole(shift),
         frequency=here.carrier or None,
         earfcns=tuple(bands.earfcns_of(here.carrier)) if centre else (),
     )

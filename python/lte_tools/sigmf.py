@@ -18,11 +18,21 @@ FASTEST = 1e12  # samples per second, and hertz
 
 
 class Capture(NamedTuple):
-    """From this sample on the radio was tuned to this frequency in hertz, 0 if it is not known."""
+    """From this sample on the radio was tuned to this frequency in hertz, 0 if it is not known; `stream_index` is the number of
+    the sample in the radio's own stream."""
 
     first: int
     centre: float
     datetime: str | None
+    stream_index: int | None = None
+
+    @property
+    def time(self) -> float | None:
+        """Seconds since 1970 of the first sample, or None. A time without a zone is UTC."""
+        if self.datetime is None:
+            return None
+        time = datetime.datetime.fromisoformat(self.datetime)
+        return (time if time.tzinfo else time.replace(tzinfo=datetime.timezone.utc)).timestamp()
 
 
 class Meta(NamedTuple):
@@ -151,8 +161,12 @@ def capture_of(path: pathlib.Path, number: int, value: Any) -> Capture:
         raise Refused(f"{where}: core:sample_start {foreign.shown(first)} is not a sample's number")
     if not is_number(centre) or centre < 0:
         raise Refused(f"{where}: core:frequency {foreign.shown(centre)} is not a number of hertz")
-    time = value.get("core:datetime")
-    return Capture(first, centre, time if is_time(time) else None)
+    time, index = value.get("core:datetime"), value.get("core:global_index")
+    if time is not None and not is_time(time):
+        raise Refused(f"{where}: core:datetime {foreign.shown(time)} is not a time such as 2026-05-01T10:00:00.000Z")
+    if index is not None and (not is_count(index) or not 0 <= index < 2**62):
+        raise Refused(f"{where}: core:global_index {foreign.shown(index)} is not a sample's number")
+    return Capture(first, centre, time, index)
 
 
 def is_time(text: Any) -> bool:

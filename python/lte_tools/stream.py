@@ -9,6 +9,16 @@ import time
 from typing import NamedTuple
 
 PIPE = 1 << 20  # bytes that the pipe holds, where the system allows it
+PAUSE = 0.5  # seconds without samples after which a radio began again
+AGAIN = 0.1  # seconds until a named pipe without a writer is read again
+
+
+class Pause(NamedTuple):
+    """Samples came again: the byte from which on, after how many seconds, and when, in seconds since 1970."""
+
+    place: int
+    seconds: float
+    time: float
 
 
 class Window(NamedTuple):
@@ -22,8 +32,10 @@ class Window(NamedTuple):
 class Ring:
     """Windows that wait. Where there is no room the oldest is skipped, or the reader waits."""
 
-    def __init__(self, room: int, waits: bool) -> None:
+    def __init__(self, room: int, waits: bool, stays: bool = False) -> None:
         self.room, self.waits = room, waits
+        self.stays = stays  # whether a pipe that has no writer may get another one
+        self.pauses: list[Pause] = []
         self.windows: collections.deque[Window] = collections.deque()
         self.changed = threading.Condition()
         self.skipped, self.size = 0, 0  # windows, and bytes that came
@@ -98,12 +110,12 @@ class Reader:
     def __init__(self, source: int, ring: Ring) -> None:
         self.source, self.ring = source, ring
         self.held = bytearray()
-        self.begin = 0
+        self.begin, self.width = 0, 1
 
     def read(self, shape: Shape) -> None:
         """Puts each window into the ring."""
         try:
-            number = 0
+            number, self.width = 0, shape.width
             while not self.ring.is_ended:
                 first = round(shape.before + number * shape.every)
                 if not self.is_at(first * shape.width):
@@ -133,8 +145,21 @@ class Reader:
 
     def more(self, size: int) -> bytes:
         """Returns some bytes, none at the end."""
-        data = b"" if self.ring.is_ended else os.read(self.source, min(size, PIPE))
+        before = time.monotonic()
+        data = self.read_some(size)
         if data and self.ring.begun is None:
             self.ring.begun = time.time()
+        elif data and time.monotonic() - before > PAUSE and not self.ring.waits:
+            self.ring.pauses.append(Pause(self.ring.size, time.monotonic() - before, time.time()))
         self.ring.size += len(data)
+        return data
+
+    def read_some(self, size: int) -> bytes:
+        """Returns what a read gives. A sample that was cut when a radio ended is filled, and the next writer is awaited."""
+        data = b"" if self.ring.is_ended else os.read(self.source, min(size, PIPE))
+        while not data and self.ring.stays and not self.ring.is_ended:
+            if cut := self.ring.size % self.width:
+                return bytes(self.width - cut)
+            time.sleep(AGAIN)
+            data = os.read(self.source, min(size, PIPE))
         return data

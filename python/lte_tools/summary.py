@@ -15,7 +15,7 @@ from .doubts import doubts_of
 from .options import SurveyOptions
 from .radio_file import RadioFile
 from .sightings import WINDOW, Sighting
-from .survey_data import Power, Seen, Step, Survey, SurveyCell
+from .survey_data import Part, Power, Seen, Step, Survey, SurveyCell
 
 SURE, BESIDE, LINE = 15, 0.5, 4  # hertz of an error; seconds about a sighting, and sightings that give a straight line
 DOPPLER = 60  # hertz by which the offset of one cell mostly differs from another's
@@ -88,7 +88,18 @@ def survey_of_cells(
         gaps=tuple(jump.gap(file.rate) for jump in looked.jumps),
         powers=tuple(looked.powers),
         steps=tuple(looked.steps),
+        parts=parts_of(file),
     )
+
+
+def parts_of(file: RadioFile) -> tuple[Part, ...]:
+    """Returns the stretches of a file that has several."""
+    found = []
+    for one in file.stretches if len(file.stretches) > 1 else ():
+        first, seconds = (round(count / file.rate, 6) for count in (one.first, one.end - one.first))
+        missing = None if one.missing is None else round(one.missing, 6)
+        found.append(Part(str(file.part_at(one.first).name), first, seconds, file.time_at(first), missing))
+    return tuple(found)
 
 
 def surveyed(cell: SeenCell, cells: Sequence[SeenCell], file: RadioFile, surest: dict[float, Sighting]) -> SurveyCell:

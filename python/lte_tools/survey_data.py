@@ -145,6 +145,19 @@ class Track(Answer):
 
 
 @dataclass(frozen=True)
+class Part(Answer):
+    """One of several files, or captures of SigMF, in the order of time: the second of the survey at which it begins, its
+    length in seconds, the time of its first sample, and the seconds that are missing in front of it, None if not known.
+    """
+
+    file: str
+    first: float
+    seconds: float
+    datetime: str | None
+    missing: float | None
+
+
+@dataclass(frozen=True)
 class Gap(Answer):
     """Missing samples: the seconds of the file between which they are missing, and their number at the file's rate, modulo
     10.24 s. A radio that was restarted has such a gap too."""
@@ -174,12 +187,24 @@ class Step(Answer):
 
 
 @dataclass(frozen=True)
+class Spectrum(Answer):
+    """The power of a file over frequency: `levels` in dBFS in 15 kHz, the first at `first` hertz, the others `step` hertz
+    apart. Frequencies are above the file's centre where that is not known."""
+
+    first: float
+    step: float
+    levels: tuple[float, ...]
+
+
+@dataclass(frozen=True)
 class Scan(Answer):
-    """The frequencies of a scan: first and last in hertz, or above the centre where that is not known, and the count."""
+    """The frequencies of a scan: first and last in hertz, or above the centre where that is not known, the count, and the
+    file's spectrum."""
 
     first: float
     last: float
     count: int
+    spectrum: Optional[Spectrum] = None
 
 
 @dataclass(frozen=True)
@@ -224,13 +249,14 @@ class Survey(Answer):
     gaps: tuple[Gap, ...] = ()
     powers: tuple[Power, ...] = ()
     steps: tuple[Step, ...] = ()
+    parts: tuple[Part, ...] = ()
 
     @classmethod
     def from_json(cls, value: Any, name: str = "survey") -> Survey:
         """Returns the survey of a JSON value; `name` is that of its file in a refusal."""
         foreign.check(value, "survey", name)
         found = records.from_json(cls, value)
-        times = [found.datetime, *(cell.datetime for cell in found.cells)]
+        times = [found.datetime, *(one.datetime for one in found.parts), *(cell.datetime for cell in found.cells)]
         for text in [*times, *(one.datetime for cell in found.cells for one in cell.seen)]:
             try:
                 if text is not None:
@@ -243,8 +269,8 @@ class Survey(Answer):
         """Returns the survey's JSON, or that without single windows."""
         found: dict[str, Any] = {one.name: records.plain(getattr(self, one.name)) for one in fields(self)}
         found["cells"] = [cell.to_json(self.track is not None) for cell in self.cells]
-        for key in ("track", "scan", "live"):
-            if found[key] is None:
+        for key in ("track", "scan", "live", "parts"):
+            if found[key] in (None, []):
                 del found[key]
         if not has_windows:
             for cell in found["cells"]:

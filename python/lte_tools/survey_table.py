@@ -7,8 +7,9 @@ from typing import Sequence
 
 from .answers import STEP_HERTZ
 from .columns import BY_KEY, CHANCE, CSV_KEYS, Value, doubt_meaning, doubt_text, table_columns
-from .survey_data import Gap, Live, Scan, Step, Survey, SurveyCell
+from .survey_data import Gap, Live, Part, Scan, Step, Survey, SurveyCell
 
+GAPS = 4  # between files, that the table lists
 FORMULA = ("=", "+", "-", "@", "\t", "\r")  # with which a spreadsheet begins a formula
 
 
@@ -51,6 +52,7 @@ def notes_of(survey: Survey) -> list[str]:
     return [
         *[CHANCE] * survey.has_chance,
         *(f"? {doubt_text(word)}: {doubt_meaning(word)}" for word in words),
+        *([parts_text(survey.parts)] if survey.parts else []),
         *(gap_text(gap, survey.rate) for gap in survey.gaps),
         *(loop_text(cell) for cell in survey.cells if cell.repeats is not None),
         *([steps_text(survey.steps)] if survey.steps else []),
@@ -61,6 +63,21 @@ def gap_text(gap: Gap, rate: float) -> str:
     """Returns a sentence on missing samples; a radio that was restarted looks as if many were missing."""
     more = " or the radio was restarted" if gap.samples > rate else ""
     return f"{gap.samples:,} samples are missing{more} between {gap.first:.2f} and {gap.last:.2f} s"
+
+
+def parts_text(parts: Sequence[Part]) -> str:
+    """Returns a sentence on the files or captures of a survey, and on what is missing between them."""
+    count = len({one.file for one in parts})
+    text = f"{count} files in the order of time" if count > 1 else f"{len(parts)} captures"
+    gaps = [
+        f"{one.missing:,.{2 if one.missing < 10 else 0}f} s in front of second {one.first:.2f}"
+        for one in parts
+        if one.missing
+    ]
+    unknown = sum(one.missing is None for one in parts)
+    shown = [*gaps[:GAPS], *([f"{len(gaps) - GAPS} further gaps"] if len(gaps) > GAPS else [])]
+    missing = f", missing between them: {', '.join(shown)}" if gaps else ""
+    return f"{text}{missing}{f', {unknown} gaps not known' if unknown else ''}"
 
 
 def loop_text(cell: SurveyCell) -> str:
@@ -82,7 +99,9 @@ def steps_text(steps: Sequence[Step]) -> str:
 
 def head_of(survey: Survey) -> str:
     """Returns the line on the file."""
-    parts = [f"{survey.file}: {survey.seconds:.2f} s", windows_text(survey.windows)]
+    further = len({one.file for one in survey.parts} - {survey.file})
+    files = f" and {further} further file{'s' * (further > 1)}" if further else ""
+    parts = [f"{survey.file}{files}: {survey.seconds:.2f} s", windows_text(survey.windows)]
     if survey.datetime:
         parts.insert(1, f"from {survey.datetime} on")
     if survey.spoiled:

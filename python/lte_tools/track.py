@@ -1,8 +1,9 @@
-"""Places by time, from a GPX, NMEA or CSV file.
+"""Places by time, from a GPX, NMEA or CSV file, or from the JSON lines of gpsd.
 
 GPX: each `trkpt` with a `time`. NMEA: RMC, which has the date, and GGA after one; a line whose checksum is wrong or
 missing is counted and not read, nor is one without a fix. CSV: a head line with `time`, `lat` and `lon`, which may have
-other columns; a time as in ISO 8601 with its zone, or seconds since 1970. Places are WGS84, in degrees.
+other columns; a time as in ISO 8601 with its zone, or seconds since 1970. gpsd: each TPV with a fix; a line that is not
+JSON is counted and not read. Places are WGS84, in degrees.
 """
 from __future__ import annotations
 
@@ -10,6 +11,7 @@ import bisect
 import csv
 import datetime
 import io
+import json
 import pathlib
 import re
 import xml.parsers.expat
@@ -71,25 +73,42 @@ def on_line(before: Place, after: Place, time: float) -> Place:
 Reader = Callable[[str], "tuple[list[Place], int]"]
 
 
-def read(path: pathlib.Path) -> Track:
-    """Returns the track of a file, by its name; refuses one that is not a track or has no place with a time."""
-    readers: dict[str, Reader] = {
+def readers() -> dict[str, Reader]:
+    """Returns the readers by the end of a file's name."""
+    return {
         ".gpx": of_gpx,
         ".nmea": of_nmea,
         ".nme": of_nmea,
         ".log": of_nmea,
         ".csv": of_csv,
+        ".json": of_gpsd,
+        ".jsonl": of_gpsd,
     }
-    reader = readers.get(path.suffix.lower())
+
+
+def is_named_as_one(path: pathlib.Path) -> bool:
+    """Returns whether a file's name is that of a track."""
+    return path.suffix.lower() in readers()
+
+
+def read(path: pathlib.Path) -> Track:
+    """Returns the track of a file, by its name; refuses one that is not a track or has no place with a time."""
+    reader = readers().get(path.suffix.lower())
     if reader is None:
-        raise Refused(f"{path}: a track is .gpx, .nmea or .csv")
-    text = foreign.read(path, MOST_BYTES).decode("utf-8-sig", errors="replace")
+        raise Refused(f"{path}: a track is .gpx, .nmea or .csv, or .json of gpsd")
+    return of_text(path, foreign.read(path, MOST_BYTES), reader)
+
+
+def of_text(path: pathlib.Path, data: bytes, reader: Reader) -> Track:
+    """Returns the track of a file's bytes; refuses one that has no place with a time."""
+    text = data.decode("utf-8-sig", errors="replace")
     try:
         places, wrong = reader(text)
     except BadTrack as fault:
         raise Refused(f"{path}: {fault}") from None
     if not places:
-        no_line = f": {wrong} lines have a wrong checksum or none" if wrong else ""
+        why = "are not JSON" if reader is of_gpsd else "have a wrong checksum or none"
+        no_line = f": {wrong} lines {why}" if wrong else ""
         raise Refused(f"{path}: no place with a time in it{no_line}")
     return Track(in_order(path, places), wrong)
 
@@ -306,3 +325,40 @@ def degrees(text: str, digits: int, is_negative: bool) -> float:
         raise BadTrack(f"{foreign.shown(text)} is not a place")
     value = int(text[:digits]) + float(text[digits:]) / 60
     return -value if is_negative else value
+
+
+# ---- gpsd
+
+
+def gpsd_place(line: str) -> Place | None:
+    """Returns the place of a line of gpsd, None if it reports no fix; refuses one that is not a JSON object."""
+    try:
+        found = json.loads(line)
+    except (ValueError, RecursionError):
+        found = None
+    if not isinstance(found, dict):
+        raise BadTrack(f"{foreign.shown(line.strip())} is not an object of JSON")
+    if found.get("class") != "TPV" or not isinstance(found.get("mode"), int) or found["mode"] < 2:
+        return None
+    time, lat, lon = (found.get(key) for key in ("time", "lat", "lon"))
+    if time is None or lat is None or lon is None:
+        return None
+    return place_of(seconds_of(str(time)), str(lat), str(lon))
+
+
+def of_gpsd(text: str) -> tuple[list[Place], int]:
+    """Returns the place of each report of a fix that is later than those in front of it."""
+    places: list[Place] = []
+    wrong = 0
+    for line in text.splitlines():
+        if not line.strip():
+            continue
+        if not line.lstrip().startswith("{"):
+            wrong += 1
+            continue
+        place = gpsd_place(line) if line.rstrip().endswith("}") else None
+        wrong += not line.rstrip().endswith("}")
+        if place is not None and (not places or place.time > places[-1].time):
+            places.append(place)
+            check_count(places)
+    return places, wrong

@@ -70,7 +70,7 @@ def test_meaning_of_a_word(heading, word, text):
 
 def test_schema_has_the_fields_of_the_survey(survey):
     defined = foreign.schema()["$defs"]
-    assert set(survey.to_json()) | {"live", "scan", "track"} == set(defined["survey"]["properties"])
+    assert set(survey.to_json()) | {"live", "parts", "scan", "track"} == set(defined["survey"]["properties"])
     cell = dataclasses.replace(survey.cells[0], shift=0.0)
     assert set(cell.to_json()) == set(defined["surveyed"]["properties"])
     assert set(cell.to_json(True)["seen"][0]) == set(defined["sighting"]["properties"])

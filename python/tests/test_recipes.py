@@ -251,7 +251,6 @@ def test_browser_sorts_the_page(surveyed, walk, tmp_path, command):
     assert re.search('aria-sort="ascending"[^>]*><button>PCI<', command(*words).decode())
 
 
-@needs("parallel")
 def test_many_files(tmp_path, samples):
     (tmp_path / "a b.ci16").write_bytes(samples)
     (tmp_path / "empty.cu8").write_bytes(b"")

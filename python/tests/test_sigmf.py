@@ -112,5 +112,15 @@ def test_headers_and_datasets(tmp_path):
         sigmf.read(meta_file(tmp_path, whole={**WHOLE, "core:dataset": "x"}))
 
 
-def test_a_time_that_is_none(tmp_path):
-    assert sigmf.read(meta_file(tmp_path, captures=[{"core:datetime": 5}])).captures[0].datetime is None
+@pytest.mark.parametrize("time", [5, "yesterday", "2026-13-01T00:00:00Z", "0001-01-01T00:00:00Z", [], True])
+def test_a_time_that_is_none(tmp_path, time):
+    with pytest.raises(machine.Refused, match="^[^\n]*captures\\[1\\]: core:datetime .* is not a time"):
+        sigmf.read(meta_file(tmp_path, captures=[CAPTURE, {"core:sample_start": 5, "core:datetime": time}]))
+
+
+def test_times_and_numbers_of_the_stream(tmp_path):
+    captures = [{"core:datetime": None}, {"core:sample_start": 5, "core:datetime": "2026-03-01T10:00:00.5"}]
+    first, second = sigmf.read(meta_file(tmp_path, captures=captures)).captures
+    assert first.time is None and second.time == 1772359200.5
+    with pytest.raises(machine.Refused, match="core:global_index -1 is not"):
+        sigmf.read(meta_file(tmp_path, captures=[{"core:global_index": -1}]))

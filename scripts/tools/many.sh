@@ -8,11 +8,10 @@
 # one (MACHINES=:,radio1,8/radio2); programs, scripts and files are carried there by ssh and rsync, and taken away
 # again: name the files from the folder that you are in. LTE_CLI and LTE_TUNE name the programs, else they are those
 # built here.
-# Debian: parallel, python3-numpy, python3-scipy, with MACHINES rsync.
+# Debian: python3-numpy, python3-scipy, with MACHINES parallel and rsync.
 set -eu
 top=$(cd "$(dirname "$0")/../.." && pwd)
 python=$top/python
-command -v parallel > /dev/null || { echo "many.sh: no parallel (Debian: parallel)" >&2; exit 1; }
 cli=$(realpath -m "${LTE_CLI:-$top/crates/lte_cli/out/lte_cli}")
 tune=$(realpath -m "${LTE_TUNE:-$top/crates/lte_tune/out/lte_tune}")
 for program in "$cli" "$tune"; do
@@ -22,13 +21,30 @@ one_head() { # the line of names once
     awk 'NR == 1 { head = $0; print } $0 != head'
 }
 
+survey() { # survey FILE NUMBER: the table of a file, kept by its number in the order of the files
+    # shellcheck disable=SC2086 # SURVEY has several words
+    /usr/bin/python3 -m lte_tools.survey "$1" --csv --jobs 1 ${SURVEY:-} > "$room/$2.csv" 2> "$room/$2.err" ||
+        touch "$room/$2.refused"
+}
+
 if [ -z "${MACHINES:-}" ]; then
     export LTE_CLI=$cli LTE_TUNE=$tune
     export PYTHONPATH=$python
-    survey="/usr/bin/python3 -m lte_tools.survey {} --csv --jobs 1 ${SURVEY:-}"
-    parallel --will-cite --keep-order "$survey" ::: "$@" | one_head
-    exit "${PIPESTATUS[0]}"
+    room=$(mktemp -d)
+    trap 'rm -rf "$room"' EXIT
+    number=0
+    for file; do
+        [ "$number" -lt "$(nproc)" ] || wait -n || true
+        number=$((number + 1))
+        survey "$file" "$(printf %09d "$number")" &
+    done
+    wait
+    cat "$room"/*.err >&2
+    cat "$room"/*.csv | one_head
+    refused=$(find "$room" -name '*.refused' | wc -l)
+    exit $((refused > 101 ? 101 : refused))
 fi
+command -v parallel > /dev/null || { echo "many.sh: no parallel, for MACHINES (Debian: parallel)" >&2; exit 1; }
 copy=.many.$$                                    # carried to each machine, beside the files
 mkdir "$copy"
 trap 'rm -rf "$copy"' EXIT

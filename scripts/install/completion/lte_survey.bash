@@ -16,11 +16,12 @@ _lte_survey() {
         --jobs) compopt +o default 2> /dev/null; return ;;
         --earfcn) compopt +o default 2> /dev/null; return ;;
         --track) return ;;
+        --gpsd) return ;;
         --start) compopt +o default 2> /dev/null; return ;;
         --geojson) return ;;
         --pcap) return ;;
         --html) return ;;
-        *) if [[ $current == -* ]]; then choices='-h --help --form --rate --shift --carrier --at --exchanged --channel --every --offset --gain --jobs --scan --earfcn --follow --wait --track --start --geojson --pcap --html --csv --json'; else return; fi ;;
+        *) if [[ $current == -* ]]; then choices='-h --help --form --rate --shift --carrier --at --exchanged --channel --every --offset --gain --jobs --scan --earfcn --follow --wait --track --gpsd --start --geojson --pcap --html --csv --json'; else return; fi ;;
     esac
     mapfile -t COMPREPLY < <(compgen -W "$choices" -- "$current")
 }
