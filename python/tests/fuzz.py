@@ -1,6 +1,7 @@
 """python3 -m tests.fuzz [COUNT [SEED]], in python/
 
-Gives COUNT (5000) mutated inputs to the readers of foreign files: SigMF pairs and archives, tracks as GPX, NMEA and CSV,
+Gives COUNT (5000) mutated inputs to the readers of foreign files: SigMF pairs and archives, WAV, files as one drive,
+tracks as GPX, NMEA, CSV and gpsd's JSON,
 what lte_survey and lte_cli wrote as JSON, and files of samples. Each has to be read, or to be refused in one line: no
 other exception, and no part of an output. Memory is limited to 2 GB. Prints what is not so, and a count; the status is 1
 where anything is. The same SEED (1) gives the same inputs.
@@ -10,13 +11,14 @@ import json
 import pathlib
 import random
 import resource
+import struct
 import sys
 import tarfile
 import tempfile
 
 import numpy as np
 
-from lte_tools import foreign, machine, options, pcap, radio_file, survey_page, track
+from lte_tools import foreign, machine, options, pcap, radio_file, summary, survey_page, track
 from lte_tools.survey_data import Survey
 
 TOP = pathlib.Path(__file__).resolve().parents[2]
@@ -29,7 +31,16 @@ GPX = "<?xml version='1.0'?><gpx><trk><trkseg>{}</trkseg></trk></gpx>".format(
 )
 CSV = "time,lat,lon\n2026-05-01T10:00:05Z,1,2\n1777629606,1.5,2.5\n"
 NMEA = "$GPRMC,100005.00,A,0100.0,N,00200.0,E,1.0,2.0,010526,,,A*5B\n$GPGGA,100006.00,0100.0,N,00200.0,E,1,08,1,1,M,,M,,*5F\n"
-META = {"global": {"core:datatype": "cu8", "core:sample_rate": 2.4e6}, "captures": [{"core:frequency": 796e6}]}
+GPSD = '{"class":"TPV","mode":3,"time":"2026-05-01T10:00:05.000Z","lat":1,"lon":2}\n{"class":"SKY"}\n'
+META = {
+    "global": {"core:datatype": "cu8", "core:sample_rate": 2.4e6},
+    "captures": [{"core:frequency": 796e6, "core:datetime": "2026-05-01T10:00:00Z", "core:global_index": 5}],
+}
+WAVE = (
+    struct.pack("<4sI4s4sIHHIIHH", b"RIFF", 0, b"WAVE", b"fmt ", 16, 1, 2, 2_400_000, 0, 0, 8)
+    + struct.pack("<4sI8H8H9I", b"auxi", 68, *(2026, 5, 5, 1, 10, 0, 0, 0) * 2, 796_000_000, *(0,) * 8)
+    + struct.pack("<4sI", b"data", 300_000)
+)
 TOKENS = [
     "0",
     "-1",
@@ -109,7 +120,7 @@ def either(draw, value):
 
 
 def try_track(draw, folder):
-    suffix, text = draw.choice(((".gpx", GPX), (".csv", CSV), (".nmea", NMEA)))
+    suffix, text = draw.choice(((".gpx", GPX), (".csv", CSV), (".nmea", NMEA), (".json", GPSD)))
     path = folder / f"a{suffix}"
     path.write_bytes(mutated(draw, text.encode()))
     way = track.read(path)
@@ -148,11 +159,32 @@ def try_samples(draw, folder):
     )
 
 
+def try_wave(draw, folder):
+    name = draw.choice(("a.wav", "HDSDR_20260501_100000Z_796000kHz_RF.wav", "baseband_9Hz_10-15-30_14-07-2026.wav"))
+    (folder / name).write_bytes(mutated(draw, WAVE) + received(draw, "u8", draw.choice((0, 999, 300_000, 300_000))))
+    read_file(folder / name, carrier=draw.choice((0, 796.3e6)))
+
+
+def try_drive(draw, folder):
+    paths = [folder / f"a_20260501_1000{draw.randrange(100):02}{draw.choice(('', 'Z'))}.cu8", folder / "a.sigmf-meta"]
+    (folder / "a.sigmf-meta").write_bytes(either(draw, META))
+    (folder / "a.sigmf-data").write_bytes(received(draw, "u8", 300_000))
+    paths[0].write_bytes(received(draw, "u8", 300_000))
+    draw.shuffle(paths)
+    file = read_file(paths[0], further=tuple(paths[1:]), rate=2.4e6)
+    Survey.from_json({**json.loads((OUTPUTS / "survey.json").read_text()), "parts": parts_json(file)})
+
+
+def parts_json(file):
+    return [one.to_json() for one in summary.parts_of(file)]
+
+
 def read_file(path, **keys):
     file = radio_file.opened(options.FileOptions(path, **keys))
     for start, seconds in file.starts(0, 0.17, 10)[:2]:
         file.recording(start, min(seconds, 0.17))
         file.time_at(start)
+    return file
 
 
 def try_survey(draw, folder):
@@ -171,7 +203,7 @@ def try_evidence(draw, folder):
     out.unlink()
 
 
-KINDS = (try_track, try_sigmf, try_archive, try_samples, try_survey, try_evidence)
+KINDS = (try_track, try_sigmf, try_archive, try_wave, try_drive, try_samples, try_survey, try_evidence)
 
 
 def fault_of(draw, kind, folder):

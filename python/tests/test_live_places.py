@@ -1,7 +1,7 @@
 """Standard input with places, gpsd's lines, and radios that begin again."""
 import json
 import os
-import threading
+import subprocess
 import time
 
 import pytest
@@ -101,16 +101,12 @@ def test_places_of_a_pipe(tool, sent, tmp_path, monkeypatch):
     way.write_text("time,lat,lon\n2026-05-01T07:30:00Z,52,13\n2026-05-01T07:30:10Z,51,14\n")
     words = ["-", "--form", "u8", "--offset", "0", "--jobs", "1", "--json", "--track", way]
 
+    (tmp_path / "samples").write_bytes(as_radio(sent, "u8", 1_920_000))
+
     def run(*more):
-        inlet, outlet = os.pipe()
-        data = as_radio(sent, "u8", 1_920_000)
-        thread = threading.Thread(target=lambda: (os.write(outlet, data), os.close(outlet)))
-        thread.start()
-        monkeypatch.setattr(live, "STDIN", inlet)
-        done = tool("survey", *words, *more)
-        os.close(inlet)
-        thread.join(5)
-        return done
+        with subprocess.Popen(["cat", tmp_path / "samples"], stdout=subprocess.PIPE) as writer:
+            monkeypatch.setattr(live, "STDIN", writer.stdout.fileno())
+            return tool("survey", *words, *more)
 
     start = ("--wait", "--start", "2026-05-01T09:30:01+02:00", "--geojson", geojson)
     done = run(*start)
