@@ -30,7 +30,7 @@ HISTORY = ("CHANGELOG.md",)
 BUDGETS = {
     "README.md": 2150,
     "CONTRIBUTING.md": 2350,
-    "CHANGELOG.md": 2100,
+    "CHANGELOG.md": 2300,
     "docs/ARCHITECTURE.md": 4200,
     "docs/CLAIMS.md": 5700,
     "docs/DECISIONS.md": 5000,

@@ -259,11 +259,12 @@ def survey(path: str | os.PathLike[str], **keys: Any) -> Survey:
     """Returns the survey of a file, as `lte_survey` makes it.
 
     `keys` are the fields of `lte_tools.SurveyOptions`: rate, form, shift, carrier, at, every, offset, gain, jobs, scan,
-    track, start and others, in the units that it names.
+    track, start and others, in the units that it names; `further` are the other files of a drive.
     """
     from . import surveying
 
-    for key in ("track", "geojson", "pcap", "html"):
+    keys["further"] = tuple(map(pathlib.Path, keys.get("further", ())))
+    for key in ("track", "gpsd", "geojson", "pcap", "html"):
         if isinstance(keys.get(key), str):
             keys[key] = pathlib.Path(keys[key])
     found = options.SurveyOptions(pathlib.Path(path), **keys)

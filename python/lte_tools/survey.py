@@ -1,5 +1,6 @@
 #!/usr/bin/python3
 """survey.py FILE [--form u8|s8|s16|f32|sigmf] [--rate R] [--shift HZ] [--at S] [--every S] [--csv | --json]
+survey.py PART.. [--rate R] [--json]
 survey.py FILE --track TRACK [--start TIME] [--html OUT] [--geojson OUT]
 survey.py FILE --pcap OUT.pcap
 survey.py FILE --scan [--carrier CENTRE]
@@ -19,10 +20,12 @@ and a generator's loop are stated below the table. Where no cell is sure, I and 
 all cells step together, the radio's gain has changed: levels are those at the first gain. --gain states it by time, as
 0:-20,14:-14: dBFS of a signal of 0 dBm from second 0 and from second 14.
 
-With --track each window gets the place of its time: the file's time is SigMF's, else --start. --html writes a page with
+Several files are one drive, in the order of their times, which SigMF, the header of a WAV file or the names have; what is
+missing between them is stated below the table. With --track each window gets the place of its time: the file's time is
+SigMF's, or that of --start, of the header or of the name. --gpsd reads places from gpsd, for - from a named pipe. --html writes a page with
 the table, which sorts, the cells over time, and a map where there are places. --pcap writes the blocks of MIB and SIB1 for
 Wireshark (pcap.py). --scan looks at each carrier of the 100 kHz raster in the file. Standard input (-) is looked at as
-it comes, until it ends or a signal comes.
+it comes, until it ends or a signal comes; a radio may begin again. With --follow a named pipe waits for its next writer.
 
 Debian: python3-numpy, python3-scipy; for --html python3-matplotlib. Needs lte_cli and lte_tune (README, "Build").
 """

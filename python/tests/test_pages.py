@@ -9,7 +9,8 @@ import numpy as np
 import pytest
 
 from tests.conftest import EXAMPLES, TOP
-from lte_tools import columns, foreign, page, picture_map, picture_style, survey_page, survey_table
+from lte_tools import columns, foreign, page, picture_labels, picture_map, picture_scan, picture_style
+from lte_tools import survey_page, survey_table
 from lte_tools.rules import BY_NAME
 from lte_tools.survey_data import Echo, Gap, Power, Scan, Step, Survey
 
@@ -206,7 +207,7 @@ def test_map_has_the_strongest_cells(walk):
     strongest = [None if spot.cell is None else walk.cells[spot.cell].identity for spot in drawn.spots]
     assert strongest == [401] * 7 + [402] * 4 + [None]
     assert [drawn.signs[i][0] for i in sorted(drawn.signs)] == ["A", "B"]
-    assert len({sign[1:] for sign in picture_map.signs_of(range(36)).values()}) == 36
+    assert len({sign[1:] for sign in picture_labels.signs_of(range(36)).values()}) == 36
     first, last = drawn.spots[0], drawn.spots[-1]
     assert last.east - first.east == pytest.approx(0.0022 * 111_320 / 2, abs=1)
     assert last.north - first.north == pytest.approx(0.0011 * 111_320, abs=1)
@@ -284,3 +285,60 @@ def test_walks_sheet_is_of_the_shipped_survey():
         json.dumps(Survey.from_json(json.loads(text)).to_json(), sort_keys=True, separators=(",", ":")) == text.strip()
     )
     assert np.isfinite(Survey.from_json(json.loads(text)).cells[0].level)
+
+
+# ---- many cells, none, and scans
+
+
+def test_letters_do_not_overlap():
+    """60 cells along a winding way: each has a letter that lies on no mark and on no other letter."""
+    points = [
+        picture_labels.Point(6.0 * i - 800 if i // 240 % 2 else 640 - 6.0 * (i % 240), 70.0 * (i // 60), 4, i // 8)
+        for i in range(480)
+    ]
+    signs = picture_labels.signs_of(range(60), points)
+    names = {cell: letter for cell, (letter, _, _) in signs.items()}
+    assert len(set(names.values())) == 60 and len({sign[1:] for sign in signs.values()}) == 60
+    labels = picture_labels.labels_of(points, names, (4_000, 4_000))
+    assert {one.cell for one in labels} == set(range(60))
+    half = {cell: picture_labels.WIDE * len(name) / 2 for cell, name in names.items()}
+    for i, one in enumerate(labels):
+        for other in labels[:i]:
+            wide = half[one.cell] + half[other.cell]
+            assert abs(one.x - other.x) >= wide or abs(one.y - other.y) >= picture_labels.TALL
+    near = picture_labels.neighbours_of(points)
+    same = [pair for pair in near if pair[0] != pair[1] and signs[pair[0]][2] == signs[pair[1]][2]]
+    assert same == []
+
+
+def test_map_without_a_cell_has_no_sizes(survey):
+    places = [[13.4 + 0.0001 * i, 52.5] for i in range(12)]
+    found = dataclasses.replace(survey_of_places(survey, places), cells=(), hint="no sure cell")
+    figure = picture_map.map_sheet(found)
+    assert [text.get_text() for text in figure.axes[0].get_legend().get_texts()] == ["no sure cell"]
+    assert page.saved(figure, "png").startswith(b"\x89PNG")
+
+
+def test_map_of_many_cells(walk):
+    cells = tuple(dataclasses.replace(walk.cells[i % 2], identity=100 + i) for i in range(40))
+    figure = picture_map.map_sheet(dataclasses.replace(walk, cells=cells))
+    texts = {text.get_text() for ax in figure.axes for text in ax.texts}
+    assert {str(100 + i) for i in range(40)} <= texts and figure.get_size_inches()[1] < 16
+    assert page.saved(figure, "png").startswith(b"\x89PNG")
+
+
+def test_scan_names_carriers_in_its_spectrum(survey):
+    spectrum = Spectrum(2130e6, 1e6, tuple(-90.0 + i for i in range(21)))
+    cell = dataclasses.replace(survey.cells[0], shift=0.0, frequency=2140.1e6, earfcns=((1, 301),), bandwidth="n50")
+    others = [dataclasses.replace(cell, identity=i, frequency=f) for i, f in ((3, 2140.1e6), (7, 2141.0e6))]
+    found = dataclasses.replace(survey, cells=(cell, *others), scan=Scan(2131e6, 2149e6, 181, spectrum), carrier=2140e6)
+    assert Survey.from_json(found.to_json()) == found
+    carriers = picture_scan.carriers_of(found)
+    assert [one.lines for one in carriers] == [
+        ["2140.1 MHz", "EARFCN 301/b1", "PCI 271, 3"],
+        ["2141.0 MHz", "EARFCN 301/b1", "PCI 7"],
+    ]
+    assert [round(one.width, 2) for one in carriers] == [9.0, 9.0]
+    first, second = picture_scan.names_of(carriers, picture_scan.limits_of(found), 10)
+    assert first.up == 0 and second.up == 3
+    assert page.saved(picture_map.time_sheet(found), "png").startswith(b"\x89PNG")
