@@ -10,12 +10,14 @@ from __future__ import annotations
 import bisect
 import statistics
 from dataclasses import dataclass
-from typing import Callable, Union
+from typing import Callable, Generic, TypeVar, Union
 
 from .rules import BY_NAME
 from .survey_data import Survey, SurveyCell
 
 Value = Union[str, int, float, None]
+Row = TypeVar("Row")
+Whole = TypeVar("Whole")
 CHANCE = "? chance explains this line: it was seen once, or at another's place, and no SIB1 was read"
 # doubts about a cell that is no false detection: words of the JSON, and what they mean in the table
 DOUBTS = {
@@ -26,24 +28,25 @@ DOUBTS = {
 
 
 @dataclass(frozen=True)
-class Column:
+class Column(Generic[Row, Whole]):
     """A column: its key in the CSV and its heading in the table (None where it has none there), its unit, how many digits
-    after the point the table shows (None: the value as it is), what it means, and its value."""
+    after the point the table shows (None: the value as it is), what it means, and its value, of a row and of what the
+    table is of: for COLUMNS a cell and its survey."""
 
     key: str | None
     heading: str | None
     unit: str
     digits: int | None
     meaning: str
-    of: Callable[[SurveyCell, Survey], Value]
-    shown: Callable[[SurveyCell, Survey], str] | None = None  # the text in the table, where it is not the value's own
+    of: Callable[[Row, Whole], Value]
+    shown: Callable[[Row, Whole], str] | None = None  # the text in the table, where it is not the value's own
     is_left: bool = False
 
-    def text(self, cell: SurveyCell, survey: Survey) -> str:
+    def text(self, row: Row, whole: Whole) -> str:
         """Returns the text in the table."""
         if self.shown:
-            return self.shown(cell, survey)
-        value = self.of(cell, survey)
+            return self.shown(row, whole)
+        value = self.of(row, whole)
         return "-" if value is None else str(value) if self.digits is None else f"{value:.{self.digits}f}"
 
 
@@ -108,7 +111,7 @@ def frequency_of(cell: SurveyCell, survey: Survey) -> float | None:
     return survey.carrier if cell.shift is None else cell.frequency
 
 
-COLUMNS = (
+COLUMNS: tuple[Column[SurveyCell, Survey], ...] = (
     Column("file", None, "", None, "the file's name", lambda cell, survey: survey.file),
     Column(
         "earfcn",
@@ -360,7 +363,7 @@ MAP_MEANINGS = {
 }
 
 
-def table_columns(survey: Survey) -> list[Column]:
+def table_columns(survey: Survey) -> list[Column[SurveyCell, Survey]]:
     """Returns the columns of a survey's table: those with a heading, and the level in its unit."""
     other = {"dBFS": "dBm", "dBm": "dBFS"}[survey.unit]
     return [column for column in COLUMNS if column.heading not in (None, other)]

@@ -7,7 +7,6 @@ Debian: python3-numpy, python3-matplotlib.
 """
 from __future__ import annotations
 
-import bisect
 import itertools
 import math
 from collections import Counter
@@ -16,19 +15,18 @@ from typing import Any, NamedTuple, Sequence
 import numpy as np
 from matplotlib import collections, patheffects, pyplot, ticker
 
-from . import picture_labels, picture_scan, picture_survey
+from . import picture_labels, picture_scan, picture_survey, survey_windows
+from .ground import DEGREE, Ground
 from .picture_labels import Point, Sign
 from .picture_style import MARKS, WIDTH, fitted, headed, number_text
 from .survey_data import Survey, SurveyCell
 
 Windows = Sequence[tuple[float, float, float]]
 
-DEGREE = 111_195  # metres of a degree of latitude on a round earth
 LEAST = 40  # metres from the map's one side to the other
 MARGIN = 1.16  # by which the map is wider than what is on it
 APART, NARROW = 1 / 55, 6.1  # of the map's width, of these inches at most: windows within it are one mark
 SMALL, GREAT = 9, 110  # square points of marks
-WINDOW_SLACK = 1e-4  # seconds to which the survey's times are rounded
 LOW, HIGH = 3.4, 6.2  # inches of a map's height
 MAP, TABLE = (0.85, 6.1), (7.3, 4.55)  # inches from the left, and of width
 HEAD, FOOT, NOTES = 0.75, 0.95, 0.5  # inches above and below the map, and below the table
@@ -40,17 +38,6 @@ NOTHING = "#808080"
 
 
 # ---- what stands where
-
-
-class Ground(NamedTuple):
-    """A plane on the earth, in metres east and north of a place."""
-
-    lon: float
-    lat: float
-
-    def metres(self, lon: float, lat: float) -> tuple[float, float]:
-        east = (lon - self.lon + 180) % 360 - 180
-        return DEGREE * east * math.cos(math.radians(self.lat)), DEGREE * (lat - self.lat)
 
 
 class Spot(NamedTuple):
@@ -76,15 +63,13 @@ def windows_of(found: Survey) -> Windows:
 
 def strongest_of(found: Survey) -> dict[int, tuple[int, float]]:
     """Returns by the number of a window with a place its strongest sure cell, by its number, and that one's level."""
-    starts = [second for second, _, _ in windows_of(found)]
-    best: dict[int, tuple[float, int]] = {}
-    for number, cell in enumerate(found.cells):
-        for one in () if cell.chance else cell.seen:
-            i = bisect.bisect_right(starts, one.seconds + WINDOW_SLACK) - 1
-            if i >= 0 and one.seconds < starts[i] + found.window:
-                level = -math.inf if one.level is None else one.level
-                best[i] = max(best.get(i, (level, number)), (level, number), key=lambda pair: pair[0])
-    return {i: (number, level) for i, (level, number) in best.items()}
+    best = survey_windows.strongest_of(found)
+    placed = enumerate(second for second, _, _ in windows_of(found))
+    return {
+        i: (best[second].number, -math.inf if best[second].seen.level is None else best[second].level)
+        for i, second in placed
+        if second in best
+    }
 
 
 def spots_of(found: Survey) -> tuple[list[Spot], Ground]:
@@ -125,21 +110,17 @@ def leaders_of(spots: Sequence[Spot]) -> list[int]:
 # ---- the map
 
 
-class Map:
-    """What is drawn of a survey's places, for axes of so many inches."""
+class Frame:
+    """Axes of so many inches over places in metres on a plane."""
 
-    def __init__(self, found: Survey, width: float, highest: float = HIGH) -> None:
-        self.found = found
-        self.spots, self.ground = spots_of(found)
-        east, north = (np.array(values) for values in list(zip(*self.spots))[:2])
+    def __init__(
+        self, ground: Ground, spots: Sequence[tuple[float, float]], width: float, highest: float = HIGH
+    ) -> None:
+        self.ground = ground
+        east, north = (np.array(values) for values in zip(*spots))
         wide, tall = (MARGIN * max(float(np.ptp(values)), LEAST / MARGIN) for values in (east, north))
         self.width, self.height = width, min(highest, max(LOW, width * tall / wide))
         self.metres = max(wide / self.width, tall / self.height)  # of an inch
-        self.marks = marks_of(self.spots, self.near)
-        self.levels = [mark.level for mark in self.marks if mark.level is not None]
-        self.low, self.high = picture_survey.bounds(self.levels)
-        self.points = [self.point(mark) for mark in self.marks]
-        self.signs = picture_labels.signs_of(leaders_of(self.spots), self.points)
 
     @property
     def limits(self) -> tuple[tuple[float, float], tuple[float, float]]:
@@ -150,6 +131,20 @@ class Map:
     def near(self) -> float:
         """Metres within which windows are one mark."""
         return APART * self.metres * min(self.width, NARROW)
+
+
+class Map(Frame):
+    """What is drawn of a survey's places, for axes of so many inches."""
+
+    def __init__(self, found: Survey, width: float, highest: float = HIGH) -> None:
+        self.found = found
+        self.spots, ground = spots_of(found)
+        super().__init__(ground, [spot[:2] for spot in self.spots], width, highest)
+        self.marks = marks_of(self.spots, self.near)
+        self.levels = [mark.level for mark in self.marks if mark.level is not None]
+        self.low, self.high = picture_survey.bounds(self.levels)
+        self.points = [self.point(mark) for mark in self.marks]
+        self.signs = picture_labels.signs_of(leaders_of(self.spots), self.points)
 
     def area(self, level: float | None) -> float:
         """Returns the square points of a mark."""
@@ -190,7 +185,7 @@ def draw_map(ax: Any, drawn: Map) -> None:
 
 def draw_way(ax: Any, drawn: Map) -> None:
     """Draws a thin line where windows follow each other, rings where none has a cell, and where it begins and ends."""
-    windows, every = windows_of(drawn.found), 1.5 * drawn.found.every
+    windows, every = windows_of(drawn.found), survey_windows.FOLLOWS * drawn.found.every
     lines: list[list[tuple[float, float]]] = [[]]
     for i, spot in enumerate(drawn.spots):
         if i and windows[i][0] - windows[i - 1][0] > every:
@@ -220,7 +215,7 @@ def beside(mark: Spot, other: Spot, ahead: float, left: float) -> tuple[float, f
 
 def draw_best(ax: Any, drawn: Map) -> None:
     """Draws the way in the colour of the strongest cell, as far as one is certain."""
-    every, windows = 1.5 * drawn.found.every, windows_of(drawn.found)
+    every, windows = survey_windows.FOLLOWS * drawn.found.every, windows_of(drawn.found)
     lines: dict[str, list[Any]] = {}
     for i, (one, other) in enumerate(zip(drawn.spots, drawn.spots[1:])):
         if one.cell is not None and one.cell == other.cell and windows[i + 1][0] - windows[i][0] <= every:
@@ -252,7 +247,7 @@ def metres_text(metres: float) -> str:
     return f"{metres / 1000:g} km" if metres >= 1000 else f"{metres:g} m"
 
 
-def draw_scale(ax: Any, drawn: Map) -> None:
+def draw_scale(ax: Any, drawn: Frame) -> None:
     """Draws a bar of metres below on the left, and an arrow to the north above on the right."""
     length = round_below(drawn.metres * drawn.width / 4)
     (left, right), (low, high) = drawn.limits
@@ -268,7 +263,7 @@ def draw_scale(ax: Any, drawn: Map) -> None:
     ax.text(x, y - 0.5 * inch, "N", fontsize=9, va="top", fontweight="bold", **keys)
 
 
-def draw_degrees(ax: Any, drawn: Map) -> None:
+def draw_degrees(ax: Any, drawn: Frame) -> None:
     """Draws ticks at whole steps of degrees."""
     (left, right), (low, high) = drawn.limits
     stretch = DEGREE * max(math.cos(math.radians(drawn.ground.lat)), 1e-6)

@@ -6,7 +6,7 @@ from __future__ import annotations
 
 import pathlib
 
-from . import machine, picture_map, survey_table
+from . import machine, picture_map, survey_table, tables
 from .columns import BY_HEADING, meaning_of, word_meaning
 from .page import details, image, page, text
 from .picture_style import begin, facts_of
@@ -79,7 +79,7 @@ def rows_of(found: Survey) -> list[dict[str, str]]:
             place = cell.strongest_place
             row["map"] = signs[i][0] if i in signs else ""
             row["strongest at"] = f"{place[1]:.6f}, {place[0]:.6f}" if place else "-"
-    names = survey_table.saying(rows)
+    names = tables.saying(rows)
     first = [name for name in (*BEFORE, "PCI", "", "map") if name in names]
     names = first + [name for name in names if name not in first]
     return [{name: row[name] for name in names} for row in rows]

@@ -1,46 +1,25 @@
 """The survey as a table for people and as CSV for other programs."""
 from __future__ import annotations
 
-import csv
-import io
 from typing import Sequence
 
+from . import tables
 from .answers import STEP_HERTZ
-from .columns import BY_KEY, CHANCE, CSV_KEYS, Value, doubt_meaning, doubt_text, table_columns
+from .columns import BY_KEY, CHANCE, CSV_KEYS, doubt_meaning, doubt_text, table_columns
 from .survey_data import Gap, Live, Part, Scan, Step, Survey, SurveyCell
 
 GAPS = 4  # between files, that the table lists
-FORMULA = ("=", "+", "-", "@", "\t", "\r")  # with which a spreadsheet begins a formula
 
 
 def rows_of(survey: Survey) -> list[dict[str, str]]:
     """Returns the texts of each cell's row by heading, without columns that say nothing."""
-    columns = table_columns(survey)
-    rows = [{str(column.heading): column.text(cell, survey) for column in columns} for cell in survey.cells]
-    names = saying(rows)
-    return [{name: row[name] for name in names} for row in rows]
-
-
-def saying(rows: list[dict[str, str]]) -> list[str]:
-    """Returns the headings under which a row says something."""
-    return [name for name in rows[0] if any(row[name] not in ("", "-") for row in rows)] if rows else []
+    return tables.texts_of(table_columns(survey), survey.cells, survey)
 
 
 def table_of(survey: Survey) -> list[str]:
     """Returns the table as lines of text."""
     head, last = head_of(survey), notes_of(survey) + ([survey.hint] if survey.hint else [])
-    rows = rows_of(survey)
-    if not rows:
-        return [head, *last]
-    left = {column.heading for column in table_columns(survey) if column.is_left and column.heading}
-    names = list(rows[0])
-    lines = [{name: name for name in names}, *rows]
-    width = {name: max(len(line[name]) for line in lines) for name in names}
-    text = [
-        "  ".join(line[n].ljust(width[n]) if n in left else line[n].rjust(width[n]) for n in names).rstrip()
-        for line in lines
-    ]
-    return [head, *text, *last]
+    return [head, *tables.lines_of(table_columns(survey), survey.cells, survey), *last]
 
 
 # ---- the lines below the table
@@ -146,14 +125,4 @@ def offset_text(points: tuple[tuple[float, float], ...]) -> str:
 
 def csv_of(survey: Survey) -> str:
     """Returns the table for other programs: a key a column, nothing where nothing is known, networks joined by spaces."""
-    out = io.StringIO()
-    writer = csv.writer(out, lineterminator="\n")
-    writer.writerow(CSV_KEYS)
-    for cell in survey.cells:
-        writer.writerow([safe(BY_KEY[key].of(cell, survey)) for key in CSV_KEYS])
-    return out.getvalue()
-
-
-def safe(value: Value) -> Value:
-    """Returns a value as it is, and a text that a spreadsheet would run as a formula with an apostrophe before it."""
-    return f"'{value}" if isinstance(value, str) and value.startswith(FORMULA) else value
+    return tables.csv_of([BY_KEY[key] for key in CSV_KEYS], survey.cells, survey)

@@ -21,6 +21,7 @@ import numpy as np
 import packages
 
 packages.add()
+from lte_tools import ground
 from lte_tools import machine
 from lte_tools import picture_map
 from lte_tools import radio
@@ -35,7 +36,7 @@ SITES = {217: (-150, 170), 150: (190, -160), 88: (-260, -100)}  # metres east an
 NEAR, LOSS = 60, 35  # metres at which a cell is as strong as it gets; dB by ten times the distance
 LEADS, HEARD = 3, -14  # dB by which a cell is above the others, and at most below its strongest
 FRAMES, GAIN = 100, 16  # that are made at once, and how great
-EARTH = picture_map.Ground(*MIDDLE)
+EARTH = ground.Ground(*MIDDLE)
 
 
 def where(second):
@@ -45,8 +46,7 @@ def where(second):
 
 
 def degrees(east, north):
-    metres = picture_map.DEGREE * math.cos(math.radians(EARTH.lat))
-    return EARTH.lon + east / metres, EARTH.lat + north / picture_map.DEGREE
+    return EARTH.place(east, north)
 
 
 def decibels(identity, second):
@@ -150,8 +150,9 @@ def faults(found, points):
     if not 100 < leads < found["windows"]:
         yield f"{leads} of {found['windows']} windows with a cell that leads"
     seen = sum(len(cell["seen"]) for cell in found["cells"])
-    if len(points["features"]) != seen + len(found["cells"]):
-        yield f"{len(points['features'])} points of {seen} sightings"
+    features = [one for one in points["features"] if one["properties"]["kind"] != "hole"]
+    if len(features) != seen + len(found["cells"]):
+        yield f"{len(features)} points of {seen} sightings"
 
 
 def main(folder):

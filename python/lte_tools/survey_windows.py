@@ -1,0 +1,120 @@
+"""The windows of a survey, each with its place, its power and its cells, those without a cell too."""
+from __future__ import annotations
+
+import bisect
+from dataclasses import dataclass
+from typing import NamedTuple, Sequence
+
+from . import track
+from .arguments import SHORTEST
+from .survey_data import Power, Seen, Survey, SurveyCell, timestamp
+
+MOST = 2_000_000  # windows whose begins are reckoned, where the survey does not name them
+SLACK = 1e-4  # seconds to which the survey's seconds are rounded
+ROUNDED = 0.002  # seconds by which the survey's times may be off, since they are rounded
+FOLLOWS = 1.5  # times the seconds from one window to the next up to which windows follow each other
+
+
+class InWindow(NamedTuple):
+    """A cell in a window: its number in the survey, the cell, and what was measured of it there."""
+
+    number: int
+    cell: SurveyCell
+    seen: Seen
+
+    @property
+    def level(self) -> float:
+        """Its level, very low if none is known, for an order."""
+        return -1e9 if self.seen.level is None else self.seen.level
+
+
+@dataclass(frozen=True)
+class Window:
+    """A window: the second at which it begins, its time in seconds since 1970, longitude and latitude, and power, each
+    None if it is not known, whether its samples are not numbers, and its cells, the strongest first."""
+
+    seconds: float
+    time: float | None
+    place: tuple[float, float] | None
+    power: Power | None
+    is_spoiled: bool
+    cells: tuple[InWindow, ...]
+
+    @property
+    def sure(self) -> tuple[InWindow, ...]:
+        """The cells that are not false detections, the strongest first."""
+        return tuple(one for one in self.cells if not one.cell.chance)
+
+    @property
+    def strongest(self) -> InWindow | None:
+        """The strongest cell that is not a false detection, or None."""
+        return next(iter(self.sure), None)
+
+
+def windows_of(survey: Survey) -> list[Window]:
+    """Returns the windows of a survey in the order of time."""
+    places = {second: (lon, lat) for second, lon, lat in (survey.track.windows if survey.track else ())}
+    powers = {one.seconds: one for one in survey.powers}
+    starts = starts_of(survey)
+    seen: dict[float, dict[int, InWindow]] = {start: {} for start in starts}
+    for number, cell in enumerate(survey.cells):
+        for one in cell.seen:
+            found, here = InWindow(number, cell, one), seen.setdefault(start_of(one, starts, survey.window), {})
+            here[number] = max(here.get(number, found), found, key=lambda pair: pair.level)
+    times = Times(survey)
+    return [
+        Window(
+            start,
+            times.at(start),
+            places.get(start) or next((one.seen.place for one in cells.values() if one.seen.place), None),
+            powers.get(start),
+            start in survey.spoiled,
+            tuple(sorted(cells.values(), key=lambda one: -one.level)),
+        )
+        for start, cells in sorted(seen.items())
+    ]
+
+
+def starts_of(survey: Survey) -> list[float]:
+    """Returns the seconds at which windows begin: by their powers and places; if these are not of all windows, one after
+    the other from the first known one or the file's begin."""
+    placed = {second for second, _, _ in survey.track.windows} if survey.track else set[float]()
+    known = {one.seconds for one in survey.powers} | placed | set(survey.spoiled)
+    is_whole = survey.powers or survey.live or len(known) >= survey.windows
+    if not is_whole and survey.windows <= MOST and survey.every >= SHORTEST:
+        first = min(known, default=0.0) % survey.every
+        numbers = set(range(survey.windows)) - {round((start - first) / survey.every) for start in known}
+        known |= {round(first + i * survey.every, 6) for i in numbers}
+    return sorted(known)
+
+
+def start_of(one: Seen, starts: Sequence[float], length: float) -> float:
+    """Returns the second at which the window of a frame begins; its own if no window is known there."""
+    i = bisect.bisect_right(starts, one.seconds + SLACK) - 1
+    return starts[i] if i >= 0 and one.seconds < starts[i] + length else one.seconds
+
+
+class Times:
+    """The time at each second of a survey's file: by the file's time, or by the last frame up to there if that frame has
+    another, as in a file of several captures."""
+
+    def __init__(self, survey: Survey) -> None:
+        self.length = survey.window
+        self.begin = None if survey.datetime is None else timestamp(survey.datetime)
+        seen = (one for cell in survey.cells for one in cell.seen)
+        self.known = sorted((one.seconds, time) for one in seen if (time := one.time) is not None)
+
+    def at(self, start: float) -> float | None:
+        """Returns the seconds since 1970 at which a window begins, or None."""
+        i = bisect.bisect_left(self.known, (start + self.length,)) - 1
+        time = None if self.begin is None else self.begin + start
+        if i >= 0:
+            second, known = self.known[i]
+            own = known + start - second
+            time = own if time is None or abs(own - time) > ROUNDED else time
+        return time if time is not None and track.FIRST <= time <= track.LAST else None
+
+
+def strongest_of(survey: Survey) -> dict[float, InWindow]:
+    """Returns by the second at which a window begins its strongest cell that is not a false detection."""
+    return {window.seconds: window.strongest for window in windows_of(survey) if window.strongest}
