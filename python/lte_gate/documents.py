@@ -28,17 +28,17 @@ from .repository import TOP, report, run
 CRATES = TOP / "crates"
 HISTORY = ("CHANGELOG.md",)
 BUDGETS = {
-    "README.md": 2150,
+    "README.md": 2250,
     "CONTRIBUTING.md": 2350,
-    "CHANGELOG.md": 2300,
+    "CHANGELOG.md": 2600,
     "docs/ARCHITECTURE.md": 4200,
     "docs/CLAIMS.md": 5700,
     "docs/DECISIONS.md": 5000,
     "docs/DEFINITION.md": 7250,
-    "docs/FORMATS.md": 11600,
+    "docs/FORMATS.md": 13000,
     "docs/PERFORMANCE.md": 1850,
     "docs/PROOF_NOTES.md": 6350,
-    "docs/RECORDINGS.md": 5200,
+    "docs/RECORDINGS.md": 6400,
     "scripts/README.md": 340,
     "python/lte_reference/README.md": 620,
 }

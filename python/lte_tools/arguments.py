@@ -78,6 +78,14 @@ def gain(text: str) -> float | tuple[tuple[float, float], ...]:
     return found
 
 
+def limits(text: str) -> tuple[float, float]:
+    """Returns a level and a signal to noise ratio in dB, as -100,5."""
+    parts = text.split(",")
+    if len(parts) != 2:
+        raise argparse.ArgumentTypeError(f"{text!r} is not a level and a ratio such as -100,5")
+    return decibels(parts[0]), decibels(parts[1])
+
+
 def not_negative(text: str) -> float:
     """Returns a number of 0 or more."""
     value = number(text)

@@ -264,8 +264,6 @@ def with_places(live: Live, receiver: gpsd.Receiver | None, found: Survey) -> Su
             found = places.with_places(found, file, track, list(live.starts))
     except (Refused, OSError) as fault:
         note(f"no places: {fault}")
-    if options.geojson:
-        places.write(options.geojson, found, file)
     return found
 
 

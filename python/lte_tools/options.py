@@ -13,13 +13,29 @@ from dataclasses import dataclass
 from typing import Any, TypeVar, Union
 
 from . import bands, machine, track
-from .arguments import Parser, apart, at_least_one, gain, not_negative, number, rate
+from .arguments import Parser, apart, at_least_one, decibels, gain, limits, not_negative, number, rate
 from .machine import Refused
 
 WINDOW = 0.17  # seconds of a window: the 17 frames that a list depends on
 EVERY_OF_SCAN = 10.0  # seconds from one window of a scan to the next
 LOWEST = 1e6  # hertz of a carrier: a lower number was meant in megahertz
 Gain = Union[float, "tuple[tuple[float, float], ...]", None]  # in dB, or pairs of a second and dB
+# options that say how samples are read and looked at
+OF_SAMPLES = (
+    "form",
+    "rate",
+    "shift",
+    "at",
+    "exchanged",
+    "channel",
+    "offset",
+    "gain",
+    "scan",
+    "track",
+    "gpsd",
+    "start",
+    "every",
+)
 FORMS = ("u8", "s8", "s16", "f32", "sigmf")
 
 
@@ -52,7 +68,7 @@ class FileOptions:
 @dataclass(frozen=True)
 class SurveyOptions(FileOptions):
     """Options of a survey: `every` in seconds, `offset` in hertz, `gain` in dB, or pairs of a second of the file and the dB
-    from there on, `jobs` processes."""
+    from there on, `jobs` processes, `clashes` in dB, `coverage` a level in the survey's unit and a ratio in dB."""
 
     every: float = WINDOW
     offset: float | None = None
@@ -68,6 +84,11 @@ class SurveyOptions(FileOptions):
     geojson: pathlib.Path | None = None
     pcap: pathlib.Path | None = None
     html: pathlib.Path | None = None
+    csv_windows: pathlib.Path | None = None
+    kml: pathlib.Path | None = None
+    plan: pathlib.Path | None = None
+    clashes: float | None = None
+    coverage: tuple[float, float] | None = None
     csv: bool = False
     json: bool = False
 
@@ -75,6 +96,11 @@ class SurveyOptions(FileOptions):
     def has_places(self) -> bool:
         """Whether a track is asked for."""
         return self.track is not None or self.gpsd is not None
+
+    @property
+    def is_survey(self) -> bool:
+        """Whether the file is a survey that was made before, by its name."""
+        return self.file.suffix == ".json"
 
 
 @dataclass(frozen=True)
@@ -154,6 +180,11 @@ def survey_parser(text: str | None) -> argparse.ArgumentParser:
     add("--geojson", type=pathlib.Path, metavar="OUT", help="a file for the cells and their places")
     add("--pcap", type=pathlib.Path, metavar="OUT", help="a file for Wireshark with MIB and SIB1")
     add("--html", type=pathlib.Path, metavar="OUT", help="a page with the table, a map and pictures")
+    add("--csv-windows", type=pathlib.Path, metavar="OUT", help="a table by window, also of windows without a cell")
+    add("--kml", type=pathlib.Path, metavar="OUT", help="the way, the cells and their places for other maps")
+    add("--plan", type=pathlib.Path, metavar="CSV", help="compare with planned cells: identity,cell,tac,lat,lon ..")
+    add("--clashes", type=decibels, metavar="DB", help="cells within DB in the same windows, with modulo 3, 6, 30")
+    add("--coverage", type=limits, metavar="LEVEL,RATIO", help="how much is above a level and a ratio in dB")
     form = parser.add_mutually_exclusive_group()
     form.add_argument("--csv", action="store_true", help="the table for other programs, with the file's name")
     form.add_argument("--json", action="store_true", help="all that is known of each cell and window (docs/FORMATS.md)")
@@ -192,11 +223,13 @@ def checked_survey(options: SurveyOptions, has_every: bool = True) -> SurveyOpti
     if options.scan and not has_every:
         options = dataclasses.replace(options, every=EVERY_OF_SCAN)
     check_input(options)
-    if options.geojson and not options.has_places:
-        raise Refused("--geojson: --track FILE says where the places are")
+    check_tables(options)
+    for name in ("geojson", "kml"):
+        if getattr(options, name) and not options.has_places and not options.is_survey:
+            raise Refused(f"--{name}: --track FILE says where the places are")
     if options.track and options.gpsd:
         raise Refused("--track and --gpsd: one of them says where the places are")
-    for out in (options.geojson, options.pcap, options.html):
+    for out in (options.geojson, options.kml, options.csv_windows, options.pcap, options.html):
         if out:
             machine.check_place(out)
     if options.html:
@@ -225,3 +258,19 @@ def check_input(options: SurveyOptions) -> None:
             raise Refused("-: with --wait the samples come later than they were received: --start says when that was")
     elif options.follow or options.wait:
         raise Refused(f"{options.file}: --{'follow' if options.follow else 'wait'} is for -, standard input")
+
+
+def check_tables(options: SurveyOptions) -> None:
+    """Refuses two tables in one CSV, and options of samples for a survey that was made before."""
+    asked = [name for name in ("plan", "clashes", "coverage") if getattr(options, name) is not None]
+    if options.csv and asked[1:]:
+        raise Refused(f"--csv writes one table: --{asked[0]} or --{asked[1]}")
+    if options.further and any(one.suffix == ".json" for one in options.files):
+        raise Refused("a survey (.json) is not one of several files")
+    if options.is_survey:
+        defaults = SurveyOptions(options.file)
+        for name in OF_SAMPLES:
+            if getattr(options, name) != getattr(defaults, name):
+                raise Refused(f"{options.file}: a survey, in which --{name} changes nothing")
+        if options.carrier and options.earfcn is None:
+            raise Refused(f"{options.file}: a survey, in which --carrier changes nothing")

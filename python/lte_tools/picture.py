@@ -22,7 +22,7 @@ import argparse
 import pathlib
 from typing import TYPE_CHECKING
 
-from . import foreign, machine, options
+from . import machine, options
 from .machine import Refused
 from .options import PictureOptions
 from .survey_data import Survey
@@ -33,9 +33,7 @@ if TYPE_CHECKING:
 
 def survey_in(path: pathlib.Path) -> Survey | None:
     """Returns the survey that a file of JSON has, or None if it is a file of samples."""
-    if path.suffix != ".json":
-        return None
-    return Survey.from_json(foreign.parsed(foreign.read(path, foreign.MOST_JSON), str(path)), str(path))
+    return Survey.read(path) if path.suffix == ".json" else None
 
 
 def drawn(given: PictureOptions, form: str) -> bytes:

@@ -2,7 +2,7 @@
 
 GeoJSON is that of RFC 7946: a FeatureCollection of points in WGS84, longitude first. A feature of `kind` "window" is a
 cell in a window, one of `kind` "cell" a cell where it was strongest, without a geometry where none of its windows has a
-place.
+place, and one of `kind` "hole" a window without a certain cell.
 """
 from __future__ import annotations
 
@@ -12,11 +12,12 @@ import json
 import pathlib
 from typing import Any, Sequence
 
-from . import gpsd, machine, track
+from . import gpsd, survey_windows, track
 from .machine import Refused, note
 from .options import SurveyOptions
 from .radio_file import RadioFile, Stretch
 from .survey_data import Seen, Survey, SurveyCell, Track, timestamp
+from .survey_windows import Window
 from .track import Track as Places
 
 DIGITS = 7  # of a degree: a centimetre
@@ -114,15 +115,21 @@ def place_at(file: RadioFile, places: Places, second: float) -> tuple[float, flo
     return (round(place.lon, DIGITS), round(place.lat, DIGITS)) if place else None
 
 
-def geojson_of(survey: Survey, file: RadioFile) -> dict[str, Any]:
-    """Returns a survey's cells and windows as features."""
+def geojson_of(survey: Survey) -> dict[str, Any]:
+    """Returns a survey's cells, their windows, and the windows without a certain cell, as features."""
+    windows = survey_windows.windows_of(survey)
+    best = {id(window.strongest.seen) for window in windows if window.strongest}
     features = []
     for cell in survey.cells:
         shared = properties_of(cell, survey)
         features.append(feature(cell.strongest_place, {"kind": "cell", **shared, **over_time(cell)}))
         features += [
-            feature(one.place, {"kind": "window", **shared, **at_window(one, file)}) for one in cell.seen if one.place
+            feature(one.place, {"kind": "window", **shared, **at_window(one), "strongest": id(one) in best})
+            for one in cell.seen
+            if one.place
         ]
+    holes = (window for window in windows if window.place and not window.sure)
+    features += [feature(window.place, {"kind": "hole", **hole_at(window)}) for window in holes]
     return {"type": "FeatureCollection", "features": features}
 
 
@@ -155,12 +162,22 @@ def over_time(cell: SurveyCell) -> dict[str, Any]:
     return {key: getattr(cell, key) for key in keys}
 
 
-def at_window(one: Seen, file: RadioFile) -> dict[str, Any]:
-    time = time_at(file, one.seconds)
+def at_window(one: Seen) -> dict[str, Any]:
     keys = ("level", "ratio", "offset", "sfn", "seconds")
-    return {**{key: getattr(one, key) for key in keys}, "time": None if time is None else track.iso(time)}
+    return {**{key: getattr(one, key) for key in keys}, "time": iso(one.time)}
 
 
-def write(path: pathlib.Path, survey: Survey, file: RadioFile) -> None:
-    """Writes the GeoJSON of a survey."""
-    machine.write(path, (json.dumps(geojson_of(survey, file), separators=(",", ":")) + "\n").encode())
+def hole_at(window: Window) -> dict[str, Any]:
+    """Returns what is said of a window without a certain cell: its begin, and the noise floor in 15 kHz."""
+    noise = window.power.noise if window.power else None
+    return {"seconds": window.seconds, "time": iso(window.time), "noise": noise, "spoiled": window.is_spoiled}
+
+
+def iso(time: float | None) -> str | None:
+    """Returns seconds since 1970 as a text, if they are known and of a year with four digits."""
+    return None if time is None or not track.FIRST <= time <= track.LAST else track.iso(time)
+
+
+def geojson_text(survey: Survey) -> bytes:
+    """Returns the GeoJSON of a survey as bytes."""
+    return (json.dumps(geojson_of(survey), separators=(",", ":")) + "\n").encode()

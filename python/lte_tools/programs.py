@@ -259,13 +259,17 @@ def survey(path: str | os.PathLike[str], **keys: Any) -> Survey:
     """Returns the survey of a file, as `lte_survey` makes it.
 
     `keys` are the fields of `lte_tools.SurveyOptions`: rate, form, shift, carrier, at, every, offset, gain, jobs, scan,
-    track, start and others, in the units that it names; `further` are the other files of a drive.
+    track, start and others, in the units that it names; `further` are the other files of a drive. Files that they name
+    for outputs (geojson, html and others) are written.
     """
-    from . import surveying
+    from . import survey_outputs, surveying
 
     keys["further"] = tuple(map(pathlib.Path, keys.get("further", ())))
-    for key in ("track", "gpsd", "geojson", "pcap", "html"):
+    for key in ("track", "gpsd", "geojson", "kml", "csv_windows", "pcap", "html"):
         if isinstance(keys.get(key), str):
             keys[key] = pathlib.Path(keys[key])
-    found = options.SurveyOptions(pathlib.Path(path), **keys)
-    return surveying.survey_of(options.checked_survey(found, "every" in keys))
+    given = options.checked_survey(options.SurveyOptions(pathlib.Path(path), **keys), "every" in keys)
+    found = surveying.survey_of(given)
+    survey_outputs.write(given, found)
+    survey_outputs.write_page(given, found)
+    return found

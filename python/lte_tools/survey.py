@@ -4,6 +4,7 @@ survey.py PART.. [--rate R] [--json]
 survey.py FILE --track TRACK [--start TIME] [--html OUT] [--geojson OUT]
 survey.py FILE --pcap OUT.pcap
 survey.py FILE --scan [--carrier CENTRE]
+survey.py SURVEY.json [--plan CSV] [--clashes DB] [--coverage LEVEL,RATIO] [--csv-windows OUT] [--kml OUT]
 rtl_sdr -f 796e6 -s 1.92e6 - | survey.py - --form u8 --rate 1.92e6 --follow
 
 One table of the cells in a radio's file of any length: identity, when it was first and last seen and in how many
@@ -27,17 +28,21 @@ the table, which sorts, the cells over time, and a map where there are places. -
 Wireshark (pcap.py). --scan looks at each carrier of the 100 kHz raster in the file. Standard input (-) is looked at as
 it comes, until it ends or a signal comes; a radio may begin again. With --follow a named pipe waits for its next writer.
 
+Further tables: --plan compares with a list of planned cells, --clashes lists for each cell the others that are nearly as
+strong in the same windows, --coverage sums up how much of the way the strongest cell covers. --csv-windows, --geojson and
+--kml have windows without a cell too. In place of samples, FILE may be a survey that --json wrote (.json).
+
 Debian: python3-numpy, python3-scipy; for --html python3-matplotlib. Needs lte_cli and lte_tune (README, "Build").
 """
 from __future__ import annotations
 
 import argparse
-import json
 import sys
 import types
 from typing import Any
 
 from . import machine, options, programs
+from .survey_data import Survey
 
 
 def parser() -> argparse.ArgumentParser:
@@ -49,21 +54,20 @@ def command() -> None:
     args = parser().parse_args()
     machine.check_packages("numpy", "scipy")
     given = options.checked_survey(options.options_of(options.SurveyOptions, args), args.every is not None)
-    from . import pcap, survey_table, surveying
+    from . import survey_outputs
 
-    survey = surveying.survey_of(given)
-    if given.pcap:
-        pcap.write(given.pcap, pcap.of_survey(survey, given.earfcn))
-    if given.json:
-        print(json.dumps(survey.to_json(), sort_keys=True, separators=(",", ":")))
-    elif given.csv:
-        print(survey_table.csv_of(survey), end="")
-    else:
-        print("\n".join(survey_table.table_of(survey)), flush=True)
-    if given.html:
-        from . import survey_page
+    planned = survey_outputs.planned_of(given)
+    survey = found_by(given)
+    survey_outputs.write(given, survey)
+    print(survey_outputs.text_of(given, survey, planned), end="", flush=True)
+    survey_outputs.write_page(given, survey)
 
-        survey_page.write(given.html, survey)
+
+def found_by(given: options.SurveyOptions) -> Survey:
+    """Returns the survey of a file of samples, or the one that a file of JSON has."""
+    from . import surveying
+
+    return Survey.read(given.file) if given.is_survey else surveying.survey_of(given)
 
 
 def main() -> None:

@@ -2,6 +2,7 @@
 from __future__ import annotations
 
 import datetime
+import pathlib
 from dataclasses import dataclass, fields
 from typing import Any, Optional
 
@@ -250,6 +251,11 @@ class Survey(Answer):
     powers: tuple[Power, ...] = ()
     steps: tuple[Step, ...] = ()
     parts: tuple[Part, ...] = ()
+
+    @classmethod
+    def read(cls, path: pathlib.Path) -> Survey:
+        """Returns the survey that lte_survey --json wrote into a file; refuses another file."""
+        return cls.from_json(foreign.parsed(foreign.read(path, foreign.MOST_JSON), str(path)), str(path))
 
     @classmethod
     def from_json(cls, value: Any, name: str = "survey") -> Survey:

@@ -1,12 +1,14 @@
-"""The windows of a survey, each with its place, its power and its cells, those without a cell too."""
+"""The windows of a survey, each with its place, its power and its cells, those without a cell too; and their table."""
 from __future__ import annotations
 
 import bisect
+import statistics
 from dataclasses import dataclass
 from typing import NamedTuple, Sequence
 
-from . import track
+from . import tables, track
 from .arguments import SHORTEST
+from .columns import BY_KEY, Column, Value
 from .survey_data import Power, Seen, Survey, SurveyCell, timestamp
 
 MOST = 2_000_000  # windows whose begins are reckoned, where the survey does not name them
@@ -118,3 +120,120 @@ class Times:
 def strongest_of(survey: Survey) -> dict[float, InWindow]:
     """Returns by the second at which a window begins its strongest cell that is not a false detection."""
     return {window.seconds: window.strongest for window in windows_of(survey) if window.strongest}
+
+
+# ---- the table
+
+
+class Line(NamedTuple):
+    """A line of the table: a window, and a cell in it, or None in the only line of a window without a cell."""
+
+    window: Window
+    found: InWindow | None
+
+
+def lines_of(survey: Survey) -> list[Line]:
+    """Returns a line for each cell in each window, and one for each window without a cell."""
+    return [Line(window, one) for window in windows_of(survey) for one in window.cells or (None,)]
+
+
+def of_cell(key: str) -> Column[Line, Survey]:
+    """Returns the survey's column of this key, as one of the table by window."""
+    column = BY_KEY[key]
+
+    def value(line: Line, survey: Survey) -> Value:
+        return column.of(line.found.cell, survey) if line.found else None
+
+    return Column(key, None, column.unit, None, column.meaning, value)
+
+
+def of_seen(key: str, unit: str, meaning: str) -> Column[Line, Survey]:
+    """Returns a column of what was measured in the window."""
+
+    def value(line: Line, survey: Survey) -> Value:
+        found: Value = getattr(line.found.seen, key) if line.found else None
+        return found
+
+    return Column(key, None, unit, None, meaning, value)
+
+
+def below_of(line: Line) -> float | None:
+    """Returns by how many dB a cell is below the strongest sure one on its carrier in its window, or None."""
+    if line.found is None or line.found.seen.level is None:
+        return None
+    sure = [one for one in line.window.sure if one.cell.shift == line.found.cell.shift and one.seen.level is not None]
+    return round(sure[0].level - line.found.seen.level, 1) + 0.0 if sure else None
+
+
+def median(values: Sequence[float | None]) -> float | None:
+    """Returns the median of the values that are known, in a tenth, or None."""
+    known = [value for value in values if value is not None]
+    return round(statistics.median(known), 1) + 0.0 if known else None
+
+
+COLUMNS: tuple[Column[Line, Survey], ...] = (
+    Column("file", None, "", None, "the file's name", lambda line, survey: survey.file),
+    Column("window", None, "s", None, "second at which the window begins", lambda line, survey: line.window.seconds),
+    Column(
+        "datetime",
+        None,
+        "",
+        None,
+        "time of `window`",
+        lambda line, survey: None if line.window.time is None else track.iso(line.window.time),
+    ),
+    Column(
+        "latitude", None, "deg", None, "the window's place", lambda line, _: line.window.place and line.window.place[1]
+    ),
+    Column(
+        "longitude", None, "deg", None, "the window's place", lambda line, _: line.window.place and line.window.place[0]
+    ),
+    of_cell("frequency"),
+    of_cell("identity"),
+    *map(of_cell, ("plmn", "tac", "cell", "enodeb", "sector", "chance", "doubts")),
+    of_seen("level", "dBFS", "level of a reference element in the window"),
+    Column("unit", None, "", None, "the unit of levels, dBFS or dBm", lambda line, survey: survey.unit),
+    Column(
+        "below",
+        None,
+        "dB",
+        None,
+        "by how much it is below the strongest cell on its carrier in the window; false detections do not count",
+        lambda line, survey: below_of(line),
+    ),
+    of_seen("ratio", "dB", "signal to noise of a reference element in the window"),
+    of_seen("offset", "Hz", "frequency offset in the window"),
+    of_seen("error", "Hz", "its standard error"),
+    of_seen("gain", "dB", "gain steps of the radio up to here, which are not in `level`"),
+    of_seen("seconds", "s", "second of the cell's first frame in the window"),
+    of_seen("sfn", "", "that frame's number"),
+    Column(
+        "noise",
+        None,
+        "dBFS",
+        None,
+        "noise floor in 15 kHz",
+        lambda line, survey: line.window.power.noise if line.window.power else None,
+    ),
+    Column(
+        "total",
+        None,
+        "dBFS",
+        None,
+        "power of all samples",
+        lambda line, survey: line.window.power.total if line.window.power else None,
+    ),
+    Column(
+        "spoiled",
+        None,
+        "",
+        None,
+        "`yes` if the window's samples are not numbers",
+        lambda line, survey: "yes" if line.window.is_spoiled else "no",
+    ),
+)
+
+
+def csv_of(survey: Survey) -> str:
+    """Returns the table by window for other programs."""
+    return tables.csv_of(COLUMNS, lines_of(survey), survey)

@@ -163,6 +163,4 @@ def survey_of(options: SurveyOptions) -> Survey:
     if track:
         windows = scan.starts_of(options, file) if options.scan else file.starts(options.at, WINDOW, options.every)
         survey = places.with_places(survey, file, track, [start for start, _ in windows])
-    if options.geojson:
-        places.write(options.geojson, survey, file)
     return survey

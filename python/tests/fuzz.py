@@ -1,10 +1,10 @@
 """python3 -m tests.fuzz [COUNT [SEED]], in python/
 
 Gives COUNT (5000) mutated inputs to the readers of foreign files: SigMF pairs and archives, WAV, files as one drive,
-tracks as GPX, NMEA, CSV and gpsd's JSON,
-what lte_survey and lte_cli wrote as JSON, and files of samples. Each has to be read, or to be refused in one line: no
-other exception, and no part of an output. Memory is limited to 2 GB. Prints what is not so, and a count; the status is 1
-where anything is. The same SEED (1) gives the same inputs.
+tracks as GPX, NMEA, CSV and gpsd's JSON, what lte_survey and lte_cli wrote as JSON, plans of cells as CSV, and files of
+samples. Each has to be read, or to be refused in one line: no other exception, and no part of an output. Memory is
+limited to 2 GB. Prints what is not so, and a count; the status is 1 where anything is. The same SEED (1) gives the same
+inputs.
 """
 import io
 import json
@@ -18,7 +18,8 @@ import tempfile
 
 import numpy as np
 
-from lte_tools import foreign, machine, options, pcap, radio_file, summary, survey_page, track
+from lte_tools import clashes, coverage, kml, machine, options, pcap, places, plan, radio_file, summary
+from lte_tools import survey_page, survey_windows, tables, track
 from lte_tools.survey_data import Survey
 
 TOP = pathlib.Path(__file__).resolve().parents[2]
@@ -31,6 +32,7 @@ GPX = "<?xml version='1.0'?><gpx><trk><trkseg>{}</trkseg></trk></gpx>".format(
 )
 CSV = "time,lat,lon\n2026-05-01T10:00:05Z,1,2\n1777629606,1.5,2.5\n"
 NMEA = "$GPRMC,100005.00,A,0100.0,N,00200.0,E,1.0,2.0,010526,,,A*5B\n$GPGGA,100006.00,0100.0,N,00200.0,E,1,08,1,1,M,,M,,*5F\n"
+PLAN = "name;pci;enodeb;sector;tac;plmn;earfcn;lat;lon\nA;271;107216;1;4660;001-01;3100;52.5;13.4\nB;3;;;;;;;\n"
 GPSD = '{"class":"TPV","mode":3,"time":"2026-05-01T10:00:05.000Z","lat":1,"lon":2}\n{"class":"SKY"}\n'
 META = {
     "global": {"core:datatype": "cu8", "core:sample_rate": 2.4e6},
@@ -190,7 +192,7 @@ def read_file(path, **keys):
 def try_survey(draw, folder):
     path, out = folder / "a.json", folder / "a.pcap"
     path.write_bytes(either(draw, json.loads((OUTPUTS / "survey.json").read_text())))
-    survey = Survey.from_json(foreign.parsed(foreign.read(path, foreign.MOST_JSON), str(path)), str(path))
+    survey = Survey.read(path)
     pcap.write(out, pcap.of_survey(survey))
     out.unlink()
     if draw.random() < 0.02:
@@ -203,7 +205,49 @@ def try_evidence(draw, folder):
     out.unlink()
 
 
-KINDS = (try_track, try_sigmf, try_archive, try_wave, try_drive, try_samples, try_survey, try_evidence)
+def try_plan(draw, folder):
+    path = folder / "a.csv"
+    text = PLAN if draw.random() < 0.5 else PLAN.replace(";", ",")
+    path.write_bytes(mutated(draw, text.encode()))
+    planned = plan.read(path)
+    tables.csv_of(plan.COLUMNS, plan.findings_of(stored(), planned), stored())
+
+
+def stored():
+    """The stored survey."""
+    return Survey.read(OUTPUTS / "survey.json")
+
+
+def try_tables(draw, folder):
+    """Reads a survey with places, and makes all tables and files of places of it."""
+    value = json.loads((OUTPUTS / "survey.json").read_text())
+    value["track"] = {"first": "", "last": "", "places": 1, "windows": [[0, 13.4, 52.5], [0.17, 13.4, 52.5001]]}
+    value["cells"][0]["seen"][0]["place"] = [13.4, 52.5]
+    value["cells"] *= 2
+    survey = read_survey(draw, folder / "a.json", value)
+    survey_windows.csv_of(survey)
+    tables.csv_of(clashes.COLUMNS, clashes.clashes_of(survey, 6), survey)
+    tables.csv_of(coverage.COLUMNS, coverage.coverage_of(survey, coverage.Limits(-80, 5)), survey)
+    places.geojson_text(survey), kml.of_survey(survey)
+
+
+def read_survey(draw, path, value):
+    path.write_bytes(either(draw, value))
+    return Survey.read(path)
+
+
+KINDS = (
+    try_track,
+    try_sigmf,
+    try_archive,
+    try_wave,
+    try_drive,
+    try_samples,
+    try_survey,
+    try_evidence,
+    try_plan,
+    try_tables,
+)
 
 
 def fault_of(draw, kind, folder):
@@ -218,7 +262,9 @@ def fault_of(draw, kind, folder):
             return f"{type(fault).__name__}: {fault}"
     except Exception as fault:  # what must not come through
         return f"{type(fault).__name__}: {fault}"
-    left = [path.name for path in folder.iterdir() if path.suffix in (".pcap", ".html") or path.name.startswith(".")]
+    left = [
+        path.name for path in folder.iterdir() if path.suffix in (".pcap", ".html", ".png") or path.name.startswith(".")
+    ]
     return f"a part of an output: {left}" if left else None
 
 

@@ -12,7 +12,7 @@ from tests.conftest import EXAMPLES, TOP
 from lte_tools import columns, foreign, page, picture_labels, picture_map, picture_scan, picture_style
 from lte_tools import survey_page, survey_table
 from lte_tools.rules import BY_NAME
-from lte_tools.survey_data import Echo, Gap, Power, Scan, Step, Survey
+from lte_tools.survey_data import Echo, Gap, Power, Scan, Spectrum, Step, Survey
 
 
 @pytest.fixture
@@ -71,7 +71,8 @@ def test_meaning_of_a_word(heading, word, text):
 
 def test_schema_has_the_fields_of_the_survey(survey):
     defined = foreign.schema()["$defs"]
-    assert set(survey.to_json()) | {"live", "parts", "scan", "track"} == set(defined["survey"]["properties"])
+    tables = {"clashes", "coverage", "plan"}
+    assert set(survey.to_json()) | {"live", "parts", "scan", "track"} | tables == set(defined["survey"]["properties"])
     cell = dataclasses.replace(survey.cells[0], shift=0.0)
     assert set(cell.to_json()) == set(defined["surveyed"]["properties"])
     assert set(cell.to_json(True)["seen"][0]) == set(defined["sighting"]["properties"])

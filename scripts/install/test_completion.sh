@@ -133,7 +133,7 @@ for name in lte_cli lte_tune "${tools[@]}"; do
 done
 ask_all lte_cli "$(receiver)"
 ask_all lte_tune "$(tuner)"
-compare 'bash: lte_survey --cs' "$(offered lte_survey a.cu8 --cs)" '--csv'
+compare 'bash: lte_survey --cs' "$(offered lte_survey a.cu8 --cs)" '--csv-windows --csv'
 compare 'bash: lte_survey --form s' "$(offered lte_survey --form s)" 's8 s16 sigmf'
 compare 'bash: lte_survey --rate' "$(offered lte_survey --rate '')" ''
 compare 'bash: lte_pcap --ea' "$(offered lte_pcap --ea)" '--earfcn'

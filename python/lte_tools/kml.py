@@ -1,0 +1,100 @@
+"""A survey with places as KML 2.2 (OGC 07-147r2): the way, for each cell where it was strongest and its windows, and the
+windows without a certain cell.
+"""
+from __future__ import annotations
+
+import html
+import re
+from typing import Iterator, Sequence
+
+from . import places, survey_windows
+from .survey_data import Survey, SurveyCell
+from .survey_windows import FOLLOWS, InWindow, Window
+
+# as KML has colours: opacity, blue, green, red
+COLOURS = ("ffb46f1f", "ff1a73d9", "ff4e8f2f", "ffb04f8a", "ff3d38b8", "ff665c67")
+HOLE, WAY = "ff808080", "ffbbbbbb"
+ICON = "http://maps.google.com/mapfiles/kml/shapes/placemark_circle.png"
+HEAD = '<?xml version="1.0" encoding="UTF-8"?>\n<kml xmlns="http://www.opengis.net/kml/2.2"><Document>\n'
+FOOT = "</Document></kml>\n"
+
+
+def text(words: object) -> str:
+    """Returns words as XML has them, with a question mark for a character that XML does not allow."""
+    clean = re.sub(r"[^\t\n\r\x20-\ud7ff\ue000-\ufffd\U00010000-\U0010ffff]", "?", str(words))
+    return html.escape(clean, quote=False)
+
+
+def of_survey(survey: Survey) -> bytes:
+    """Returns the KML of a survey."""
+    windows = survey_windows.windows_of(survey)
+    parts = [HEAD, f"<name>{text(survey.file)}</name>\n", *styles(), *way_of(windows, survey.every)]
+    for number, cell in enumerate(survey.cells):
+        parts += folder_of(number, cell, survey, windows)
+    holes = [window for window in windows if window.place and not window.sure]
+    if holes:
+        parts += ["<Folder><name>No certain cell</name>\n", *map(hole, holes), "</Folder>\n"]
+    return "".join([*parts, FOOT]).encode()
+
+
+def styles() -> Iterator[str]:
+    """Yields the styles: of cells, of windows without one, and of the way."""
+    for name, colour in (*((f"cell{i}", colour) for i, colour in enumerate(COLOURS)), ("hole", HOLE)):
+        icon = f"<IconStyle><color>{colour}</color><scale>0.5</scale><Icon><href>{ICON}</href></Icon></IconStyle>"
+        yield f'<Style id="{name}">{icon}<LabelStyle><scale>0</scale></LabelStyle></Style>\n'
+    yield f'<Style id="way"><LineStyle><color>{WAY}</color><width>2</width></LineStyle></Style>\n'
+
+
+def way_of(windows: Sequence[Window], every: float) -> list[str]:
+    """Returns the way as lines, each of windows that follow each other."""
+    lines: list[list[Window]] = []
+    for window in windows:
+        if window.place:
+            if not lines or window.seconds - lines[-1][-1].seconds > FOLLOWS * every:
+                lines.append([])
+            lines[-1].append(window)
+    shown = [" ".join(coordinates(window.place) for window in line if window.place) for line in lines if line[1:]]
+    strings = "".join(f"<LineString><coordinates>{line}</coordinates></LineString>" for line in shown)
+    name = "<name>Way</name><styleUrl>#way</styleUrl>"
+    return [f"<Placemark>{name}<MultiGeometry>{strings}</MultiGeometry></Placemark>\n"] if shown else []
+
+
+def coordinates(place: tuple[float, float]) -> str:
+    return f"{place[0]:.7f},{place[1]:.7f}"
+
+
+def folder_of(number: int, cell: SurveyCell, survey: Survey, windows: Sequence[Window]) -> list[str]:
+    """Returns a cell's folder: where it was strongest, and its windows."""
+    name = f"PCI {cell.identity}{'?' * cell.chance}"
+    style = f"cell{number % len(COLOURS)}"
+    shared = places.properties_of(cell, survey)
+    parts = [f"<Folder><name>{text(name)}</name>\n"]
+    if cell.strongest_place:
+        parts.append(placemark(f"{name}, strongest", style, cell.strongest_place, shared | places.over_time(cell)))
+    for window in windows:
+        for one in window.cells:
+            if one.number == number and window.place:
+                parts.append(placemark(level_text(one, survey.unit), style, window.place, places.at_window(one.seen)))
+    return [*parts, "</Folder>\n"]
+
+
+def level_text(one: InWindow, unit: str) -> str:
+    return "no level" if one.seen.level is None else f"{one.seen.level} {unit}"
+
+
+def hole(window: Window) -> str:
+    return placemark("no certain cell", "hole", window.place or (0, 0), places.hole_at(window))
+
+
+def placemark(name: str, style: str, place: tuple[float, float], values: dict[str, object]) -> str:
+    """Returns a point with its values, and its time if there is one."""
+    time = values.get("time")
+    when = f"<TimeStamp><when>{text(time)}</when></TimeStamp>" if time else ""
+    data = "".join(
+        f'<Data name="{text(key)}"><value>{text(value)}</value></Data>'
+        for key, value in values.items()
+        if value is not None
+    )
+    point = f"<Point><coordinates>{coordinates(place)}</coordinates></Point>"
+    head = f"<name>{text(name)}</name>{when}<styleUrl>#{style}</styleUrl>"
+    return f"<Placemark>{head}<ExtendedData>{data}</ExtendedData>{point}</Placemark>\n"

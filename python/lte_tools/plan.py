@@ -1,0 +1,324 @@
+"""A plan of cells, and how a survey differs from it: wrong identity or area, not planned, not heard, identity in use twice.
+
+The plan is a CSV file with a head line, in any order and with any further columns: `identity` (or `pci`), and as far as they
+are known `name`, `cell` (of 28 bits, or `enodeb` and `sector`), `tac`, `plmn` (262-02 or 26202), `earfcn`, `lat` and `lon`.
+A cell whose SIB1 was read is looked for in the plan by its cell identity, and by its network where the plan has one; another
+one by its physical-layer identity alone.
+"""
+from __future__ import annotations
+
+import csv
+import dataclasses
+import io
+import math
+import pathlib
+import re
+from dataclasses import dataclass
+from typing import Iterator, NamedTuple, Sequence
+
+from . import bands, foreign
+from .answers import Answer
+from .columns import Column
+from .ground import distance
+from .machine import Refused
+from .same_cell import Lines, lines_of
+from .survey_data import Survey
+
+MOST_BYTES = 64_000_000
+MOST_CELLS = 500_000
+NAMES = {"pci": "identity", "latitude": "lat", "longitude": "lon", "site": "name", "eci": "cell", "enb": "enodeb"}
+RANGES = {"identity": 503, "cell": 2**28 - 1, "enodeb": 2**20 - 1, "sector": 255, "tac": 65_535, "earfcn": 262_143}
+# words of a finding, the gravest first, and what they mean
+FINDINGS = {
+    "wrong-identity": "the planned cell has another physical-layer identity",
+    "wrong-area": "the planned cell has another tracking area",
+    "reuse": "another cell of the survey has this physical-layer identity too",
+    "not-planned": "the plan does not have this cell",
+    "not-heard": "no window lists this planned cell",
+    "identity-only": "a planned cell has this identity; SIB1 was not read, or the plan has no cell identity",
+    "as-planned": "identity and tracking area are as planned",
+}
+
+
+class Planned(NamedTuple):
+    """A planned cell: its line in the file, name, physical-layer identity, cell identity, tracking area, network as 262-02,
+    carrier in hertz, longitude and latitude; what the plan does not have is None."""
+
+    line: int
+    name: str | None
+    identity: int
+    cell: int | None
+    tac: int | None
+    network: str | None
+    frequency: float | None
+    place: tuple[float, float] | None
+
+
+# ---- the file
+
+
+class BadLine(Exception):
+    """What is wrong with a line of a plan."""
+
+
+def read(path: pathlib.Path) -> list[Planned]:
+    """Returns the cells of a plan; refuses a file that is none."""
+    text = foreign.read(path, MOST_BYTES).decode("utf-8-sig", errors="replace")
+    head = text.partition("\n")[0]
+    delimiter = next((one for one in ";\t" if one in head and "," not in head), ",")
+    rows = csv.reader(io.StringIO(text, newline=""), delimiter=delimiter)
+    try:
+        names = [NAMES.get(name.strip().lower(), name.strip().lower()) for name in next(rows, [])]
+        if "identity" not in names:
+            raise BadLine("no column identity or pci: the first line is identity,cell,tac,lat,lon or the like")
+        if twice := next((name for name in names if name in (*RANGES, "lat", "lon") and names.count(name) > 1), None):
+            raise BadLine(f"the column {twice} is there twice")
+        found = [planned_of(rows.line_num, dict(zip(names, row))) for row in limited(rows) if any(map(str.strip, row))]
+    except csv.Error as fault:
+        raise Refused(f"{path}: line {rows.line_num}: not CSV: {fault}") from None
+    except BadLine as fault:
+        raise Refused(f"{path}: line {rows.line_num}: {fault}") from None
+    if not found:
+        raise Refused(f"{path}: no cell in it")
+    return found
+
+
+def limited(rows: Iterator[list[str]]) -> Iterator[list[str]]:
+    """Yields the rows; refuses too many."""
+    for number, row in enumerate(rows):
+        if number >= MOST_CELLS:
+            raise BadLine(f"more than {MOST_CELLS:,} cells")
+        yield row
+
+
+def planned_of(line: int, row: dict[str, str]) -> Planned:
+    """Returns the cell of a line."""
+    numbers = {name: number_of(name, row.get(name, "")) for name in RANGES}
+    identity, cell, earfcn = numbers["identity"], numbers["cell"], numbers["earfcn"]
+    if identity is None:
+        raise BadLine("no identity")
+    if cell is None and numbers["enodeb"] is not None and numbers["sector"] is not None:
+        cell = 256 * numbers["enodeb"] + numbers["sector"]
+    frequency = None if earfcn is None else bands.frequency_of(earfcn)
+    if earfcn is not None and frequency is None:
+        raise BadLine(f"earfcn: no downlink of an FDD band has {earfcn}")
+    name = row.get("name", "").strip() or None
+    return Planned(line, name, identity, cell, numbers["tac"], network_of(row), frequency, place_of(row))
+
+
+def number_of(name: str, text: str) -> int | None:
+    """Returns a number of a column, None if it is empty."""
+    text = text.strip()
+    if not text:
+        return None
+    if not re.fullmatch(r"[0-9]{1,9}", text) or int(text) > RANGES[name]:
+        raise BadLine(f"{name}: {foreign.shown(text)} is not a whole number from 0 to {RANGES[name]}")
+    return int(text)
+
+
+def network_of(row: dict[str, str]) -> str | None:
+    """Returns the network of a row as 262-02, or None."""
+    text = row.get("plmn", "").strip()
+    if not text:
+        return None
+    if not (found := re.fullmatch(r"([0-9]{3})-?([0-9]{2,3})", text)):
+        raise BadLine(f"plmn: {foreign.shown(text)} is not a network such as 262-02")
+    return f"{found[1]}-{found[2]}"
+
+
+def place_of(row: dict[str, str]) -> tuple[float, float] | None:
+    """Returns longitude and latitude of a row, None if both are empty."""
+    texts = row.get("lon", "").strip(), row.get("lat", "").strip()
+    if texts == ("", ""):
+        return None
+    try:
+        lon, lat = map(float, texts)
+    except ValueError:
+        raise BadLine(f"lat, lon: {foreign.shown(texts[1])}, {foreign.shown(texts[0])} is not a place") from None
+    if not (abs(lat) <= 90 and abs(lon) <= 180):
+        raise BadLine(f"lat, lon: {lat:g}, {lon:g} is no place on earth")
+    return lon, lat
+
+
+# ---- the comparison
+
+
+@dataclass(frozen=True)
+class Finding(Answer):
+    """What a plan and a survey say of a cell: a word of FINDINGS, name, cell identity, planned and detected physical-layer
+    identity and tracking area, for a reuse the other cell's identity (None if its SIB1 was not read), the windows that list
+    it, its maximum level, and the metres from its planned place to where it was strongest, or to the nearest window, within
+    some 10 metres, if it is not heard."""
+
+    finding: str
+    name: str | None
+    cell: int | None
+    planned_identity: int | None
+    identity: int | None
+    planned_tac: int | None
+    tac: int | None
+    other: int | None
+    windows: int
+    level: float | None
+    metres: float | None
+
+
+def findings_of(survey: Survey, plan: Sequence[Planned]) -> list[Finding]:
+    """Returns how a survey and a plan differ, the gravest first, and what is as planned last. Planned cells on carriers that
+    the survey did not look at are left out, and so are false detections."""
+    detected, order = lines_of(survey), list(FINDINGS)
+    plan = [one for one in plan if is_looked_at(one, survey)]
+    index = Index(plan)
+    found, met = [], set[Planned]()
+    for lines in detected:
+        own = index.of(lines)
+        met |= set(own)
+        found += [about for one in own for about in findings_about(one, lines)] or [finding("not-planned", None, lines)]
+        found += [reuse(lines, other) for other in detected if other is not lines and lines.is_confused_with(other)]
+    way = way_of(survey)
+    missing = [not_heard(one, way) for one in plan if one not in met]
+    found += sorted(missing, key=lambda one: math.inf if one.metres is None else one.metres)
+    return sorted(found, key=lambda one: order.index(one.finding))
+
+
+def is_looked_at(planned: Planned, survey: Survey) -> bool:
+    """Returns whether a survey looked at the carrier of a planned cell, as far as both are known."""
+    if planned.frequency is None:
+        return True
+    if survey.scan:
+        return survey.carrier is None or survey.scan.first <= planned.frequency <= survey.scan.last
+    return is_carrier(planned, survey.carrier)
+
+
+def is_carrier(planned: Planned, frequency: float | None) -> bool:
+    """Returns whether a planned cell is on a carrier, as far as both are known."""
+    return None in (planned.frequency, frequency) or abs((planned.frequency or 0) - (frequency or 0)) < bands.RASTER
+
+
+class Index:
+    """The planned cells by their cell identity, and by their physical-layer identity."""
+
+    def __init__(self, plan: Sequence[Planned]) -> None:
+        self.by_cell: dict[int, list[Planned]] = {}
+        self.by_identity: dict[int, list[Planned]] = {}
+        for one in plan:
+            self.by_identity.setdefault(one.identity, []).append(one)
+            if one.cell is not None:
+                self.by_cell.setdefault(one.cell, []).append(one)
+
+    def of(self, lines: Lines) -> list[Planned]:
+        """Returns the planned cell that matches by SIB1, else those of the same physical-layer identity that may be it."""
+        like = [one for one in self.by_identity.get(lines.identity, ()) if is_carrier(one, lines.frequency)]
+        if lines.sib1 is None:
+            return nearest_of(like, lines.strongest_place)
+        same = [
+            one
+            for one in self.by_cell.get(lines.sib1.cell, ())
+            if one.network is None or one.network in lines.sib1.networks
+        ]
+        same.sort(key=lambda one: (not is_carrier(one, lines.frequency), one.identity != lines.identity))
+        return same[:1] or nearest_of([one for one in like if one.cell is None], lines.strongest_place)
+
+
+def nearest_of(cells: list[Planned], place: tuple[float, float] | None) -> list[Planned]:
+    """Returns the planned cell that is nearest to a place; all of them if a place is not known."""
+    away = [distance(one.place, place) for one in cells if one.place and place]
+    return [cells[away.index(min(away))]] if away and len(away) == len(cells) else cells
+
+
+def findings_about(planned: Planned, lines: Lines) -> list[Finding]:
+    """Returns the findings about a detected cell and the planned one that matches."""
+    if lines.sib1 is None or planned.cell is None:
+        return [finding("identity-only", planned, lines)]
+    words = []
+    if planned.identity != lines.identity:
+        words.append("wrong-identity")
+    if planned.tac is not None and planned.tac != lines.sib1.tac:
+        words.append("wrong-area")
+    return [finding(word, planned, lines) for word in words or ["as-planned"]]
+
+
+def finding(word: str, planned: Planned | None, lines: Lines) -> Finding:
+    """Returns a finding about a detected cell."""
+    place, strongest = planned and planned.place, lines.strongest_place
+    return Finding(
+        finding=word,
+        name=planned and planned.name,
+        cell=lines.sib1.cell if lines.sib1 else None,
+        planned_identity=planned and planned.identity,
+        identity=lines.identity,
+        planned_tac=planned and planned.tac,
+        tac=lines.sib1.tac if lines.sib1 else None,
+        other=None,
+        windows=lines.windows,
+        level=lines.level,
+        metres=round(distance(place, strongest), 0) if place and strongest else None,
+    )
+
+
+def reuse(lines: Lines, other: Lines) -> Finding:
+    """Returns that two cells have one physical-layer identity."""
+    return dataclasses.replace(finding("reuse", None, lines), other=other.sib1.cell if other.sib1 else None)
+
+
+def way_of(survey: Survey) -> list[tuple[float, float]]:
+    """Returns the places of windows, those within some 10 metres once."""
+    places = survey.track.windows if survey.track else ()
+    return list(dict.fromkeys((round(lon, 4), round(lat, 4)) for _, lon, lat in places))
+
+
+def not_heard(planned: Planned, way: Sequence[tuple[float, float]]) -> Finding:
+    """Returns that no window lists a planned cell, and how near the way comes to its place."""
+    nearest = min((distance(planned.place, place) for place in way), default=None) if planned.place else None
+    return Finding(
+        finding="not-heard",
+        name=planned.name,
+        cell=planned.cell,
+        planned_identity=planned.identity,
+        identity=None,
+        planned_tac=planned.tac,
+        tac=None,
+        other=None,
+        windows=0,
+        level=None,
+        metres=None if nearest is None else round(nearest, 0),
+    )
+
+
+def summary(findings: Sequence[Finding]) -> str:
+    """Returns how many findings of each word there are."""
+    counts = {word: sum(one.finding == word for one in findings) for word in FINDINGS}
+    return ", ".join(f"{count} {word.replace('-', ' ')}" for word, count in counts.items() if count) or "no cell"
+
+
+# ---- the table
+
+COLUMNS: tuple[Column[Finding, Survey], ...] = (
+    Column(
+        "finding",
+        "plan",
+        "",
+        None,
+        "; ".join(f"`{word}`: {meaning}" for word, meaning in FINDINGS.items()),
+        lambda one, _: one.finding,
+        lambda one, _: one.finding.replace("-", " "),
+        is_left=True,
+    ),
+    Column("name", "name", "", None, "name in the plan", lambda one, _: one.name, is_left=True),
+    Column("cell", "cell", "", None, "cell identity, of SIB1 or else of the plan", lambda one, _: one.cell),
+    Column("planned_identity", "planned PCI", "", None, "planned identity", lambda one, _: one.planned_identity),
+    Column("identity", "PCI", "", None, "the identity that was detected", lambda one, _: one.identity),
+    Column("planned_tac", "planned TAC", "", None, "planned tracking area", lambda one, _: one.planned_tac),
+    Column("tac", "TAC", "", None, "tracking area of SIB1", lambda one, _: one.tac),
+    Column("other", "other cell", "", None, "of `reuse`, the other cell of this identity", lambda one, _: one.other),
+    Column("windows", "windows", "", None, "windows that list it", lambda one, _: one.windows),
+    Column("level", "level", "dBFS", None, "maximum level, in the survey's unit", lambda one, _: one.level),
+    Column(
+        "metres",
+        "metres",
+        "m",
+        0,
+        "from the planned place to where it was strongest, or to the nearest window if it is not heard",
+        lambda one, _: one.metres,
+    ),
+)

@@ -1,0 +1,85 @@
+"""What is written of a survey: files of places, windows, packets and a page, and tables with a plan, clashes and coverage."""
+from __future__ import annotations
+
+import json
+import pathlib
+from typing import Any, Callable, NamedTuple, Sequence
+
+from . import clashes, coverage, kml, machine, pcap, places, plan, survey_table, survey_windows, tables
+from .columns import Column
+from .machine import Refused
+from .options import SurveyOptions
+from .survey_data import Survey
+
+
+class Report(NamedTuple):
+    """A table of a survey besides that of its cells: its key in the JSON, the line above it, its columns and rows."""
+
+    key: str
+    head: str
+    columns: Sequence[Column[Any, Survey]]
+    rows: Sequence[Any]
+
+    def lines(self, survey: Survey) -> list[str]:
+        """Returns an empty line, the line above the table, and the table."""
+        return ["", self.head, *(tables.lines_of(self.columns, self.rows, survey) or ["none"])]
+
+
+def planned_of(options: SurveyOptions) -> list[plan.Planned]:
+    """Returns the cells of the plan that options name, if they do."""
+    return plan.read(options.plan) if options.plan else []
+
+
+def reports_of(options: SurveyOptions, survey: Survey, planned: Sequence[plan.Planned]) -> list[Report]:
+    """Returns the tables that options ask for."""
+    found = []
+    if options.plan:
+        rows = plan.findings_of(survey, planned)
+        found.append(Report("plan", f"{options.plan}: {plan.summary(rows)}", plan.COLUMNS, rows))
+    if options.clashes is not None:
+        head = f"cells within {options.clashes:g} dB in the same windows"
+        found.append(Report("clashes", head, clashes.COLUMNS, clashes.clashes_of(survey, options.clashes)))
+    if options.coverage:
+        parts = coverage.coverage_of(survey, coverage.Limits(*options.coverage))
+        found.append(Report("coverage", coverage.head_of(survey, parts), coverage.COLUMNS, parts))
+    return found
+
+
+def text_of(options: SurveyOptions, survey: Survey, planned: Sequence[plan.Planned] = ()) -> str:
+    """Returns what goes to standard output: the table with further ones below, one of them as CSV, or all as JSON."""
+    reports = reports_of(options, survey, planned)
+    if options.json:
+        more = {one.key: [row.to_json() for row in one.rows] for one in reports}
+        return json.dumps({**survey.to_json(), **more}, sort_keys=True, separators=(",", ":")) + "\n"
+    if not options.csv:
+        lines = [line for one in reports for line in one.lines(survey)]
+        return "\n".join([*survey_table.table_of(survey), *lines]) + "\n"
+    if not reports:
+        return survey_table.csv_of(survey)
+    return tables.csv_of(reports[0].columns, reports[0].rows, survey)
+
+
+def write(options: SurveyOptions, survey: Survey) -> None:
+    """Writes the files that options name, except the page; refuses files of places for a survey that was made before
+    without a track."""
+    for out, name in ((options.geojson, "geojson"), (options.kml, "kml")):
+        if out and options.is_survey and survey.track is None:
+            raise Refused(f"{survey.file}: no track in it, and --{name} needs places")
+    writers: tuple[tuple[pathlib.Path | None, Callable[[Survey], bytes]], ...] = (
+        (options.csv_windows, lambda found: survey_windows.csv_of(found).encode(errors="surrogateescape")),
+        (options.geojson, places.geojson_text),
+        (options.kml, kml.of_survey),
+    )
+    for out, content in writers:
+        if out:
+            machine.write(out, content(survey))
+    if options.pcap:
+        pcap.write(options.pcap, pcap.of_survey(survey, options.earfcn))
+
+
+def write_page(options: SurveyOptions, survey: Survey) -> None:
+    """Writes the page, if options name one."""
+    if options.html:
+        from . import survey_page
+
+        survey_page.write(options.html, survey)

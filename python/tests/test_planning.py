@@ -1,0 +1,369 @@
+"""Surveys against a plan, clashes, coverage, and tables and files with windows without a cell."""
+import csv
+import dataclasses
+import io
+import json
+import re
+import xml.etree.ElementTree
+
+import pytest
+
+from tests.conftest import TOP, is_one_line
+from lte_tools import clashes, coverage, foreign, plan, survey_windows
+from lte_tools.survey_data import Power, Survey, Track
+
+CELLS = {63: 70_001 * 256 + 1, 33: 70_001 * 256 + 2, 64: 70_055 * 256 + 1}  # identity and cell identity of SIB1
+EVERY = 1.0  # seconds from one window to the next
+RATE = 1_920_000
+LATER = {63: 100, 33: 2_020, 64: 19_300}  # samples after a window's begin at which a frame of a cell begins
+# levels in dBFS by window, None where a cell is not listed; no cell is in the fourth window
+LEVELS = {
+    63: [-50.0, -55.0, -60.0, None, -72.0, -80.0],
+    33: [-53.0, -56.0, -70.0, None, None, None],
+    64: [None, None, -62.0, None, -70.0, -71.0],
+}
+WAY = [(13.0, 52.0 + 0.001 * i) for i in range(6)]  # 111.195 m from one place to the next, to the north
+
+
+@pytest.fixture
+def made(survey_json):
+    """Returns a survey of levels by window, with a place for each window."""
+    survey = Survey.from_json(survey_json)
+    (cell,) = survey.cells
+    (seen,) = cell.seen
+
+    def make(levels=None, way=None, cells=None, name="drive.cu8"):
+        levels, way, cells = levels or LEVELS, way or WAY, {**CELLS, **(cells or {})}
+        found = [cell_of(identity, each, way, cells[identity]) for identity, each in levels.items()]
+        count = len(next(iter(levels.values())))
+        track = Track("", "", count, tuple((EVERY * i, *place) for i, place in enumerate(way)))
+        powers = tuple(Power(EVERY * i, -30.0, -90.0) for i in range(count))
+        begin = "2026-05-01T10:00:00+00:00"
+        keys = {"track": track, "powers": powers, "file": name, "datetime": begin}
+        return dataclasses.replace(
+            survey, cells=tuple(found), windows=count, every=EVERY, seconds=float(count), rate=RATE, **keys
+        )
+
+    def cell_of(identity, levels, way, number):
+        windows = [
+            dataclasses.replace(
+                seen,
+                seconds=round(EVERY * i + LATER[identity] / RATE, 4),
+                at=round(EVERY * i * RATE) + LATER[identity],
+                datetime=f"2026-05-01T10:00:0{i}.{1000 * LATER[identity] // RATE:03}+00:00",
+                level=level,
+                ratio=level + 80,
+                place=way[i],
+            )
+            for i, level in enumerate(levels)
+            if level is not None
+        ]
+        known = [level for level in levels if level is not None]
+        sib1 = dataclasses.replace(cell.sib1, cell=number, tac=4711)
+        keys = {"identity": identity, "seen": tuple(windows), "windows": len(windows), "level": max(known)}
+        return dataclasses.replace(cell, sib1=sib1, **keys)
+
+    return make
+
+
+@pytest.fixture
+def stored(tmp_path):
+    """Writes a survey as lte_survey --json does."""
+
+    def write(survey, name="drive.json"):
+        (tmp_path / name).write_text(json.dumps(survey.to_json()))
+        return tmp_path / name
+
+    return write
+
+
+def without_sib1(survey, identity, **keys):
+    """A survey in which a cell's SIB1 was not read."""
+    cells = (
+        dataclasses.replace(cell, sib1=None, no_sib1="no-control", **keys) if cell.identity == identity else cell
+        for cell in survey.cells
+    )
+    return dataclasses.replace(survey, cells=tuple(cells))
+
+
+@pytest.mark.parametrize(
+    "head, columns",
+    [
+        ("--csv-windows`", survey_windows.COLUMNS),
+        ("--plan`", plan.COLUMNS),
+        ("--clashes`", clashes.COLUMNS),
+        ("--coverage`", coverage.COLUMNS),
+    ],
+)
+def test_page_names_each_key(head, columns):
+    section = re.split(r"^#+ .*", (TOP / "docs/FORMATS.md").read_text().partition(f"{head}\n")[2], flags=re.M)[0]
+    keys = [column.key for column in columns if column.key]
+    assert [key for key in keys if f"`{key}`" not in section] == []
+
+
+def rows_of(text):
+    return list(csv.DictReader(io.StringIO(text)))
+
+
+# ---- windows
+
+
+def test_windows_have_their_cells(made):
+    windows = survey_windows.windows_of(made())
+    assert [[one.cell.identity for one in window.cells] for window in windows] == [
+        [63, 33],
+        [63, 33],
+        [63, 64, 33],
+        [],
+        [64, 63],
+        [64, 63],
+    ]
+    assert [window.place for window in windows] == WAY and windows[3].strongest is None
+
+
+def test_windows_of_an_older_survey(made):
+    older = dataclasses.replace(made(), powers=(), track=None, datetime=None)
+    bare = dataclasses.replace(older, cells=without_place(older))
+    assert [window.seconds for window in survey_windows.windows_of(bare)] == [0, 1, 2, 3, 4, 5]
+    assert (
+        dataclasses.replace(bare, windows=10**12)
+        and survey_windows.starts_of(dataclasses.replace(bare, windows=10**12)) == []
+    )
+
+
+def without_place(survey):
+    return tuple(
+        dataclasses.replace(cell, seen=tuple(dataclasses.replace(one, place=None) for one in cell.seen))
+        for cell in survey.cells
+    )
+
+
+def test_table_by_window(made):
+    rows = rows_of(survey_windows.csv_of(made(name="=1+1")))
+    assert [(row["window"], row["identity"], row["level"]) for row in rows] == [
+        ("0.0", "63", "-50.0"),
+        ("0.0", "33", "-53.0"),
+        ("1.0", "63", "-55.0"),
+        ("1.0", "33", "-56.0"),
+        ("2.0", "63", "-60.0"),
+        ("2.0", "64", "-62.0"),
+        ("2.0", "33", "-70.0"),
+        ("3.0", "", ""),
+        ("4.0", "64", "-70.0"),
+        ("4.0", "63", "-72.0"),
+        ("5.0", "64", "-71.0"),
+        ("5.0", "63", "-80.0"),
+    ]
+    hole, third = rows[7], rows[6]
+    assert (hole["latitude"], hole["longitude"], hole["noise"], hole["below"]) == ("52.003", "13.0", "-90.0", "")
+    assert (third["below"], third["ratio"], third["enodeb"], third["file"]) == ("10.0", "10.0", "70001", "'=1+1")
+    assert (rows[0]["datetime"], hole["datetime"]) == ("2026-05-01T10:00:00Z", "2026-05-01T10:00:03Z")
+
+
+def test_files_of_places_have_holes(tool, stored, made, tmp_path):
+    survey = stored(made(name="a<b>&\x01"))
+    out = [f"--{name}={tmp_path / name}" for name in ("geojson", "kml", "csv-windows")]
+    run = tool("survey", survey, *out)
+    assert run.status == 0, run.err
+    features = json.loads((tmp_path / "geojson").read_text())["features"]
+    kinds = [one["properties"]["kind"] for one in features]
+    assert [kinds.count(kind) for kind in ("cell", "window", "hole")] == [3, 11, 1]
+    (hole,) = [one for one in features if one["properties"]["kind"] == "hole"]
+    assert hole["geometry"] == {"type": "Point", "coordinates": [13.0, 52.003]} and hole["properties"]["noise"] == -90
+    best = [one["properties"]["identity"] for one in features if one["properties"].get("strongest")]
+    assert sorted(best) == [63, 63, 63, 64, 64]
+    space = "{http://www.opengis.net/kml/2.2}"
+    root = xml.etree.ElementTree.fromstring((tmp_path / "kml").read_bytes())
+    folders = {
+        one.find(f"{space}name").text: len(one.findall(f"{space}Placemark")) for one in root.iter(f"{space}Folder")
+    }
+    assert folders == {"PCI 63": 6, "PCI 33": 4, "PCI 64": 4, "No certain cell": 1}
+    assert root.find(f"{space}Document/{space}name").text == "a<b>&?"
+    (line,) = root.iter(f"{space}LineString")
+    assert len(line.find(f"{space}coordinates").text.split()) == 6
+    assert len((tmp_path / "csv-windows").read_text().splitlines()) == 13
+
+
+# ---- clashes
+
+
+def test_clashes(made):
+    found = {(one.identity, one.other): one for one in clashes.clashes_of(made(), 5)}
+    # 63 and 33: modulo 30 both are 3; within 5 dB in the first two windows of three, 3 and 1 dB weaker; 63 and 64: 2, 2
+    assert set(found) == {(63, 33), (33, 63), (63, 64), (64, 63)}
+    one = found[63, 33]
+    assert (one.moduli, one.word, one.windows, one.together, one.difference) == ((3, 6, 30), "mod 30", 2, 3, -2.0)
+    assert one.time == 1_000.0 and found[33, 63].time == -1_000.0 and found[33, 63].difference == 2.0
+    other = found[63, 64]
+    assert (other.moduli, other.word, other.windows, other.together, other.difference) == ((), "", 2, 3, 0.0)
+    assert other.time == pytest.approx(0.0, abs=0.1)  # 19,200 samples are a frame
+
+
+def test_two_cells_of_one_identity(made):
+    survey = made()
+    third = dataclasses.replace(survey.cells[2], identity=63)
+    (first, second) = [
+        one for one in clashes.clashes_of(dataclasses.replace(survey, cells=(survey.cells[0], third)), 0.5)
+    ]
+    assert (first.word, first.windows, first.together, first.difference) == ("PCI", 0, 3, None)
+    assert (first.cell, first.other_cell) == (CELLS[63], CELLS[64]) == (second.other_cell, second.cell)
+    elsewhere = dataclasses.replace(third, shift=2e5)
+    assert clashes.clashes_of(dataclasses.replace(survey, cells=(survey.cells[0], elsewhere)), 50) == []
+
+
+# ---- coverage
+
+
+def test_coverage(made):
+    parts = {
+        (one.what, one.identity, one.value): one for one in coverage.coverage_of(made(), coverage.Limits(-62.0, 10.0))
+    }
+    # five steps of 111.195 m; a window at an end stands for half a step
+    every = parts["all", None, None]
+    assert (every.windows, every.share, every.metres, every.stretches) == (6, 1.0, pytest.approx(556.0, abs=0.1), 1)
+    some = parts["cell", None, None]
+    assert (some.windows, some.way, some.stretches, some.longest) == (5, 0.8, 2, pytest.approx(278.0, abs=0.1))
+    assert (parts["level", None, -62.0].windows, parts["level", None, -62.0].way) == (3, 0.5)
+    assert (parts["ratio", None, 10.0].windows, parts["both", None, None].windows) == (4, 3)
+    best = parts["strongest", 63, None]
+    assert (best.windows, best.cell, best.metres) == (3, CELLS[63], pytest.approx(278.0, abs=0.1))
+    assert parts["strongest", 64, None].windows == 2 and ("strongest", 33, None) not in parts
+    # within 6 dB: 33; 33; 64; 63; none
+    assert [parts["others", None, count].windows for count in (0.0, 1.0)] == [1, 4]
+
+
+def test_coverage_without_a_track(made):
+    bare = dataclasses.replace(made(), track=None, spoiled=(3.0,))
+    bare = dataclasses.replace(bare, cells=without_place(bare))
+    every, some, *_ = coverage.coverage_of(bare, coverage.Limits(-62.0, 10.0))
+    assert (every.windows, every.metres, every.way, some.windows, some.longest) == (5, None, None, 5, None)
+
+
+# ---- a plan
+
+PLAN = """name,PCI,enodeb,sector,tac,lat,lon,plmn,further
+North 1,63,70001,1,4711,52.0,13.0,001-01,x
+North 2,34,70001,2,4711,52.0,13.0,00101,x
+East 1,64,70055,1,4712,52.0,13.01,,x
+South,100,70077,1,4711,51.99,13.0,,x
+
+Other network,63,70001,1,4711,,,262-02,
+"""
+
+
+def findings(survey, text, tmp_path):
+    (tmp_path / "plan.csv").write_text(text)
+    return plan.findings_of(survey, plan.read(tmp_path / "plan.csv"))
+
+
+def test_plan(made, tmp_path):
+    found = findings(made(), PLAN, tmp_path)
+    assert [(one.finding, one.name, one.planned_identity, one.identity) for one in found] == [
+        ("wrong-identity", "North 2", 34, 33),
+        ("wrong-area", "East 1", 64, 64),
+        ("not-heard", "South", 100, None),
+        ("not-heard", "Other network", 63, None),
+        ("as-planned", "North 1", 63, 63),
+    ]
+    # South is 0.01 degrees of latitude from the way's first place
+    assert [one.metres for one in found if one.name in ("South", "North 1")] == [1112.0, 0.0]
+    assert (found[1].planned_tac, found[1].tac, found[1].windows) == (4712, 4711, 3)
+
+
+def test_plan_by_identity_alone(made, tmp_path):
+    found = findings(without_sib1(made(), 33), "pci;lat;lon\n33;52;13\n33;40;13\n63;;\n65;;\n", tmp_path)
+    words = [(one.finding, one.planned_identity, one.identity) for one in found]
+    # 33 is the nearer one of two; 63 has SIB1, and the plan no cell identity; the plan has no 64
+    assert words == [
+        ("not-planned", None, 64),
+        ("not-heard", 33, None),
+        ("not-heard", 65, None),
+        ("identity-only", 63, 63),
+        ("identity-only", 33, 33),
+    ]
+
+
+def test_reuse_and_carriers(made, tmp_path):
+    survey = made()
+    twice = dataclasses.replace(survey.cells[2], identity=63)
+    survey = dataclasses.replace(survey, cells=(survey.cells[0], twice), carrier=2_140_000_000.0)
+    text = f"pci,cell,earfcn\n63,{CELLS[63]},300\n63,{CELLS[64]},\n70,5,310\n"
+    found = findings(survey, text, tmp_path)
+    assert [one.finding for one in found] == ["reuse", "reuse", "as-planned", "as-planned"]
+    assert [(one.cell, one.other) for one in found[:2]] == [(CELLS[63], CELLS[64]), (CELLS[64], CELLS[63])]
+
+
+BAD_PLANS = {
+    "no column identity or pci": "name,cell\na,1\n",
+    "line 3: identity: '504' is not a whole number from 0 to 503": "pci\n1\n504\n",
+    "line 2: no identity": "pci,tac\n,7\n",
+    "tac: '-1'": "pci,tac\n1,-1\n",
+    "line 2: lat, lon: 91, 0 is no place on earth": "pci,lat,lon\n1,91,0\n",
+    "lat, lon: nan, 0 is no place": "pci,lat,lon\n1,nan,0\n",
+    "lat, lon: '', '7' is not a place": "pci,lat,lon\n1,,7\n",
+    "not a network such as 262-02": "pci,plmn\n1,telco\n",
+    "no downlink of an FDD band has 36000": "pci,earfcn\n1,36000\n",
+    "the column identity is there twice": "pci,identity\n1,2\n",
+    "no cell in it": "pci\n\n",
+}
+
+
+@pytest.mark.parametrize("text", BAD_PLANS)
+def test_bad_plan(tool, stored, made, tmp_path, text):
+    (tmp_path / "bad.csv").write_text(BAD_PLANS[text])
+    run = tool("survey", stored(made()), "--plan", tmp_path / "bad.csv")
+    assert is_one_line(run) and run.status == 1 and str(tmp_path / "bad.csv") in run.err and text in run.err
+
+
+# ---- from a stored survey, on standard output
+
+
+def test_tables_below_the_table(tool, stored, made, tmp_path):
+    (tmp_path / "plan.csv").write_text(PLAN)
+    words = [stored(made()), "--plan", tmp_path / "plan.csv", "--clashes", "5", "--coverage", "-62,10"]
+    run = tool("survey", *words)
+    assert run.status == 0, run.err
+    assert "plan.csv: 1 wrong identity, 1 wrong area, 2 not heard, 1 as planned" in run.out
+    assert re.search(r"^coverage of 6 windows and 0.56 km of the way$", run.out, re.M)
+    assert re.search(r"^level at least -62 dBFS +3 +50.0 +278 +50.0 +1 +278$", run.out, re.M)
+    assert "1 other cell within 6 dB of the strongest" in run.out
+    found = json.loads(tool("survey", *words, "--json").out)
+    assert [len(found[key]) for key in ("plan", "clashes", "coverage")] == [5, 4, 9]
+    foreign.check(found, "survey", "survey")
+    assert Survey.from_json(found) == made()
+
+
+def test_one_table_as_csv(tool, stored, made):
+    survey = stored(made())
+    rows = rows_of(tool("survey", survey, "--clashes", "5", "--csv").out)
+    assert [(row["identity"], row["other"], row["mod30"], row["clash"]) for row in rows][:2] == [
+        ("63", "33", "yes", "mod 30"),
+        ("63", "64", "no", ""),
+    ]
+    assert rows_of(tool("survey", survey, "--coverage", "-62,10", "--csv").out)[0]["what"] == "all"
+    assert rows_of(tool("survey", survey, "--csv").out)[0]["identity"] == "63"
+
+
+@pytest.mark.parametrize(
+    "words, text",
+    [
+        (["--clashes", "5", "--coverage", "-62,10", "--csv"], "--csv writes one table: --clashes or --coverage"),
+        (["--rate", "2e6"], "a survey, in which --rate changes nothing"),
+        (["--carrier", "796e6"], "a survey, in which --carrier changes nothing"),
+        (["--every", "2"], "a survey, in which --every changes nothing"),
+        (["--coverage", "5"], "is not a level and a ratio"),
+        (["--coverage", "5,x"], "'x' is not a number"),
+        (["--kml", "/nowhere/x.kml"], "nothing can be written"),
+        (["--plan", "/nowhere.csv"], "No such file"),
+    ],
+)
+def test_options_that_are_refused(tool, stored, made, words, text):
+    run = tool("survey", stored(made()), *words)
+    assert is_one_line(run) and text in run.err
+
+
+def test_places_need_a_track(tool, stored, made, tmp_path):
+    survey = dataclasses.replace(made(), track=None)
+    for name in ("geojson", "kml"):
+        run = tool("survey", stored(survey), f"--{name}", tmp_path / "out")
+        assert is_one_line(run) and "no track in it" in run.err and not (tmp_path / "out").exists()
