@@ -43,7 +43,7 @@ BUDGETS = {
     "python/lte_reference/README.md": 620,
 }
 EXAMPLES = TOP / "scripts/examples/outputs"
-OUTPUTS = ("hits", "ids", "search", "search_all", "search_cancel", "evidence", "why", "tell", "survey")
+OUTPUTS = ("hits", "ids", "search", "search_all", "search_cancel", "evidence", "why", "tell", "survey", "diff")
 WORD = re.compile(r"`([^`]+)`")
 PLACE = re.compile(
     r"(?:crates/)?(?:(?:(\w+)/)?(specs|src|proofs|must-fail|wrong)/)?([\w/]+\.(?:antt|rt|edit))(?::([\w']+))?"

@@ -13,6 +13,7 @@ SAYS = {
     "lte_tune": "the frequency offset of a recording of LTE",
     "lte_survey": "a table of the LTE cells in a radio's file",
     "lte_picture": "what a receiver of LTE sees in a recording",
+    "lte_diff": "what differs between two surveys of LTE cells",
     "lte_pcap": "master blocks and SIB1 of cells as packets for Wireshark",
     "lte_convert": "a recording for lte_cli from a radio's file",
     "lte_check_certificate": "a second checker of lte_cli's certificates",
@@ -23,6 +24,7 @@ SECTIONS = {
     "lte_cli": (INPUT, ("Commands", "OUTPUT"), STATUS),
     "lte_tune": (INPUT, ("`lte_tune`", "OUTPUT"), STATUS),
     "lte_survey": (("The survey", "OUTPUT"),),
+    "lte_diff": (("Two surveys", "OUTPUT"),),
 }
 EXAMPLES = {
     "lte_cli": [
@@ -38,6 +40,10 @@ EXAMPLES = {
         "lte_survey drive.json --plan sites.csv --clashes 6 --coverage -100,5",
     ],
     "lte_picture": ["lte_picture recording.ci16 -o picture.png", "lte_picture survey.json -o map.png"],
+    "lte_diff": [
+        "lte_diff before.json after.json",
+        "lte_diff before.json after.json --picture changes.png --square 100",
+    ],
     "lte_pcap": ["lte_cli evidence --json < recording.ci16 | lte_pcap -o packets.pcap"],
     "lte_convert": ["lte_convert u8 2.4e6 < drive.cu8 > recording.ci16"],
     "lte_check_certificate": ["lte_cli certify < recording.ci16 | lte_check_certificate"],

@@ -21,12 +21,13 @@ and a generator's loop are stated below the table. Where no cell is sure, I and 
 all cells step together, the radio's gain has changed: levels are those at the first gain. --gain states it by time, as
 0:-20,14:-14: dBFS of a signal of 0 dBm from second 0 and from second 14.
 
-Several files are one drive, in the order of their times, which SigMF, the header of a WAV file or the names have; what is
-missing between them is stated below the table. With --track each window gets the place of its time: the file's time is
-SigMF's, or that of --start, of the header or of the name. --gpsd reads places from gpsd, for - from a named pipe. --html writes a page with
-the table, which sorts, the cells over time, and a map where there are places. --pcap writes the blocks of MIB and SIB1 for
-Wireshark (pcap.py). --scan looks at each carrier of the 100 kHz raster in the file. Standard input (-) is looked at as
-it comes, until it ends or a signal comes; a radio may begin again. With --follow a named pipe waits for its next writer.
+Several files are one drive, in the order of their times, which SigMF, the header of a WAV file or the names have; what
+is missing between them is stated below the table. With --track each window gets the place of its time: the file's time
+is SigMF's, or that of --start, of the header or of the name. --gpsd reads places from gpsd, for - from a named pipe.
+--html writes a page with the table, which sorts, the cells over time, and a map where there are places. --pcap writes
+the blocks of MIB and SIB1 for Wireshark (pcap.py). --scan looks at each carrier of the 100 kHz raster in the file.
+Standard input (-) is looked at as it comes, until it ends or a signal comes; a radio may begin again. With --follow a
+named pipe waits for its next writer.
 
 Further tables: --plan compares with a list of planned cells, --clashes lists for each cell the others that are nearly as
 strong in the same windows, --coverage sums up how much of the way the strongest cell covers. --csv-windows, --geojson and

@@ -18,8 +18,8 @@ import tempfile
 
 import numpy as np
 
-from lte_tools import clashes, coverage, kml, machine, options, pcap, places, plan, radio_file, summary
-from lte_tools import survey_page, survey_windows, tables, track
+from lte_tools import clashes, coverage, diff, kml, machine, options, pcap, places, plan, radio_file, summary
+from lte_tools import survey_diff, survey_page, survey_windows, tables, track
 from lte_tools.survey_data import Survey
 
 TOP = pathlib.Path(__file__).resolve().parents[2]
@@ -229,6 +229,12 @@ def try_tables(draw, folder):
     tables.csv_of(clashes.COLUMNS, clashes.clashes_of(survey, 6), survey)
     tables.csv_of(coverage.COLUMNS, coverage.coverage_of(survey, coverage.Limits(-80, 5)), survey)
     places.geojson_text(survey), kml.of_survey(survey)
+    other = read_survey(draw, folder / "b.json", value)
+    found = survey_diff.difference_of(survey, other, 50.0)
+    survey_diff.table_of(found), survey_diff.csv_of(found), survey_diff.csv_of_places(found)
+    if draw.random() < 0.02 and found.square:
+        diff.draw(folder / "a.png", found)
+        (folder / "a.png").unlink()
 
 
 def read_survey(draw, path, value):

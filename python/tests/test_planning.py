@@ -1,15 +1,16 @@
-"""Surveys against a plan, clashes, coverage, and tables and files with windows without a cell."""
+"""Surveys against a plan and each other, clashes, coverage, and tables and files with windows without a cell."""
 import csv
 import dataclasses
 import io
 import json
+import os
 import re
 import xml.etree.ElementTree
 
 import pytest
 
-from tests.conftest import TOP, is_one_line
-from lte_tools import clashes, coverage, foreign, plan, survey_windows
+from tests.conftest import EXAMPLES, TOP, is_one_line
+from lte_tools import clashes, coverage, foreign, plan, survey_diff, survey_windows
 from lte_tools.survey_data import Power, Survey, Track
 
 CELLS = {63: 70_001 * 256 + 1, 33: 70_001 * 256 + 2, 64: 70_055 * 256 + 1}  # identity and cell identity of SIB1
@@ -93,6 +94,7 @@ def without_sib1(survey, identity, **keys):
         ("--plan`", plan.COLUMNS),
         ("--clashes`", clashes.COLUMNS),
         ("--coverage`", coverage.COLUMNS),
+        ("Two surveys", survey_diff.COLUMNS + survey_diff.PLACE_COLUMNS),
     ],
 )
 def test_page_names_each_key(head, columns):
@@ -367,3 +369,109 @@ def test_places_need_a_track(tool, stored, made, tmp_path):
     for name in ("geojson", "kml"):
         run = tool("survey", stored(survey), f"--{name}", tmp_path / "out")
         assert is_one_line(run) and "no track in it" in run.err and not (tmp_path / "out").exists()
+
+
+# ---- two surveys
+
+AFTER = {
+    63: [-47.0, -52.0, -56.0, None, -66.0, -76.0],  # 3, 3, 4, 6 and 4 dB more
+    64: [None, None, None, -75.0, -70.0, -71.0],  # not in the third window, and in the fourth; else the same
+    65: [None, None, -70.0, None, None, None],
+}
+LATER[65] = 500
+
+
+def test_difference_by_place(made):
+    after = made(AFTER, cells={65: 7}, name="after.cu8")
+    found = survey_diff.difference_of(made(), after)
+    # each window has a square of its own, since places are 111 m apart
+    assert (found.square, found.squares, found.unit) == (50.0, 6, "dBFS")
+    cells = {one.identity_text: one for one in found.cells}
+    assert {name: one.finding for name, one in cells.items()} == {
+        "63": "both",
+        "33": "gone",
+        "64": "both",
+        "65": "appeared",
+    }
+    first = cells["63"]
+    assert (first.difference, first.least, first.greatest, first.ratio_difference) == (4.0, 3.0, 6.0, 4.0)
+    assert (first.squares, first.gained, first.lost) == (5, 0, 0)
+    other = cells["64"]
+    assert (other.difference, other.squares, other.gained, other.lost) == (0.0, 2, 1, 1)
+    assert (cells["33"].lost, cells["65"].gained, cells["33"].difference) == (3, 1, None)
+    assert [one.difference for one in found.best] == [3.0, 3.0, 4.0, None, 4.0, 0.0]
+
+
+def test_difference_where_one_did_not_pass(made):
+    way = [(13.0, 52.0 + 0.001 * i) for i in range(3, 9)]
+    found = survey_diff.difference_of(made(), made({63: [-60.0] * 6}, way, name="after.cu8"))
+    cells = {one.identity_text: one for one in found.cells}
+    # 33 was seen at the first three places, which the second way does not pass
+    assert found.squares == 3 and cells["33"].finding == "not-passed" and cells["64"].finding == "gone"
+    assert (cells["63"].squares, cells["63"].gained, cells["63"].difference) == (2, 1, 16.0)
+
+
+def test_difference_without_places(made):
+    bare = [dataclasses.replace(one, track=None) for one in (made(), made(AFTER, cells={65: 7}))]
+    found = survey_diff.difference_of(*bare)
+    assert found.square is None and found.best == ()
+    first = found.cells[0]
+    # medians of -50 -55 -60 -72 -80 and of -47 -52 -56 -66 -76
+    assert (first.before.level, first.after.level, first.difference, first.squares) == (-60.0, -56.0, 4.0, 0)
+
+
+def test_identity_that_changed_and_sib1_that_is_missing(made):
+    after = made({33: LEVELS[63], 64: LEVELS[64]}, cells={33: CELLS[63]}, name="after.cu8")
+    found = survey_diff.difference_of(made(), without_sib1(after, 64))
+    assert [(one.finding, one.identity_text) for one in found.cells] == [
+        ("new-identity", "63 -> 33"),
+        ("both", "64"),
+        ("gone", "33"),
+    ]
+
+
+def test_diff_writes_all(tool, stored, made, tmp_path):
+    pair = stored(made(), "before.json"), stored(made(AFTER, cells={65: 7}, name="-after.cu8"), "after.json")
+    run = tool("diff", *pair, "--picture", tmp_path / "map.png", "--csv-places", tmp_path / "places.csv")
+    assert run.status == 0, run.err
+    assert run.out.splitlines()[0] == "drive.cu8 and -after.cu8, levels in dBFS: 6 squares of 50 m that both pass"
+    assert re.search(r"^both +63 .* \+4\.0 +\+3\.0 +\+6\.0 +\+4\.0 +5 +0 +0$", run.out, re.M)
+    assert (tmp_path / "map.png").read_bytes().startswith(b"\x89PNG")
+    rows = rows_of((tmp_path / "places.csv").read_text())
+    assert [row["difference"] for row in rows if row["identity"] == "strongest"] == [
+        "3.0",
+        "3.0",
+        "4.0",
+        "",
+        "4.0",
+        "0.0",
+    ]
+    assert {row["identity"] for row in rows} == {"strongest", "63", "33", "64", "65"}
+    assert abs(float(rows[0]["latitude"]) - 52.0) < 0.0005
+    found = json.loads(tool("diff", *pair, "--json").out)
+    foreign.check(found, "diff", "diff")
+    if os.environ.get("LTE_RECORD"):
+        (EXAMPLES / "outputs/diff.json").write_text(tool("diff", *pair, "--json").out)
+    else:
+        assert found == json.loads((EXAMPLES / "outputs/diff.json").read_text())
+    assert rows_of(tool("diff", *pair, "--csv").out)[0]["difference"] == "4.0"
+    assert tool("diff", *pair, "--picture", tmp_path / "map.svg", "--square", "400").status == 0
+
+
+def test_diff_refuses(tool, stored, made, tmp_path):
+    good = stored(made(), "good.json")
+    other = stored(dataclasses.replace(made(), unit="dBm"), "dbm.json")
+    bare = stored(dataclasses.replace(made(), track=None), "bare.json")
+    (tmp_path / "bad.json").write_text('{"cells": 7}')
+    cases = {
+        "levels in dBm": [good, other],
+        f"{bare}: no place in it": [good, bare, "--picture", tmp_path / "x.png"],
+        f"{tmp_path}/bad.json: the whole: no key carrier": [good, tmp_path / "bad.json"],
+        ".png or .svg is written": [good, good, "--picture", tmp_path / "x.jpg"],
+        "from 1 to 100,000 metres": [good, good, "--square", "0.5"],
+        "required": [good],
+    }
+    for text, words in cases.items():
+        run = tool("diff", *words)
+        assert is_one_line(run) and text in run.err, (text, run)
+    assert not (tmp_path / "x.png").exists()

@@ -126,7 +126,7 @@ takes() { # takes PROGRAM FORMS: the program itself refuses none of the forms' w
 
 shells=(bash)
 if command -v zsh > /dev/null; then shells+=(zsh); else echo 'left out: completion of zsh: no zsh (Debian: zsh)'; fi
-tools=(lte_survey lte_picture lte_pcap lte_convert lte_check_certificate)
+tools=(lte_survey lte_picture lte_diff lte_pcap lte_convert lte_check_certificate)
 for name in lte_cli lte_tune "${tools[@]}"; do
     # shellcheck source=/dev/null
     source "$here/$name.bash"
