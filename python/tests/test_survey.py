@@ -235,7 +235,7 @@ REFUSED = {
     "No such file": ("nowhere.cu8",),
     "no sample in it": ("one.cu8",),
     "0.0003 s from second 0": ("cut.ci16",),
-    "a WAV file": ("x.wav",),
+    "WAV without a chunk 'data'": ("x.wav",),
     "captures[1]: core:frequency": ("bad.sigmf-meta",),
 }
 
