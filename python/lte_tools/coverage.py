@@ -16,7 +16,7 @@ from .columns import Column
 from .ground import distance
 from .survey_data import Survey, SurveyCell
 from .survey_table import windows_text
-from .survey_windows import FOLLOWS, Window
+from .survey_windows import Window, are_next
 
 NEAR = 6  # dB below the strongest cell within which another one counts
 
@@ -76,17 +76,17 @@ class Kind(NamedTuple):
 def coverage_of(survey: Survey, limits: Limits) -> list[Part]:
     """Returns the parts of a survey's windows."""
     windows = [window for window in survey_windows.windows_of(survey) if not window.is_spoiled]
-    lengths = lengths_of(windows, survey.every)
+    lengths = lengths_of(windows, survey)
     return [part_of(kind, windows, lengths) for kind in [*kinds_of(limits), *servers(windows), *others(windows)]]
 
 
-def lengths_of(windows: Sequence[Window], every: float) -> list[float] | None:
+def lengths_of(windows: Sequence[Window], survey: Survey) -> list[float] | None:
     """Returns the metres of the way that each window stands for, None if no window has a place."""
     if not any(window.place for window in windows):
         return None
     found = [0.0] * len(windows)
     for i, (one, other) in enumerate(zip(windows, windows[1:])):
-        if one.place and other.place and other.seconds - one.seconds <= FOLLOWS * every:
+        if one.place and other.place and are_next(survey, one.seconds, other.seconds):
             half = distance(one.place, other.place) / 2
             found[i], found[i + 1] = found[i] + half, found[i + 1] + half
     return found

@@ -9,7 +9,7 @@ from typing import Iterator, Sequence
 
 from . import places, survey_windows
 from .survey_data import Survey, SurveyCell
-from .survey_windows import FOLLOWS, InWindow, Window
+from .survey_windows import InWindow, Window, are_next
 
 # as KML has colours: opacity, blue, green, red
 COLOURS = ("ffb46f1f", "ff1a73d9", "ff4e8f2f", "ffb04f8a", "ff3d38b8", "ff665c67")
@@ -28,7 +28,7 @@ def text(words: object) -> str:
 def of_survey(survey: Survey) -> bytes:
     """Returns the KML of a survey."""
     windows = survey_windows.windows_of(survey)
-    parts = [HEAD, f"<name>{text(survey.file)}</name>\n", *styles(), *way_of(windows, survey.every)]
+    parts = [HEAD, f"<name>{text(survey.file)}</name>\n", *styles(), *way_of(windows, survey)]
     for number, cell in enumerate(survey.cells):
         parts += folder_of(number, cell, survey, windows)
     holes = [window for window in windows if window.place and not window.sure]
@@ -45,12 +45,12 @@ def styles() -> Iterator[str]:
     yield f'<Style id="way"><LineStyle><color>{WAY}</color><width>2</width></LineStyle></Style>\n'
 
 
-def way_of(windows: Sequence[Window], every: float) -> list[str]:
+def way_of(windows: Sequence[Window], survey: Survey) -> list[str]:
     """Returns the way as lines, each of windows that follow each other."""
     lines: list[list[Window]] = []
     for window in windows:
         if window.place:
-            if not lines or window.seconds - lines[-1][-1].seconds > FOLLOWS * every:
+            if not lines or not are_next(survey, lines[-1][-1].seconds, window.seconds):
                 lines.append([])
             lines[-1].append(window)
     shown = [" ".join(coordinates(window.place) for window in line if window.place) for line in lines if line[1:]]

@@ -185,10 +185,10 @@ def draw_map(ax: Any, drawn: Map) -> None:
 
 def draw_way(ax: Any, drawn: Map) -> None:
     """Draws a thin line where windows follow each other, rings where none has a cell, and where it begins and ends."""
-    windows, every = windows_of(drawn.found), survey_windows.FOLLOWS * drawn.found.every
+    windows = windows_of(drawn.found)
     lines: list[list[tuple[float, float]]] = [[]]
     for i, spot in enumerate(drawn.spots):
-        if i and windows[i][0] - windows[i - 1][0] > every:
+        if i and not survey_windows.are_next(drawn.found, windows[i - 1][0], windows[i][0]):
             lines.append([])
         lines[-1].append((spot.east, spot.north))
     for line in lines:
@@ -215,10 +215,11 @@ def beside(mark: Spot, other: Spot, ahead: float, left: float) -> tuple[float, f
 
 def draw_best(ax: Any, drawn: Map) -> None:
     """Draws the way in the colour of the strongest cell, as far as one is certain."""
-    every, windows = survey_windows.FOLLOWS * drawn.found.every, windows_of(drawn.found)
+    windows = windows_of(drawn.found)
     lines: dict[str, list[Any]] = {}
     for i, (one, other) in enumerate(zip(drawn.spots, drawn.spots[1:])):
-        if one.cell is not None and one.cell == other.cell and windows[i + 1][0] - windows[i][0] <= every:
+        is_next = survey_windows.are_next(drawn.found, windows[i][0], windows[i + 1][0])
+        if one.cell is not None and one.cell == other.cell and is_next:
             lines.setdefault(drawn.signs[one.cell][2], []).append((one[:2], other[:2]))
     for colour, parts in lines.items():
         ax.add_collection(collections.LineCollection(parts, colors=colour, linewidths=3, alpha=0.4, zorder=2.5))

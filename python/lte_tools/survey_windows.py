@@ -2,6 +2,7 @@
 from __future__ import annotations
 
 import bisect
+import math
 import statistics
 from dataclasses import dataclass
 from typing import NamedTuple, Sequence
@@ -97,24 +98,38 @@ def start_of(one: Seen, starts: Sequence[float], length: float) -> float:
 
 
 class Times:
-    """The time at each second of a survey's file: by the file's time, or by the last frame up to there if that frame has
-    another, as in a file of several captures."""
+    """The time at each second of a survey: by the begin of the file or capture, or by the last frame from there up to the
+    second if that frame has another."""
 
     def __init__(self, survey: Survey) -> None:
         self.length = survey.window
-        self.begin = None if survey.datetime is None else timestamp(survey.datetime)
+        begins = [(one.first, one.datetime) for one in survey.parts] or [(0.0, survey.datetime)]
+        times = [(first, None if text is None else timestamp(text)) for first, text in begins]
+        self.begins = sorted(times, key=lambda pair: pair[0])
         seen = (one for cell in survey.cells for one in cell.seen)
         self.known = sorted((one.seconds, time) for one in seen if (time := one.time) is not None)
 
     def at(self, start: float) -> float | None:
         """Returns the seconds since 1970 at which a window begins, or None."""
-        i = bisect.bisect_left(self.known, (start + self.length,)) - 1
-        time = None if self.begin is None else self.begin + start
-        if i >= 0:
+        part = max(bisect.bisect_right(self.begins, start + SLACK, key=lambda pair: pair[0]), 1)
+        first, begin = self.begins[part - 1]
+        time = None if begin is None else begin + start - first
+        ends = (pair[0] - SLACK for pair in self.begins[part : part + 1])
+        i = bisect.bisect_left(self.known, (min([start + self.length, *ends]),)) - 1
+        if i >= 0 and self.known[i][0] >= first - SLACK:
             second, known = self.known[i]
             own = known + start - second
             time = own if time is None or abs(own - time) > ROUNDED else time
         return time if time is not None and track.FIRST <= time <= track.LAST else None
+
+
+def are_next(survey: Survey, one: float, other: float) -> bool:
+    """Returns whether windows that begin at two seconds follow each other: they are near, counting the seconds that are
+    missing between files or captures, which are known."""
+    begins = [part.first for part in survey.parts]
+    between = survey.parts[bisect.bisect_right(begins, one + SLACK) : bisect.bisect_right(begins, other + SLACK)]
+    gaps = [math.inf if part.missing is None else part.missing for part in between]
+    return other - one + sum(gaps) <= FOLLOWS * survey.every
 
 
 def strongest_of(survey: Survey) -> dict[float, InWindow]:

@@ -10,8 +10,8 @@ import xml.etree.ElementTree
 import pytest
 
 from tests.conftest import EXAMPLES, TOP, is_one_line
-from lte_tools import clashes, coverage, foreign, plan, survey_diff, survey_windows
-from lte_tools.survey_data import Power, Survey, Track
+from lte_tools import clashes, coverage, foreign, kml, plan, survey_diff, survey_windows
+from lte_tools.survey_data import Part, Power, Survey, Track
 
 CELLS = {63: 70_001 * 256 + 1, 33: 70_001 * 256 + 2, 64: 70_055 * 256 + 1}  # identity and cell identity of SIB1
 EVERY = 1.0  # seconds from one window to the next
@@ -239,6 +239,39 @@ def test_coverage_without_a_track(made):
     bare = dataclasses.replace(bare, cells=without_place(bare))
     every, some, *_ = coverage.coverage_of(bare, coverage.Limits(-62.0, 10.0))
     assert (every.windows, every.metres, every.way, some.windows, some.longest) == (5, None, None, 5, None)
+
+
+# ---- several files
+
+
+@pytest.mark.parametrize(
+    "missing, begin, times",
+    [
+        (3_597.0, "2026-05-01T11:00:00+00:00", ["11:00:00", "11:00:01", "11:00:02"]),
+        (0.6, "2026-05-01T10:00:03.600+00:00", ["10:00:03", "10:00:04", "10:00:05"]),
+        (None, None, ["", "", ""]),
+    ],
+)
+def test_several_files(made, missing, begin, times):
+    """The second file begins at the fourth window; from there on no cell is listed."""
+    parts = (Part("a", 0.0, 3.0, "2026-05-01T10:00:00+00:00", 0.0), Part("b", 3.0, 3.0, begin, missing))
+    survey = dataclasses.replace(made({63: [-50.0, -55.0, -60.0, None, None, None]}), parts=parts)
+    found = [row["datetime"][11:19] for row in rows_of(survey_windows.csv_of(survey))]
+    assert found == ["10:00:00", "10:00:01", "10:00:02", *times]
+    assert [survey_windows.are_next(survey, i, i + 1.0) for i in range(5)] == [True, True, False, True, True]
+    every, *_ = coverage.coverage_of(survey, coverage.Limits(-62.0, 10.0))
+    assert every.metres == pytest.approx(4 * 111.195, abs=0.1)
+    assert kml.of_survey(survey).count(b"<LineString>") == 2
+
+
+def test_frames_of_another_file_give_no_time(made):
+    parts = (Part("a", 0.0, 2.95, None, 0.0), Part("b", 2.95, 3.05, None, None))
+    survey = dataclasses.replace(made({63: [None, None, None, -50.0, None, None]}), parts=parts, datetime=None)
+    starts = [0.0, 1.0, 2.0, 2.95, 4.0, 5.0]
+    powers = tuple(Power(start, -30.0, -90.0) for start in starts)
+    track = dataclasses.replace(survey.track, windows=())
+    windows = survey_windows.windows_of(dataclasses.replace(survey, powers=powers, track=track, window=1.05))
+    assert [window.time is None for window in windows] == [True, True, True, False, False, False]
 
 
 # ---- a plan
