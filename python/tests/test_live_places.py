@@ -114,8 +114,9 @@ def test_places_of_a_pipe(tool, sent, tmp_path, monkeypatch):
     found = json.loads(done.out)
     assert found["cells"][0]["seen"][0]["place"] == pytest.approx([13.1007, 51.8993], abs=1e-3)
     assert len(json.loads(geojson.read_text())["features"]) == 2
-    late = run()
+    late = run("--geojson", geojson, "--kml", tmp_path / "cells.kml")
     assert "no places" in late.err and "no place for any of it" in late.err and json.loads(late.out)["cells"]
+    assert [one["geometry"] for one in json.loads(geojson.read_text())["features"]] == [None]
     with pytest.raises(machine.Refused, match="with --wait"):
         options.checked_survey(options.SurveyOptions(options.pathlib.Path("-"), wait=True, track=way))
     with pytest.raises(machine.Refused, match="--track and --gpsd"):
