@@ -45,6 +45,6 @@ subcarriers blocks = 12 * blocks
 abbrev pub points : ℕ → ℕ
 points rate = 128 * 2 ^ rate
 
--- whether a recording at a rate contains all subcarriers of a cell with this number of resource blocks
-abbrev pub is_within : ℕ → ℕ → Bool
-is_within blocks rate = nat_lt (subcarriers blocks) (points rate)
+-- whether a recording at a rate contains all subcarriers of a cell with `blocks` resource blocks
+abbrev pub fits_rate : ℕ → ℕ → Bool
+fits_rate blocks rate = nat_lt (subcarriers blocks) (points rate)

@@ -6,8 +6,8 @@ ghost use Rattle.wide_cell.specs.Cell.{IsCell, IsPortCount, blocks_of, subcarrie
 use lte_types::{Bandwidth, CellId, Duration, Resource};
 use std::marker::Model;
 
-/// A cell as its MIB describes it: identity, one, two or four antenna ports, resource blocks, and PHICH duration and
-/// resource (TS 36.331 section 6.2.2). In contracts it is a record of the five.
+/// A cell: identity, one, two or four antenna ports, and from its MIB (TS 36.331 section 6.2.2) resource blocks, PHICH
+/// duration and PHICH resource. In contracts it is a record of the five.
 #[derive(Clone, Copy, Debug, PartialEq, Eq)]
 pub struct WideCell {
     id: CellId,
@@ -48,7 +48,7 @@ impl Model for WideCell {
 }
 
 impl WideCell {
-    /// Returns the cell with these properties, or `None` if `ports` is not 1, 2 or 4.
+    /// Returns a cell, or `None` if `ports` is not 1, 2 or 4.
     pub fn new(
         id: CellId,
         ports: u8,

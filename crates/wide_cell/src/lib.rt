@@ -8,4 +8,4 @@ mod rate;
 
 pub use cell::WideCell;
 pub use place::WidePlace;
-pub use rate::{is_within, points};
+pub use rate::{fits_rate, points};

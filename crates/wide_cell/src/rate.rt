@@ -1,7 +1,7 @@
 //! Recording rates.
 
 ghost use Rattle.std.specs.Prelude.{◌≡◌, ◌≤◌};
-ghost use Rattle.wide_cell.specs.Cell.{points as points_at, is_within as is_within_at};
+ghost use Rattle.wide_cell.specs.Cell.{points as points_at, fits_rate as fits_rate_at};
 
 use crate::WideCell;
 
@@ -17,9 +17,9 @@ pub fn points(rate: u8) -> usize
 
 /// Returns whether a recording at 2^`rate` times 1.92 million samples per second contains all subcarriers of the cell.
 /// `rate` is at most 4. (own)
-pub fn is_within(cell: &WideCell, rate: u8) -> bool
+pub fn fits_rate(cell: &WideCell, rate: u8) -> bool
     requires { rate ≤ 4 }
-    ensures { result ≡ is_within_at cell.now.blocks rate }
+    ensures { result ≡ fits_rate_at cell.now.blocks rate }
 {
     (cell.subcarriers() as usize) < points(rate)
 }
