@@ -10,7 +10,7 @@ use Rattle.wide_cell.specs.declared.place.WidePlace.{WidePlace}
 use Rattle.wide_cell.specs.Cell.{Cell}
 use Rattle.wide_cell.specs.Place.{place}
 use Rattle.wide_grid.specs.declared.group.WideReg.{WideReg}
-use Rattle.wide_grid.specs.Group.{is_group, is_kept, has_reference, span, group_places}
+use Rattle.wide_grid.specs.Group.{is_group, is_reserved, has_reference, span, group_places}
 
 -- a multiple of 6, modulo the subcarriers, is a multiple of 6
 pub mod_whole : (n blocks : ℕ) → 0 < blocks → n % 6 ≡ 0 → n % (12 * blocks) % 6 ≡ 0
@@ -39,7 +39,7 @@ unfolding group_places
 group_inside cell g is =
     let parts = and_parts (nat_lt g.symbol 4 && nat_lt g.first (12 * cell.blocks)) (nat_eq (g.first % span cell.ports g.symbol) 0) is in
     let front = and_parts (nat_lt g.symbol 4) (nat_lt g.first (12 * cell.blocks)) parts.0 in
-    All-filter (λ p. not (is_kept cell p)) (λ (p : WidePlace). (p.symbol < 14) × (p.k < 12 * cell.blocks))
+    All-filter (λ p. not (is_reserved cell p)) (λ (p : WidePlace). (p.symbol < 14) × (p.k < 12 * cell.blocks))
     (map (place g.symbol) (range_with_len g.first (span cell.ports g.symbol)))
     (All-map (λ (p : WidePlace). (p.symbol < 14) × (p.k < 12 * cell.blocks)) (place g.symbol) (range_with_len g.first (span cell.ports g.symbol))
     (span_inside (has_reference cell.ports g.symbol) cell.blocks g.symbol g.first (ltb-true g.symbol 4 front.0)
@@ -49,15 +49,15 @@ group_inside cell g is =
 
 -- the resource elements among the first n in a span that are not left out
 abbrev pub spanned : Cell → ℕ → ℕ → ℕ → List WidePlace
-spanned cell symbol first n = filter (λ p. not (is_kept cell p)) (map (place symbol) (range_with_len first n))
+spanned cell symbol first n = filter (λ p. not (is_reserved cell p)) (map (place symbol) (range_with_len first n))
 
 pub span_more : (cell : Cell) (symbol first k : ℕ) (old before after : List WidePlace) (b : Bool) → first ≤ k →
-    before ≡ old ++ spanned cell symbol first (k - first) → b ≡ not (is_kept cell (place symbol k)) →
+    before ≡ old ++ spanned cell symbol first (k - first) → b ≡ not (is_reserved cell (place symbol k)) →
     after ≡ before ++ cond b (place symbol k ∷ []) [] → after ≡ old ++ spanned cell symbol first (k + 1 - first)
 span_more cell symbol first k old before after b l is e add =
-    let step = filter_of_map_range_with_len_more (λ p. not (is_kept cell p)) (place symbol) first (k - first) k (omega arith) in
+    let step = filter_of_map_range_with_len_more (λ p. not (is_reserved cell p)) (place symbol) first (k - first) k (omega arith) in
     let next : k + 1 - first ≡ k - first + 1 = omega arith in
-    rw (next, step) (add ∙ rw (is, e) (append_assoc old (spanned cell symbol first (k - first)) (cond (not (is_kept cell (place symbol k))) (place symbol k ∷ []) [])))
+    rw (next, step) (add ∙ rw (is, e) (append_assoc old (spanned cell symbol first (k - first)) (cond (not (is_reserved cell (place symbol k))) (place symbol k ∷ []) [])))
 
 pub span_all : (cell : Cell) (g : WideReg) (k : ℕ) (old items : List WidePlace) → k - g.first ≡ span cell.ports g.symbol →
     items ≡ old ++ spanned cell g.symbol g.first (k - g.first) → items ≡ old ++ group_places cell g
@@ -66,9 +66,9 @@ span_all cell g k old items e is = is ∙ rw e refl
 
 -- ---- a group has four resource elements
 
-kept_of_six : (symbol first s : ℕ) (t : ℕ → Bool) → first % 6 ≡ 0 → s < 3 → t symbol ≡ true →
+four_of_six : (symbol first s : ℕ) (t : ℕ → Bool) → first % 6 ≡ 0 → s < 3 → t symbol ≡ true →
     length (filter (λ (p : WidePlace). not (t p.symbol && nat_eq (p.k % 3) s)) (map (place symbol) (range_with_len first 6))) ≡ 4
-kept_of_six symbol first s t e few has = cases s few
+four_of_six symbol first s t e few has = cases s few
   where
     e0 : first % 3 ≡ 0
     e0 = omega arith
@@ -95,9 +95,9 @@ kept_of_six symbol first s t e few has = cases s few
     cases (suc (suc zero)) l = simp (has, e0, e1, e2, e3, e4, e5) refl
     cases (suc (suc (suc s))) l = absurd (omega arith)
 
-kept_of_four : (symbol first s : ℕ) (t : ℕ → Bool) → t symbol ≡ false →
+four_of_four : (symbol first s : ℕ) (t : ℕ → Bool) → t symbol ≡ false →
     length (filter (λ (p : WidePlace). not (t p.symbol && nat_eq (p.k % 3) s)) (map (place symbol) (range_with_len first 4))) ≡ 4
-kept_of_four symbol first s t lacks = simp lacks refl
+four_of_four symbol first s t lacks = simp lacks refl
 
 pub group_four : (cell : Cell) (g : WideReg) → is_group cell g ≡ true → length (group_places cell g) ≡ 4
 unfolding group_places
@@ -107,6 +107,6 @@ group_four cell g is =
     (and_parts (nat_lt g.symbol 4 && nat_lt g.first (12 * cell.blocks)) (nat_eq (g.first % span cell.ports g.symbol) 0) is).1)
   where
     pick : (b : Bool) → has_reference cell.ports g.symbol ≡ b → g.first % cond b 6 4 ≡ 0 →
-        length (filter (λ p. not (is_kept cell p)) (map (place g.symbol) (range_with_len g.first (cond b 6 4)))) ≡ 4
-    pick true e m = kept_of_six g.symbol g.first (cell.identity % 3) (has_reference cell.ports) m (omega arith) e
-    pick false e m = kept_of_four g.symbol g.first (cell.identity % 3) (has_reference cell.ports) e
+        length (filter (λ p. not (is_reserved cell p)) (map (place g.symbol) (range_with_len g.first (cond b 6 4)))) ≡ 4
+    pick true e m = four_of_six g.symbol g.first (cell.identity % 3) (has_reference cell.ports) m (omega arith) e
+    pick false e m = four_of_four g.symbol g.first (cell.identity % 3) (has_reference cell.ports) e

@@ -16,7 +16,7 @@ abbrev pub candidates : List Candidate
 candidates =
     candidate 8 0 ∷ candidate 8 8 ∷ candidate 4 0 ∷ candidate 4 4 ∷ candidate 4 8 ∷ candidate 4 12 ∷ []
 
--- whether a PDCCH with this many control channel elements has a candidate
+-- whether a PDCCH with `count` control channel elements has a candidate
 abbrev pub has_candidate : ℕ → Candidate → Bool
 has_candidate count c = nat_le (c.first + c.level) count
 

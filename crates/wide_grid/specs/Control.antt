@@ -39,20 +39,20 @@ sixths Two = 12
 abbrev pub phich_count : Cell → ℕ
 phich_count cell = (sixths cell.resource * cell.blocks + 47) / 48
 
--- the groups in a symbol that the PCFICH leaves unused, by subcarrier
-unfoldable pub left_groups : Cell → ℕ → List WideReg
-left_groups cell symbol = filter (λ g. not (is_group_in (pcfich_groups cell) g)) (symbol_groups cell symbol)
+-- the groups in a symbol that the PCFICH does not use, by subcarrier
+unfoldable pub free_groups : Cell → ℕ → List WideReg
+free_groups cell symbol = filter (λ g. not (is_group_in (pcfich_groups cell) g)) (symbol_groups cell symbol)
 
--- how many groups in a symbol the PCFICH leaves unused
-abbrev pub left_count : Cell → ℕ → ℕ
-left_count cell symbol =
+-- the number of groups in a symbol that the PCFICH does not use
+abbrev pub free_count : Cell → ℕ → ℕ
+free_count cell symbol =
     subcarriers cell.blocks / span cell.ports symbol - (if nat_eq symbol 0 then 4 else 0)
 
 -- the resource-element group in a symbol for quadruplet i of PHICH group m
 unfoldable pub phich_group_in : Cell → ℕ → ℕ → ℕ → WideReg
 phich_group_in cell symbol m i =
-    slice_index_or (left_groups cell symbol)
-    (phich_number cell.identity (left_count cell symbol) (left_count cell 0) m i) (group 0 0)
+    slice_index_or (free_groups cell symbol)
+    (phich_number cell.identity (free_count cell symbol) (free_count cell 0) m i) (group 0 0)
 
 -- the resource-element group for quadruplet i of PHICH group m
 abbrev pub phich_group : Cell → ℕ → ℕ → WideReg
@@ -64,7 +64,8 @@ phich_groups cell = joined_below (phich_count cell) (λ m. values_below 3 (phich
 
 -- ---- PDCCH (section 6.8.5)
 
--- the symbol and first subcarrier with number n: by first subcarrier, then symbol
+-- the resource-element group, valid or not, in symbol n mod 4 that begins at subcarrier n / 4: numbers order groups by
+-- first subcarrier, then symbol
 abbrev pub numbered : ℕ → WideReg
 numbered n = group (n % 4) (n / 4)
 

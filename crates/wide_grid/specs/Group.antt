@@ -8,6 +8,7 @@ use Rattle.wide_cell.specs.Cell.{Cell, subcarriers}
 use Rattle.wide_cell.specs.Place.{place}
 use Rattle.wide_grid.specs.declared.group.WideReg.{WideReg}
 
+-- the resource-element group in `symbol` whose span begins at subcarrier `first`
 abbrev pub group : ℕ → ℕ → WideReg
 group symbol first = record { symbol = symbol; first = first }
 
@@ -35,6 +36,7 @@ abbrev pub is_group : Cell → WideReg → Bool
 is_group cell g =
     nat_lt g.symbol 4 && nat_lt g.first (subcarriers cell.blocks) && nat_eq (g.first % span cell.ports g.symbol) 0
 
+-- whether the resource-element groups `g` and `h` are the same
 abbrev pub same_group : WideReg → WideReg → Bool
 same_group g h = nat_eq g.symbol h.symbol && nat_eq g.first h.first
 
@@ -42,15 +44,15 @@ same_group g h = nat_eq g.symbol h.symbol && nat_eq g.first h.first
 abbrev pub is_group_in : List WideReg → WideReg → Bool
 is_group_in groups g = list_any (same_group g) groups
 
--- whether a resource element in a group's span is left out for reference signals: every third subcarrier, from the
--- identity modulo 3
-abbrev pub is_kept : Cell → WidePlace → Bool
-is_kept cell p = has_reference cell.ports p.symbol && nat_eq (p.k % 3) (cell.identity % 3)
+-- whether the resource element `p` is reserved for reference signals: every third subcarrier, from the identity modulo
+-- 3, in symbols with `has_reference`
+abbrev pub is_reserved : Cell → WidePlace → Bool
+is_reserved cell p = has_reference cell.ports p.symbol && nat_eq (p.k % 3) (cell.identity % 3)
 
 -- a group's resource elements, by subcarrier
 unfoldable pub group_places : Cell → WideReg → List WidePlace
 group_places cell g =
-    filter (λ p. not (is_kept cell p)) (map (place g.symbol) (range_with_len g.first (span cell.ports g.symbol)))
+    filter (λ p. not (is_reserved cell p)) (map (place g.symbol) (range_with_len g.first (span cell.ports g.symbol)))
 
 -- valid groups
 abbrev pub AreGroups : Cell → List WideReg → Type 0

@@ -1,4 +1,4 @@
 pub mod Group
 pub mod Control
 pub mod Candidate
-pub mod Shared
+pub mod Pdsch

@@ -3,7 +3,7 @@
 ghost use Rattle.std.specs.Prelude.{◌≡◌, ◌+◌, ◌<◌, ◌≤◌, ◌++◌, [], ◌∷◌, cond, not, map, filter, IsTrue, length, IfOk};
 ghost use Rattle.std.specs.List.{range_with_len};
 ghost use Rattle.wide_cell.specs.Place.{place};
-ghost use Rattle.wide_grid.specs.Group.{region, has_reference as has_reference_by, span as span_of, is_kept as is_kept_by};
+ghost use Rattle.wide_grid.specs.Group.{region, has_reference as has_reference_by, span as span_of, is_reserved as is_reserved_by};
 ghost use Rattle.wide_grid.specs.Group.{is_group, is_group_in, group_places, AreInside};
 ghost use Rattle.wide_cell.specs.Cell.{IsCell};
 
@@ -49,9 +49,9 @@ pub(crate) fn span(cell: &WideCell, symbol: u8) -> u16
     if has_reference(cell, symbol) { 6 } else { 4 }
 }
 
-// Returns whether a resource element in a group's span is left out for reference signals.
-fn is_kept(cell: &WideCell, place: WidePlace) -> bool
-    ensures { result ≡ is_kept_by cell.now place }
+// Returns whether a resource element is reserved for reference signals.
+fn is_reserved(cell: &WideCell, place: WidePlace) -> bool
+    ensures { result ≡ is_reserved_by cell.now place }
 {
     has_reference(cell, place.symbol) && place.k % 3 == cell.id().n2()
 }
@@ -107,7 +107,7 @@ pub(crate) fn add_group_places(
             symbol: group.symbol,
             k,
         };
-        add_place(places, place, !is_kept(cell, place))?;
+        add_place(places, place, !is_reserved(cell, place))?;
     }
     Ok(())
 }

@@ -7,12 +7,12 @@ mod candidate;
 mod control;
 mod group;
 mod pdcch;
+mod pdsch;
 mod phich;
-mod shared;
 
 pub use candidate::{CANDIDATES, Candidate, candidate_places, candidates_are, has_candidate};
 pub use control::{pcfich_groups, pcfich_places};
 pub use group::{WideReg, control_symbols};
 pub use pdcch::{pdcch_groups, quadruplet_groups};
+pub use pdsch::pdsch_places;
 pub use phich::phich_groups;
-pub use shared::shared_places;

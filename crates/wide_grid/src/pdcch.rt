@@ -26,7 +26,7 @@ fn is_valid(cell: &WideCell, group: WideReg) -> bool
         && group.first % span(cell, group.symbol) == 0
 }
 
-// Returns the symbol and first subcarrier with number `n`: by first subcarrier, then symbol.
+// Returns the group with number `n`, valid or not; numbers order groups by first subcarrier, then symbol.
 fn numbered(n: u16) -> WideReg
     requires { n < 4800 }
     ensures value { result ≡ numbered_of n }
@@ -38,7 +38,13 @@ fn numbered(n: u16) -> WideReg
 }
 
 // Returns whether a group is in the control region and is used by neither PCFICH nor PHICH.
-fn is_left(cell: &WideCell, cfi: Cfi, group: WideReg, pcfich: &[WideReg], phich: &[WideReg]) -> bool
+fn is_pdcch(
+    cell: &WideCell,
+    cfi: Cfi,
+    group: WideReg,
+    pcfich: &[WideReg],
+    phich: &[WideReg],
+) -> bool
     ensures { result ≡ (is_group cell.now group && nat_lt group.symbol (region cell.now cfi)
         && (not (is_group_in pcfich.now group) && not (is_group_in phich.now group))) }
 {
@@ -63,7 +69,7 @@ pub fn pdcch_groups(alloc: Global, cell: &WideCell, cfi: Cfi) -> Result<Vec<Wide
         add_group(
             &mut groups,
             group,
-            is_left(cell, cfi, group, &pcfich, &phich),
+            is_pdcch(cell, cfi, group, &pcfich, &phich),
         )?;
     }
     Ok(groups)
@@ -97,8 +103,8 @@ fn quadruplet_group(cell: &WideCell, groups: &[WideReg], order: &[usize], q: usi
     unreachable!()
 }
 
-/// Returns the PDCCH groups, at most 4,800, in the order of the quadruplets that they carry: quadruplets are
-/// interleaved, and cyclically shifted by the identity (TS 36.211 section 6.8.5).
+/// Returns the PDCCH groups in the order of the quadruplets that the groups carry: quadruplets are interleaved, and
+/// cyclically shifted by the identity (TS 36.211 section 6.8.5).
 pub fn quadruplet_groups(
     alloc: Global,
     cell: &WideCell,

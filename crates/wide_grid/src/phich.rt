@@ -4,8 +4,8 @@ ghost use Rattle.std.specs.Prelude.{◌≡◌, ◌+◌, ◌*◌, ◌/◌, ◌%�
 ghost use Rattle.finite.specs.Lists.{values_below};
 ghost use Rattle.grid_map.specs.Control.{phich_symbol};
 ghost use Rattle.wide_grid.specs.Group.{group};
-ghost use Rattle.wide_grid.specs.Control.{sixths as sixths_of, phich_count as phich_count_of, left_groups as left_groups_of};
-ghost use Rattle.wide_grid.specs.Control.{left_count as left_count_of, phich_group_in as phich_group_in_of};
+ghost use Rattle.wide_grid.specs.Control.{sixths as sixths_of, phich_count as phich_count_of, free_groups as free_groups_of};
+ghost use Rattle.wide_grid.specs.Control.{free_count as free_count_of, phich_group_in as phich_group_in_of};
 ghost use Rattle.wide_grid.specs.Control.{phich_group as phich_group_of, phich_groups as phich_groups_of};
 
 use crate::WideReg;
@@ -36,18 +36,18 @@ fn phich_count(cell: &WideCell) -> u16
     (sixths(cell.resource()) * cell.blocks() as u16 + 47) / 48
 }
 
-// Returns how many groups in a symbol the PCFICH leaves unused.
-fn left_count(cell: &WideCell, symbol: u8) -> u32
-    ensures value { result ≡ left_count_of cell.now symbol }
+// Returns the number of groups in a symbol that the PCFICH does not use.
+fn free_count(cell: &WideCell, symbol: u8) -> u32
+    ensures value { result ≡ free_count_of cell.now symbol }
     ensures bounds { (8 ≤ result) × (result ≤ 300) }
 {
     let groups = (cell.subcarriers() / span(cell, symbol)) as u32;
     if symbol == 0 { groups - 4 } else { groups }
 }
 
-// Returns the groups in a symbol that the PCFICH leaves unused, by subcarrier.
-fn left_groups(alloc: Global, cell: &WideCell, symbol: u8) -> Result<Vec<WideReg>, AllocError>
-    ensures { IfOk result (λ groups. groups.items ≡ left_groups_of cell.now symbol) }
+// Returns the groups in a symbol that the PCFICH does not use, by subcarrier.
+fn free_groups(alloc: Global, cell: &WideCell, symbol: u8) -> Result<Vec<WideReg>, AllocError>
+    ensures { IfOk result (λ groups. groups.items ≡ free_groups_of cell.now symbol) }
 {
     let taken = pcfich_groups(cell);
     let span = span(cell, symbol);
@@ -87,11 +87,11 @@ fn phich_group_in(
     requires i { i < 3 }
     ensures { IfOk result (λ group. group ≡ phich_group_in_of cell.now symbol m i) }
 {
-    let left = left_groups(alloc, cell, symbol)?;
-    let count = left_count(cell, symbol);
-    let spread = cell.id().value() as u32 * count / left_count(cell, 0);
+    let free = free_groups(alloc, cell, symbol)?;
+    let count = free_count(cell, symbol);
+    let spread = cell.id().value() as u32 * count / free_count(cell, 0);
     let number = (spread + m as u32 + i as u32 * count / 3) % count;
-    Ok(group_at(&left, number as usize))
+    Ok(group_at(&free, number as usize))
 }
 
 // Returns the symbol that carries quadruplet `i` of a PHICH group.

@@ -11,7 +11,7 @@ use wide_cell::WideCell;
 use wide_grant::{Allocation, Run, WideGrant, allocated_blocks};
 use wide_grid::{
     CANDIDATES, WideReg, candidate_places, has_candidate, pcfich_places, pdcch_groups,
-    phich_groups, quadruplet_groups, shared_places,
+    pdsch_places, phich_groups, quadruplet_groups,
 };
 
 // Checksums for a bandwidth and a port count: the resource elements of the PCFICH, the groups of the PHICH, the groups
@@ -273,7 +273,7 @@ fn control_channels_are_the_references(rt: HostRuntime) -> Result<(), Fail> {
 
 // Checksums for a bandwidth and a port count: the resource elements of the PDSCH for an allocation that depends on the
 // cell, and for all resource blocks.
-const SHARED: [(Bandwidth, u8, [u64; 2]); 18] = [
+const PDSCH: [(Bandwidth, u8, [u64; 2]); 18] = [
     (Bandwidth::N6, 1, [4_018_536_297, 902_299_825]),
     (Bandwidth::N6, 2, [651_480_879, 3_224_938_086]),
     (Bandwidth::N6, 4, [1_614_282_487, 1_914_180_090]),
@@ -333,7 +333,7 @@ fn grant_of(cell: &WideCell, cfi: Cfi) -> WideGrant
     }
 }
 
-fn after_shared(
+fn after_pdsch(
     alloc: Global,
     cell: &WideCell,
     cfi: Cfi,
@@ -345,25 +345,25 @@ fn after_shared(
     let second = allocated_blocks(alloc, cell, &grant, true)?;
     let all = [true; 100];
     Ok([
-        after_places(trial, &shared_places(alloc, cell, cfi, &first, &second)?),
-        after_places(whole, &shared_places(alloc, cell, cfi, &all, &all)?),
+        after_places(trial, &pdsch_places(alloc, cell, cfi, &first, &second)?),
+        after_places(whole, &pdsch_places(alloc, cell, cfi, &all, &all)?),
     ])
 }
 
-fn shared_sums(alloc: Global, bandwidth: Bandwidth, ports: u8) -> Result<[u64; 2], Fail> {
+fn pdsch_sums(alloc: Global, bandwidth: Bandwidth, ports: u8) -> Result<[u64; 2], Fail> {
     let mut sums = [0; 2];
     for i in 0..24 {
         let cell = cell_of(bandwidth, ports, i).ok_or("a cell")?;
         let cfi = cfi_of(i).ok_or("an indicator")?;
-        sums = after_shared(alloc, &cell, cfi, sums)?;
+        sums = after_pdsch(alloc, &cell, cfi, sums)?;
     }
     Ok(sums)
 }
 
 #[test]
-fn shared_channels_are_the_references(rt: HostRuntime) -> Result<(), Fail> {
-    for (bandwidth, ports, expected) in SHARED {
-        let sums = shared_sums(rt.alloc(), bandwidth, ports)?;
+fn pdsch_places_are_the_references(rt: HostRuntime) -> Result<(), Fail> {
+    for (bandwidth, ports, expected) in PDSCH {
+        let sums = pdsch_sums(rt.alloc(), bandwidth, ports)?;
         assert!(rt; sums == expected, "{bandwidth}, {ports} ports");
     }
     Ok(())

@@ -8,7 +8,7 @@ use Rattle.wide_grid.proofs.group.add_group_places.Goals as goal
 pub loop-k-preserved : goal.loop-k-preserved
 loop-k-preserved c =
     span_more c.args.cell.now c.args.group.symbol c.args.group.first c.loop-k.k c.args.places.now.items c.loop-k.places.items _ _
-    c.loop-k.auto.k c.loop-k.invariant (ap not c.is_kept.ensures) c.in_ok-add_place.ensures.items
+    c.loop-k.auto.k c.loop-k.invariant (ap not c.is_reserved.ensures) c.in_ok-add_place.ensures.items
 
 pub returns-clause-items : goal.returns-clause-items
 returns-clause-items c =

@@ -12,7 +12,7 @@ loop-n-preserved c =
     filter_step (λ g. is_group c.args.cell.now g && nat_lt g.symbol (region c.args.cell.now c.args.cfi)
     && (not (is_group_in c.pcfich_groups-pcfich.result g) && not (is_group_in c.in_ok-phich.phich.items g))) numbered_of
     c.loop-n.n c.loop-n.groups.items _ _ _ c.loop-n.invariant c.numbered-group.ensures.value
-    (rw c.deref.ensures.value at c.is_left.ensures)
+    (rw c.deref.ensures.value at c.is_pdcch.ensures)
     c.in_ok-add_group.ensures.items
 
 pub returns-clause-groups : goal.returns-clause-groups

@@ -1,8 +1,8 @@
 use Rattle.std.proofs.Common.{◌≡◌, ◌*◌, ◌/◌, ◌∙◌, not, ap, refl, arith}
 use Rattle.wide_grid.specs.Group.{group, is_group_in, span, symbol_groups}
-use Rattle.wide_grid.specs.Control.{left_groups as left_groups_of}
+use Rattle.wide_grid.specs.Control.{free_groups as free_groups_of}
 use Rattle.wide_grid.proofs.Loops.{filter_step}
-use Rattle.wide_grid.proofs.phich.left_groups.Goals as goal
+use Rattle.wide_grid.proofs.phich.free_groups.Goals as goal
 
 pub loop-n-preserved : goal.loop-n-preserved
 loop-n-preserved c =
@@ -13,7 +13,7 @@ loop-n-preserved c =
     c.in_ok-add_group.ensures.items
 
 pub returns : goal.returns
-unfolding left_groups_of symbol_groups
+unfolding free_groups_of symbol_groups
 returns c =
     let past = c.loop-n-test.false in
     let end = c.loop-n.auto.n-end in

@@ -20,9 +20,9 @@ is_upper cell p =
     && (is_upper_reference 2 cell.identity (10 + p.symbol / 7) (p.symbol % 7) p.k
     || is_upper_reference 3 cell.identity (10 + p.symbol / 7) (p.symbol % 7) p.k)
 
--- whether a resource element is reserved for the synchronisation signals: the middle 72 subcarriers of symbols 5 and 6
--- (own: also the five at either end of the 72, which carry no signal). If the number of resource blocks is odd, two
--- blocks are reserved by half.
+-- whether a resource element is reserved for the synchronisation signals: the middle 72 subcarriers of symbols 5 and 6;
+-- the five at either end carry no signal, but are reserved too (sections 6.11.1.2 and 6.11.2.2). If the number of
+-- resource blocks is odd, two blocks are reserved by half.
 abbrev pub is_synchronisation : Cell → WidePlace → Bool
 is_synchronisation cell p =
     (nat_eq p.symbol 5 || nat_eq p.symbol 6) && nat_le (6 * cell.blocks - 36) p.k && nat_lt p.k (6 * cell.blocks + 36)
@@ -33,8 +33,8 @@ abbrev pub is_allocated : List Bool → List Bool → WidePlace → Bool
 is_allocated first second p = slice_index_or (if nat_lt p.symbol 7 then first else second) (p.k / 12) false
 
 -- whether a resource element belongs to the PDSCH of the allocated blocks
-abbrev pub is_shared : Cell → ℕ → List Bool → List Bool → WidePlace → Bool
-is_shared cell cfi first second p =
+abbrev pub is_pdsch : Cell → ℕ → List Bool → List Bool → WidePlace → Bool
+is_pdsch cell cfi first second p =
     nat_le (region cell cfi) p.symbol && (is_allocated first second p && not (is_synchronisation cell p)
     && not (is_lower_reference cell p) && not (is_upper cell p))
 
@@ -43,6 +43,6 @@ abbrev pub place_at : Cell → ℕ → WidePlace
 place_at cell n = place (n / subcarriers cell.blocks) (n % subcarriers cell.blocks)
 
 -- the PDSCH's resource elements, by symbol, then subcarrier
-unfoldable pub shared_places : Cell → ℕ → List Bool → List Bool → List WidePlace
-shared_places cell cfi first second =
-    filter (is_shared cell cfi first second) (values_below (14 * subcarriers cell.blocks) (place_at cell))
+unfoldable pub pdsch_places : Cell → ℕ → List Bool → List Bool → List WidePlace
+pdsch_places cell cfi first second =
+    filter (is_pdsch cell cfi first second) (values_below (14 * subcarriers cell.blocks) (place_at cell))

@@ -2,10 +2,10 @@
 
 ghost use Rattle.std.specs.Prelude.{◌≡◌, ◌+◌, ◌*◌, ◌/◌, ◌%◌, ◌<◌, ◌≤◌, false, slice_index_or, IfOk};
 ghost use Rattle.wide_cell.specs.Cell.{subcarriers};
-ghost use Rattle.wide_grid.specs.Shared.{is_lower_reference, is_upper};
-ghost use Rattle.wide_grid.specs.Shared.{is_synchronisation as is_synchronisation_of};
-ghost use Rattle.wide_grid.specs.Shared.{is_allocated as is_allocated_of, is_shared as is_shared_of, place_at as place_at_of};
-ghost use Rattle.wide_grid.specs.Shared.{shared_places as shared_places_of};
+ghost use Rattle.wide_grid.specs.Pdsch.{is_lower_reference, is_upper};
+ghost use Rattle.wide_grid.specs.Pdsch.{is_synchronisation as is_synchronisation_of};
+ghost use Rattle.wide_grid.specs.Pdsch.{is_allocated as is_allocated_of, is_pdsch as is_pdsch_of, place_at as place_at_of};
+ghost use Rattle.wide_grid.specs.Pdsch.{pdsch_places as pdsch_places_of};
 ghost use Rattle.crs.specs.Reference.{IsPattern, is_pattern_place, is_upper_reference};
 ghost use Rattle.wide_grid.specs.Group.{AreInside};
 
@@ -51,7 +51,7 @@ fn has_upper_reference(cell: &WideCell, place: WidePlace) -> bool
     cell.ports() == 4 && (has_upper_of(cell, 2, place) || has_upper_of(cell, 3, place))
 }
 
-// Returns whether a resource element is kept for the synchronisation signals.
+// Returns whether a resource element is reserved for the synchronisation signals.
 fn is_synchronisation(cell: &WideCell, place: WidePlace) -> bool
     ensures { result ≡ is_synchronisation_of cell.now place }
 {
@@ -82,9 +82,9 @@ fn is_allocated(first: &[bool], second: &[bool], place: WidePlace) -> bool
 }
 
 // Returns whether a resource element belongs to the PDSCH of the allocated blocks.
-fn is_shared(cell: &WideCell, cfi: Cfi, first: &[bool], second: &[bool], place: WidePlace) -> bool
+fn is_pdsch(cell: &WideCell, cfi: Cfi, first: &[bool], second: &[bool], place: WidePlace) -> bool
     requires { place.symbol < 14 }
-    ensures { result ≡ is_shared_of cell.now cfi first.now second.now place }
+    ensures { result ≡ is_pdsch_of cell.now cfi first.now second.now place }
 {
     control_symbols(cell, cfi) <= place.symbol
         && is_allocated(first, second, place)
@@ -108,14 +108,14 @@ fn place_at(cell: &WideCell, n: u16) -> WidePlace
 
 /// Returns the PDSCH's resource elements in subframe 5, by symbol, then subcarrier (TS 36.211 sections 6.3.5 and 6.4).
 /// `first` and `second` state for each resource block whether it is allocated in slots 10 and 11.
-pub fn shared_places(
+pub fn pdsch_places(
     alloc: Global,
     cell: &WideCell,
     cfi: Cfi,
     first: &[bool],
     second: &[bool],
 ) -> Result<Vec<WidePlace>, AllocError>
-    ensures places { IfOk result (λ places. places.items ≡ shared_places_of cell.now cfi first.now second.now) }
+    ensures places { IfOk result (λ places. places.items ≡ pdsch_places_of cell.now cfi first.now second.now) }
     ensures inside { IfOk result (λ places. AreInside cell.now places.items) }
 {
     let mut places = Vec::new(alloc);
@@ -124,7 +124,7 @@ pub fn shared_places(
         add_place(
             &mut places,
             place,
-            is_shared(cell, cfi, first, second, place),
+            is_pdsch(cell, cfi, first, second, place),
         )?;
     }
     Ok(places)

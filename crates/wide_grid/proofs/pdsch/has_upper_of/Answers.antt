@@ -1,7 +1,7 @@
 use Rattle.std.proofs.Common.{refl}
 use Rattle.std.proofs.lemmas.Bool.{ne_eqb}
 use Rattle.crs.specs.Reference.{is_upper_reference}
-use Rattle.wide_grid.proofs.shared.has_upper_of.Goals as goal
+use Rattle.wide_grid.proofs.pdsch.has_upper_of.Goals as goal
 
 pub returns-then-place-eq1 : goal.returns-then-place-eq1
 unfolding is_upper_reference
