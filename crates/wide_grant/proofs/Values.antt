@@ -1,9 +1,9 @@
--- The allocation that a resource indication value selects has this value.
+-- The run that a resource indication value selects has this value.
 use Rattle.std.proofs.Common.{ℕ, ◌+◌, ◌-◌, ◌*◌, ◌/◌, ◌%◌, ◌<◌, ◌≤◌, ◌≡◌, ◌⊎◌, inl, inr, cond, nat_le, ap, ◌∙◌, subst, arith}
 use Rattle.std.proofs.Math.Nat.{div-add-mod, mod-lt, mul-le-mul_left}
 use Rattle.std.proofs.lemmas.Bool.{cases_lt, le-leb, lt-leb}
 use Rattle.wide_grant.specs.declared.run.Run.{Run}
-use Rattle.wide_grant.specs.Runs.{allocations, run_of}
+use Rattle.wide_grant.specs.Runs.{run_count, run_of}
 use Rattle.wide_grant.specs.Laws.{HasValue}
 
 abbrev run : ℕ → ℕ → Run
@@ -26,7 +26,7 @@ half m q a l = settle (cases_lt m (2 * q))
         let twice = double m q in
         absurd (omega (arith, l, more, twice))
 
--- an allocation that ends past the count is mirrored, and has more than half of the blocks
+-- a run that ends past the count is mirrored, and has more than half of the blocks
 mirrored : (m q a : ℕ) → m * q + a < m * (m + 1) / 2 → a < m → m < a + (q + 1) → m / 2 < m - q
 mirrored m q a l few past = settle (cases_lt (m / 2) (m - q))
   where
@@ -39,7 +39,7 @@ mirrored m q a l few past = settle (cases_lt (m / 2) (m - q))
         let split = square_more m in
         absurd (omega (arith, l, square, split, even, past))
 
--- the allocation with quotient q and rest a has the value m * q + a
+-- the run with quotient q and rest a has the value m * q + a
 with_parts : (m q a : ℕ) → m * q + a < m * (m + 1) / 2 → a < m →
     HasValue m (m * q + a) (cond (nat_le (a + (q + 1)) m) (run a (q + 1)) (run (m - 1 - a) (m + 2 - (q + 1))))
 with_parts m q a l few = settle (cases_lt m (a + (q + 1)))
@@ -63,7 +63,7 @@ with_parts m q a l few = settle (cases_lt m (a + (q + 1)))
               (ap (λ n. m * n + (m - 1 - (m - 1 - a))) (omega (arith, most, few, past)) ∙ ap (λ n. m * q + n) (omega (arith, few)));
         })
 
-pub run_has_value : (count value : ℕ) → value < allocations count → HasValue count value (run_of count value)
+pub run_has_value : (count value : ℕ) → value < run_count count → HasValue count value (run_of count value)
 run_has_value count value l =
     let sum : count * (value / count) + value % count ≡ value = div-add-mod value count in
     let some : 0 < count = settle (cases_lt 0 count) in

@@ -5,26 +5,26 @@ use Rattle.std.specs.List.{position_or_len}
 use Rattle.finite.specs.Lists.{joined_below}
 use Rattle.wide_cell.specs.Cell.{IsBlockCount}
 use Rattle.wide_grant.specs.declared.run.Run.{Run}
-use Rattle.wide_grant.specs.Runs.{allocations, run_of}
+use Rattle.wide_grant.specs.Runs.{run_count, run_of}
 use Rattle.wide_grant.specs.Distributed.{virtual_blocks, unit, rows, nulls, interleaved, physical}
 
 -- ---- the resource indication value
 
--- the resource indication value of an allocation among `count` blocks
+-- the resource indication value of a run among `count` blocks
 abbrev pub value_of : ℕ → Run → ℕ
 value_of count run =
     if nat_le (run.blocks - 1) (count / 2) then count * (run.blocks - 1) + run.start
     else count * (count - run.blocks + 1) + (count - 1 - run.start)
 
--- an allocation has a resource indication value, and ends within the `count` blocks
+-- a run has a resource indication value, and ends within the `count` blocks
 pub record HasValue (count value : ℕ) (run : Run) : Type 0 where
   pub some : 1 ≤ run.blocks
   pub inside : run.start + run.blocks ≤ count
   pub is : value_of count run ≡ value
 
--- each resource indication value below `allocations count` selects the allocation with that value
+-- each resource indication value below `run_count count` selects the run with that value
 abbrev pub RunsHaveValues : Type 0
-RunsHaveValues = (count value : ℕ) → value < allocations count → HasValue count value (run_of count value)
+RunsHaveValues = (count value : ℕ) → value < run_count count → HasValue count value (run_of count value)
 
 -- ---- the interleaver
 
@@ -46,7 +46,7 @@ read_order r z =
     joined_below 4 (λ column. joined_below r (λ row.
     if has_element r z row column then written_at r z row column ∷ [] else []))
 
--- a bandwidth has a gap: all have the first one, bandwidths from 50 resource blocks also the second
+-- a bandwidth has a gap: each bandwidth has the first gap; from 50 resource blocks it also has the second
 abbrev pub HasGap : ℕ → Bool → Type 0
 HasGap blocks second = IsBlockCount blocks × (second ≡ true → 50 ≤ blocks)
 

@@ -3,15 +3,15 @@ use Rattle.std.specs.Prelude.{ℕ, ◌+◌, ◌-◌, ◌*◌, ◌/◌, ◌%◌, 
 use Rattle.std.specs.List.{position_or_len, range_with_len}
 use Rattle.wide_grant.specs.declared.run.Run.{Run}
 
--- the number of allocations of consecutive blocks among `count` blocks
-abbrev pub allocations : ℕ → ℕ
-allocations count = count * (count + 1) / 2
+-- the number of runs of consecutive blocks among `count` blocks
+abbrev pub run_count : ℕ → ℕ
+run_count count = count * (count + 1) / 2
 
 -- the minimum number of bits that distinguish n values, at most 13
 abbrev pub bits_for : ℕ → ℕ
 bits_for n = position_or_len (λ b. nat_le n (2 ^ b)) (range_with_len 0 13)
 
--- the allocation, among `count` blocks, with a resource indication value below `allocations count`
+-- the run, among `count` blocks, with a resource indication value below `run_count count`
 abbrev pub run_of : ℕ → ℕ → Run
 run_of count value =
     if nat_le (value % count + (value / count + 1)) count

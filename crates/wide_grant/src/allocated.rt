@@ -6,20 +6,20 @@ ghost use Rattle.wide_grant.specs.Grants.{block_at as block_at_of, is_allocated 
 ghost use Rattle.wide_grant.specs.Grants.{allocated_blocks as allocated_blocks_of};
 
 use crate::distributed::physical;
-use crate::{Allocation, WideGrant};
+use crate::{Mapping, WideGrant};
 use std::alloc::{AllocError, Global};
 use wide_cell::WideCell;
 
 // Returns the resource block of virtual resource block `v` in a slot with an even or odd number.
-fn block_at(blocks: u16, allocation: Allocation, odd: bool, v: u16) -> u16
+fn block_at(blocks: u16, mapping: Mapping, odd: bool, v: u16) -> u16
     requires blocks { IsBlockCount blocks }
     requires v { v ≤ 1000 }
-    ensures { result ≡ block_at_of blocks allocation odd v }
+    ensures { result ≡ block_at_of blocks mapping odd v }
 {
-    match allocation {
-        Allocation::Localized => v,
-        Allocation::FirstGap => physical(blocks, false, odd, v),
-        Allocation::SecondGap => physical(blocks, true, odd, v),
+    match mapping {
+        Mapping::Localized => v,
+        Mapping::FirstGap => physical(blocks, false, odd, v),
+        Mapping::SecondGap => physical(blocks, true, odd, v),
     }
 }
 
@@ -31,7 +31,7 @@ fn is_allocated(blocks: u16, grant: &WideGrant, odd: bool, b: u16) -> bool
 {
     let run = grant.run;
     for v in run.start..run.start + run.blocks {
-        if block_at(blocks, grant.allocation, odd, v) == b {
+        if block_at(blocks, grant.mapping, odd, v) == b {
             return true;
         }
     }

@@ -4,8 +4,8 @@ use crate::Run;
 
 /// How virtual resource blocks are mapped to resource blocks (TS 36.211 section 6.2.3).
 #[derive(Clone, Copy, Debug, PartialEq, Eq)]
-pub enum Allocation {
-    /// Localised: the resource block with the same number.
+pub enum Mapping {
+    /// Localized: the resource block with the same number.
     Localized,
     /// Distributed by the first gap.
     FirstGap,
@@ -17,7 +17,7 @@ pub enum Allocation {
 #[derive(Clone, Copy, Debug, PartialEq, Eq)]
 pub struct WideGrant {
     /// The mapping of virtual resource blocks.
-    pub allocation: Allocation,
+    pub mapping: Mapping,
     /// The allocated virtual resource blocks.
     pub run: Run,
     /// The transport block size in bits, without the CRC: 32 to 2,216.
@@ -31,7 +31,7 @@ pub struct WideGrant {
 pub enum Refusal {
     /// The flag selects format 0.
     NotFormat1A,
-    /// The resource indication value has no allocation, or selects virtual resource blocks that do not exist.
+    /// The resource indication value has no run, or selects virtual resource blocks that do not exist.
     BadAllocation,
     /// The modulation and coding scheme is above 26.
     ReservedMcs,

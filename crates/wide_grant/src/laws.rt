@@ -1,8 +1,8 @@
-//! Laws of allocations.
+//! Laws of runs, and of distributed blocks.
 
 ghost use Rattle.wide_grant.specs.Laws.{RunsHaveValues, IsMatrixOrder, AreBlocksOfCell};
 
-/// A law: each resource indication value that is read selects the allocation that has it, within the blocks (TS 36.213
+/// A law: each resource indication value that is read selects the run with this value, within the blocks (TS 36.213
 /// section 7.1.6.3).
 pub fn runs_have_values()
     ensures { RunsHaveValues }

@@ -1,7 +1,7 @@
 //! Consecutive resource blocks.
 
 ghost use Rattle.std.specs.Prelude.{◌≡◌, ◌+◌, ◌≤◌, ◌<◌};
-ghost use Rattle.wide_grant.specs.Runs.{allocations as allocations_of, run_of as run_with};
+ghost use Rattle.wide_grant.specs.Runs.{run_count as run_count_of, run_of as run_with};
 
 /// Consecutive resource blocks, or virtual resource blocks.
 #[derive(Clone, Copy, Debug, PartialEq, Eq)]
@@ -12,20 +12,20 @@ pub struct Run {
     pub blocks: u16,
 }
 
-// Returns the number of allocations of consecutive blocks among `count` blocks.
-pub(crate) fn allocations(count: u16) -> u16
+// Returns the number of runs of consecutive blocks among `count` blocks.
+pub(crate) fn run_count(count: u16) -> u16
     requires { count ≤ 100 }
-    ensures value { result ≡ allocations_of count }
+    ensures value { result ≡ run_count_of count }
     ensures bound { result ≤ 5050 }
 {
     count * (count + 1) / 2
 }
 
-// Returns the allocation, among `count` blocks, with a resource indication value (TS 36.213 section 7.1.6.3).
+// Returns the run, among `count` blocks, with a resource indication value (TS 36.213 section 7.1.6.3).
 pub(crate) fn run_of(count: u16, value: u16) -> Run
     requires some { 1 ≤ count }
     requires few { count ≤ 100 }
-    requires value { value < allocations_of count }
+    requires value { value < run_count_of count }
     ensures value { result ≡ run_with count value }
     ensures bounds { (result.start ≤ 100) × (result.blocks ≤ 102) }
 {

@@ -6,9 +6,7 @@ use lte_types::{Bandwidth, CellId, Duration, Resource, Sfn};
 use std::alloc::{AllocError, Global};
 use std::test::Fail;
 use wide_cell::WideCell;
-use wide_grant::{
-    Refusal, WideGrant, allocated_blocks, long_bits, long_grant, short_bits, short_grant,
-};
+use wide_grant::{Refusal, WideGrant, allocated_blocks, bits_1a, bits_1c, grant_1a, grant_1c};
 
 // Fills `bits` with the low bits of numbers drawn from `state`, and returns the next state.
 fn draw(state: u32, bits: &mut [bool]) -> u32 {
@@ -47,35 +45,35 @@ fn cell_of(bandwidth: Bandwidth) -> Option<WideCell> {
 }
 
 // Returns how many of 2,000 drawn payloads of format 1A have a grant, and the checksum of the answers.
-fn long_answers(alloc: Global, cell: &WideCell) -> Result<(u32, u64), AllocError> {
+fn answers_1a(alloc: Global, cell: &WideCell) -> Result<(u32, u64), AllocError> {
     let mut bits = [false; 32];
-    let size = long_bits(cell);
+    let size = bits_1a(cell);
     let mut state = cell.blocks() as u32;
     let mut found = (0, 0);
     for _ in 0..2000 {
         state = draw(state, &mut bits[..size]);
-        let answer = long_grant(cell, &bits[..size]);
+        let answer = grant_1a(cell, &bits[..size]);
         found = after_answer(alloc, cell, answer, found.0, found.1)?;
     }
     Ok(found)
 }
 
 // Returns how many of 2,000 drawn payloads of format 1C have a grant, and the checksum of the answers.
-fn short_answers(alloc: Global, cell: &WideCell) -> Result<(u32, u64), AllocError> {
+fn answers_1c(alloc: Global, cell: &WideCell) -> Result<(u32, u64), AllocError> {
     let mut bits = [false; 32];
-    let size = short_bits(cell);
+    let size = bits_1c(cell);
     let mut state = cell.blocks() as u32;
     let mut found = (0, 0);
     for w in 0..2000 {
         state = draw(state, &mut bits[..size]);
-        let answer = short_grant(cell, Sfn::modulo(2 * w), &bits[..size]);
+        let answer = grant_1c(cell, Sfn::modulo(2 * w), &bits[..size]);
         found = after_answer(alloc, cell, answer, found.0, found.1)?;
     }
     Ok(found)
 }
 
 // Format 1A by bandwidth: the number of bits, how many payloads have a grant, and the checksum.
-const LONG: [(Bandwidth, usize, u32, u64); 6] = [
+const FORMAT_1A: [(Bandwidth, usize, u32, u64); 6] = [
     (Bandwidth::N6, 21, 545, 3_315_766_689),
     (Bandwidth::N15, 22, 796, 1_898_040_042),
     (Bandwidth::N25, 25, 566, 796_518_309),
@@ -86,11 +84,11 @@ const LONG: [(Bandwidth, usize, u32, u64); 6] = [
 
 #[test]
 fn grants_of_format_1a_are_the_references(rt: HostRuntime) -> Result<(), Fail> {
-    for (bandwidth, size, count, sum) in LONG {
+    for (bandwidth, size, count, sum) in FORMAT_1A {
         let cell = cell_of(bandwidth).ok_or("a cell")?;
-        assert!(rt; long_bits(&cell) == size, "{bandwidth}");
+        assert!(rt; bits_1a(&cell) == size, "{bandwidth}");
         assert!(rt;
-            long_answers(rt.alloc(), &cell)? == (count, sum),
+            answers_1a(rt.alloc(), &cell)? == (count, sum),
             "{bandwidth}"
         );
     }
@@ -98,7 +96,7 @@ fn grants_of_format_1a_are_the_references(rt: HostRuntime) -> Result<(), Fail> {
 }
 
 // Format 1C by bandwidth: the number of bits, how many payloads have a grant, and the checksum.
-const SHORT: [(Bandwidth, usize, u32, u64); 6] = [
+const FORMAT_1C: [(Bandwidth, usize, u32, u64); 6] = [
     (Bandwidth::N6, 8, 1_522, 287_248_096),
     (Bandwidth::N15, 10, 1_739, 867_228_342),
     (Bandwidth::N25, 12, 1_212, 296_168_968),
@@ -109,11 +107,11 @@ const SHORT: [(Bandwidth, usize, u32, u64); 6] = [
 
 #[test]
 fn grants_of_format_1c_are_the_references(rt: HostRuntime) -> Result<(), Fail> {
-    for (bandwidth, size, count, sum) in SHORT {
+    for (bandwidth, size, count, sum) in FORMAT_1C {
         let cell = cell_of(bandwidth).ok_or("a cell")?;
-        assert!(rt; short_bits(&cell) == size, "{bandwidth}");
+        assert!(rt; bits_1c(&cell) == size, "{bandwidth}");
         assert!(rt;
-            short_answers(rt.alloc(), &cell)? == (count, sum),
+            answers_1c(rt.alloc(), &cell)? == (count, sum),
             "{bandwidth}"
         );
     }

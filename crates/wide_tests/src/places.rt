@@ -8,7 +8,7 @@ use lte_types::{Bandwidth, Cfi};
 use std::alloc::{AllocError, Global};
 use std::test::Fail;
 use wide_cell::WideCell;
-use wide_grant::{Allocation, Run, WideGrant, allocated_blocks};
+use wide_grant::{Mapping, Run, WideGrant, allocated_blocks};
 use wide_grid::{
     CANDIDATES, WideReg, candidate_places, has_candidate, pcfich_places, pdcch_groups,
     pdsch_places, phich_groups, quadruplet_groups,
@@ -307,14 +307,14 @@ fn virtual_blocks(blocks: u8, second: bool) -> u16 {
     }
 }
 
-// Returns the allocation of a cell: localised for odd identities.
-fn allocation_of(cell: &WideCell, cfi: Cfi) -> (Allocation, u16) {
+// Returns the mapping of a cell's grant, localized for odd identities, and the number of virtual resource blocks.
+fn mapping_of(cell: &WideCell, cfi: Cfi) -> (Mapping, u16) {
     if cell.id().value() % 2 == 1 {
-        (Allocation::Localized, cell.blocks() as u16)
+        (Mapping::Localized, cell.blocks() as u16)
     } else if cell.blocks() >= 50 && cfi.value() == 2 {
-        (Allocation::SecondGap, virtual_blocks(cell.blocks(), true))
+        (Mapping::SecondGap, virtual_blocks(cell.blocks(), true))
     } else {
-        (Allocation::FirstGap, virtual_blocks(cell.blocks(), false))
+        (Mapping::FirstGap, virtual_blocks(cell.blocks(), false))
     }
 }
 
@@ -322,11 +322,11 @@ fn grant_of(cell: &WideCell, cfi: Cfi) -> WideGrant
     ensures { result.run.start + result.run.blocks ≤ 1000 }
 {
     let identity = cell.id().value();
-    let (allocation, available) = allocation_of(cell, cfi);
+    let (mapping, available) = mapping_of(cell, cfi);
     let start = identity % available.max(1);
     let blocks = (1 + identity % 7).min(available.saturating_sub(start));
     WideGrant {
-        allocation,
+        mapping,
         run: Run { start, blocks },
         size: 0,
         rv: 0,

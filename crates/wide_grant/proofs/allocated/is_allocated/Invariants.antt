@@ -4,4 +4,4 @@ use Rattle.wide_grant.proofs.allocated.is_allocated.Given as goal
 
 abbrev pub invariant-loop-v : goal.invariant-loop-v
 invariant-loop-v l =
-    (k : ℕ) → l.grant.run.start ≤ k → k < l.v → nat_eq (block_at l.blocks l.grant.allocation l.odd k) l.b ≡ false
+    (k : ℕ) → l.grant.run.start ≤ k → k < l.v → nat_eq (block_at l.blocks l.grant.mapping l.odd k) l.b ≡ false
