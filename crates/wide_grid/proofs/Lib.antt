@@ -2,3 +2,4 @@ pub mod Loops
 pub mod Groups
 pub mod Inside
 pub mod Carried
+pub mod Unused

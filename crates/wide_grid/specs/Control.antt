@@ -1,6 +1,6 @@
 -- The resource-element groups for PCFICH, PHICH and PDCCH at any bandwidth (TS 36.211 sections 6.7.4, 6.9, 6.9.3 and
 -- 6.8.5).
-use Rattle.std.specs.Prelude.{ℕ, ◌+◌, ◌-◌, ◌*◌, ◌/◌, ◌%◌, Bool, not, ◌&&◌, nat_eq, nat_lt, if◌then◌else◌, List, filter, length, slice_index_or}
+use Rattle.std.specs.Prelude.{ℕ, ◌+◌, ◌*◌, ◌/◌, ◌%◌, Bool, not, ◌&&◌, nat_lt, List, filter, length, slice_index_or}
 use Rattle.finite.specs.Lists.{values_below, joined_below}
 use Rattle.lte_types.specs.declared.resource.Resource.{Resource}
 use Rattle.lte_types.specs.declared.resource.Resource.TheVariants.{OneSixth, Half, One, Two}
@@ -9,7 +9,7 @@ use Rattle.grid_map.specs.Candidate.{group_of_quadruplet}
 use Rattle.wide_cell.specs.declared.place.WidePlace.{WidePlace}
 use Rattle.wide_cell.specs.Cell.{Cell, subcarriers}
 use Rattle.wide_grid.specs.declared.group.WideReg.{WideReg}
-use Rattle.wide_grid.specs.Group.{group, span, symbol_groups, is_group, is_group_in, group_places, region}
+use Rattle.wide_grid.specs.Group.{group, symbol_groups, is_group, is_group_in, group_places, region}
 
 -- ---- PCFICH (section 6.7.4)
 
@@ -45,8 +45,7 @@ free_groups cell symbol = filter (λ g. not (is_group_in (pcfich_groups cell) g)
 
 -- the number of groups in a symbol that the PCFICH does not use
 abbrev pub free_count : Cell → ℕ → ℕ
-free_count cell symbol =
-    subcarriers cell.blocks / span cell.ports symbol - (if nat_eq symbol 0 then 4 else 0)
+free_count cell symbol = length (free_groups cell symbol)
 
 -- the resource-element group in a symbol for quadruplet i of PHICH group m
 unfoldable pub phich_group_in : Cell → ℕ → ℕ → ℕ → WideReg
