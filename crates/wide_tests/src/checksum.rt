@@ -10,6 +10,17 @@ pub(crate) fn after(sum: u64, number: usize) -> u64 {
     (31 * (sum % MODULUS) + number as u64 % MODULUS + 67_108_864) % MODULUS
 }
 
+// Returns the checksum after one more signed number.
+pub(crate) fn after_signed(sum: u64, number: i64) -> u64 {
+    let times = (31 * (sum % MODULUS)) as i64;
+    (times + number % 4_294_967_291 + 4_362_076_155) as u64 % MODULUS
+}
+
+// Returns the checksum after one more number, such as another checksum.
+pub(crate) fn after_large(sum: u64, number: u64) -> u64 {
+    after_signed(sum, (number % MODULUS) as i64)
+}
+
 pub(crate) fn after_places(sum: u64, places: &[WidePlace]) -> u64 {
     let mut sum = sum;
     for place in places {

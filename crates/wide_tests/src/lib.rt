@@ -1,5 +1,5 @@
-//! Tests of cells of any bandwidth: resource elements of the control and shared channels, and grants, as the reference
-//! implementation has them: `wide_cell`, `wide_grid` and `wide_grant`.
+//! Tests of cells of any bandwidth against the reference implementation: resource elements of the control and shared
+//! channels, grants, halved recordings, and received slots.
 #![tactic(auto)]
 
 #[cfg(test)]
@@ -9,4 +9,12 @@ mod checksum;
 #[cfg(test)]
 mod grants;
 #[cfg(test)]
+mod halvings;
+#[cfg(test)]
+mod narrow;
+#[cfg(test)]
 mod places;
+#[cfg(test)]
+mod samples;
+#[cfg(test)]
+mod slots;
