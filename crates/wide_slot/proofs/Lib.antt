@@ -1,3 +1,5 @@
 pub mod Bounds
 pub mod References
 pub mod Lengths
+pub mod Amplitudes
+pub mod Magnitudes

@@ -3,12 +3,18 @@
 //! Tests: the crate `wide_tests`.
 #![tactic(auto)]
 
+mod amplitude;
 mod layout;
 mod line;
 mod pilots;
+mod places;
+mod scrambling;
 mod slot;
 mod symbol;
+mod value;
 mod weights;
 
+pub use places::soft_values;
+pub use scrambling::descrambled;
 pub use slot::WideSlot;
 pub use weights::Weights;
