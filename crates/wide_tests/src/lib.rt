@@ -1,5 +1,5 @@
 //! Tests of cells of any bandwidth against the reference implementation: resource elements of the control and shared
-//! channels, grants, halved recordings, and received slots.
+//! channels, grants, halved recordings, received slots, and soft values.
 #![tactic(auto)]
 
 #[cfg(test)]
@@ -18,3 +18,5 @@ mod places;
 mod samples;
 #[cfg(test)]
 mod slots;
+#[cfg(test)]
+mod values;

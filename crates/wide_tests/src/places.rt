@@ -318,7 +318,7 @@ fn mapping_of(cell: &WideCell, cfi: Cfi) -> (Mapping, u16) {
     }
 }
 
-fn grant_of(cell: &WideCell, cfi: Cfi) -> WideGrant
+pub(crate) fn grant_of(cell: &WideCell, cfi: Cfi) -> WideGrant
     ensures { result.run.start + result.run.blocks ≤ 1000 }
 {
     let identity = cell.id().value();
