@@ -99,6 +99,12 @@ def values(text):
     return [pattern.partition("[^=]*=")[2].removesuffix(";") for pattern in constants(text)]
 
 
+def checksums(text):
+    """Returns a pattern for the last list, or the last number, of each row, with any underscores in its numbers."""
+    found = re.findall(r"(\[[\d, ]+\]|\d+)\),$", text, re.M)
+    return [",".join("_?".join(number) for number in re.findall(r"\d+", row)) for row in found]
+
+
 def pairs(text):
     """Returns a pattern for each pair: its number and its values."""
     found = re.findall(r"\d+ \d+ (\[.*\])", text)
@@ -321,6 +327,7 @@ def slow_looks():
     return [
         Look(PUNCTURED, "$PY -m lte_reference.erasure", counts),
         Look(TRANSMISSIONS, "$PY -m lte_reference.punctured_table", letters),
+        Look("crates/wide_tests/src/values.rt", "$PY -m lte_reference.wide_rows values", checksums),
     ]
 
 
@@ -343,6 +350,10 @@ def plain_looks():
 def numpy_looks():
     """Returns the looks that need numpy."""
     found = [
+        *(
+            Look(f"crates/wide_tests/src/{file}.rt", f"$PY -m lte_reference.wide_rows {topic}", checksums)
+            for topic, file in (("control", "places"), ("shared", "places"), ("inits", "inits"))
+        ),
         Look(
             "crates/list_tests/src/rounds_of_recordings.rt",
             "$PY -m lte_reference.cell | $PY -m lte_reference.cancel",

@@ -101,13 +101,18 @@ def whole_rows():
             print(f"({blocks}, {ports}, {cell.identity}, {', '.join(map(str, cut))}),")
 
 
-def init_rows():
-    """Prints for each identity c_init of PCFICH, PDCCH and PDSCH, and of the reference signals in symbols 0, 1 and 4 of
-    slots 10 and 11."""
+def init_rows(is_each):
+    """Prints c_init of PCFICH, PDCCH and PDSCH, and of the reference signals in symbols 0, 1 and 4 of slots 10 and 11:
+    for each identity with `is_each`, else the checksum over all."""
+    total = 0
     for cell, _ in cells(6, 1):
         row = [indicator_init(cell), control_init(cell), shared_init(cell)]
         row += [reference_init(cell, slot, symbol) for slot in (10, 11) for symbol in (0, 1, 4)]
-        print(f"({cell.identity}, {row}),")
+        total = checksum(row, total)
+        if is_each:
+            print(f"({cell.identity}, {row}),")
+    if not is_each:
+        print(f"({CELLS}, {total}),")
 
 
 def distributed_rows():
@@ -183,20 +188,28 @@ def slot_rows():
                 print(f"({blocks}, {ports}, {cell.identity}, {checksum(every)}, {row}),")
 
 
-def value_rows():
-    """Prints N, P and identity; checksums of the values of PCFICH, of the first candidate with elements 0 to 3, and of
-    a shared assignment, by the bits before scrambling; 0 without such a candidate."""
+def value_row(cell, cfi):
+    """Returns checksums of the values of PCFICH, of the first candidate with elements 0 to 3, and of a shared
+    assignment, by the bits before scrambling; 0 without such a candidate."""
+    slots = slots_for(cell)
+    row = [checksum(values_at(slots, indicator_elements(cell), indicator_init(cell)))]
+    candidate = candidate_elements(cell, cfi, 4, 0)
+    row += [checksum(values_at(slots, candidate, control_init(cell))) if (4, 0) in candidates(cell, cfi) else 0]
+    shared = shared_elements(cell, cfi, assigned(cell, cfi))
+    return row + [checksum(values_at(slots, shared, shared_init(cell)))]
+
+
+def value_rows(is_each):
+    """Prints N and P, and for twelve of their cells the checksums of values: for each cell with `is_each`, else the
+    checksums over all twelve."""
     for blocks in WIDTHS:
         for ports in PORTS:
-            for cell, cfi in cells(blocks, ports)[5::9]:
-                slots, n = slots_for(cell), cell.identity
-                row = [checksum(values_at(slots, indicator_elements(cell), indicator_init(cell)))]
-                candidate = candidate_elements(cell, cfi, 4, 0)
-                is_there = (4, 0) in candidates(cell, cfi)
-                row += [checksum(values_at(slots, candidate, control_init(cell))) if is_there else 0]
-                shared = shared_elements(cell, cfi, assigned(cell, cfi))
-                row += [checksum(values_at(slots, shared, shared_init(cell)))]
-                print(f"({blocks}, {ports}, {n}, {row}),")
+            found = [(cell.identity, value_row(cell, cfi)) for cell, cfi in cells(blocks, ports)[1::2]]
+            if is_each:
+                for identity, row in found:
+                    print(f"({blocks}, {ports}, {identity}, {row}),")
+            else:
+                print(f"({blocks}, {ports}, {[checksum(column) for column in zip(*(row for _, row in found))]}),")
 
 
 def halving_rows():
@@ -211,12 +224,12 @@ TOPICS = {
     "control": lambda is_each: rows_of_lists(control_lists, is_each),
     "shared": lambda is_each: rows_of_lists(shared_lists, is_each),
     "whole": lambda _: whole_rows(),
-    "inits": lambda _: init_rows(),
+    "inits": init_rows,
     "distributed": lambda _: distributed_rows(),
     "grants": lambda _: grant_rows(),
     "halving": lambda _: halving_rows(),
     "slots": lambda _: slot_rows(),
-    "values": lambda _: value_rows(),
+    "values": value_rows,
 }
 
 

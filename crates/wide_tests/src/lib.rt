@@ -11,6 +11,8 @@ mod grants;
 #[cfg(test)]
 mod halvings;
 #[cfg(test)]
+mod inits;
+#[cfg(test)]
 mod narrow;
 #[cfg(test)]
 mod places;
