@@ -13,7 +13,8 @@ use Rattle.wide_cell.specs.Place.{place}
 use Rattle.wide_slot.specs.Lines.{total_weight}
 use Rattle.wide_slot.specs.Slot.{WideSeen, port_channel, ports_energy}
 
--- `blocks` times a component, divided by an energy, rounded toward zero and clamped to -127 to 127; 0 if the energy is 0
+-- `blocks` times a component, divided by an energy, rounded toward zero and clamped to -127 to 127; 0 if the energy
+-- is 0
 abbrev pub wide_value : ℕ → ℕ → ℤ → ℤ
 wide_value blocks energy component =
     if nat_eq energy 0 then pos 0 else clamped (int_div (pos blocks *ℤ component) (pos energy)) 127
@@ -38,8 +39,8 @@ received seen p = seen_at seen.slot (p.symbol % 7) p.k
 unfoldable pub place_values : WideSeen → WidePlace → List ℤ
 place_values seen p = wide_pair seen (times (received seen p) (conjugate (port_channel seen 0 p.k)))
 
--- ---- two or four antenna ports: elements 2i and 2i + 1 of a list are pair i, and even and odd pairs are sent over ports
--- 0 and 2, and 1 and 3, if there are four
+-- ---- two or four antenna ports: elements 2i and 2i + 1 of a list are pair i; if there are four ports, 0 and 2 send
+-- even pairs, and 1 and 3 odd pairs
 
 -- two or four antenna ports
 abbrev pub IsSeveral : ℕ → Type 0
@@ -53,7 +54,7 @@ lower_port ports i = if nat_eq ports 4 then i % 2 else 0
 abbrev pub upper_port : ℕ → ℕ → ℕ
 upper_port ports i = if nat_eq ports 4 then 2 + i % 2 else 1
 
--- the four soft values of pair i, received as a and b over the channels h and g
+-- the four soft values of a pair, received as a and b over the channels h and g
 abbrev pub point_values : WideSeen → Cpx → Cpx → Cpx → Cpx → List ℤ
 point_values seen h g a b = wide_pair seen (first_point h g a b) ++ wide_pair seen (second_point h g a b)
 
@@ -65,20 +66,22 @@ pair_values seen i p q =
 
 -- ---- a list of elements; symbols 7 to 13 are in the second slot
 
+-- element i of a list of resource elements
 abbrev pub place_at : List WidePlace → ℕ → WidePlace
 place_at places i = slice_index_or places i (place 0 0)
 
--- one antenna port: element by element
+-- the two soft values of element i of a list, with one antenna port, in a subframe with a first and a second slot
 abbrev pub single_at : WideSeen → WideSeen → List WidePlace → ℕ → List ℤ
 single_at first second places i =
     place_values (slot_with first second (place_at places i).symbol) (place_at places i)
 
--- several antenna ports: pair by pair
+-- the four soft values of pair i of a list, with several antenna ports, in a subframe with a first and a second slot
 abbrev pub paired_at : WideSeen → WideSeen → List WidePlace → ℕ → List ℤ
 paired_at first second places i =
-    pair_values (slot_with first second (place_at places (2 * i)).symbol) i (place_at places (2 * i)) (place_at places (2 * i + 1))
+    pair_values (slot_with first second (place_at places (2 * i)).symbol) i (place_at places (2 * i))
+    (place_at places (2 * i + 1))
 
--- the soft values of a list of resource elements, two for each
+-- the soft values of a list of resource elements, in a subframe with a first and a second slot
 unfoldable pub placed_values : WideSeen → WideSeen → List WidePlace → List ℤ
 placed_values first second places =
     if nat_eq first.cell.ports 1 then joined_below (length places) (single_at first second places)

@@ -1,5 +1,5 @@
-//! Channel estimation of a slot, for cells of any bandwidth with one, two or four antenna ports: the channel from
-//! smoothed reference signals, and the pilot energy.
+//! Channel estimation and demapping for cells of any bandwidth with one, two or four antenna ports: a slot's channels
+//! from smoothed reference signals, and the soft values of resource elements, descrambled.
 //! Tests: the crate `wide_tests`.
 #![tactic(auto)]
 
