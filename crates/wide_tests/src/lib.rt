@@ -7,6 +7,8 @@ mod cells;
 #[cfg(test)]
 mod checksum;
 #[cfg(test)]
+mod distributed;
+#[cfg(test)]
 mod grants;
 #[cfg(test)]
 mod halvings;
