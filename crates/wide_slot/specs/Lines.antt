@@ -80,6 +80,10 @@ pub record IsLayout (cell : Cell) (layout : Layout) : Type 0 where
 
 -- ---- smoothing
 
+-- the weights by which pilots are smoothed: 1, 2, 1
+abbrev pub smoothing : Weights
+smoothing = record { outer = 1; middle = 2 }
+
 -- the sum of the weights: of a pilot, and of its two neighbours
 abbrev pub total_weight : Weights → ℕ
 total_weight weights = 2 * weights.outer + weights.middle

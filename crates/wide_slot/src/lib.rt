@@ -17,4 +17,4 @@ mod weights;
 pub use places::soft_values;
 pub use scrambling::descrambled;
 pub use slot::WideSlot;
-pub use weights::Weights;
+pub use weights::{Weights, smoothing_is};

@@ -1,7 +1,7 @@
 //! Smoothing of pilots.
 
 ghost use Rattle.std.specs.Prelude.{◌≡◌};
-ghost use Rattle.wide_slot.specs.Lines.{total_weight, AreWeights};
+ghost use Rattle.wide_slot.specs.Lines.{smoothing, total_weight, AreWeights};
 
 /// The weights by which a pilot is averaged with its two neighbours: `outer`, `middle`, `outer`. Users require that
 /// they add up to 1 to 8. (own)
@@ -26,3 +26,8 @@ impl Weights {
         2 * self.outer + self.middle
     }
 }
+
+/// A law: `Weights::SMOOTHING` has the weights of the definition.
+pub fn smoothing_is()
+    ensures { Weights.SMOOTHING ≡ smoothing }
+{}
