@@ -316,7 +316,8 @@ COLUMNS: tuple[Column[SurveyCell, Survey], ...] = (
         "cost %",
         "",
         None,
-        "percentage of the soft values, by magnitude, that disagrees with the MIB: near 0 if clear, 11 to 16 if false",
+        "percentage of the soft values, by magnitude, that disagrees with the MIB, in the window where it is lowest: "
+        "near 0 if clear, 11 to 16 if false",
         lambda cell, survey: cell.share,
         lambda cell, survey: f"{100 * cell.share:.1f}",
     ),
