@@ -1,11 +1,13 @@
 -- The list of the cells in a recording. (own)
 use Rattle.std.specs.Prelude.{◌≡◌, ◌⊎◌, ◌↔◌, ℕ, ◌+◌, ◌-◌, ◌*◌, ◌%◌, ◌<◌, ◌≤◌, min, Bool, ◌&&◌, nat_eq, nat_le}
-use Rattle.std.specs.Prelude.{if◌then◌else◌, true, List, [], ◌∷◌, ◌++◌, length, ℤ}
+use Rattle.std.specs.Prelude.{if◌then◌else◌, true, List, [], ◌∷◌, ◌++◌, length, ℤ, Result}
 use Rattle.std.specs.List.{fold, list_any, flat_map, insert, AllWithin, HoldsAt, AllZip, AllPairs, Contains}
 use Rattle.std.specs.List.Sorted.{IsPermutation}
 use Rattle.cs_num.specs.declared.Sample.{Sample}
 use Rattle.lte_types.specs.declared.hit.Hit.{Hit}
 use Rattle.lte_types.specs.declared.entry.Entry.{Entry}
+use Rattle.lte_types.specs.declared.sib1.Sib1.{Sib1}
+use Rattle.lte_types.specs.declared.sib1_reason.Sib1Reason.{Sib1Reason}
 use Rattle.lte_types.specs.declared.carrier.Carrier.TheVariants.{OnePort}
 use Rattle.lte_types.specs.CellPlace.{Place}
 use Rattle.lte_types.specs.Frames.{Frames, first_number}
@@ -35,6 +37,10 @@ frames_of entry = record { count = entry.frames; first = entry.frame; phase = en
 -- an entry's MIB, with its antenna port count and its cost
 abbrev pub master_of : Entry → Master
 master_of entry = record { ports = entry.ports; mib = entry.mib; cost = entry.cost }
+
+-- `entry` with other system information, or another reason for its absence
+abbrev pub with_system : Entry → Result Sib1 Sib1Reason → Entry
+with_system entry sib1 = record entry { sib1 = sib1 }
 
 -- the combined PBCH soft values of a cell's frames, with one antenna port
 abbrev pub sums_of : List Sample → Place → Frames → List (List ℤ)

@@ -1,11 +1,12 @@
 //! Lists of entries.
 
-ghost use Rattle.std.specs.Prelude.{◌≡◌, ◌≤◌, ◌<◌, List, [], length, IfOk};
-ghost use Rattle.std.specs.List.{insert as insert_at};
+ghost use Rattle.std.specs.Prelude.{◌≡◌, ◌≤◌, ◌<◌, List, [], length, slice_set, IfOk};
+ghost use Rattle.std.specs.List.{insert as insert_at, HoldsAt};
 ghost use Rattle.std.specs.Vec.{vec_capacity};
 ghost use Rattle.lte_types.specs.declared.entry.Entry.{Entry as EntryValue};
+ghost use Rattle.explain.specs.Entries.{with_system};
 
-use lte_types::Entry;
+use lte_types::{Entry, Sib1, Sib1Reason};
 use std::alloc::{AllocError, Global};
 use std::marker::Model;
 
@@ -58,5 +59,13 @@ impl EntryList {
             Ok(()) => {}
             Err(_) => unreachable!(),
         }
+    }
+
+    /// Replaces the system information of the entry at index `at`, or the reason for its absence, by `sib1`.
+    pub fn set_system(&mut self, at: usize, sib1: Result<Sib1, Sib1Reason>)
+        requires { at < length self.old }
+        ensures { HoldsAt (λ entry. self.new ≡ slice_set self.old at (with_system entry sib1)) self.old at }
+    {
+        self.entries[at].sib1 = sib1;
     }
 }
