@@ -49,7 +49,7 @@ fn is_least<const N: usize>(
 ) -> bool
     requires low { 6 ≤ N }
     requires high { N ≤ 64 }
-    requires sizes { RowsWithin (2 ^ 20) values.now }
+    requires magnitudes { RowsWithin (2 ^ 20) values.now }
 {
     let (word, found) = least(values, work);
     number_of(word.slice()) == number && found == cost

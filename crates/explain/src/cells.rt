@@ -33,7 +33,7 @@ pub fn values_of(recording: &Recording, entry: &Entry) -> [[i32; 3]; 40]
     requires { IsInList recording.now entry.now }
     ensures values { result ≡ values_of_entry recording.now entry.now }
     ensures master { DecodesMaster result (master_of entry.now) }
-    ensures sizes { RowsWithin 2032 result }
+    ensures magnitudes { RowsWithin 2032 result }
 {
     let place = place_in(entry);
     let mut frames = ArrayVec::<Received, 4>::new();
