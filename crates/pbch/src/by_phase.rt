@@ -74,7 +74,7 @@ fn decoded_at(
 ) -> AtPhase
     requires size { size ≤ 480 }
     requires phase { phase < 4 }
-    ensures decoded { phase + length frames.now ≤ 4 →
+    ensures master { phase + length frames.now ≤ 4 →
         let values = summed_values cell.now (size * phase) (flat_map (λ frame. frame) frames.now) in
         MatchOption result.master (DecodesNothing values) (DecodesMaster values) }
     ensures sums { phase + length frames.now ≤ 4 →
