@@ -13,7 +13,7 @@ use Rattle.pbch.specs.declared.master.Master.{Master}
 use Rattle.pbch.proofs.Words.{one_master}
 use Rattle.pss_search.proofs.Stronger.{above}
 use Rattle.reasons.specs.declared.reason.Attempt.{Attempt}
-use Rattle.reasons.specs.Attempt.{HasPorts, IsAttempt, Counts, IsClosestBefore}
+use Rattle.reasons.specs.Attempt.{HasPorts, IsAttempt, IsCompared, IsClosestBefore}
 
 -- ---- the values at a phase have one attempt
 
@@ -90,33 +90,33 @@ module _ (values : ℕ → List (List ℤ)) where
       record {
         before_end = omega (arith, at);
         is = own;
-        counts = inl at;
-        none_closer = λ other low other_is counts. itself a other (same_at a other own other_is (omega (arith, at, low)));
-        first = λ other low other_is counts. absurd (omega (arith, at, low));
+        compared = inl at;
+        none_closer = λ other low other_is compared. itself a other (same_at a other own other_is (omega (arith, at, low)));
+        first = λ other low other_is compared. absurd (omega (arith, at, low));
       }
 
   module _ (best next : Attempt) (before : IsClosestBefore values next.phase best) (is : Is next) where
-    -- the next attempt is closer than another that counts
-    next_over : next.cost * best.total < best.cost * next.total → (other : Attempt) → other.phase < next.phase → Is other → Counts other → next.cost * other.total < other.cost * next.total
-    next_over over other low other_is counts = by counts (nat_lt 0 other.total) refl (nat_lt other.phase best.phase) refl (nat_lt best.phase other.phase) refl
+    -- the next attempt is closer than another that is compared
+    next_over : next.cost * best.total < best.cost * next.total → (other : Attempt) → other.phase < next.phase → Is other → IsCompared other → next.cost * other.total < other.cost * next.total
+    next_over over other low other_is compared = by compared (nat_lt 0 other.total) refl (nat_lt other.phase best.phase) refl (nat_lt best.phase other.phase) refl
       where
-        by : Counts other → (b : Bool) → nat_lt 0 other.total ≡ b → (c : Bool) → nat_lt other.phase best.phase ≡ c → (d : Bool) → nat_lt best.phase other.phase ≡ d → next.cost * other.total < other.cost * next.total
-        by counted true sounds c e d f =
-            below next.cost next.total best.cost best.total other.cost other.total over (before.none_closer other low other_is counts) (ltb-true 0 other.total sounds)
-        by counted false silent true e d f =
+        by : IsCompared other → (b : Bool) → nat_lt 0 other.total ≡ b → (c : Bool) → nat_lt other.phase best.phase ≡ c → (d : Bool) → nat_lt best.phase other.phase ≡ d → next.cost * other.total < other.cost * next.total
+        by compared true sounds c e d f =
+            below next.cost next.total best.cost best.total other.cost other.total over (before.none_closer other low other_is compared) (ltb-true 0 other.total sounds)
+        by compared false silent true e d f =
             let none = ltb-false 0 other.total silent in
-            let strict = before.first other (ltb-true other.phase best.phase e) other_is counts in
+            let strict = before.first other (ltb-true other.phase best.phase e) other_is compared in
             let (cost, total) = positive_factors other.cost best.total (omega (arith, strict)) in
             let (best_cost, next_total) = positive_factors best.cost next.total (omega (arith, over)) in
             let product = mul-lt 0 0 other.cost next.total cost next_total in
             let zero_total : other.total ≡ 0 = omega (arith, none) in
             rw zero_total (omega (arith, product))
-        by counted false silent false e true f = late counted
+        by compared false silent false e true f = late compared
           where
-            late : Counts other → next.cost * other.total < other.cost * next.total
+            late : IsCompared other → next.cost * other.total < other.cost * next.total
             late (inl start) = absurd (omega (arith, start, ltb-true best.phase other.phase f))
             late (inr some) = absurd (omega (arith, some, ltb-false 0 other.total silent))
-        by counted false silent false e false f =
+        by compared false silent false e false f =
             let low = ltb-false other.phase best.phase e in
             let high = ltb-false best.phase other.phase f in
             let same : best ≡ other = same_at best other before.is other_is (omega (arith, low, high)) in
@@ -126,28 +126,28 @@ module _ (values : ℕ → List (List ℤ)) where
     next_is_closest over = record {
       before_end = omega arith;
       is = is;
-      counts = inr (positive_factors best.cost next.total (omega (arith, over))).1;
-      none_closer = λ other low other_is counts. by other low other_is counts (nat_lt other.phase next.phase) refl;
+      compared = inr (positive_factors best.cost next.total (omega (arith, over))).1;
+      none_closer = λ other low other_is compared. by other low other_is compared (nat_lt other.phase next.phase) refl;
       first = next_over over;
     }
       where
-        by : (other : Attempt) → other.phase < next.phase + 1 → Is other → Counts other → (b : Bool) → nat_lt other.phase next.phase ≡ b → next.cost * other.total ≤ other.cost * next.total
-        by other low other_is counts true e = let strict = next_over over other (ltb-true other.phase next.phase e) other_is counts in omega (arith, strict)
-        by other low other_is counts false e =
+        by : (other : Attempt) → other.phase < next.phase + 1 → Is other → IsCompared other → (b : Bool) → nat_lt other.phase next.phase ≡ b → next.cost * other.total ≤ other.cost * next.total
+        by other low other_is compared true e = let strict = next_over over other (ltb-true other.phase next.phase e) other_is compared in omega (arith, strict)
+        by other low other_is compared false e =
             itself next other (same_at next other is other_is (let high = ltb-false other.phase next.phase e in omega (arith, low, high)))
 
     pub best_is_closest : best.cost * next.total ≤ next.cost * best.total → IsClosestBefore values (next.phase + 1) best
     best_is_closest least = record {
       before_end = let low = before.before_end in omega (arith, low);
       is = before.is;
-      counts = before.counts;
-      none_closer = λ other low other_is counts. by other low other_is counts (nat_lt other.phase next.phase) refl;
+      compared = before.compared;
+      none_closer = λ other low other_is compared. by other low other_is compared (nat_lt other.phase next.phase) refl;
       first = before.first;
     }
       where
-        by : (other : Attempt) → other.phase < next.phase + 1 → Is other → Counts other → (b : Bool) → nat_lt other.phase next.phase ≡ b → best.cost * other.total ≤ other.cost * best.total
-        by other low other_is counts true e = before.none_closer other (ltb-true other.phase next.phase e) other_is counts
-        by other low other_is counts false e =
+        by : (other : Attempt) → other.phase < next.phase + 1 → Is other → IsCompared other → (b : Bool) → nat_lt other.phase next.phase ≡ b → best.cost * other.total ≤ other.cost * best.total
+        by other low other_is compared true e = before.none_closer other (ltb-true other.phase next.phase e) other_is compared
+        by other low other_is compared false e =
             let same : next ≡ other = same_at next other is other_is (let high = ltb-false other.phase next.phase e in omega (arith, low, high)) in
             subst (λ (x : Attempt). best.cost * x.total ≤ x.cost * best.total) same least
 
@@ -164,8 +164,8 @@ module _ (values : ℕ → List (List ℤ)) where
 
   not_later : (end : ℕ) (a b : Attempt) → IsClosestBefore values end a → IsClosestBefore values end b → a.phase < b.phase → ⊥
   not_later end a b p q low =
-      let strict = q.first a low p.is p.counts in
-      let least = p.none_closer b q.before_end q.is q.counts in
+      let strict = q.first a low p.is p.compared in
+      let least = p.none_closer b q.before_end q.is q.compared in
       omega (arith, strict, least)
 
   pub one_closest : (end : ℕ) (a b : Attempt) → IsClosestBefore values end a → IsClosestBefore values end b → a ≡ b

@@ -20,20 +20,20 @@ pub record IsAttempt (values : List (List ℤ)) (phase : ℕ) (attempt : Attempt
   pub total : attempt.total ≡ total values
   pub ports : MatchOption attempt.ports (DecodesNothing values) (HasPorts values)
 
--- `attempt` counts if one of its soft values is not 0, or its phase is 0
-abbrev pub Counts : Attempt → Type 0
-Counts attempt = (attempt.phase ≡ 0) ⊎ (0 < attempt.total)
+-- `attempt` is compared with the others: one of its combined soft values is not 0, or its phase is 0
+abbrev pub IsCompared : Attempt → Type 0
+IsCompared attempt = (attempt.phase ≡ 0) ⊎ (0 < attempt.total)
 
--- `attempt` is the first with the minimum ratio of cost to total, among the attempts that count at the phases below
+-- `attempt` is the first with the minimum ratio of cost to total, among the attempts that are compared, at phases below
 -- `end`; a ratio 0 / 0 at phase 0 is the minimum
 pub record IsClosestBefore (values : ℕ → List (List ℤ)) (end : ℕ) (attempt : Attempt) : Type 0 where
   pub before_end : attempt.phase < end
   pub is : IsAttempt (values attempt.phase) attempt.phase attempt
-  pub counts : Counts attempt
+  pub compared : IsCompared attempt
   pub none_closer : (other : Attempt) → other.phase < end → IsAttempt (values other.phase) other.phase other →
-      Counts other → attempt.cost * other.total ≤ other.cost * attempt.total
+      IsCompared other → attempt.cost * other.total ≤ other.cost * attempt.total
   pub first : (other : Attempt) → other.phase < attempt.phase → IsAttempt (values other.phase) other.phase other →
-      Counts other → attempt.cost * other.total < other.cost * attempt.total
+      IsCompared other → attempt.cost * other.total < other.cost * attempt.total
 
 -- `attempt` is the closest to a MIB among the attempts at the four phases of a frame
 abbrev pub IsClosest : (ℕ → List (List ℤ)) → Attempt → Type 0
