@@ -53,7 +53,7 @@ pub struct EarlyHit {
     pub step: usize,
 }
 
-/// A hit whose cell has another identity than the one asked for. (own)
+/// A hit whose cell does not have the requested identity. (own)
 #[derive(Clone, Copy, Debug, PartialEq, Eq)]
 pub struct OtherCell {
     /// The sample of the hit.
