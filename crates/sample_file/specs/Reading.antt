@@ -56,11 +56,11 @@ pub record HasReadTooShortAt (factor : ℕ) (form : SampleForm) (before now : So
 
 -- ---- at 1.92 million samples per second
 
--- the complete input was read, and `recording` has all its samples
+-- the complete input was read; it is long enough and ends with a complete sample, and the recording has all its samples
 abbrev pub HasReadRecording : SampleForm → List Sample → SourceState → SourceState → Type 0
 HasReadRecording = HasReadRecordingAt 1
 
--- a recording was read, and the front is its first samples, at most as many as are kept
+-- a recording was read, and the front is its first samples, as many as the given number, or all if it has fewer
 abbrev pub HasReadFront : SampleForm → ℕ → List Sample → SourceState → SourceState → Type 0
 HasReadFront = HasReadFrontAt 1
 

@@ -23,7 +23,8 @@ use std::alloc::{AllocError, Global};
 use std::fmt;
 use thiserror::Error;
 
-/// The reason why no recording was read.
+/// The reason why no recording was read. Sample counts are for 1.92 million samples per second; `read_front_at`
+/// multiplies them by its factor.
 #[derive(Clone, Copy, Debug, PartialEq, Eq, Error)]
 pub enum FileError {
     /// The input ended within a sample.
@@ -126,8 +127,8 @@ pub fn read_front<S: Source>(
     recording_of(samples)
 }
 
-/// Reads a recording of 30 ms to one second at `factor` (1 to 16) times 1.92 million samples per second, and returns its
-/// first `most` samples. Errors are those of `read_as`, at this rate. (own)
+/// Reads a recording of 30 ms to one second at `factor` (1 to 16) times 1.92 million samples per second, and returns
+/// its first `most` samples. Errors are those of `read_as`, at this rate. (own)
 pub fn read_front_at<S: Source>(
     alloc: Global,
     source: &mut S,
@@ -231,7 +232,7 @@ fn bytes_read(form: SampleForm, samples: usize, begun: usize) -> usize
     }
 }
 
-// Returns the recording that consists of `samples`, at most 1,920,000, or `TooShort` if they are fewer than 57,600.
+// Returns the recording that consists of `samples`, 57,600 to 1,920,000.
 fn recording_of(samples: Vec<Sample>) -> Result<Recording, FileError>
     requires least { least_samples ≤ length samples.items }
     requires most { length samples.items ≤ most_samples }
