@@ -50,7 +50,8 @@ AreFrame s n samples = (i : ℕ) → i < frame_length → slice_index_or samples
 abbrev pub is_between : ℕ → ℕ → ℕ → Bool
 is_between first last i = nat_le first i && nat_lt i last
 
--- whether sample `i` of a frame lies in either symbol range, from `first` to `last` or from `again` to `end`
+-- whether sample `i` of a frame lies in either symbol range: `first` up to but not including `last`, or `again` up to
+-- but not including `end`
 abbrev pub is_made_anew : Prefix → Symbols → ℕ → Bool
 is_made_anew prefix symbols i =
     is_between (first_sample prefix symbols.first) (first_sample prefix symbols.last) i

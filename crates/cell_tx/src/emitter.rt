@@ -248,6 +248,5 @@ pub fn emit(emission: &Emission, out: &mut [Sample])
     ensures samples { out.new ≡ emitted_samples emission.now }
     ensures magnitude { (i : ℕ) → IsWithin 32284 (emitted emission.now i) }
 {
-    // Lent, since an emitter that is moved takes up twice its size, 137 kB, on the stack.
     put_all(&mut Emitter::new(emission), out);
 }

@@ -104,7 +104,7 @@ pub fn sample(cell: &Cell, sfn: Sfn, i: u64) -> Sample
 }
 
 /// Writes the 19,200 samples of frame `sfn`, for one antenna port and the normal cyclic prefix, to `out`, which has
-/// room for 19,200: `sample` with the indices from 0.
+/// length 19,200: `sample` with the indices from 0.
 pub fn frame(cell: &Cell, sfn: Sfn, out: &mut [Sample])
     requires { length out.old ≡ frame_length }
     ensures { out.new ≡ frame_samples normal (element cell.now) sfn }
