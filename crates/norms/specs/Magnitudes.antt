@@ -5,8 +5,7 @@ use Rattle.cs_num.specs.declared.Cpx.{Cpx}
 use Rattle.cs_num.specs.Complex.{times, conjugate, square}
 use Rattle.cs_num.specs.Sums.{complex_sum_below}
 
--- the magnitude of `z` is at most `c` times that of a gain whose squared magnitude is `n`; squares are compared, so no
--- square root is needed
+-- the magnitude of `z` is at most `c` times the square root of `n`; the squares are compared
 pub record IsBounded (c n : ℕ) (z : Cpx) : Type 0 where
   pub bounded : square z ≤ c * c * n
 
