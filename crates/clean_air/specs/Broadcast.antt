@@ -26,8 +26,9 @@ SpokenWordIsDecoded =
     PassesWith ports word → field word 0 3 ≤ 5 →
     DecodesFreely sums word ports
 
--- a law: soft values determine a MIB's 40-bit word, at cost 0, if each has the sign of its scrambled coded bit, there
--- are at least 120 values, the CRC passes with the mask of the port count, and the bandwidth code is at most 5
+-- a law: at least 120 soft values determine a MIB's 40-bit word, at cost 0, if value `i` has the sign of scrambled
+-- coded bit `first` + `i`, read cyclically, the CRC passes with the mask of the port count, and the bandwidth code is
+-- at most 5
 abbrev pub SentWordIsDecoded : Type 0
 SentWordIsDecoded =
     (c_init first ports : ℕ) (word : List Bool) (values : List ℤ) → length word ≡ 40 →
