@@ -70,7 +70,7 @@ fn with_load(mut emission: Emission, load: Option<u32>) -> Emission
     emission
 }
 
-// Writes an emission's samples, which are generated frame by frame, in pieces of equal length.
+// Writes an emission's samples, which are generated frame by frame, in pieces of 16,384 bytes; the last may be shorter.
 fn write_emission<K: Sink>(emission: &Emission, sink: &mut K) -> Result<(), Failed>
     ensures ok { OnOk result (HasWritten (bytes_of (emitted_samples emission.now))
         (K.state sink.old) (K.state sink.new)) }
@@ -83,7 +83,8 @@ fn write_emission<K: Sink>(emission: &Emission, sink: &mut K) -> Result<(), Fail
     write_pieces(&mut Emitter::new(emission), sink)
 }
 
-// Writes all samples of an emitter, positioned before its first piece, in pieces of one length.
+// Writes all samples of an emitter, positioned before its first piece, in pieces of 16,384 bytes; the last may be
+// shorter.
 fn write_pieces<K: Sink>(emitter: &mut Emitter, sink: &mut K) -> Result<(), Failed>
     requires { emitter.old.at ≡ 0 }
     ensures ok { OnOk result (HasWritten (bytes_of emitter.old.samples) (K.state sink.old) (K.state sink.new)) }
