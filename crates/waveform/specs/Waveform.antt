@@ -33,7 +33,7 @@ abbrev pub error_energy : ℕ → (ℕ → Cpx) → (ℕ → ℕ → Cpx) → (�
 error_energy ports gains grids samples =
     energy_below useful_length (λ n. minus (multiple (2 ^ 31) (samples n)) (waveform ports gains grids n))
 
--- `energy`, in units of 2^-62, is at most `quota` times `power`, the square of a gain in units of 2^-28
+-- `energy`, in units of 2^-62, is at most `quota` times `power`, a sum of squared gains in units of 2^-28
 abbrev pub IsWithinQuota : ℕ → ℕ → ℕ → Type 0
 IsWithinQuota quota power energy = energy ≤ 2 ^ 34 * (quota * power)
 

@@ -1,7 +1,8 @@
 //! Laws of reception near the waveform: which cells are heard.
 //!
-//! Whatever else the ports send, a cell is heard with one, two and four antenna ports and with the extended cyclic
-//! prefix. A recording that is faithful to a cell, with errors relative to rounded samples, is near its waveform.
+//! Whatever else the ports send, up to magnitude 256 per resource element, a cell is heard with one, two and four
+//! antenna ports and with the extended cyclic prefix. A recording that is faithful to a cell, with errors relative to
+//! rounded samples, is near its waveform.
 
 ghost use Rattle.lte_types.specs.declared.carrier.Carrier.{Carrier};
 ghost use Rattle.explain.specs.Receiver.{one_port_receiver};
