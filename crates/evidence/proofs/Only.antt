@@ -1,5 +1,5 @@
 -- Each entry's measurements are unique.
-use Rattle.std.proofs.Common.{◌≡◌, ◌%◌, List, [], ◌∷◌, arith, rules, refl, ap, sym, ◌∙◌}
+use Rattle.std.proofs.Common.{◌≡◌, ◌%◌, List, arith, rules, ap, sym, ◌∙◌}
 use Rattle.std.specs.List.{AllZip}
 use Rattle.cs_num.specs.declared.Sample.{Sample}
 use Rattle.lte_types.specs.declared.entry.Entry.{Entry}
