@@ -81,8 +81,8 @@ pub fn hits(recording: &Recording, list: &mut HitList)
     }
 }
 
-/// Replaces `list` as `hits` does, and returns the position, 128 to 19,345, at which the PSS `n2`, 0 to 2, is strongest,
-/// with its metric; the first of several. Allocates nothing. (own)
+/// Replaces `list` as `hits` does, and returns the position, 128 to 19,345, at which the PSS `n2`, 0 to 2, is
+/// strongest, with its metric; the first of several. Allocates nothing. (own)
 pub fn hits_and_strongest(recording: &Recording, n2: u8, list: &mut HitList) -> Measured
     requires { n2 ≤ 2 }
     ensures list { list.new ≡ hits_of recording.now }

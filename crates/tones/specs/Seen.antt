@@ -22,7 +22,8 @@ seen_term wide start f i = times (sample_at wide.samples (start + i)) (conjugate
 -- the value received at subcarrier k for the symbol whose useful part begins at sample start
 unfoldable pub seen : Wide → ℕ → ℕ → ℕ → Cpx
 seen wide blocks start k =
-    rounded (complex_sum_below (points wide.rate) (seen_term wide start (frequency wide.rate blocks k))) (16 + wide.rate)
+    rounded (complex_sum_below (points wide.rate) (seen_term wide start (frequency wide.rate blocks k)))
+    (16 + wide.rate)
 
 -- the values received at all subcarriers for the symbol whose useful part begins at sample start
 unfoldable pub seen_symbol : Wide → ℕ → ℕ → List Cpx

@@ -14,7 +14,8 @@ use std::alloc::{AllocError, Global};
 pub(crate) fn fold(alloc: Global, samples: &[Sample]) -> Result<Vec<Cpx>, AllocError>
     requires some { 4 ≤ length samples.now }
     requires quarters { length samples.now % 4 ≡ 0 }
-    ensures value { IfOk result (λ folded. folded.items ≡ folded_samples (length samples.now / 4) (sample_at samples.now)) }
+    ensures value { IfOk result (λ folded.
+        folded.items ≡ folded_samples (length samples.now / 4) (sample_at samples.now)) }
     ensures small { IfOk result (λ folded. All (IsWithin 131072) folded.items) }
 {
     let quarter = samples.len() / 4;

@@ -1,6 +1,6 @@
-//! OFDM demodulation of one symbol at 1.92 * 2^r million samples per second, r from 0 to 4: the DFT of its useful part at
-//! all subcarriers of a cell, with a table of the 2,048th roots of unity. The DFT is folded by the table's symmetry, and
-//! equals its plain definition.
+//! OFDM demodulation of one symbol at 1.92 * 2^r million samples per second, r from 0 to 4: the DFT of its useful part
+//! at all subcarriers of a cell, with a table of the 2,048th roots of unity. The DFT is folded by the table's symmetry,
+//! and equals its plain definition.
 //! Tests: the crate `wide_tests`.
 #![tactic(auto)]
 

@@ -20,7 +20,8 @@ slot_from symbols cell number = record { symbols = symbols; number = number; ide
 -- a slot as it is received, in a frame that begins at sample `frame` at 1.92 million samples per second
 unfoldable pub seen_slot : Wide → Cell → ℕ → ℕ → SeenSlot
 seen_slot wide cell frame number =
-    slot_from (values_below 7 (λ symbol. seen_symbol wide cell.blocks (wide_start wide.rate frame number symbol))) cell number
+    slot_from (values_below 7 (λ symbol. seen_symbol wide cell.blocks (wide_start wide.rate frame number symbol))) cell
+    number
 
 -- a received slot, its cell, and the weights that smooth its pilots
 pub record WideSeen : Type 0 where
@@ -44,7 +45,8 @@ port_channel seen port k =
 -- an antenna port's pilot energy; ports 2 and 3 have half as many pilots, and count twice
 abbrev pub port_energy : WideSeen → ℕ → ℕ
 port_energy seen port =
-    (wide_line seen.cell seen.slot.number port).step / 3 * line_energy (wide_line seen.cell seen.slot.number port) seen.slot
+    (wide_line seen.cell seen.slot.number port).step / 3
+    * line_energy (wide_line seen.cell seen.slot.number port) seen.slot
 
 -- the pilot energy over all ports
 unfoldable pub ports_energy : WideSeen → ℕ

@@ -6,8 +6,8 @@ ghost use Rattle.wide_slot.specs.Lines.{IsLayout, layout_of as layout_by, lower_
 use crs::{Pattern, first_of_pattern, first_of_upper};
 use wide_cell::WideCell;
 
-// The distance between pilots in subcarriers, the number of the last, the first subcarrier, and the symbols: `early` for
-// subcarriers with `residue` modulo 6, otherwise `late`.
+// The distance between pilots in subcarriers, the number of the last, the first subcarrier, and the symbols: `early`
+// for subcarriers with `residue` modulo 6, otherwise `late`.
 #[derive(Clone, Copy)]
 pub(crate) struct Layout {
     pub step: u8,

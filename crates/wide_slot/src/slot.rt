@@ -40,7 +40,8 @@ impl Model for WideSlot {
 
     ghost Value = { WideSeen };
 
-    ghost view = { λ s. record { cell = s.cell; weights = s.weights; slot = slot_from s.symbols.items s.cell s.number } };
+    ghost view = { λ s.
+        record { cell = s.cell; weights = s.weights; slot = slot_from s.symbols.items s.cell s.number } };
 
     ghost invariant = { λ s.
         IsKept (record { cell = s.cell; weights = s.weights; slot = slot_from s.symbols.items s.cell s.number })
@@ -48,8 +49,8 @@ impl Model for WideSlot {
 }
 
 impl WideSlot {
-    /// Receives slot `number`, 0 to 19, of a frame that begins at sample `frame` at 1.92 million samples per second. The
-    /// recording contains the slot and all subcarriers. Fails only if an allocation fails. (own)
+    /// Receives slot `number`, 0 to 19, of a frame that begins at sample `frame` at 1.92 million samples per second.
+    /// The recording contains the slot and all subcarriers. Fails only if an allocation fails. (own)
     pub fn receive(
         alloc: Global,
         tones: &Tones,

@@ -6,8 +6,8 @@ use grid_map::{pcfich_c_init, pdcch_c_init, pdsch_c_init};
 use lte_types::CellId;
 use std::test::Fail;
 
-// Returns `c_init` of the PCFICH, the PDCCH and the PDSCH of SIB1 in slot 10, and of the reference signals in symbols 0,
-// 1 and 4 of slots 10 and 11.
+// Returns `c_init` of the PCFICH, the PDCCH and the PDSCH of SIB1 in slot 10, and of the reference signals in symbols
+// 0, 1 and 4 of slots 10 and 11.
 fn inits_of(id: CellId) -> [u32; 9] {
     let port = Pattern::FIRST_PORT;
     [

@@ -122,8 +122,8 @@ fn after_each(sums: [u64; 3], numbers: [u64; 3]) -> [u64; 3] {
     ]
 }
 
-// Checksums for a bandwidth and a port count, over twelve cells: the soft values of the PCFICH, of the first candidate of
-// level 4, and of the PDSCH for an allocation that depends on the cell.
+// Checksums for a bandwidth and a port count, over twelve cells: the soft values of the PCFICH, of the first candidate
+// of level 4, and of the PDSCH for an allocation that depends on the cell.
 const VALUES: [(Bandwidth, u8, [u64; 3]); 18] = [
     (
         Bandwidth::N6,
