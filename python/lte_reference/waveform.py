@@ -92,10 +92,16 @@ class Excess(NamedTuple):
     is_near: bool  # by whole numbers
 
 
+def are_paired(squares: Sequence[int]) -> bool:
+    """Returns whether, with four ports, the ports 0 and 2 have at least three eighths of the power, and the ports 1 and 3
+    too; `squares` are the ports' squared magnitudes."""
+    return len(squares) <= 2 or all(3 * sum(squares) <= 8 * sum(squares[first::2]) for first in (0, 1))
+
+
 def excess(r, cell, carrier, rule, gains: Sequence[tuple[int, int]]):
     """Returns how near a recording is to the waveform of a cell with these gains."""
     sent, squares = Sent(cell, carrier), [a * a + b * b for a, b in gains]
-    worst, is_near = [0.0, 0.0], squares[0] >= 2**28
+    worst, is_near = [0.0, 0.0], squares[0] >= 2**28 and are_paired(squares)
     for symbol in read_symbols(rule, cell):
         energy = error_energy(r[symbol.start : symbol.start + 128], waveform(sent.ports(symbol), gains))
         limits = []

@@ -48,6 +48,16 @@ def test_noise_at_the_quota(carrier):
     assert np.abs(np.subtract(found, gains)).max() < 0.02 * max(map(max, np.abs(gains)))
 
 
+def test_a_weak_pair_of_ports_is_not_near():
+    """With four ports, a pair with less than three eighths of the power is excluded, however small the errors are."""
+    gains = [(4, 1), (3, -1), (-4, 2), (1, 3)]
+    cell = CELL | dict(zip(("gain", "gain2", "gain3", "gain4"), gains))
+    parts = [(a << 14, b << 14) for a, b in gains]
+    found = waveform.excess(transmitter.sent(cell, "four"), cell, "four", RULES[WORDS["four"]], parts)
+    assert max(found.slots, found.signals) < 1 and not found.is_near
+    assert waveform.are_paired([1, 5, 2, 0]) and not waveform.are_paired([1, 6, 2, 0]) and waveform.are_paired([1, 0])
+
+
 def test_elements_relate_to_samples():
     """A symbol's samples are its waveform, rounded."""
     cell, _ = described("one")

@@ -17,6 +17,7 @@ import fuzz_inputs
 from lte_tools import machine
 from lte_reference import cell as second_cell
 from lte_reference import search as second_search
+from lte_reference import waveform
 from lte_reference.search import FRAME, SIZES
 
 PARTS = 16_384
@@ -127,9 +128,8 @@ def any_gains(carrier, most, draw, rng, is_great=False):
         gains = sizes * math.sqrt(power / sum(sizes**2)) * np.exp(2j * np.pi * rng.random(ports))
         gains = np.round(gains * PARTS) if draw.random() < 0.8 else PARTS * np.round(gains)
         squares = squares_of(gains)
-        if UNIT <= squares[0] and sum(squares) <= most * UNIT:
-            if carrier != "four" or all(3 * sum(squares) <= 8 * sum(squares[i::2]) for i in (0, 1)):
-                return gains
+        if UNIT <= squares[0] and sum(squares) <= most * UNIT and waveform.are_paired(squares):
+            return gains
 
 
 # ---- errors
