@@ -1,5 +1,5 @@
 -- Complex integers with the ring operations.
-use Rattle.std.specs.Prelude.{List, slice_index_or, ℕ, ◌+◌, ◌*◌, ◌≤◌, pos, ◌+ℤ◌, ◌-ℤ◌, ◌*ℤ◌, neg_ℤ, nat_abs, max}
+use Rattle.std.specs.Prelude.{List, slice_index_or, ℕ, ◌+◌, ◌*◌, ◌≤◌, ℤ, pos, ◌+ℤ◌, ◌-ℤ◌, ◌*ℤ◌, neg_ℤ, nat_abs, max}
 use Rattle.cs_num.specs.declared.Cpx.{Cpx}
 use Rattle.cs_num.specs.declared.Sample.{Sample}
 
@@ -18,6 +18,10 @@ minus a b = record { re = a.re -ℤ b.re; im = a.im -ℤ b.im }
 -- the product of `a` and the natural number `n`
 abbrev pub multiple : ℕ → Cpx → Cpx
 multiple n a = record { re = pos n *ℤ a.re; im = pos n *ℤ a.im }
+
+-- the product of `a` and the integer `n`
+abbrev pub scaled : ℤ → Cpx → Cpx
+scaled n a = record { re = n *ℤ a.re; im = n *ℤ a.im }
 
 -- the product
 abbrev pub times : Cpx → Cpx → Cpx

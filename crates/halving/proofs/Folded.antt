@@ -5,10 +5,10 @@ use Rattle.std.proofs.lemmas.Int.{ints, fits_signed_from_abs}
 use Rattle.finite.specs.Sums.{sum_below}
 use Rattle.cs_num.specs.declared.Cpx.{Cpx}
 use Rattle.cs_num.specs.declared.Sample.{Sample}
-use Rattle.cs_num.specs.Complex.{plus}
+use Rattle.cs_num.specs.Complex.{plus, scaled}
 use Rattle.cs_num.specs.Sums.{complex_sum_below}
 use Rattle.cs_num.proofs.Complex.{pair}
-use Rattle.halving.specs.Halved.{taps, delayed, scaled, tap_term}
+use Rattle.halving.specs.Halved.{taps, delayed, tap_term}
 use Rattle.halving.specs.Steps.{folded_part, folded_sum}
 
 -- the partial sums of `folded_part` fit 64 bits

@@ -1,10 +1,10 @@
 -- Halving the sample rate of a recording: a half-band low-pass filter with 15 taps, of whose output every second
 -- sample is kept. (own)
-use Rattle.std.specs.Prelude.{ℕ, zero, suc, ◌+◌, ◌-◌, ◌*◌, ◌/◌, List, [], ◌∷◌, length, slice_index_or, ℤ, pos, negsuc, ◌*ℤ◌, nat_lt, if◌then◌else◌}
+use Rattle.std.specs.Prelude.{ℕ, zero, suc, ◌+◌, ◌-◌, ◌*◌, ◌/◌, List, [], ◌∷◌, length, slice_index_or, ℤ, pos, negsuc, nat_lt, if◌then◌else◌}
 use Rattle.finite.specs.Lists.{values_below}
 use Rattle.cs_num.specs.declared.Cpx.{Cpx}
 use Rattle.cs_num.specs.declared.Sample.{Sample}
-use Rattle.cs_num.specs.Complex.{nothing, sample_at}
+use Rattle.cs_num.specs.Complex.{nothing, scaled, sample_at}
 use Rattle.cs_num.specs.Rounding.{rounded, nearest_sample}
 use Rattle.cs_num.specs.Sums.{complex_sum_below}
 
@@ -17,10 +17,6 @@ taps =
 -- sample i - 7 of a recording, and 0 before its first sample and past its last
 abbrev pub delayed : List Sample → ℕ → Cpx
 delayed samples i = if nat_lt i 7 then nothing else sample_at samples (i - 7)
-
--- an integer times a complex integer
-abbrev pub scaled : ℤ → Cpx → Cpx
-scaled n a = record { re = n *ℤ a.re; im = n *ℤ a.im }
 
 -- tap t's contribution to output sample i, whose middle tap is at sample 2i of the recording
 abbrev pub tap_term : List Sample → ℕ → ℕ → Cpx
