@@ -43,6 +43,32 @@ complex_sum_below_swap n m f = pair
 pub complex_sum_below_one : (f : ℕ → Cpx) → complex_sum_below 1 f ≡ f 0
 complex_sum_below_one f = pair (sum_below_one (λ k. (f k).re)) (sum_below_one (λ k. (f k).im))
 
+-- a sum over 4n numbers as a sum of the sums of four numbers at distance n
+pub complex_sum_below_quarters : (n : ℕ) (f : ℕ → Cpx) →
+    complex_sum_below (4 * n) f ≡ complex_sum_below n (λ m. plus (f m) (plus (f (m + n)) (plus (f (m + 2 * n)) (f (m + 3 * n)))))
+complex_sum_below_quarters n f =
+    let f1 : ℕ → Cpx = λ m. f (n + m) in
+    let f2 : ℕ → Cpx = λ m. f (n + (n + m)) in
+    let f3 : ℕ → Cpx = λ m. f (n + (n + (n + m))) in
+    let all : 4 * n ≡ n + (n + (n + n)) = omega arith in
+    let first = complex_sum_below_split n (n + (n + n)) f in
+    let second = complex_sum_below_split n (n + n) f1 in
+    let third = complex_sum_below_split n n f2 in
+    let joined = complex_sum_below_plus n f (λ m. plus (f1 m) (plus (f2 m) (f3 m))) in
+    let joined1 = complex_sum_below_plus n f1 (λ m. plus (f2 m) (f3 m)) in
+    let joined2 = complex_sum_below_plus n f2 f3 in
+    ap (λ k. complex_sum_below k f) all ∙ first ∙ ap (plus (complex_sum_below n f)) (second ∙ ap (plus (complex_sum_below n f1)) third)
+    ∙ sym (joined ∙ ap (plus (complex_sum_below n f)) (joined1 ∙ ap (plus (complex_sum_below n f1)) joined2))
+    ∙ complex_sum_below_same n (λ m. plus (f m) (plus (f1 m) (plus (f2 m) (f3 m)))) (λ m. plus (f m) (plus (f (m + n)) (plus (f (m + 2 * n)) (f (m + 3 * n))))) (λ m l. at m)
+  where
+    at : (m : ℕ) → plus (f m) (plus (f (n + m)) (plus (f (n + (n + m))) (f (n + (n + (n + m)))))) ≡ plus (f m) (plus (f (m + n)) (plus (f (m + 2 * n)) (f (m + 3 * n))))
+    at m =
+        let e1 : n + m ≡ m + n = omega arith in
+        let e2 : n + (n + m) ≡ m + 2 * n = omega arith in
+        let e3 : n + (n + (n + m)) ≡ m + 3 * n = omega arith in
+        let four : ℕ → ℕ → ℕ → Cpx = λ x y z. plus (f m) (plus (f x) (plus (f y) (f z))) in
+        ap (λ x. four x (n + (n + m)) (n + (n + (n + m)))) e1 ∙ ap (λ y. four (m + n) y (n + (n + (n + m)))) e2 ∙ ap (four (m + n) (m + 2 * n)) e3
+
 -- reversing the terms does not change the sum
 pub complex_sum_below_backward : (n : ℕ) (f : ℕ → Cpx) → complex_sum_below n (λ k. f (n - 1 - k)) ≡ complex_sum_below n f
 complex_sum_below_backward n f = pair (sum_below_backward n (λ k. (f k).re)) (sum_below_backward n (λ k. (f k).im))

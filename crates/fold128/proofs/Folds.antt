@@ -11,7 +11,7 @@ use Rattle.cs_num.specs.declared.Cpx.{Cpx}
 use Rattle.cs_num.specs.Complex.{nothing, plus, minus, times, times_j, conjugate, times_minus_j}
 use Rattle.cs_num.specs.Sums.{complex_sum_below}
 use Rattle.cs_num.proofs.Complex.{pair, times-plus_left}
-use Rattle.cs_num.proofs.Sums.{complex_sum_below_split, complex_sum_below_plus, complex_sum_below_same}
+use Rattle.cs_num.proofs.Sums.{complex_sum_below_quarters, complex_sum_below_same}
 use Rattle.fold128.specs.Tables.{w_at}
 use Rattle.fold128.specs.Symbol.{frequency}
 use Rattle.fold128.specs.Spectrum.{spectrum_term, spectrum_at}
@@ -21,7 +21,7 @@ use Rattle.fold128.specs.Folding.{back_by, seen_of_four, quartet_of, quartet_at,
 use Rattle.fold128.proofs.Tones.{times-nothing}
 use Rattle.fold128.proofs.Laws.{w_same, quarter_turn_is_j, backward_is_conjugate}
 
--- ---- adding a quarter period to W's argument multiplies the other factor by -j
+-- ---- a table `t` of which a quarter period multiplies by j
 
 once_re : (a b c d : ℤ) → a *ℤ neg_ℤ d -ℤ b *ℤ neg_ℤ c ≡ b *ℤ c -ℤ neg_ℤ a *ℤ neg_ℤ d
 once_re a b c d =
@@ -40,12 +40,33 @@ once_im a b c d =
 once : (z v : Cpx) → times z (conjugate (times_j v)) ≡ times (times_minus_j z) (conjugate v)
 once z v = pair (once_re z.re z.im v.re v.im) (once_im z.re z.im v.re v.im)
 
-back_turns : (q x : ℕ) (z : Cpx) → times z (conjugate (w_at (x + 32 * q))) ≡ times (back_by q z) (conjugate (w_at x))
-unfolding back_by
-back_turns zero x z = let e : x + 32 * 0 ≡ x = omega arith in rw e refl
-back_turns (suc q) x z =
-    let e : w_at (x + 32 * suc q) ≡ times_j (w_at (x + 32 * q)) = w_same (x + 32 * suc q) (x + 32 * q + 32) (omega arith) ∙ quarter_turn_is_j (x + 32 * q) in
-    ap (λ v. times z (conjugate v)) e ∙ once z (w_at (x + 32 * q)) ∙ back_turns q x (times_minus_j z)
+module _ (t : ℕ → Cpx) (period : ℕ) (turns : (x : ℕ) → t (x + period) ≡ times_j (t x)) where
+  -- adding quarter periods to the table's argument multiplies the other factor by powers of -j
+  pub back_turns : (q x : ℕ) (z : Cpx) → times z (conjugate (t (x + period * q))) ≡ times (back_by q z) (conjugate (t x))
+  unfolding back_by
+  back_turns zero x z = let e : x + period * 0 ≡ x = omega arith in rw e refl
+  back_turns (suc q) x z =
+      let e : x + period * suc q ≡ x + period * q + period = omega arith in
+      ap (λ v. times z (conjugate v)) (ap t e ∙ turns (x + period * q)) ∙ once z (t (x + period * q)) ∙ back_turns q x (times_minus_j z)
+
+  -- four samples whose table arguments are r quarter periods apart
+  pub four_turn : (r x : ℕ) (a b c d : Cpx) →
+      plus (times a (conjugate (t x))) (plus (times b (conjugate (t (x + period * r)))) (plus (times c (conjugate (t (x + period * (2 * r))))) (times d (conjugate (t (x + period * (3 * r)))))))
+      ≡ times (seen_of_four r a b c d) (conjugate (t x))
+  unfolding seen_of_four
+  four_turn r x a b c d =
+      let v : Cpx = conjugate (t x) in
+      let sb : Cpx = back_by r b in
+      let sc : Cpx = back_by (2 * r) c in
+      let sd : Cpx = back_by (3 * r) d in
+      let third : Cpx = times c (conjugate (t (x + period * (2 * r)))) in
+      let fourth : Cpx = times d (conjugate (t (x + period * (3 * r)))) in
+      ap (λ y. plus (times a v) (plus y (plus third fourth))) (back_turns r x b)
+      ∙ ap (λ y. plus (times a v) (plus (times sb v) (plus y fourth))) (back_turns (2 * r) x c)
+      ∙ ap (λ y. plus (times a v) (plus (times sb v) (plus (times sc v) y))) (back_turns (3 * r) x d)
+      ∙ ap (λ y. plus (times a v) (plus (times sb v) y)) (sym (times-plus_left sc sd v))
+      ∙ ap (plus (times a v)) (sym (times-plus_left sb (plus sc sd) v))
+      ∙ sym (times-plus_left a (plus sb (plus sc sd)) v)
 
 -- ---- four samples at distance 32
 
@@ -53,44 +74,16 @@ back_turns (suc q) x z =
 abbrev part : (ℕ → Cpx) → ℕ → ℕ → Cpx
 part samples f n = times (samples n) (conjugate (w_at (f * n)))
 
--- the sample q quarters later contributes like one at index m, multiplied by (-j) ^ (f q)
-later : (samples : ℕ → Cpx) (f m n q : ℕ) → f * n % 128 ≡ (f * m + 32 * q) % 128 → part samples f n ≡ times (back_by q (samples n)) (conjugate (w_at (f * m)))
-later samples f m n q e = ap (λ v. times (samples n) (conjugate v)) (w_same (f * n) (f * m + 32 * q) e) ∙ back_turns q (f * m) (samples n)
-
 four_parts : (samples : ℕ → Cpx) (f m : ℕ) →
     plus (part samples f m) (plus (part samples f (m + 32)) (plus (part samples f (m + 64)) (part samples f (m + 96))))
     ≡ times (seen_of_four (f % 4) (samples m) (samples (m + 32)) (samples (m + 64)) (samples (m + 96))) (conjugate (w_at (f * m)))
-unfolding seen_of_four
 four_parts samples f m =
-    let v : Cpx = conjugate (w_at (f * m)) in
-    let b : Cpx = back_by (f % 4) (samples (m + 32)) in
-    let c : Cpx = back_by (2 * (f % 4)) (samples (m + 64)) in
-    let d : Cpx = back_by (3 * (f % 4)) (samples (m + 96)) in
-    let eb = later samples f m (m + 32) (f % 4) (omega arith) in
-    let ec = later samples f m (m + 64) (2 * (f % 4)) (omega arith) in
-    let ed = later samples f m (m + 96) (3 * (f % 4)) (omega arith) in
-    ap (λ x. plus (part samples f m) (plus x (plus (part samples f (m + 64)) (part samples f (m + 96))))) eb
-    ∙ ap (λ x. plus (part samples f m) (plus (times b v) (plus x (part samples f (m + 96))))) ec
-    ∙ ap (λ x. plus (part samples f m) (plus (times b v) (plus (times c v) x))) ed
-    ∙ ap (λ x. plus (part samples f m) (plus (times b v) x)) (sym (times-plus_left c d v))
-    ∙ ap (plus (part samples f m)) (sym (times-plus_left b (plus c d) v))
-    ∙ sym (times-plus_left (samples m) (plus b (plus c d)) v)
+    let e1 = w_same (f * (m + 32)) (f * m + 32 * (f % 4)) (omega arith) in
+    let e2 = w_same (f * (m + 64)) (f * m + 32 * (2 * (f % 4))) (omega arith) in
+    let e3 = w_same (f * (m + 96)) (f * m + 32 * (3 * (f % 4))) (omega arith) in
+    rw (e1, e2, e3) (four_turn w_at 32 quarter_turn_is_j (f % 4) (f * m) (samples m) (samples (m + 32)) (samples (m + 64)) (samples (m + 96)))
 
 -- ---- the complete sum
-
-quarters : (f : ℕ → Cpx) → complex_sum_below 128 f ≡ complex_sum_below 32 (λ m. plus (f m) (plus (f (32 + m)) (plus (f (32 + (32 + m))) (f (32 + (32 + (32 + m)))))))
-quarters f =
-    let f1 : ℕ → Cpx = λ m. f (32 + m) in
-    let f2 : ℕ → Cpx = λ m. f (32 + (32 + m)) in
-    let f3 : ℕ → Cpx = λ m. f (32 + (32 + (32 + m))) in
-    let first = complex_sum_below_split 32 96 f in
-    let second = complex_sum_below_split 32 64 f1 in
-    let third = complex_sum_below_split 32 32 f2 in
-    let joined = complex_sum_below_plus 32 f (λ m. plus (f1 m) (plus (f2 m) (f3 m))) in
-    let joined1 = complex_sum_below_plus 32 f1 (λ m. plus (f2 m) (f3 m)) in
-    let joined2 = complex_sum_below_plus 32 f2 f3 in
-    first ∙ ap (plus (complex_sum_below 32 f)) (second ∙ ap (plus (complex_sum_below 32 f1)) third)
-    ∙ sym (joined ∙ ap (plus (complex_sum_below 32 f)) (joined1 ∙ ap (plus (complex_sum_below 32 f1)) joined2))
 
 taken_is : (r : ℕ) (a b c d : Cpx) → r < 4 → taken (quartet_of a b c d) r ≡ seen_of_four r a b c d
 taken_is zero a b c d l = refl
@@ -103,21 +96,16 @@ taken_is (suc (suc (suc (suc r)))) a b c d l = absurd (omega arith)
 pub spectrum_folds : (samples : ℕ → Cpx) (k : ℕ) →
     complex_sum_below 32 (folded_term (folded_places samples) (frequency k)) ≡ spectrum_at samples k
 unfolding spectrum_at folded_places
-spectrum_folds samples k = sym (quarters (spectrum_term samples k) ∙ complex_sum_below_same 32
-    (λ m. plus (part samples (frequency k) m) (plus (part samples (frequency k) (32 + m)) (plus (part samples (frequency k) (32 + (32 + m))) (part samples (frequency k) (32 + (32 + (32 + m)))))))
+spectrum_folds samples k = sym (complex_sum_below_quarters 32 (spectrum_term samples k) ∙ complex_sum_below_same 32
+    (λ m. plus (part samples (frequency k) m) (plus (part samples (frequency k) (m + 32)) (plus (part samples (frequency k) (m + 64)) (part samples (frequency k) (m + 96)))))
     (folded_term (values_below 32 (quartet_at samples)) (frequency k))
     (λ m l. at_place (frequency k) m l))
   where
     at_place : (f m : ℕ) → m < 32 →
-        plus (part samples f m) (plus (part samples f (32 + m)) (plus (part samples f (32 + (32 + m))) (part samples f (32 + (32 + (32 + m))))))
+        plus (part samples f m) (plus (part samples f (m + 32)) (plus (part samples f (m + 64)) (part samples f (m + 96))))
         ≡ folded_term (values_below 32 (quartet_at samples)) f m
     at_place f m l =
-        let e1 : 32 + m ≡ m + 32 = omega arith in
-        let e2 : 32 + (32 + m) ≡ m + 64 = omega arith in
-        let e3 : 32 + (32 + (32 + m)) ≡ m + 96 = omega arith in
-        let four : ℕ → ℕ → ℕ → Cpx = λ x y z. plus (part samples f m) (plus (part samples f x) (plus (part samples f y) (part samples f z))) in
-        ap (λ x. four x (32 + (32 + m)) (32 + (32 + (32 + m)))) e1 ∙ ap (λ y. four (m + 32) y (32 + (32 + (32 + m)))) e2 ∙ ap (λ z. four (m + 32) (m + 64) z) e3
-        ∙ four_parts samples f m
+        four_parts samples f m
         ∙ ap (λ z. times z (conjugate (w_at (f * m)))) (sym (taken_is (f % 4) (samples m) (samples (m + 32)) (samples (m + 64)) (samples (m + 96)) (omega arith)))
         ∙ ap (λ q. times (taken q (f % 4)) (conjugate (w_at (f * m)))) (sym (values_below_at (quartet_at samples) 32 m empty_quartet l))
 
@@ -156,7 +144,7 @@ opposite_turns : (f m : ℕ) (z : Cpx) → m ≤ 32 → times z (conjugate (w_at
 opposite_turns f m z inside =
     let whole : f * (32 - m) + f * m ≡ f * 32 = spread f (32 - m) m 32 (omega (arith, inside)) in
     ap (λ v. times z (conjugate v)) (w_same (f * (32 - m)) (127 * (f * m) + 32 * (f % 4)) (omega (arith, whole)))
-    ∙ back_turns (f % 4) (127 * (f * m)) z
+    ∙ back_turns w_at 32 quarter_turn_is_j (f % 4) (127 * (f * m)) z
     ∙ ap (λ v. times (back_by (f % 4) z) (conjugate v)) (backward_is_conjugate (f * m))
     ∙ ap (times (back_by (f % 4) z)) (twice (w_at (f * m)))
 
