@@ -7,8 +7,11 @@ ghost use Rattle.soft_bits.specs.Places.{descrambled_value, descrambled, turned_
 
 use std::marker::Model;
 
-// The maximum number of scrambling bits that a channel needs: those of the PBCH in four frames.
-const MOST: usize = 1920;
+// The number of bits in a `Scrambling`: those of the PBCH in four frames.
+const KEPT: usize = 1920;
+
+// The maximum number of scrambling bits that a channel needs at any bandwidth.
+const MOST: usize = 5760;
 
 /// The first 1,920 bits of a scrambling sequence, computed once (TS 36.211 section 7.2). Contracts see the sequence's
 /// c_init.
@@ -32,8 +35,8 @@ impl Scrambling {
         requires { c_init < 2 ^ 31 }
         ensures { result ≡ c_init }
     {
-        let mut bits = [false; MOST];
-        write_first_bits(c_init, MOST, &mut bits);
+        let mut bits = [false; KEPT];
+        write_first_bits(c_init, KEPT, &mut bits);
         Scrambling { c_init, bits }
     }
 
@@ -49,10 +52,10 @@ impl Scrambling {
 }
 
 /// Descrambles `values`: negates those whose scrambling bit is 1 (TS 36.211 section 7.2). Bit `first` of the sequence
-/// for `c_init`, below 2^31, belongs to the first value. `first` plus the count is at most 1,920.
+/// for `c_init`, below 2^31, belongs to the first value. `first` plus the count is at most 5,760.
 pub fn descramble(c_init: u32, first: usize, values: &mut [i16])
     requires c_init { c_init < 2 ^ 31 }
-    requires few { first + length values.old ≤ 1920 }
+    requires few { first + length values.old ≤ 5760 }
     requires magnitudes { AllWithin 127 values.old }
     ensures values { values.new ≡ descrambled c_init first values.old }
     ensures magnitudes { AllWithin 127 values.new }
@@ -72,8 +75,8 @@ fn write_first_bits(c_init: u32, count: usize, bits: &mut [bool])
 }
 
 // Negates each value whose bit is 1, where bit `first` of `bits` belongs to the first value.
-fn turn_by(bits: &[bool; 1920], first: usize, values: &mut [i16])
-    requires few { first + length values.old ≤ 1920 }
+fn turn_by(bits: &[bool], first: usize, values: &mut [i16])
+    requires few { first + length values.old ≤ length bits.now }
     requires magnitudes { AllWithin 127 values.old }
     ensures values { values.new ≡ turned_by (λ k. slice_index_or bits.now k false) first values.old }
     ensures magnitudes { AllWithin 127 values.new }

@@ -1,10 +1,10 @@
 //! Descrambling of soft values.
 
-ghost use Rattle.std.specs.Prelude.{◌≡◌, ◌+◌, ◌^◌, ◌<◌, ◌≤◌, IfOk, length, nat_abs};
+ghost use Rattle.std.specs.Prelude.{◌≡◌, ◌+◌, ◌^◌, ◌<◌, ◌≤◌, IfOk, length};
 ghost use Rattle.finite.specs.Sizes.{AllWithin};
-ghost use Rattle.gold.specs.Gold.{gold_bits};
-ghost use Rattle.soft_bits.specs.Places.{descrambled_value, descrambled as descrambled_of};
+ghost use Rattle.soft_bits.specs.Places.{descrambled as descrambled_of};
 
+use soft_bits::descramble;
 use std::alloc::{AllocError, Global};
 
 /// Returns descrambled values: those whose scrambling bit is 1 are negated (TS 36.211 section 7.2). Bit `first` of the
@@ -21,29 +21,7 @@ pub fn descrambled(
     ensures values { IfOk result (λ plain. plain.items ≡ descrambled_of c_init first values.now) }
     ensures magnitudes { IfOk result (λ plain. AllWithin 127 plain.items) }
 {
-    let bits = bits_of(c_init);
-    let mut plain = Vec::with_capacity(alloc, values.len())?;
-    for i in 0..values.len() {
-        plain.push(turned(values[i], bits[first + i]))?;
-    }
+    let mut plain = values.to_vec(alloc)?;
+    descramble(c_init, first, &mut plain);
     Ok(plain)
-}
-
-// Returns the first 5,760 bits of the sequence, which suffice for every channel.
-fn bits_of(c_init: u32) -> [bool; 5760]
-    requires { c_init < 2 ^ 31 }
-    ensures { result ≡ gold_bits c_init 5760 }
-{
-    let mut bits = [false; 5760];
-    gold::fill(c_init, &mut bits);
-    bits
-}
-
-// Returns `value`, negated if the scrambling bit is 1.
-fn turned(value: i16, scrambling: bool) -> i16
-    requires { nat_abs value ≤ 127 }
-    ensures value { result ≡ descrambled_value scrambling value }
-    ensures magnitude { nat_abs result ≤ 127 }
-{
-    if scrambling { -value } else { value }
 }
