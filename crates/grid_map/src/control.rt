@@ -112,8 +112,8 @@ fn phich_in(id: CellId, symbol: u8, m: usize, i: usize) -> Reg
     left_group(id, symbol, number)
 }
 
-// Returns the symbol, 0 to 2, that carries quadruplet `i` of a PHICH group.
-fn symbol_of(duration: Duration, i: usize) -> u8
+/// Returns the symbol, 0 to 2, that carries quadruplet `i`, 0 to 2, of a PHICH group (TS 36.211 section 6.9.3).
+pub fn phich_symbol(duration: Duration, i: usize) -> u8
     requires { i < 3 }
     ensures value { result ≡ phich_symbol duration i }
     ensures bound { result < 3 }
@@ -141,7 +141,7 @@ fn phich_of(id: CellId, duration: Duration, m: usize, i: usize) -> Reg
     requires i { i < 3 }
     ensures { result ≡ phich_group id duration m i }
 {
-    phich_in(id, symbol_of(duration, i), m, i)
+    phich_in(id, phich_symbol(duration, i), m, i)
 }
 
 // Returns the resource-element groups of all PHICH groups, three per PHICH group (TS 36.211 section 6.9.3).

@@ -18,7 +18,7 @@ mod shared;
 
 pub use broadcast::{pbch, pbch_order, pbch_places};
 pub use candidate::{candidate_places, quadruplets_carried};
-pub use control::{control_groups, pcfich, pcfich_places, pdcch};
+pub use control::{control_groups, pcfich, pcfich_places, pdcch, phich_symbol};
 pub use group::{places_of_groups, reg_places};
 pub use interleaver::{quadruplet, quadruplets_permute};
 pub use laws::control_places;

@@ -2,7 +2,6 @@
 
 ghost use Rattle.std.specs.Prelude.{◌≡◌, ◌+◌, ◌*◌, ◌/◌, ◌%◌, ◌<◌, ◌≤◌, ◌++◌, slice_index_or, IfOk};
 ghost use Rattle.finite.specs.Lists.{values_below};
-ghost use Rattle.grid_map.specs.Control.{phich_symbol};
 ghost use Rattle.wide_grid.specs.Group.{group};
 ghost use Rattle.wide_grid.specs.Control.{sixths as sixths_of, phich_count as phich_count_of, free_groups as free_groups_of};
 ghost use Rattle.wide_grid.specs.Control.{free_count as free_count_of, phich_group_in as phich_group_in_of};
@@ -11,7 +10,8 @@ ghost use Rattle.wide_grid.specs.Control.{phich_group as phich_group_of, phich_g
 use crate::WideReg;
 use crate::control::pcfich_groups;
 use crate::group::{add_group, is_taken, span};
-use lte_types::{Duration, Resource};
+use grid_map::phich_symbol;
+use lte_types::Resource;
 use std::alloc::{AllocError, Global};
 use wide_cell::WideCell;
 
@@ -94,24 +94,13 @@ fn phich_group_in(
     Ok(group_at(&free, number as usize))
 }
 
-// Returns the symbol that carries quadruplet `i` of a PHICH group.
-fn symbol_of(duration: Duration, i: u8) -> u8
-    requires { i < 3 }
-    ensures value { result ≡ phich_symbol duration i }
-{
-    match duration {
-        Duration::Normal => 0,
-        Duration::Extended => i,
-    }
-}
-
 // Returns the group that carries quadruplet `i` of PHICH group `m`.
 fn phich_group(alloc: Global, cell: &WideCell, m: u16, i: u8) -> Result<WideReg, AllocError>
     requires m { m < 25 }
     requires i { i < 3 }
     ensures { IfOk result (λ group. group ≡ phich_group_of cell.now m i) }
 {
-    phich_group_in(alloc, cell, symbol_of(cell.duration(), i), m, i)
+    phich_group_in(alloc, cell, phich_symbol(cell.duration(), i as usize), m, i)
 }
 
 // Appends the three groups of PHICH group `m`.
