@@ -1,0 +1,4 @@
+pub mod Lengths
+pub mod Found
+pub mod Once
+pub mod Exists

@@ -1,0 +1,5 @@
+pub mod Format
+pub mod Offer
+pub mod Values
+pub mod Control
+pub mod Laws
