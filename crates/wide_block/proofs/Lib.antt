@@ -1,0 +1,4 @@
+pub mod FoundRows
+pub mod GivenSizes
+pub mod Once
+pub mod Entries
