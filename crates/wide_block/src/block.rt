@@ -14,7 +14,7 @@ use turbo_code::{Combined, Row};
 use turbo_dec::{Work, decode};
 
 /// Returns the SIB1 fields in the transport block of `size` bits that decodes from `sums`. Fails with `BlockTooLarge`
-/// if there is no row for the size, with `NotDecoded` if no block passes its CRC, or with an error of `sib1::read`.
+/// if the size has no row, with `NotDecoded` if no CRC passes, or with an error of `sib1::read`.
 pub(crate) fn fields_in(sums: &Table, size: u16, turbo: &mut Work) -> Result<Sib1, Sib1Reason>
     requires { All (All IsSmall) sums.now }
     ensures answer { Decodes sums.now size result }

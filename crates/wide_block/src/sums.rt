@@ -51,7 +51,7 @@ impl GrantSums {
     }
 
     /// Returns the SIB1 fields in the grant's transport block. Fails with `BlockTooLarge` if the block is too large,
-    /// with `NotDecoded` if no block passes its CRC, or with an error of `sib1::read`.
+    /// with `NotDecoded` if no CRC passes, or with an error of `sib1::read`.
     pub fn fields(&self, turbo: &mut Work) -> Result<Sib1, Sib1Reason>
         ensures answer { OfferSays self.now result }
         ensures valid { IfOk result IsValid }

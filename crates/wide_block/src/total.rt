@@ -56,8 +56,7 @@ impl Total {
     }
 
     /// Returns the SIB1 fields in the transport block of `size` bits that decodes from the sums, clamped to -4,096 to
-    /// 4,096. Fails with `BlockTooLarge` if there is no block of that size, with `NotDecoded` if no block passes its
-    /// CRC, or with an error of `sib1::read`.
+    /// 4,096. Fails as `GrantSums::fields` does.
     pub fn fields(&self, size: u16, turbo: &mut Work) -> Result<Sib1, Sib1Reason>
         ensures answer { Decodes (limited_of self.now.sums) size result }
         ensures valid { IfOk result IsValid }
