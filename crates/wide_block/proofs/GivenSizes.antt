@@ -1,7 +1,8 @@
 -- A grant's transport block is too large exactly if it has more than 1,000 bits: the sizes are those of three lists.
-use Rattle.std.proofs.Common.{◌≡◌, ◌↔◌, ℕ, zero, suc, ◌+◌, ◌<◌, ◌≤◌, inl, inr, Bool, true, false, not, cond, nat_le, nat_lt, if◌then◌else◌, List, [], ◌∷◌, length, get_or, Option, None, Some, is_some, Ok, Err, refl, sym, subst, ◌∙◌, arith}
+use Rattle.std.proofs.Common.{◌≡◌, ◌↔◌, ℕ, ◌+◌, ◌<◌, ◌≤◌, inl, inr, Bool, true, false, not, cond, nat_le, nat_lt, if◌then◌else◌, List, length, get_or, Option, None, Some, is_some, Ok, Err, refl, sym, subst, ◌∙◌, arith}
 use Rattle.std.specs.List.{list_all}
-use Rattle.std.proofs.lemmas.Bool.{and_parts, ltb-false, leb-true, leb-false}
+use Rattle.std.proofs.lemmas.Bool.{true≢false, ltb-false, leb-true, leb-false}
+use Rattle.std.proofs.lemmas.List.Folds.{list_all_at}
 use Rattle.std.proofs.lemmas.Option.{none-some}
 use Rattle.cs_bits.specs.Numbers.{field}
 use Rattle.cs_bits.proofs.Numbers.{field_below}
@@ -43,9 +44,11 @@ short_count = refl
 
 -- an item of a list passes a test that all items pass
 passed : (test : ℕ → Bool) (xs : List ℕ) (i d : ℕ) → list_all test xs ≡ true → i < length xs → test (get_or xs i d) ≡ true
-passed test [] i d all inside = absurd (omega (arith, inside))
-passed test (x ∷ xs) zero d all inside = (and_parts (test x) (list_all test xs) all).0
-passed test (x ∷ xs) (suc i) d all inside = passed test xs i d (and_parts (test x) (list_all test xs) all).1 (omega (arith, inside))
+passed test xs i d all inside = settle (test (get_or xs i d)) refl
+  where
+    settle : (b : Bool) → test (get_or xs i d) ≡ b → test (get_or xs i d) ≡ true
+    settle true e = e
+    settle false e = absurd (true≢false (sym all ∙ list_all_at test xs i d inside e))
 
 long_size_fits : (low : Bool) (mcs : ℕ) → mcs ≤ 26 → fits (size_1a low mcs) ≡ true
 long_size_fits low mcs few =

@@ -31,7 +31,6 @@ pub struct GrantSums {
 
 impl Model for GrantSums {
     ghost use Rattle.std.specs.Prelude.{All, IfSome};
-    ghost use Rattle.std.specs.Option.{option_map};
     ghost use Rattle.turbo_dec.specs.Decoder.{IsSmall};
     ghost use Rattle.wide_block.specs.Sums.{Offer};
 
