@@ -1,0 +1,13 @@
+use Rattle.std.proofs.Common.{List, sym, subst}
+use Rattle.wide_list.specs.Frames.{Frame}
+use Rattle.wide_list.specs.System.{AreTried}
+use Rattle.wide_list.proofs.Reading.{system_is_valid}
+use Rattle.wide_list.proofs.system.system_in.Goals as goal
+
+pub returns-clause-valid : goal.returns-clause-valid
+returns-clause-valid c =
+    let wide = c.args.wide.now in
+    let found = c.args.found.now in
+    system_is_valid wide found.cell found.start found.sfn c.answer_of.result
+    (c.answer_of.ensures wide found.cell found.start found.sfn c.in_ok-alone.ensures.read
+    (λ reason e. subst (λ (frames : List Frame). AreTried wide found.cell found.start found.sfn frames) (sym c.deref.ensures.value) (c.in_ok-alone.ensures.tried reason e)))

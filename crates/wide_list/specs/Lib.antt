@@ -1,0 +1,6 @@
+pub mod First
+pub mod Frames
+pub mod Together
+pub mod System
+pub mod List
+pub mod Laws
