@@ -7,8 +7,9 @@ from dataclasses import dataclass, field
 
 from .repository import TOP, Refused
 
-# the words that a word in capitals stands for, as a regular expression
+# the words that a word in capitals stands for: as a regular expression, or all of them
 NUMBERS = {"PCI": "[0-9]|[1-9][0-9]|[1-4][0-9][0-9]|50[0-3]", "N": "0|[1-9][0-9]*", "M": "0|-?[1-9][0-9]*"}
+CHOICES = {"R": ("1.92", "3.84", "7.68", "15.36", "30.72")}
 
 
 @dataclass(frozen=True)

@@ -1,6 +1,7 @@
 """Completion for bash and zsh: for lte_cli and lte_tune exactly the words of their forms, in their order; for the tools
 their options, the values of these, and files.
 """
+import re
 import shlex
 
 from . import command_forms
@@ -34,12 +35,18 @@ _{name}() {{
             esac
         done
         next=${{form[${{#given[@]}}]-}}
-        case $next in '' | {placeholders}) continue ;; esac
-        if [[ $next == "$current"* && " ${{COMPREPLY[*]}} " != *" $next "* ]]; then COMPREPLY+=("$next"); fi
+        case $next in
+            '' | {placeholders}) continue ;;
+{choices}
+        esac
+        for next in $next; do
+            if [[ $next == "$current"* && " ${{COMPREPLY[*]}} " != *" $next "* ]]; then COMPREPLY+=("$next"); fi
+        done
     done <<< "$_{name}_forms"
 }}
 complete -o nosort -F _{name} {name}
 """
+CHOICE = "{indent}{letter}) next='{words}' ;;"
 BASH_NUMBER = "                {letter}) [[ ${{given[word]}} =~ ^({pattern})$ ]] || continue 2 ;;"
 
 ZSH_PROGRAM = """\
@@ -58,7 +65,13 @@ for line in ${{(f)forms}}; do
         esac
     done
     next=${{words_of_form[CURRENT - 1]}}
-    if [[ -n $next && $next != ({placeholders}) ]] && ((! ${{found[(Ie)$next]}})); then found+=($next); fi
+    case $next in
+        '' | {placeholders}) continue ;;
+{choices}
+    esac
+    for next in ${{=next}}; do
+        if ((! ${{found[(Ie)$next]}})); then found+=($next); fi
+    done
 done
 compadd -V forms -- $found
 """
@@ -89,17 +102,29 @@ _arguments \\
 
 def numbers(template):
     """Returns the lines for words that stand for numbers."""
+    rates = {letter: "|".join(map(re.escape, words)) for letter, words in command_forms.CHOICES.items()}
+    patterns = command_forms.NUMBERS | rates
+    return "\n".join(template.format(letter=letter, pattern=pattern) for letter, pattern in patterns.items())
+
+
+def choices(indent):
+    """Returns the lines for words that stand for one of several words."""
     return "\n".join(
-        template.format(letter=letter, pattern=pattern) for letter, pattern in command_forms.NUMBERS.items()
+        CHOICE.format(indent=indent, letter=letter, words=" ".join(words))
+        for letter, words in command_forms.CHOICES.items()
     )
 
 
 def program_text(template, number, program):
     """Returns the completion of a program in a shell."""
     lines = "\n".join(" ".join(sequence) for sequence in program.sequences())
-    placeholders = "|".join(command_forms.NUMBERS)
     return template.format(
-        name=program.name, made=MADE, forms=lines, numbers=numbers(number), placeholders=placeholders
+        name=program.name,
+        made=MADE,
+        forms=lines,
+        numbers=numbers(number),
+        placeholders="|".join(command_forms.NUMBERS),
+        choices=choices(number[: number.index("{") - 4]),
     )
 
 

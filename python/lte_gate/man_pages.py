@@ -30,6 +30,7 @@ EXAMPLES = {
     "lte_cli": [
         "lte_cli search < recording.ci16",
         "lte_cli search --all --json --format cu8 < recording.cu8",
+        "lte_cli search --rate 15.36 < recording_at_15_36.ci16",
         "lte_tune apply < recording.ci16 | lte_cli search",
     ],
     "lte_tune": ["lte_tune tell < recording.ci16", "lte_tune apply --format cu8 < recording.cu8 | lte_cli search"],
@@ -108,7 +109,7 @@ def sections(name):
 
 def words_of(text):
     """Returns a form's words, with those that stand for others in italics."""
-    parts = re.split(r"\b(RULE|COMMAND|INPUT|OUTPUT|PCI|[NM])\b", text)
+    parts = re.split(r"\b(RULE|COMMAND|INPUT|OUTPUT|PCI|[NMR])\b", text)
     return "".join(rf"\fI{part}\fR" if i % 2 else roff.bold(part) if part else "" for i, part in enumerate(parts))
 
 

@@ -16,7 +16,7 @@ HERE = pathlib.Path(__file__).resolve().parent
 STORED = HERE / "stored"
 COUNT, NEAR = 64, 3
 REFUSALS = {
-    "too short: the recording has fewer than 57,600 samples; record at least 30 ms": 4,
+    "too short: the recording has less than 30 ms (57,600 samples without --rate); record more": 4,
     "ragged: the input ends within a sample; check the format, or cut the last bytes": 3,
 }
 

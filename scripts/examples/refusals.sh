@@ -23,11 +23,13 @@ refuses() { # refuses CODE LINE PROGRAM WORD..: of standard input
     fi
 }
 
-refuses 2 'lte_cli: usage: the arguments match no command; the command help lists all' "$receiver" seek < /dev/null
-refuses 2 'lte_tune: usage: the arguments match no command; the command help lists all' "$tuner" apply 2048 < /dev/null
+usage='usage: the arguments match no command; the command help lists all;'
+usage+=' --rate takes 1.92, 3.84, 7.68, 15.36 or 30.72 (lte_convert converts others)'
+refuses 2 "lte_cli: $usage" "$receiver" seek < /dev/null
+refuses 2 "lte_tune: $usage" "$tuner" apply 2048 < /dev/null
 refuses 3 'lte_cli: ragged: the input ends within a sample; check the format, or cut the last bytes' "$receiver" search < <(printf '\1\0\2\0\3')
-refuses 4 'lte_cli: too short: the recording has fewer than 57,600 samples; record at least 30 ms' "$receiver" search < <(printf '\0\0\0\0')
-refuses 5 'lte_cli: too long: the input exceeds its limit; cut it, a recording to 1,920,000 samples (1 s)' "$receiver" search < /dev/zero
+refuses 4 'lte_cli: too short: the recording has less than 30 ms (57,600 samples without --rate); record more' "$receiver" search < <(printf '\0\0\0\0')
+refuses 5 'lte_cli: too long: the input exceeds its limit; cut it, a recording to 1 s (1,920,000 samples without --rate)' "$receiver" search < /dev/zero
 refuses 6 'lte_cli: read fault: standard input could not be read; check the file or the pipe' "$receiver" search < /
 refuses 9 'lte_cli: bad cell: form; see the descriptions in FORMATS' "$receiver" transmit < <(echo '{}')
 refuses 10 'lte_cli: bad certificate at byte 0; the input is damaged, or no file of certificates' "$receiver" check < <(printf '\0')

@@ -19,12 +19,21 @@ ports() { # ports FRONT BACK..: the forms with each carrier or none, and each ba
     for middle in ' --ports 2' ' --ports 4' ' --prefix long' ''; do for back; do echo "$front$middle$back"; done; done
 }
 
+rated() { # rated < FORMS: each form with each rate, and without
+    local form rate
+    while read -r form; do
+        for rate in 1.92 3.84 7.68 15.36 30.72; do echo "$form --rate $rate"; done
+        echo "$form"
+    done
+}
+
 receiver() {
-    printf '%s\n' {hits,ids}{' --json',}{' --format cu8',}
-    printf '%s\n' search{' --ports 2',' --ports 4',' --prefix long',' --cancel',' --all',}{' --json',}{' --format cu8',}
-    ports evidence {' --json',}{' --format cu8',}
-    ports 'why 271' {' --json',}{' --format cu8',}
-    ports certify {' --format cu8',}
+    printf '%s\n' {hits,ids}{' --json',}{' --format cu8',} | rated
+    printf '%s\n' search{' --ports 2',' --ports 4',' --prefix long',' --cancel',' --all',}{' --json',}{' --format cu8',} |
+        rated
+    ports evidence {' --json',''}{' --format cu8',''} | rated
+    ports 'why 271' {' --json',''}{' --format cu8',''} | rated
+    ports certify {' --format cu8',''} | rated
     echo check
     ports transmit {' --load 7',}
     ports 'make 7' ''
@@ -32,7 +41,8 @@ receiver() {
 }
 
 tuner() {
-    printf '%s\n' tell{' --json',}{' --format cu8',} apply{,' -7'}{' --format cu8',}
+    printf '%s\n' tell{' --json',}{' --format cu8',} | rated
+    printf '%s\n' apply{,' -7'}{' --format cu8',}
     printf '%s\n' help --help -h version --version
 }
 
@@ -48,7 +58,7 @@ fronts() { # fronts < FORMS: each front of each form, without its last word and 
 questions() { # questions < FORMS: lines FRONT|BEGIN: behind each front, also of words that begin somehow; and odd fronts
     fronts | while IFS= read -r front; do printf '%s\n' "$front|" "$front|-" "$front|--p" "$front|s"; done
     printf '%s|\n' 'hits --format cu8' 'search --json --ports' 'search --ports 3' 'make 07' 'why 504' 'why 07' \
-        'apply 7.5' unknown
+        'apply 7.5' 'hits --rate' 'hits --rate 2' 'tell --rate 3.84' 'apply --rate' unknown
 }
 
 wanted() { # wanted FORMS < QUESTIONS: the words that may come next, in the forms' order, but no number of a recording

@@ -97,8 +97,10 @@ def codes_of_recording(words, length):
     """The codes that a command on a recording may end with."""
     if not fuzz_inputs.is_form(words):
         return {2}
+    words, factor = fuzz_inputs.rate_of(words)
     size = 2 if words[-2:] == ["--format", "cu8"] else 4
-    long, short = length > size * fuzz_inputs.MOST // 4, length < size * fuzz_inputs.LEAST // 4
+    most, least = (limit * factor // 4 for limit in (fuzz_inputs.MOST, fuzz_inputs.LEAST))
+    long, short = length > size * most, length < size * least
     code = 5 if long else 3 if length % size else 4 if short else 0
     return {code}
 

@@ -51,6 +51,7 @@ CARRIERS = (
 LISTS = (["--cancel"], ["--all"])  # of `search` alone
 RULES = (*CARRIERS[1:], *LISTS)
 REPORTS = ("hits", "ids", "search", "evidence", "tell")  # that `--json` stands behind
+RATES = {"1.92": 1, "3.84": 2, "7.68": 4, "15.36": 8, "30.72": 16}  # each with its multiple of 1.92 million per second
 PAGES = ("help", "--help", "-h", "version", "--version")
 PAGE = "page"  # any of these
 
@@ -86,7 +87,20 @@ def words(random, command):
         behind = random.choice([[form, json_words], [json_words, json_words, form], [json_words, form, form]])
     if random.random() < 0.01:
         return [command] + json_words + front[1:] + form
-    return front + sum(behind, [])
+    return front + sum(behind, []) + rate_words(random)
+
+
+def rate_words(random):
+    """None, those of a rate, or some that are nearly so."""
+    bad = random.choice([["--rate"], ["--rate", "2.4"], ["--rate", "1.920"], ["3.84"], ["--rate", "3.84", "--json"]])
+    return random.choices([[], ["--rate", random.choice(list(RATES))], bad], [80, 18, 2])[0]
+
+
+def rate_of(given):
+    """The words without a rate at their end, and the rate as a multiple of 1.92 million samples per second."""
+    if given[-2:-1] == ["--rate"] and given[-1] in RATES and given[0] != "apply":
+        return given[:-2], RATES[given[-1]]
+    return given, 1
 
 
 def load_words(random):
@@ -107,7 +121,7 @@ def is_sent(given):
 
 def is_form(given):
     """Whether these words, of a command on a recording, are of a form."""
-    command, *rest = given
+    command, *rest = rate_of(given)[0]
     if rest[-2:] == ["--format", "cu8"]:
         rest = rest[:-2]
     if rest[-1:] == ["--json"] and command in REPORTS:

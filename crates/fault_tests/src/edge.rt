@@ -11,6 +11,12 @@ use std::io::{Eprint, Read};
 use std::process::{Abort, ExitCode};
 use std::test::Fail;
 
+// The lines on standard error for arguments that match no command.
+const RECEIVER_USAGE: &str = "lte_cli: usage: the arguments match no command; the command help lists all; \
+    --rate takes 1.92, 3.84, 7.68, 15.36 or 30.72 (lte_convert converts others)\n";
+const TUNER_USAGE: &str = "lte_tune: usage: the arguments match no command; the command help lists all; \
+    --rate takes 1.92, 3.84, 7.68, 15.36 or 30.72 (lte_convert converts others)\n";
+
 // A runtime with its own arguments, which records the text on standard error. The arguments are the parts of `line`
 // between single spaces. A question mark stands for a byte that is not UTF-8.
 #[derive(Drop)]
@@ -123,7 +129,7 @@ fn six_arguments_are_words(rt: HostRuntime) -> Result<(), Fail> {
             &line,
             b"\0\0",
             4,
-            "lte_cli: too short: the recording has fewer than 57,600 samples; record at least 30 ms\n",
+            "lte_cli: too short: the recording has less than 30 ms (57,600 samples without --rate); record more\n",
         )?;
         let line = format!(in alloc; "lte_cli {rule} --json --format")?;
         ends_with(
@@ -133,7 +139,7 @@ fn six_arguments_are_words(rt: HostRuntime) -> Result<(), Fail> {
             &line,
             b"\0\0",
             2,
-            "lte_cli: usage: the arguments match no command; the command help lists all\n",
+            RECEIVER_USAGE,
         )?;
         let line = format!(in alloc; "lte_cli {rule} --json")?;
         ends_with(
@@ -174,8 +180,7 @@ fn a_refusal_ends_with_its_code_and_the_name_of_its_program(rt: HostRuntime) -> 
         10,
         line,
     )?;
-    let line = "lte_tune: usage: the arguments match no command; the command help lists all\n";
-    ends_with(&rt, alloc, Program::Tuner, "lte_tune", b"", 2, line)
+    ends_with(&rt, alloc, Program::Tuner, "lte_tune", b"", 2, TUNER_USAGE)
 }
 
 #[test]
@@ -207,9 +212,7 @@ fn an_argument_that_is_not_text_is_usage(rt: HostRuntime) -> Result<(), Fail> {
     let exit = run_process(&process, Program::Receiver, Broken, io::sink());
     assert!(rt;
         exit == ExitCode::from(2)
-            && process.has_printed(
-                "lte_cli: usage: the arguments match no command; the command help lists all\n"
-            )
+            && process.has_printed(RECEIVER_USAGE)
     );
     Ok(())
 }

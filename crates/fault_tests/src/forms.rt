@@ -104,6 +104,14 @@ pub const OF_ALL: [Form; 4] = [
     ("search --all --json --format cu8", Input::Cell8),
 ];
 
+/// The forms with a sample rate.
+pub const AT_RATES: [Form; 4] = [
+    ("hits --rate 1.92", Input::Cell16),
+    ("search --rate 1.92", Input::Cell16),
+    ("evidence --format cu8 --rate 1.92", Input::Cell8),
+    ("certify --rate 1.92", Input::Cell16),
+];
+
 /// The forms of `lte_tune` that report.
 pub const TELLING: [Form; 4] = [
     ("tell", Input::Cell16),

@@ -13,6 +13,9 @@ use Rattle.sample_file.specs.declared.form.SampleForm.TheVariants.{Ci16, Cu8}
 use Rattle.lte_types.specs.declared.carrier.Carrier.{Carrier}
 use Rattle.lte_types.specs.declared.carrier.Carrier.TheVariants.{OnePort, TwoPorts, LongPrefix, FourPorts}
 use Rattle.lte_args.specs.declared.form.Program.{Program}
+use Rattle.lte_args.specs.declared.form.Rate.{Rate}
+use Rattle.lte_args.specs.declared.form.Rate.TheVariants.{Times1, Times2, Times4, Times8, Times16}
+use Rattle.lte_args.specs.declared.form.RecordingForm.{RecordingForm}
 use Rattle.lte_args.specs.declared.form.Form.{Form}
 use Rattle.lte_args.specs.declared.form.Form.TheVariants.{Report as Reports, Certify, Check, Transmit, Make, Apply, Print}
 use Rattle.lte_args.specs.declared.form.Report.TheVariants.{Hits, Ids, Search, Evidence, Tell, Why}
@@ -24,7 +27,7 @@ use Rattle.lte_args.specs.declared.form.Turn.{Turn}
 use Rattle.lte_args.specs.declared.form.Turn.TheVariants.{AsEstimated, Steps}
 use Rattle.lte_args.specs.declared.form.Page.{Page}
 use Rattle.lte_args.specs.declared.form.Page.TheVariants.{Help, Version}
-use Rattle.lte_args.specs.Words.{samples_words, output_words, rule_words, carrier_words, load_words, turn_words, ArePageWords, AreWordsOf, IsAskedLoad, IsTurn, IsAskedTurn, IsInRange, program_of, IsWordsOf}
+use Rattle.lte_args.specs.Words.{samples_words, rate_word, rate_words, recording_words, output_words, rule_words, carrier_words, load_words, turn_words, ArePageWords, AreWordsOf, IsAskedLoad, IsTurn, IsAskedTurn, IsInRange, program_of, IsWordsOf}
 
 -- whether the argument is this word
 abbrev is_word : List ℕ → List ℕ → Bool
@@ -32,9 +35,38 @@ is_word = pointwise nat_eq
 
 -- ---- last parts
 
-abbrev samples_in : List (List ℕ) → SampleForm
-samples_in [] = Ci16
-samples_in (word ∷ words) = Cu8
+-- the rate with this name
+abbrev rate_named : List ℕ → Rate
+rate_named word =
+    if is_word word (codes "1.92") then Times1
+    else if is_word word (codes "3.84") then Times2
+    else if is_word word (codes "7.68") then Times4
+    else if is_word word (codes "15.36") then Times8
+    else Times16
+
+named_back : (rate : Rate) → rate_named (rate_word rate) ≡ rate
+named_back Times1 = refl
+named_back Times2 = refl
+named_back Times4 = refl
+named_back Times8 = refl
+named_back Times16 = refl
+
+abbrev rate_in : List (List ℕ) → Option Rate
+rate_in [] = None
+rate_in (word ∷ []) = None
+rate_in (word ∷ name ∷ rest) = Some (rate_named name)
+
+abbrev recording_in : List (List ℕ) → RecordingForm
+recording_in [] = record { samples = Ci16; rate = None }
+recording_in (word ∷ words) =
+    if is_word word (codes "--format") then record { samples = Cu8; rate = rate_in (drop 1 words) }
+    else record { samples = Ci16; rate = rate_in (word ∷ words) }
+
+recording_back : (samples : SampleForm) (rate : Option Rate) → recording_in (samples_words samples ++ rate_words rate) ≡ record { samples = samples; rate = rate }
+recording_back Ci16 None = refl
+recording_back Ci16 (Some rate) = ap (λ r. record { samples = Ci16; rate = Some r }) (named_back rate)
+recording_back Cu8 None = refl
+recording_back Cu8 (Some rate) = ap (λ r. record { samples = Cu8; rate = Some r }) (named_back rate)
 
 abbrev load_in : List (List ℕ) → Option ℕ
 load_in [] = None
@@ -52,14 +84,19 @@ abbrev output_in : (Output → List (List ℕ) → Form) → List (List ℕ) →
 output_in of [] = of Text []
 output_in of (word ∷ words) = if is_word word (codes "--json") then of Json words else of Text (word ∷ words)
 
-abbrev report_in : (Output → SampleForm → Form) → List (List ℕ) → Form
-report_in of = output_in (λ output words. of output (samples_in words))
+-- a recording's form begins with no output format
+output_before : (of : Output → List (List ℕ) → Form) (samples : SampleForm) (rate : Option Rate) → output_in of (samples_words samples ++ rate_words rate) ≡ of Text (samples_words samples ++ rate_words rate)
+output_before of Ci16 None = refl
+output_before of Ci16 (Some rate) = refl
+output_before of Cu8 rate = refl
 
-report_back : (of : Output → SampleForm → Form) (output : Output) (form : SampleForm) → report_in of (output_words output ++ samples_words form) ≡ of output form
-report_back of Text Ci16 = refl
-report_back of Text Cu8 = refl
-report_back of Json Ci16 = refl
-report_back of Json Cu8 = refl
+abbrev report_in : (Output → RecordingForm → Form) → List (List ℕ) → Form
+report_in of = output_in (λ output words. of output (recording_in words))
+
+report_back : (of : Output → RecordingForm → Form) (output : Output) (form : RecordingForm) → report_in of (output_words output ++ recording_words form) ≡ of output form
+report_back of Text form =
+    output_before (λ output words. of output (recording_in words)) form.samples form.rate ∙ ap (of Text) (recording_back form.samples form.rate)
+report_back of Json form = ap (of Json) (recording_back form.samples form.rate)
 
 -- the transmission scheme selected by the argument after "--ports"
 abbrev ports_in : List (List ℕ) → Carrier
@@ -80,10 +117,14 @@ carrier_back of TwoPorts rest usual = refl
 carrier_back of LongPrefix rest usual = refl
 carrier_back of FourPorts rest usual = refl
 
-carrier_before : (of : Carrier → List (List ℕ) → Form) (output : Output) (form : SampleForm) →
-    carrier_in of (output_words output ++ samples_words form) ≡ of OnePort (output_words output ++ samples_words form)
-carrier_before of Text Ci16 = refl
-carrier_before of Text Cu8 = refl
+carrier_before : (of : Carrier → List (List ℕ) → Form) (output : Output) (form : RecordingForm) →
+    carrier_in of (output_words output ++ recording_words form) ≡ of OnePort (output_words output ++ recording_words form)
+carrier_before of Text form = by_parts form.samples form.rate
+  where
+    by_parts : (samples : SampleForm) (rate : Option Rate) → carrier_in of (samples_words samples ++ rate_words rate) ≡ of OnePort (samples_words samples ++ rate_words rate)
+    by_parts Ci16 None = refl
+    by_parts Ci16 (Some rate) = refl
+    by_parts Cu8 rate = refl
 carrier_before of Json form = refl
 
 abbrev rule_in : (Rule → List (List ℕ) → Form) → List (List ℕ) → Form
@@ -102,10 +143,14 @@ rule_back of (Of FourPorts) rest usual = refl
 rule_back of Cancel rest usual = refl
 rule_back of All rest usual = refl
 
-rule_before : (of : Rule → List (List ℕ) → Form) (output : Output) (form : SampleForm) →
-    rule_in of (output_words output ++ samples_words form) ≡ of (Of OnePort) (output_words output ++ samples_words form)
-rule_before of Text Ci16 = refl
-rule_before of Text Cu8 = refl
+rule_before : (of : Rule → List (List ℕ) → Form) (output : Output) (form : RecordingForm) →
+    rule_in of (output_words output ++ recording_words form) ≡ of (Of OnePort) (output_words output ++ recording_words form)
+rule_before of Text form = by_parts form.samples form.rate
+  where
+    by_parts : (samples : SampleForm) (rate : Option Rate) → rule_in of (samples_words samples ++ rate_words rate) ≡ of (Of OnePort) (samples_words samples ++ rate_words rate)
+    by_parts Ci16 None = refl
+    by_parts Ci16 (Some rate) = refl
+    by_parts Cu8 rate = refl
 rule_before of Json form = refl
 
 -- ---- the parts of a command
@@ -113,19 +158,19 @@ rule_before of Json form = refl
 abbrev searched_by : Rule → List (List ℕ) → Form
 searched_by rule words = report_in (Reports (Search rule)) words
 
-search_back : (rule : Rule) (output : Output) (form : SampleForm) → rule_in searched_by (rule_words rule ++ output_words output ++ samples_words form) ≡ Reports (Search rule) output form
+search_back : (rule : Rule) (output : Output) (form : RecordingForm) → rule_in searched_by (rule_words rule ++ output_words output ++ recording_words form) ≡ Reports (Search rule) output form
 search_back rule output form =
-    ap (rule_in searched_by) (append_assoc (rule_words rule) (output_words output) (samples_words form))
-    ∙ rule_back searched_by rule (output_words output ++ samples_words form) (rule_before searched_by output form) ∙ report_back (Reports (Search rule)) output form
+    ap (rule_in searched_by) (append_assoc (rule_words rule) (output_words output) (recording_words form))
+    ∙ rule_back searched_by rule (output_words output ++ recording_words form) (rule_before searched_by output form) ∙ report_back (Reports (Search rule)) output form
 
 abbrev supported_by : Carrier → List (List ℕ) → Form
 supported_by carrier words = report_in (Reports (Evidence carrier)) words
 
-evidence_back : (carrier : Carrier) (output : Output) (form : SampleForm) →
-    carrier_in supported_by (carrier_words carrier ++ output_words output ++ samples_words form) ≡ Reports (Evidence carrier) output form
+evidence_back : (carrier : Carrier) (output : Output) (form : RecordingForm) →
+    carrier_in supported_by (carrier_words carrier ++ output_words output ++ recording_words form) ≡ Reports (Evidence carrier) output form
 evidence_back carrier output form =
-    ap (carrier_in supported_by) (append_assoc (carrier_words carrier) (output_words output) (samples_words form))
-    ∙ carrier_back supported_by carrier (output_words output ++ samples_words form) (carrier_before supported_by output form) ∙ report_back (Reports (Evidence carrier)) output form
+    ap (carrier_in supported_by) (append_assoc (carrier_words carrier) (output_words output) (recording_words form))
+    ∙ carrier_back supported_by carrier (output_words output ++ recording_words form) (carrier_before supported_by output form) ∙ report_back (Reports (Evidence carrier)) output form
 
 abbrev reasoned_by : ℕ → Carrier → List (List ℕ) → Form
 reasoned_by identity carrier words = report_in (Reports (Why identity carrier)) words
@@ -134,21 +179,20 @@ abbrev why_in : List (List ℕ) → Form
 why_in [] = Check
 why_in (digits ∷ words) = carrier_in (reasoned_by (digits_value 10 digits)) words
 
-why_back : (carrier : Carrier) (n : ℕ) (output : Output) (form : SampleForm) → n ≤ 503 →
-    why_in (decimal n ∷ (carrier_words carrier ++ output_words output ++ samples_words form)) ≡ Reports (Why n carrier) output form
+why_back : (carrier : Carrier) (n : ℕ) (output : Output) (form : RecordingForm) → n ≤ 503 →
+    why_in (decimal n ∷ (carrier_words carrier ++ output_words output ++ recording_words form)) ≡ Reports (Why n carrier) output form
 why_back carrier n output form small =
     let read = digits_value 10 (decimal n) in
-    ap (carrier_in (reasoned_by read)) (append_assoc (carrier_words carrier) (output_words output) (samples_words form))
-    ∙ carrier_back (reasoned_by read) carrier (output_words output ++ samples_words form) (carrier_before (reasoned_by read) output form)
+    ap (carrier_in (reasoned_by read)) (append_assoc (carrier_words carrier) (output_words output) (recording_words form))
+    ∙ carrier_back (reasoned_by read) carrier (output_words output ++ recording_words form) (carrier_before (reasoned_by read) output form)
     ∙ report_back (Reports (Why read carrier)) output form
     ∙ ap (λ k. Reports (Why k carrier) output form) (decimal_is_IsNumeral n (omega (arith, small))).1
 
 abbrev certified_by : Carrier → List (List ℕ) → Form
-certified_by carrier words = Certify carrier (samples_in words)
+certified_by carrier words = Certify carrier (recording_in words)
 
-certify_back : (carrier : Carrier) (form : SampleForm) → carrier_in certified_by (carrier_words carrier ++ samples_words form) ≡ Certify carrier form
-certify_back carrier Ci16 = carrier_back certified_by carrier [] refl
-certify_back carrier Cu8 = carrier_back certified_by carrier (samples_words Cu8) refl
+certify_back : (carrier : Carrier) (form : RecordingForm) → carrier_in certified_by (carrier_words carrier ++ recording_words form) ≡ Certify carrier form
+certify_back carrier form = carrier_back certified_by carrier (recording_words form) (carrier_before certified_by Text form) ∙ ap (Certify carrier) (recording_back form.samples form.rate)
 
 abbrev sent_by : Carrier → List (List ℕ) → Form
 sent_by carrier words = Transmit carrier (load_in words)

@@ -8,6 +8,9 @@ use Rattle.lte_types.specs.declared.carrier.Carrier.{Carrier}
 use Rattle.lte_types.specs.declared.carrier.Carrier.TheVariants.{OnePort, TwoPorts, LongPrefix, FourPorts}
 use Rattle.lte_args.specs.declared.form.Program.{Program}
 use Rattle.lte_args.specs.declared.form.Program.TheVariants.{Receiver, Tuner}
+use Rattle.lte_args.specs.declared.form.Rate.{Rate}
+use Rattle.lte_args.specs.declared.form.Rate.TheVariants.{Times1, Times2, Times4, Times8, Times16}
+use Rattle.lte_args.specs.declared.form.RecordingForm.{RecordingForm}
 use Rattle.lte_args.specs.declared.form.Form.{Form}
 use Rattle.lte_args.specs.declared.form.Form.TheVariants.{Report as Reports, Certify, Check, Transmit, Make}
 use Rattle.lte_args.specs.declared.form.Form.TheVariants.{Apply, Print}
@@ -27,12 +30,37 @@ abbrev pub name_of : Program → List ℕ
 name_of Receiver = codes "lte_cli"
 name_of Tuner = codes "lte_tune"
 
+-- a sample rate's exponent r: the rate is 1.92 * 2^r million samples per second
+abbrev pub exponent_of : Rate → ℕ
+exponent_of Times1 = 0
+exponent_of Times2 = 1
+exponent_of Times4 = 2
+exponent_of Times8 = 3
+exponent_of Times16 = 4
+
 -- ---- the arguments of each part, as bytes, in the order in which they appear
 
 -- the arguments of a sample format; none for 16-bit samples, the default
 abbrev pub samples_words : SampleForm → List (List ℕ)
 samples_words Ci16 = []
 samples_words Cu8 = codes "--format" ∷ codes "cu8" ∷ []
+
+-- the name of a sample rate: its million samples per second
+abbrev pub rate_word : Rate → List ℕ
+rate_word Times1 = codes "1.92"
+rate_word Times2 = codes "3.84"
+rate_word Times4 = codes "7.68"
+rate_word Times8 = codes "15.36"
+rate_word Times16 = codes "30.72"
+
+-- the arguments of an optional sample rate; none without a rate
+abbrev pub rate_words : Option Rate → List (List ℕ)
+rate_words None = []
+rate_words (Some rate) = codes "--rate" ∷ rate_word rate ∷ []
+
+-- the arguments of a recording's form: its sample format, then its sample rate
+abbrev pub recording_words : RecordingForm → List (List ℕ)
+recording_words form = samples_words form.samples ++ rate_words form.rate
 
 -- the arguments of an output format; none for text, the default
 abbrev pub output_words : Output → List (List ℕ)
@@ -83,8 +111,9 @@ ArePageWords Version words = (words ≡ codes "version" ∷ []) ⊎ (words ≡ c
 
 -- `words` are the arguments of a command form
 abbrev pub AreWordsOf : Form → List (List ℕ) → Type 0
-AreWordsOf (Reports report output form) words = words ≡ report_words report ++ output_words output ++ samples_words form
-AreWordsOf (Certify carrier form) words = words ≡ codes "certify" ∷ carrier_words carrier ++ samples_words form
+AreWordsOf (Reports report output form) words =
+    words ≡ report_words report ++ output_words output ++ recording_words form
+AreWordsOf (Certify carrier form) words = words ≡ codes "certify" ∷ carrier_words carrier ++ recording_words form
 AreWordsOf Check words = words ≡ codes "check" ∷ []
 AreWordsOf (Transmit carrier load) words = words ≡ codes "transmit" ∷ carrier_words carrier ++ load_words load
 AreWordsOf (Make carrier n) words = words ≡ codes "make" ∷ decimal n ∷ carrier_words carrier

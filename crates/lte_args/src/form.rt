@@ -1,7 +1,7 @@
 //! The programs' command forms.
 
-ghost use Rattle.std.specs.Prelude.{◌≡◌, IfSome, IsNone, map, string_bytes};
-ghost use Rattle.lte_args.specs.Words.{name_of, IsWordsOf, IsNoForm};
+ghost use Rattle.std.specs.Prelude.{◌≡◌, ◌^◌, IfSome, IsNone, map, string_bytes};
+ghost use Rattle.lte_args.specs.Words.{name_of, exponent_of, IsWordsOf, IsNoForm};
 ghost use Rattle.lte_args.specs.declared.form.Program.TheVariants.{Receiver, Tuner};
 
 use crate::parts::{
@@ -33,21 +33,74 @@ impl Program {
     }
 }
 
-/// A command form: a command followed by its options in a fixed order. The option `--format cu8` selects 8-bit samples;
-/// the default is 16-bit samples.
+/// The input of a command that reads a recording. The option `--format cu8` selects 8-bit samples; the default is
+/// 16-bit samples. The option `--rate R` gives the sample rate.
+#[derive(Clone, Copy, Debug, PartialEq, Eq)]
+pub struct RecordingForm {
+    /// The sample format.
+    pub samples: SampleForm,
+    /// The sample rate. With `None` the recording has 1.92 million samples per second, and all its samples count. With
+    /// a rate its first 170 ms count, converted to 1.92 million samples per second.
+    pub rate: Option<Rate>,
+}
+
+/// A sample rate: 1, 2, 4, 8 or 16 times 1.92 million samples per second.
+#[derive(Clone, Copy, Debug, PartialEq, Eq)]
+pub enum Rate {
+    /// `1.92`: 1.92 million samples per second.
+    Times1,
+    /// `3.84`: 3.84 million samples per second.
+    Times2,
+    /// `7.68`: 7.68 million samples per second.
+    Times4,
+    /// `15.36`: 15.36 million samples per second.
+    Times8,
+    /// `30.72`: 30.72 million samples per second.
+    Times16,
+}
+
+impl Rate {
+    /// Returns the rate's exponent r, 0 to 4: the rate is 1.92 * 2^r million samples per second.
+    pub fn exponent(self) -> u8
+        ensures { result ≡ exponent_of self }
+    {
+        match self {
+            Rate::Times1 => 0,
+            Rate::Times2 => 1,
+            Rate::Times4 => 2,
+            Rate::Times8 => 3,
+            Rate::Times16 => 4,
+        }
+    }
+
+    /// Returns the rate as a multiple of 1.92 million samples per second: 2^r for exponent r.
+    pub fn factor(self) -> usize
+        ensures { result ≡ 2 ^ exponent_of self }
+    {
+        match self {
+            Rate::Times1 => 1,
+            Rate::Times2 => 2,
+            Rate::Times4 => 4,
+            Rate::Times8 => 8,
+            Rate::Times16 => 16,
+        }
+    }
+}
+
+/// A command form: a command followed by its options in a fixed order.
 #[derive(Clone, Copy, Debug, PartialEq, Eq)]
 pub enum Form {
-    /// A report about a recording in the given output and sample formats.
-    Report(Report, Output, SampleForm),
+    /// A report about a recording in the given output format.
+    Report(Report, Output, RecordingForm),
     /// `certify`: a certificate for the MIB of each listed cell.
-    Certify(Carrier, SampleForm),
+    Certify(Carrier, RecordingForm),
     /// `check`: an answer to each certificate on the input.
     Check,
     /// `transmit`: the samples of a described cell, with load number N if `--load N` is given.
     Transmit(Carrier, Option<u32>),
     /// `make N`: the cell list of synthetic recording number N under a transmission scheme.
     Make(Carrier, u32),
-    /// `apply`: a frequency-corrected recording, in 16-bit samples.
+    /// `apply`: a frequency-corrected recording, in 16-bit samples. It takes no rate.
     Apply(Turn, SampleForm),
     /// A page about a program.
     Print(Program, Page),
@@ -127,18 +180,18 @@ fn of_receiver(words: &[String]) -> Option<Form>
     ensures some { IfSome result (IsWordsOf Receiver (map string_bytes words.now)) }
     ensures none { IsNone result → IsNoForm Receiver (map string_bytes words.now) }
 {
-    if let Some((output, samples)) = report_parts(words, "hits") {
-        Some(Form::Report(Report::Hits, output, samples))
-    } else if let Some((output, samples)) = report_parts(words, "ids") {
-        Some(Form::Report(Report::Ids, output, samples))
-    } else if let Some((rule, output, samples)) = search_parts(words) {
-        Some(Form::Report(Report::Search(rule), output, samples))
-    } else if let Some((carrier, output, samples)) = evidence_parts(words) {
-        Some(Form::Report(Report::Evidence(carrier), output, samples))
-    } else if let Some((id, carrier, output, samples)) = why_parts(words) {
-        Some(Form::Report(Report::Why(id, carrier), output, samples))
-    } else if let Some((carrier, samples)) = certify_parts(words) {
-        Some(Form::Certify(carrier, samples))
+    if let Some((output, recording)) = report_parts(words, "hits") {
+        Some(Form::Report(Report::Hits, output, recording))
+    } else if let Some((output, recording)) = report_parts(words, "ids") {
+        Some(Form::Report(Report::Ids, output, recording))
+    } else if let Some((rule, output, recording)) = search_parts(words) {
+        Some(Form::Report(Report::Search(rule), output, recording))
+    } else if let Some((carrier, output, recording)) = evidence_parts(words) {
+        Some(Form::Report(Report::Evidence(carrier), output, recording))
+    } else if let Some((id, carrier, output, recording)) = why_parts(words) {
+        Some(Form::Report(Report::Why(id, carrier), output, recording))
+    } else if let Some((carrier, recording)) = certify_parts(words) {
+        Some(Form::Certify(carrier, recording))
     } else if is_only(words, "check") {
         Some(Form::Check)
     } else if let Some((carrier, load)) = transmit_parts(words) {
@@ -156,8 +209,8 @@ fn of_tuner(words: &[String]) -> Option<Form>
     ensures some { IfSome result (IsWordsOf Tuner (map string_bytes words.now)) }
     ensures none { IsNone result → IsNoForm Tuner (map string_bytes words.now) }
 {
-    if let Some((output, samples)) = report_parts(words, "tell") {
-        Some(Form::Report(Report::Tell, output, samples))
+    if let Some((output, recording)) = report_parts(words, "tell") {
+        Some(Form::Report(Report::Tell, output, recording))
     } else if let Some((turn, samples)) = apply_parts(words) {
         Some(Form::Apply(turn, samples))
     } else {

@@ -5,15 +5,18 @@ ghost use Rattle.std.specs.Prelude.{◌≡◌, ◌↔◌, ◌<◌, ◌≤◌, �
 ghost use Rattle.std.specs.Prelude.{IsNone, IsTrue, codes, string_bytes};
 ghost use Rattle.std.specs.Fmt.{decimal};
 ghost use Rattle.sample_file.specs.declared.form.SampleForm.{SampleForm as SampleFormValue};
+ghost use Rattle.lte_args.specs.declared.form.Rate.{Rate as RateValue};
+ghost use Rattle.lte_args.specs.declared.form.RecordingForm.{RecordingForm as RecordingFormValue};
 ghost use Rattle.lte_types.specs.declared.carrier.Carrier.{Carrier as CarrierValue};
 ghost use Rattle.lte_args.specs.declared.form.Output.{Output as OutputValue};
 ghost use Rattle.lte_args.specs.declared.form.Page.{Page as PageValue};
 ghost use Rattle.lte_args.specs.declared.form.Rule.{Rule as RuleValue};
 ghost use Rattle.lte_args.specs.declared.form.Turn.{Turn as TurnValue};
-ghost use Rattle.lte_args.specs.Words.{samples_words, output_words, rule_words, carrier_words, load_words, turn_words};
+ghost use Rattle.lte_args.specs.Words.{samples_words, rate_words, recording_words, output_words, rule_words};
+ghost use Rattle.lte_args.specs.Words.{rate_word, carrier_words, load_words, turn_words};
 ghost use Rattle.lte_args.specs.Words.{BeginsWithNo, IsAskedLoad, IsAskedTurn, ArePageWords};
 
-use crate::form::{Output, Page, Rule, Turn};
+use crate::form::{Output, Page, Rate, RecordingForm, Rule, Turn};
 use crate::numbers::{identity_of, number_of, steps_of};
 use lte_types::{Carrier, CellId};
 use sample_file::SampleForm;
@@ -62,33 +65,82 @@ fn output_in(words: &[String]) -> (Output, &[String])
     }
 }
 
+// Parses a sample format; the default is 16-bit samples.
+fn samples_in(words: &[String]) -> (SampleForm, &[String])
+    ensures named { map string_bytes words.now ≡ samples_words result.0 ++ map string_bytes result.1.now }
+    ensures unnamed { samples_words result.0 ≡ [] → BeginsWithNo samples_words (map string_bytes words.now) }
+{
+    match after_two(words, "--format", "cu8") {
+        Some(rest) => (SampleForm::Cu8, rest),
+        None => (SampleForm::Ci16, words),
+    }
+}
+
 // ---- last parts: each parser accepts all its arguments or returns `None`
 
-// Parses a sample format; the default is 16-bit samples.
+// Parses a sample format that no further arguments follow.
 fn samples_of(words: &[String]) -> Option<SampleForm>
     ensures some { IfSome result (λ form. map string_bytes words.now ≡ samples_words form) }
     ensures none { IsNone result → (form : SampleFormValue) → map string_bytes words.now ≡ samples_words form → ⊥ }
 {
+    let (samples, words) = samples_in(words);
+    if are_none(words) { Some(samples) } else { None }
+}
+
+// Parses an optional sample rate.
+fn rate_of(words: &[String]) -> Option<Option<Rate>>
+    ensures some { IfSome result (λ rate. map string_bytes words.now ≡ rate_words rate) }
+    ensures none { IsNone result → (rate : Option RateValue) → map string_bytes words.now ≡ rate_words rate → ⊥ }
+{
     if are_none(words) {
-        return Some(SampleForm::Ci16);
+        return Some(None);
     }
-    let rest = after_two(words, "--format", "cu8")?;
-    if are_none(rest) {
-        Some(SampleForm::Cu8)
+    let words = after(words, "--rate")?;
+    let rate = rate_named(words)?;
+    Some(Some(rate))
+}
+
+// Parses the name of a sample rate, in million samples per second.
+fn rate_named(words: &[String]) -> Option<Rate>
+    ensures some { IfSome result (λ rate. map string_bytes words.now ≡ rate_word rate ∷ []) }
+    ensures none { IsNone result → (rate : RateValue) → map string_bytes words.now ≡ rate_word rate ∷ [] → ⊥ }
+{
+    if is_only(words, "1.92") {
+        Some(Rate::Times1)
+    } else if is_only(words, "3.84") {
+        Some(Rate::Times2)
+    } else if is_only(words, "7.68") {
+        Some(Rate::Times4)
+    } else if is_only(words, "15.36") {
+        Some(Rate::Times8)
+    } else if is_only(words, "30.72") {
+        Some(Rate::Times16)
     } else {
         None
     }
 }
 
-// Parses an output format followed by a sample format.
-fn output_of(words: &[String]) -> Option<(Output, SampleForm)>
-    ensures some { IfSome result (λ parts. map string_bytes words.now ≡ output_words parts.0 ++ samples_words parts.1) }
-    ensures none { IsNone result → (output : OutputValue) (form : SampleFormValue) →
-        map string_bytes words.now ≡ output_words output ++ samples_words form → ⊥ }
+// Parses a recording's sample format and sample rate.
+fn recording_of(words: &[String]) -> Option<RecordingForm>
+    ensures some { IfSome result (λ form. map string_bytes words.now ≡ recording_words form) }
+    ensures none { IsNone result → (form : RecordingFormValue) →
+        map string_bytes words.now ≡ recording_words form → ⊥ }
+{
+    let (samples, words) = samples_in(words);
+    let rate = rate_of(words)?;
+    Some(RecordingForm { samples, rate })
+}
+
+// Parses an output format followed by a recording's form.
+fn output_of(words: &[String]) -> Option<(Output, RecordingForm)>
+    ensures some { IfSome result (λ parts.
+        map string_bytes words.now ≡ output_words parts.0 ++ recording_words parts.1) }
+    ensures none { IsNone result → (output : OutputValue) (form : RecordingFormValue) →
+        map string_bytes words.now ≡ output_words output ++ recording_words form → ⊥ }
 {
     let (output, words) = output_in(words);
-    let samples = samples_of(words)?;
-    Some((output, samples))
+    let recording = recording_of(words)?;
+    Some((output, recording))
 }
 
 // Parses a transmission scheme that no further arguments follow.
@@ -117,71 +169,72 @@ fn load_of(words: &[String]) -> Option<Option<u32>>
 
 // ---- a command's parts
 
-// Parses the report `command`: its output format and sample format.
-pub(crate) fn report_parts(words: &[String], command: &str) -> Option<(Output, SampleForm)>
+// Parses the report `command`: its output format and recording form.
+pub(crate) fn report_parts(words: &[String], command: &str) -> Option<(Output, RecordingForm)>
     ensures some { IfSome result (λ parts.
-        map string_bytes words.now ≡ command.now ∷ output_words parts.0 ++ samples_words parts.1) }
-    ensures none { IsNone result → (output : OutputValue) (form : SampleFormValue) →
-        map string_bytes words.now ≡ command.now ∷ output_words output ++ samples_words form → ⊥ }
+        map string_bytes words.now ≡ command.now ∷ output_words parts.0 ++ recording_words parts.1) }
+    ensures none { IsNone result → (output : OutputValue) (form : RecordingFormValue) →
+        map string_bytes words.now ≡ command.now ∷ output_words output ++ recording_words form → ⊥ }
 {
     let words = after(words, command)?;
     output_of(words)
 }
 
-// Parses `search`: its rule, output format and sample format.
-pub(crate) fn search_parts(words: &[String]) -> Option<(Rule, Output, SampleForm)>
+// Parses `search`: its rule, output format and recording form.
+pub(crate) fn search_parts(words: &[String]) -> Option<(Rule, Output, RecordingForm)>
     ensures some { IfSome result (λ parts. map string_bytes words.now ≡
-        codes "search" ∷ rule_words parts.0 ++ output_words parts.1 ++ samples_words parts.2) }
-    ensures none { IsNone result → (rule : RuleValue) (output : OutputValue) (form : SampleFormValue) →
-        map string_bytes words.now ≡ codes "search" ∷ rule_words rule ++ output_words output ++ samples_words form → ⊥ }
+        codes "search" ∷ rule_words parts.0 ++ output_words parts.1 ++ recording_words parts.2) }
+    ensures none { IsNone result → (rule : RuleValue) (output : OutputValue) (form : RecordingFormValue) →
+        map string_bytes words.now ≡
+        codes "search" ∷ rule_words rule ++ output_words output ++ recording_words form → ⊥ }
 {
     let words = after(words, "search")?;
     let (rule, words) = rule_in(words);
-    let (output, samples) = output_of(words)?;
-    Some((rule, output, samples))
+    let (output, recording) = output_of(words)?;
+    Some((rule, output, recording))
 }
 
-// Parses `evidence`: its transmission scheme, output format and sample format.
-pub(crate) fn evidence_parts(words: &[String]) -> Option<(Carrier, Output, SampleForm)>
+// Parses `evidence`: its transmission scheme, output format and recording form.
+pub(crate) fn evidence_parts(words: &[String]) -> Option<(Carrier, Output, RecordingForm)>
     ensures some { IfSome result (λ parts. map string_bytes words.now ≡
-        codes "evidence" ∷ carrier_words parts.0 ++ output_words parts.1 ++ samples_words parts.2) }
-    ensures none { IsNone result → (carrier : CarrierValue) (output : OutputValue) (form : SampleFormValue) →
+        codes "evidence" ∷ carrier_words parts.0 ++ output_words parts.1 ++ recording_words parts.2) }
+    ensures none { IsNone result → (carrier : CarrierValue) (output : OutputValue) (form : RecordingFormValue) →
         map string_bytes words.now ≡
-        codes "evidence" ∷ carrier_words carrier ++ output_words output ++ samples_words form → ⊥ }
+        codes "evidence" ∷ carrier_words carrier ++ output_words output ++ recording_words form → ⊥ }
 {
     let words = after(words, "evidence")?;
     let (carrier, words) = carrier_in(words);
-    let (output, samples) = output_of(words)?;
-    Some((carrier, output, samples))
+    let (output, recording) = output_of(words)?;
+    Some((carrier, output, recording))
 }
 
-// Parses `why`: its cell identity, transmission scheme, output format and sample format.
-pub(crate) fn why_parts(words: &[String]) -> Option<(CellId, Carrier, Output, SampleForm)>
+// Parses `why`: its cell identity, transmission scheme, output format and recording form.
+pub(crate) fn why_parts(words: &[String]) -> Option<(CellId, Carrier, Output, RecordingForm)>
     ensures some { IfSome result (λ parts. (parts.0 ≤ 503) × (map string_bytes words.now ≡
-        codes "why" ∷ decimal parts.0 ∷ carrier_words parts.1 ++ output_words parts.2 ++ samples_words parts.3)) }
-    ensures none { IsNone result → (n : ℕ) (carrier : CarrierValue) (output : OutputValue) (form : SampleFormValue) →
+        codes "why" ∷ decimal parts.0 ∷ carrier_words parts.1 ++ output_words parts.2 ++ recording_words parts.3)) }
+    ensures none { IsNone result → (n : ℕ) (carrier : CarrierValue) (output : OutputValue) (form : RecordingFormValue) →
         n ≤ 503 → map string_bytes words.now ≡
-        codes "why" ∷ decimal n ∷ carrier_words carrier ++ output_words output ++ samples_words form → ⊥ }
+        codes "why" ∷ decimal n ∷ carrier_words carrier ++ output_words output ++ recording_words form → ⊥ }
 {
     let words = after(words, "why")?;
     let (text, words) = words.split_first()?;
     let id = identity_of(text.as_str())?;
     let (carrier, words) = carrier_in(words);
-    let (output, samples) = output_of(words)?;
-    Some((id, carrier, output, samples))
+    let (output, recording) = output_of(words)?;
+    Some((id, carrier, output, recording))
 }
 
-// Parses `certify`: its transmission scheme and sample format.
-pub(crate) fn certify_parts(words: &[String]) -> Option<(Carrier, SampleForm)>
+// Parses `certify`: its transmission scheme and recording form.
+pub(crate) fn certify_parts(words: &[String]) -> Option<(Carrier, RecordingForm)>
     ensures some { IfSome result (λ parts.
-        map string_bytes words.now ≡ codes "certify" ∷ carrier_words parts.0 ++ samples_words parts.1) }
-    ensures none { IsNone result → (carrier : CarrierValue) (form : SampleFormValue) →
-        map string_bytes words.now ≡ codes "certify" ∷ carrier_words carrier ++ samples_words form → ⊥ }
+        map string_bytes words.now ≡ codes "certify" ∷ carrier_words parts.0 ++ recording_words parts.1) }
+    ensures none { IsNone result → (carrier : CarrierValue) (form : RecordingFormValue) →
+        map string_bytes words.now ≡ codes "certify" ∷ carrier_words carrier ++ recording_words form → ⊥ }
 {
     let words = after(words, "certify")?;
     let (carrier, words) = carrier_in(words);
-    let samples = samples_of(words)?;
-    Some((carrier, samples))
+    let recording = recording_of(words)?;
+    Some((carrier, recording))
 }
 
 // Parses `transmit`: its transmission scheme and load.

@@ -12,6 +12,7 @@ use Rattle.lte_top.specs.declared.status.Status.{Status}
 use Rattle.lte_top.specs.declared.status.Status.TheVariants.{Done, Usage, Ragged, TooShort, TooLong, ReadFault, WriteFault, OutOfMemory, BadCell, BadCertificate}
 use Rattle.certificates.specs.Stream.{IsBrokenAt}
 use Rattle.lte_args.specs.Words.{IsWordsOf}
+use Rattle.lte_top.specs.Signals.{signal_in}
 use Rattle.lte_top.specs.Forms.{Input, nothing, recording, certificates, description, input_of, limit_of, Refuses, RefusesCertificates, RefusesDescription, IsTooLong, IsValid, IsOutput}
 use Rattle.lte_top.specs.Run.{IsRead, HasReadInput, HasOutput, HasRefusal, IsReadTooLong, IsWriteFault, Ends, RunsForm, Outcome, IsAnswerTo, HasOneAnswer, MayAnswer, IsGiven, IsAnswered, IsComplete, HasRoom}
 use Rattle.lte_types.specs.declared.carrier.Carrier.{Carrier}
@@ -28,7 +29,7 @@ use Rattle.lte_args.proofs.OneForm.{one_form}
 
 -- all outputs for an input have one length
 one_length : (form : Form) (bytes first second : List ℕ) → IsOutput form bytes first → IsOutput form bytes second → length first ≡ length second
-one_length (Reports report output form) bytes first second a b = ap length (one_report report output (samples_in form bytes) first second a b)
+one_length (Reports report output form) bytes first second a b = ap length (one_report report output (signal_in form bytes) first second a b)
 one_length (Certify carrier form) bytes first second a b = one_certified_length carrier _ first second a b
 one_length Check bytes first second a b = ap length (one_check bytes first second a b)
 one_length (Transmit carrier load) bytes first second a b = one_transmitted_length carrier load bytes first second a b

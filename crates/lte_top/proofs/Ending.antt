@@ -7,9 +7,10 @@ use Rattle.cs_outside.specs.Outside.{SourceState, Outside}
 use Rattle.cs_outside.specs.Streams.{HasWritten, HasWrittenFront, IsShortOf}
 use Rattle.sample_file.specs.declared.form.SampleForm.{SampleForm}
 use Rattle.sample_file.specs.Recording.{width, bytes_of}
-use Rattle.sample_file.specs.Reading.{HasReadRecording, least_bytes}
+use Rattle.sample_file.specs.Reading.{HasReadRecording, HasReadRecordingAt, least_bytes_at}
 use Rattle.lte_types.specs.declared.carrier.Carrier.{Carrier}
 use Rattle.lte_types.specs.declared.entry.Entry.{Entry}
+use Rattle.lte_args.specs.declared.form.RecordingForm.{RecordingForm}
 use Rattle.lte_args.specs.declared.form.Form.TheVariants.{Certify, Apply}
 use Rattle.lte_args.specs.declared.form.Turn.{Turn}
 use Rattle.lte_args.specs.declared.form.Turn.TheVariants.{AsEstimated, Steps}
@@ -19,34 +20,35 @@ use Rattle.certificates.specs.Certifying.{HasCertifiedAll, HasCertifiedSome}
 use Rattle.certificates.specs.Stream.{all_bytes}
 use Rattle.evidence.specs.Receivers.{receiver_of}
 use Rattle.lte_top.specs.Searching.{IsListOf}
+use Rattle.lte_top.specs.Signals.{plain, factor_of, signal_at, HasReadNarrow}
 use Rattle.lte_top.specs.Forms.{recording_refusal, RefusesRecording}
 use Rattle.lte_top.specs.Tuning.{IsTurned, IsTurnedAsBytes}
 use Rattle.lte_top.specs.Run.{HasOutput, IsDone, IsWriteFault}
 
 -- a recording that was read is not refused
-pub recording_unrefused : (form : SampleForm) (samples : List Sample) (before now : SourceState) (h : HasReadRecording form samples before now) (status : Status) →
+pub recording_unrefused : (form : RecordingForm) (samples : List Sample) (before now : SourceState) (h : HasReadRecordingAt (factor_of form.rate) form.samples samples before now) (status : Status) →
     RefusesRecording form h.input status → ⊥
 recording_unrefused form samples before now h status (within, refused) =
-    let same : nat_eq (length h.input % width form) 0 ≡ true = eq-eqb (length h.input % width form) 0 h.whole_samples in
-    let long : nat_lt (length h.input) (least_bytes form) ≡ false = settle (nat_lt (length h.input) (least_bytes form)) refl in
+    let same : nat_eq (length h.input % width form.samples) 0 ≡ true = eq-eqb (length h.input % width form.samples) 0 h.whole_samples in
+    let long : nat_lt (length h.input) (least_bytes_at (factor_of form.rate) form.samples) ≡ false = settle (nat_lt (length h.input) (least_bytes_at (factor_of form.rate) form.samples)) refl in
     let none : recording_refusal form h.input ≡ None = rw (same, long) refl in
     cc (sym none ∙ refused)
   where
-    settle : (b : Bool) → nat_lt (length h.input) (least_bytes form) ≡ b → nat_lt (length h.input) (least_bytes form) ≡ false
-    settle true e = absurd (omega (arith, ltb-true (length h.input) (least_bytes form) e, h.enough))
+    settle : (b : Bool) → nat_lt (length h.input) (least_bytes_at (factor_of form.rate) form.samples) ≡ b → nat_lt (length h.input) (least_bytes_at (factor_of form.rate) form.samples) ≡ false
+    settle true e = absurd (omega (arith, ltb-true (length h.input) (least_bytes_at (factor_of form.rate) form.samples) e, h.enough))
     settle false e = e
 
 -- certificates for all entries are the output
-pub certified_output : (carrier : Carrier) (form : SampleForm) (samples : List Sample) (before now : SourceState) (output : List ℕ) → HasReadRecording form samples before now →
+pub certified_output : (carrier : Carrier) (form : RecordingForm) (samples : List Sample) (before now : SourceState) (output : List ℕ) → HasReadNarrow form samples before now →
     IsCertified carrier samples output → HasOutput (Certify carrier form) output before now
 certified_output carrier form samples before now output h certified = record {
-  bytes = h.input;
-  whole = h.read;
-  unrefused = recording_unrefused form samples before now h;
-  is_output = subst (λ s. IsCertified carrier s output) h.samples certified;
+  bytes = h.read.input;
+  whole = h.read.read;
+  unrefused = recording_unrefused form h.recording before now h.read;
+  is_output = subst (λ (s : List Sample). IsCertified carrier s output) (h.narrow_is ∙ ap (λ (s : List Sample). (signal_at form.rate s).narrow) h.read.samples) certified;
 }
 
-pub certified_done : (carrier : Carrier) (form : SampleForm) (samples : List Sample) (entries : List Entry) (before now : Outside) → HasReadRecording form samples before.0 now.0 → IsListOf carrier samples entries →
+pub certified_done : (carrier : Carrier) (form : RecordingForm) (samples : List Sample) (entries : List Entry) (before now : Outside) → HasReadNarrow form samples before.0 now.0 → IsListOf carrier samples entries →
     HasCertifiedAll (receiver_of carrier) samples entries before.1 now.1 → IsDone (Certify carrier form) before now
 certified_done carrier form samples entries before now h is_list all = record {
   output = all_bytes all.certificates;
@@ -55,7 +57,7 @@ certified_done carrier form samples entries before now h is_list all = record {
   written = all.written;
 }
 
-pub certified_fault : (carrier : Carrier) (form : SampleForm) (samples : List Sample) (entries : List Entry) (before now : Outside) → HasReadRecording form samples before.0 now.0 → IsListOf carrier samples entries →
+pub certified_fault : (carrier : Carrier) (form : RecordingForm) (samples : List Sample) (entries : List Entry) (before now : Outside) → HasReadNarrow form samples before.0 now.0 → IsListOf carrier samples entries →
     HasCertifiedSome (receiver_of carrier) samples entries before.1 now.1 → Rose before.1.faults now.1.faults → IsWriteFault (Certify carrier form) before now
 certified_fault carrier form samples entries before now h is_list some rose = record {
   output = all_bytes some.certificates;
@@ -74,7 +76,7 @@ turned_output : (turn : Turn) (form : SampleForm) (samples turned : List Sample)
 turned_output turn form samples turned before now h is = record {
   bytes = h.input;
   whole = h.read;
-  unrefused = recording_unrefused form samples before now h;
+  unrefused = recording_unrefused (plain form) samples before now h;
   is_output = subst (λ s. IsTurnedAsBytes turn s (bytes_of turned)) h.samples (record { samples = turned; are = is; bytes = refl });
 }
 

@@ -1,5 +1,5 @@
 -- A report depends only on the samples that are kept for it.
-use Rattle.std.proofs.Common.{◌≡◌, ℕ, suc, ◌≤◌, Bool, true, false, nat_le, List, [], ◌∷◌, None, Some, length, map, take, refl, ap, ap₂, subst, ◌∙◌, arith}
+use Rattle.std.proofs.Common.{◌≡◌, ℕ, suc, ◌≤◌, Bool, true, false, nat_le, List, [], ◌∷◌, Option, None, Some, length, map, take, refl, ap, ap₂, sym, subst, ◌∙◌, arith}
 use Rattle.std.specs.Prelude.{All}
 use Rattle.std.proofs.lemmas.Bool.Decides.{nat_tests}
 use Rattle.std.proofs.lemmas.List.{take_all, take-take, length-take-le}
@@ -11,7 +11,8 @@ use Rattle.lte_types.specs.declared.entry.Entry.{Entry}
 use Rattle.lte_types.specs.declared.hit.Hit.{Hit}
 use Rattle.cs_outside.specs.Outside.{SourceState}
 use Rattle.sample_file.specs.declared.form.SampleForm.{SampleForm}
-use Rattle.sample_file.specs.Recording.{AgreeBefore, IsRecording}
+use Rattle.halving.specs.Wide.{Wide, narrowed}
+use Rattle.sample_file.specs.Recording.{AgreeBefore, IsRecording, samples_in}
 use Rattle.sample_file.specs.Reading.{HasReadFront}
 use Rattle.sample_file.proofs.Keeping.{recording_is}
 use Rattle.pss_search.specs.Hits.{IsInSpan, hits_of}
@@ -28,6 +29,8 @@ use Rattle.reasons.specs.Reason.{IsReasonFor}
 use Rattle.reasons.proofs.Agree.{first_frames_decide_reasons}
 use Rattle.report_text.specs.Hits.{hits_text, ids_text}
 use Rattle.report_json.specs.Hits.{hits_json, ids_json}
+use Rattle.lte_args.specs.declared.form.Rate.{Rate}
+use Rattle.lte_args.specs.declared.form.RecordingForm.{RecordingForm}
 use Rattle.lte_args.specs.declared.form.Form.TheVariants.{Report as Reports}
 use Rattle.lte_args.specs.declared.form.Report.{Report}
 use Rattle.lte_args.specs.declared.form.Report.TheVariants.{Hits, Ids, Search, Evidence, Tell, Why}
@@ -36,7 +39,9 @@ use Rattle.lte_args.specs.declared.form.Output.{Output}
 use Rattle.lte_args.specs.declared.form.Output.TheVariants.{Text, Json}
 use Rattle.lte_top.specs.Line.{as_line}
 use Rattle.hit_details.specs.Details.{identified, identified_by, measured, measured_id}
-use Rattle.lte_top.specs.Reports.{kept_for, IsReport}
+use Rattle.lte_top.specs.declared.reading.Signal.{Signal}
+use Rattle.lte_top.specs.Signals.{plain, rated, wide_at, HasReadWide}
+use Rattle.lte_top.specs.Reports.{kept_for, wide_for, IsReport}
 use Rattle.lte_top.specs.Run.{HasOutput}
 use Rattle.evidence.specs.Receivers.{receiver_of}
 use Rattle.lte_top.specs.Searching.{FirstFramesDecideEach, IsListOf}
@@ -125,9 +130,13 @@ kept_measured samples =
 
 -- ---- reports
 
+-- the signal of samples at 1.92 million per second
+abbrev alone : List Sample → Signal
+alone samples = record { narrow = samples; wide = None }
+
 -- a report about the kept samples is a report about the recording
-kept_report : (report : Report) (output : Output) (samples : List Sample) (text : List ℕ) → IsRecording samples → IsReport report output (take (kept_for report) samples) text →
-    IsReport report output samples text
+kept_report : (report : Report) (output : Output) (samples : List Sample) (text : List ℕ) → IsRecording samples → IsReport report output (alone (take (kept_for report) samples)) text →
+    IsReport report output (alone samples) text
 kept_report Hits Text samples text valid is = is ∙ ap hits_text (kept_hits samples)
 kept_report Hits Json samples text valid is = is ∙ ap (λ hits. as_line (hits_json (map measured hits))) (kept_hits samples)
 kept_report Ids Text samples text valid is = is ∙ ap ids_text (kept_ids samples)
@@ -136,20 +145,61 @@ kept_report (Search (Of carrier)) output samples text valid is =
     record { entries = is.entries; is_list = list_decides carrier samples is.entries valid is.is_list; text_is = is.text_is }
 kept_report (Search AllLists) output samples text valid is =
     record { lists = is.lists; are_lists = λ carrier. list_decides carrier samples (is.lists carrier) valid (is.are_lists carrier); text_is = is.text_is }
-kept_report (Search Cancel) output samples text valid is = subst (λ (kept : List Sample). IsReport (Search Cancel) output kept text) (take_all most_samples samples valid.most) is
-kept_report (Evidence carrier) output samples text valid is = subst (λ (kept : List Sample). IsReport (Evidence carrier) output kept text) (take_all most_samples samples valid.most) is
-kept_report Tell output samples text valid is = subst (λ (kept : List Sample). IsReport Tell output kept text) (take_all most_samples samples valid.most) is
+kept_report (Search Cancel) output samples text valid is = subst (λ (kept : List Sample). IsReport (Search Cancel) output (alone kept) text) (take_all most_samples samples valid.most) is
+kept_report (Evidence carrier) output samples text valid is = subst (λ (kept : List Sample). IsReport (Evidence carrier) output (alone kept) text) (take_all most_samples samples valid.most) is
+kept_report Tell output samples text valid is = subst (λ (kept : List Sample). IsReport Tell output (alone kept) text) (take_all most_samples samples valid.most) is
 kept_report (Why identity carrier) output samples text valid is =
     record { reasons = is.reasons; are = reasons_decide carrier samples identity is.reasons is.are; text_is = is.text_is }
 
 -- a report about the kept samples is the output
-pub kept_output : (report : Report) (output : Output) (form : SampleForm) (front : List Sample) (before now : SourceState) (text : List ℕ) → HasReadFront form (kept_for report) front before now →
-    IsReport report output front text → HasOutput (Reports report output form) text before now
-kept_output report output form front before now text f is =
-    let whole = kept_report report output f.recording text (recording_is form f.recording before now f.read) (subst (λ (kept : List Sample). IsReport report output kept text) f.front_is is) in
+pub kept_output : (report : Report) (form : SampleForm) (front : List Sample) (before now : SourceState) → HasReadFront form (kept_for report) front before now →
+    (output : Output) (text : List ℕ) → IsReport report output (alone front) text → HasOutput (Reports report output (plain form)) text before now
+kept_output report form front before now f output text is =
+    let whole = kept_report report output f.recording text (recording_is form f.recording before now f.read) (subst (λ (kept : List Sample). IsReport report output (alone kept) text) f.front_is is) in
     record {
       bytes = f.read.input;
       whole = f.read.read;
-      unrefused = recording_unrefused form f.recording before now f.read;
-      is_output = subst (λ (samples : List Sample). IsReport report output samples text) f.read.samples whole;
+      unrefused = recording_unrefused (plain form) f.recording before now f.read;
+      is_output = subst (λ (samples : List Sample). IsReport report output (alone samples) text) f.read.samples whole;
     }
+
+-- ---- reports with a rate
+
+-- a report about a signal without the samples that it does not need is a report about the signal
+wide_report : (report : Report) (output : Output) (samples : List Sample) (wide : Wide) (text : List ℕ) → IsReport report output (record { narrow = samples; wide = wide_for report wide }) text →
+    IsReport report output (record { narrow = samples; wide = Some wide }) text
+wide_report Hits output samples wide text is = is
+wide_report Ids output samples wide text is = is
+wide_report (Search (Of carrier)) output samples wide text is = is
+wide_report (Search Cancel) output samples wide text is = is
+wide_report (Search AllLists) output samples wide text is = is
+wide_report (Evidence carrier) output samples wide text is = is
+wide_report Tell output samples wide text is = is
+wide_report (Why identity carrier) output samples wide text is = is
+
+-- a report about the converted samples is the output
+pub wide_output : (report : Report) (form : SampleForm) (rate : Rate) (wide : Wide) (narrow : List Sample) (kept : Option Wide) (before now : SourceState) →
+    HasReadWide form rate wide before now → narrow ≡ narrowed wide → kept ≡ wide_for report wide →
+    (output : Output) (text : List ℕ) → IsReport report output (record { narrow = narrow; wide = kept }) text → HasOutput (Reports report output (rated form rate)) text before now
+wide_output report form rate wide narrow kept before now h narrow_is kept_is output text is =
+    let all : IsReport report output (record { narrow = narrowed wide; wide = Some wide }) text =
+    wide_report report output (narrowed wide) wide text
+    (subst (λ (k : Option Wide). IsReport report output (record { narrow = narrowed wide; wide = k }) text) kept_is
+    (subst (λ (n : List Sample). IsReport report output (record { narrow = n; wide = kept }) text) narrow_is is)) in
+    let same : wide ≡ wide_at rate (samples_in form h.read.input) = h.wide_is ∙ ap (wide_at rate) h.read.samples in
+    record {
+      bytes = h.read.input;
+      whole = h.read.read;
+      unrefused = recording_unrefused (rated form rate) h.recording before now h.read;
+      is_output = subst (λ (w : Wide). IsReport report output (record { narrow = narrowed w; wide = Some w }) text) same all;
+    }
+
+-- ---- forms with or without a rate
+
+-- a form without a rate
+pub is_plain : (form : RecordingForm) → form.rate ≡ None → plain form.samples ≡ form
+is_plain form is = ap (λ (rate : Option Rate). record { samples = form.samples; rate = rate }) (sym is)
+
+-- a form with a rate
+pub is_rated : (form : RecordingForm) (rate : Rate) → form.rate ≡ Some rate → rated form.samples rate ≡ form
+is_rated form rate is = ap (λ (rate : Option Rate). record { samples = form.samples; rate = rate }) (sym is)

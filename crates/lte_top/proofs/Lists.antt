@@ -18,15 +18,20 @@ use Rattle.lte_args.specs.declared.form.Output.{Output}
 use Rattle.lte_args.specs.declared.form.Output.TheVariants.{Text, Json}
 use Rattle.lte_args.specs.declared.form.Rule.{Rule}
 use Rattle.lte_args.specs.declared.form.Rule.TheVariants.{Of, Cancel, All}
+use Rattle.lte_top.specs.declared.reading.Signal.{Signal}
 use Rattle.lte_top.specs.Line.{as_line, IsLine}
 use Rattle.evidence.specs.Receivers.{receiver_of}
 use Rattle.lte_types.proofs.Carriers.{each_stands}
-use Rattle.lte_top.specs.Searching.{IsListOf, list_text, lists_text, IsListText, IsTextOfAll, IsCancelled, IsSearch}
+use Rattle.lte_top.specs.Searching.{IsListOf, IsListAt, list_text, lists_text, IsListText, IsTextOfAll, IsCancelled, IsSearch}
 
 -- ---- lists
 
 pub one_list : (carrier : Carrier) (samples : List Sample) (first second : List Entry) → IsListOf carrier samples first → IsListOf carrier samples second → first ≡ second
 one_list carrier samples first second a b = is_one_list (receiver_of carrier) samples first second a.explained b.explained
+
+-- `search` writes one list for a signal and a transmission scheme
+pub one_list_at : (carrier : Carrier) (signal : Signal) (first second : List Entry) → IsListAt carrier signal first → IsListAt carrier signal second → first ≡ second
+one_list_at carrier signal first second a b = one_list carrier signal.narrow first second a b
 
 -- ---- texts
 
@@ -34,9 +39,9 @@ one_list carrier samples first second a b = is_one_list (receiver_of carrier) sa
 pub one_line : (Is : List ℕ → Type 0) → ((a b : List ℕ) → Is a → Is b → a ≡ b) → (first second : List ℕ) → IsLine Is first → IsLine Is second → first ≡ second
 one_line Is one first second a b = a.line_is ∙ ap as_line (one a.text b.text a.is b.is) ∙ sym b.line_is
 
-one_list_text : (carrier : Carrier) (output : Output) (samples : List Sample) (first second : List ℕ) → IsListText carrier output samples first → IsListText carrier output samples second → first ≡ second
-one_list_text carrier output samples first second a b =
-    a.text_is ∙ ap (list_text output) (one_list carrier samples a.entries b.entries a.is_list b.is_list) ∙ sym b.text_is
+one_list_text : (carrier : Carrier) (output : Output) (signal : Signal) (first second : List ℕ) → IsListText carrier output signal first → IsListText carrier output signal second → first ≡ second
+one_list_text carrier output signal first second a b =
+    a.text_is ∙ ap (list_text output) (one_list_at carrier signal a.entries b.entries a.is_list b.is_list) ∙ sym b.text_is
 
 -- ---- all transmission schemes, in order
 
@@ -55,27 +60,27 @@ made_of R of one (x ∷ xs) [] all = absurd all
 made_of R of one (x ∷ xs) (y ∷ ys) all = ap (λ z. z ∷ ys) (one x y all.0) ∙ ap (λ l. of x ∷ l) (made_of R of one xs ys all.1)
 
 -- one list per transmission scheme has the text of all lists
-pub all_text_is : (output : Output) (samples : List Sample) (lists : List (List Entry)) (r : Result (String Global) AllocError) →
-    AllZip (λ carrier. IsListOf carrier samples) carriers lists →
-    ((of : Carrier → List Entry) → lists ≡ map of carriers → IfOk r (λ text. string_bytes text ≡ lists_text output of)) → IfOk r (λ text. IsTextOfAll output samples (string_bytes text))
-all_text_is output samples lists r listed texts =
-    let Is : Carrier → List Entry → Type 0 = λ carrier. IsListOf carrier samples in
+pub all_text_is : (output : Output) (signal : Signal) (lists : List (List Entry)) (r : Result (String Global) AllocError) →
+    AllZip (λ carrier. IsListAt carrier signal) carriers lists →
+    ((of : Carrier → List Entry) → lists ≡ map of carriers → IfOk r (λ text. string_bytes text ≡ lists_text output of)) → IfOk r (λ text. IsTextOfAll output signal (string_bytes text))
+all_text_is output signal lists r listed texts =
+    let Is : Carrier → List Entry → Type 0 = λ carrier. IsListAt carrier signal in
     let of : Carrier → List Entry = λ carrier. get_or lists (each_stands carrier).0 [] in
     let each : (carrier : Carrier) → Is carrier (of carrier) = λ carrier. let place = each_stands carrier in beside Is carriers lists [] place.0 carrier listed place.1 place.2 in
-    let same : lists ≡ map of carriers = made_of Is of (λ carrier list is. one_list carrier samples list (of carrier) is (each carrier)) carriers lists listed in
-    IfOk-weaker r (λ text. string_bytes text ≡ lists_text output of) (λ text. IsTextOfAll output samples (string_bytes text))
+    let same : lists ≡ map of carriers = made_of Is of (λ carrier list is. one_list_at carrier signal list (of carrier) is (each carrier)) carriers lists listed in
+    IfOk-weaker r (λ text. string_bytes text ≡ lists_text output of) (λ text. IsTextOfAll output signal (string_bytes text))
     (λ text is. record { lists = of; are_lists = each; text_is = is }) (texts of same)
 
-one_text_of_all : (output : Output) (samples : List Sample) (first second : List ℕ) → IsTextOfAll output samples first → IsTextOfAll output samples second → first ≡ second
-one_text_of_all output samples first second a b =
-    let same = fun_ext (λ (carrier : Carrier). one_list carrier samples (a.lists carrier) (b.lists carrier) (a.are_lists carrier) (b.are_lists carrier)) in
+one_text_of_all : (output : Output) (signal : Signal) (first second : List ℕ) → IsTextOfAll output signal first → IsTextOfAll output signal second → first ≡ second
+one_text_of_all output signal first second a b =
+    let same = fun_ext (λ (carrier : Carrier). one_list_at carrier signal (a.lists carrier) (b.lists carrier) (a.are_lists carrier) (b.are_lists carrier)) in
     a.text_is ∙ ap (lists_text output) same ∙ sym b.text_is
 
 one_cancelled : (output : Output) (samples : List Sample) (first second : List ℕ) → IsCancelled output samples first → IsCancelled output samples second → first ≡ second
 one_cancelled Text samples first second a b = one_cancel_text samples first second a b
 one_cancelled Json samples first second a b = one_line (IsCancelJson samples) (one_cancel_json samples) first second a b
 
-pub one_search : (rule : Rule) (output : Output) (samples : List Sample) (first second : List ℕ) → IsSearch rule output samples first → IsSearch rule output samples second → first ≡ second
-one_search (Of carrier) output samples first second a b = one_list_text carrier output samples first second a b
-one_search Cancel output samples first second a b = one_cancelled output samples first second a b
-one_search All output samples first second a b = one_text_of_all output samples first second a b
+pub one_search : (rule : Rule) (output : Output) (signal : Signal) (first second : List ℕ) → IsSearch rule output signal first → IsSearch rule output signal second → first ≡ second
+one_search (Of carrier) output signal first second a b = one_list_text carrier output signal first second a b
+one_search Cancel output signal first second a b = one_cancelled output signal.narrow first second a b
+one_search All output signal first second a b = one_text_of_all output signal first second a b

@@ -20,6 +20,7 @@ use Rattle.lte_args.specs.declared.form.Output.{Output}
 use Rattle.lte_args.specs.declared.form.Output.TheVariants.{Text, Json}
 use Rattle.lte_args.specs.declared.form.Turn.{Turn}
 use Rattle.lte_args.specs.declared.form.Turn.TheVariants.{AsEstimated, Steps}
+use Rattle.lte_top.specs.declared.reading.Signal.{Signal}
 use Rattle.lte_top.specs.Reports.{IsEvidence, IsEvidenceJson, IsEvidenceText, IsTellReport, IsHits, IsIds, IsReport}
 use Rattle.evidence.specs.Receivers.{receiver_of}
 use Rattle.lte_top.specs.Why.{IsWhy, why_text}
@@ -62,13 +63,13 @@ one_why : (identity : ℕ) (carrier : Carrier) (output : Output) (samples : List
 one_why identity carrier output samples first second a b =
     a.text_is ∙ ap (why_text output identity carrier) (one_reason (receiver_of carrier) samples identity a.reasons b.reasons a.are b.are) ∙ sym b.text_is
 
-pub one_report : (report : Report) (output : Output) (samples : List Sample) (first second : List ℕ) → IsReport report output samples first → IsReport report output samples second → first ≡ second
-one_report Hits output samples first second a b = one_hits output samples first second a b
-one_report Ids output samples first second a b = one_ids output samples first second a b
-one_report (Search rule) output samples first second a b = one_search rule output samples first second a b
-one_report (Evidence carrier) output samples first second a b = one_evidence carrier output samples first second a b
-one_report Tell output samples first second a b = one_decoding output samples first second a b
-one_report (Why identity carrier) output samples first second a b = one_why identity carrier output samples first second a b
+pub one_report : (report : Report) (output : Output) (signal : Signal) (first second : List ℕ) → IsReport report output signal first → IsReport report output signal second → first ≡ second
+one_report Hits output signal first second a b = one_hits output signal.narrow first second a b
+one_report Ids output signal first second a b = one_ids output signal.narrow first second a b
+one_report (Search rule) output signal first second a b = one_search rule output signal first second a b
+one_report (Evidence carrier) output signal first second a b = one_evidence carrier output signal.narrow first second a b
+one_report Tell output signal first second a b = one_decoding output signal.narrow first second a b
+one_report (Why identity carrier) output signal first second a b = one_why identity carrier output signal.narrow first second a b
 
 pub one_turned : (turn : Turn) (samples : List Sample) (first second : List ℕ) → IsTurnedAsBytes turn samples first → IsTurnedAsBytes turn samples second → first ≡ second
 one_turned AsEstimated samples first second a b = a.bytes ∙ ap bytes_of (is_one_applied samples a.samples b.samples a.are b.are) ∙ sym b.bytes

@@ -20,10 +20,13 @@ code_of (BadCertificate place) = 10
 
 abbrev pub text_of : Status → List ℕ
 text_of Done = codes "done"
-text_of Usage = codes "usage: the arguments match no command; the command help lists all"
+text_of Usage =
+    codes "usage: the arguments match no command; the command help lists all; "
+    ++ codes "--rate takes 1.92, 3.84, 7.68, 15.36 or 30.72 (lte_convert converts others)"
 text_of Ragged = codes "ragged: the input ends within a sample; check the format, or cut the last bytes"
-text_of TooShort = codes "too short: the recording has fewer than 57,600 samples; record at least 30 ms"
-text_of TooLong = codes "too long: the input exceeds its limit; cut it, a recording to 1,920,000 samples (1 s)"
+text_of TooShort = codes "too short: the recording has less than 30 ms (57,600 samples without --rate); record more"
+text_of TooLong =
+    codes "too long: the input exceeds its limit; cut it, a recording to 1 s (1,920,000 samples without --rate)"
 text_of ReadFault = codes "read fault: standard input could not be read; check the file or the pipe"
 text_of WriteFault = codes "write fault: standard output could not be written, and what it has is incomplete"
 text_of OutOfMemory = codes "out of memory: an allocation failed; free memory and try again"

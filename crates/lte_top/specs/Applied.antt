@@ -10,6 +10,7 @@ use Rattle.lte_args.specs.declared.form.Form.TheVariants.{Report as Reports, App
 use Rattle.lte_args.specs.declared.form.Report.TheVariants.{Tell}
 use Rattle.lte_args.specs.declared.form.Output.TheVariants.{Text}
 use Rattle.lte_args.specs.declared.form.Turn.TheVariants.{AsEstimated}
+use Rattle.lte_top.specs.Signals.{plain}
 use Rattle.lte_top.specs.Forms.{IsOutput}
 
 -- `samples` is a valid recording; if `text`, the output of `tell`, reports an estimate, `samples` has the reported
@@ -24,5 +25,5 @@ pub record HasReportedCells (text : List ℕ) (samples : List Sample) : Type 0 w
 -- `tell` reports
 abbrev pub WhatIsAppliedIsEstimated : Type 0
 WhatIsAppliedIsEstimated = (form : SampleForm) (bytes text applied : List ℕ) → IsRecording (samples_in form bytes) →
-    IsOutput (Reports Tell Text form) bytes text → IsOutput (Apply AsEstimated form) bytes applied →
+    IsOutput (Reports Tell Text (plain form)) bytes text → IsOutput (Apply AsEstimated form) bytes applied →
     HasReportedCells text (samples_of applied)

@@ -19,6 +19,7 @@ use Rattle.lte_args.specs.declared.form.Form.TheVariants.{Report as Reports, Tra
 use Rattle.lte_args.specs.declared.form.Report.TheVariants.{Search}
 use Rattle.lte_args.specs.declared.form.Rule.TheVariants.{Of}
 use Rattle.lte_args.specs.declared.form.Output.TheVariants.{Text}
+use Rattle.lte_top.specs.Signals.{plain}
 use Rattle.lte_top.specs.Forms.{IsOutput}
 
 -- the list line of a sent cell: its identity, its first frame's start and number, its antenna port count, and its MIB
@@ -55,5 +56,5 @@ WhatIsSentIsFound =
     (carrier : Carrier) (load : Option ℕ) (description sent text : List ℕ) →
     DescribesPaired carrier description →
     IsOutput (Transmit carrier load) description sent →
-    IsOutput (Reports (Search (Of carrier)) Text Ci16) sent text →
+    IsOutput (Reports (Search (Of carrier)) Text (plain Ci16)) sent text →
     IsFoundIn carrier load description (samples_of sent) text

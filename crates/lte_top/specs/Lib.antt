@@ -1,5 +1,6 @@
 pub mod Transmitting
 pub mod Line
+pub mod Signals
 pub mod Searching
 pub mod Certificates
 pub mod Reports

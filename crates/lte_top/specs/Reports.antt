@@ -1,7 +1,8 @@
 -- The reports about a recording. (own)
-use Rattle.std.specs.Prelude.{◌≡◌, ℕ, List, map}
+use Rattle.std.specs.Prelude.{◌≡◌, ℕ, Option, Some, None, List, map}
 use Rattle.std.specs.List.{AllZip}
 use Rattle.cs_num.specs.declared.Sample.{Sample}
+use Rattle.halving.specs.Wide.{Wide}
 use Rattle.lte_types.specs.declared.entry.Entry.{Entry}
 use Rattle.lte_types.specs.declared.carrier.Carrier.{Carrier}
 use Rattle.lte_types.specs.Numerology.{least_samples, most_samples}
@@ -25,6 +26,7 @@ use Rattle.report_text.specs.Offset.{IsTellText}
 use Rattle.explain.specs.Deciding.{deciding_length}
 use Rattle.lte_top.specs.Line.{as_line, IsLine}
 use Rattle.evidence.specs.Receivers.{receiver_of}
+use Rattle.lte_top.specs.declared.reading.Signal.{Signal}
 use Rattle.lte_top.specs.Searching.{IsListOf, IsSearch}
 use Rattle.lte_top.specs.Why.{IsWhy}
 
@@ -64,14 +66,16 @@ abbrev pub IsTellReport : Output → List Sample → List ℕ → Type 0
 IsTellReport Text samples text = IsTellText samples text
 IsTellReport Json samples text = IsLine (IsTellJson samples) text
 
--- `text` is the report about the recording `samples`
-abbrev pub IsReport : Report → Output → List Sample → List ℕ → Type 0
-IsReport Hits output samples text = IsHits output samples text
-IsReport Ids output samples text = IsIds output samples text
-IsReport (Search rule) output samples text = IsSearch rule output samples text
-IsReport (Evidence carrier) output samples text = IsEvidence carrier output samples text
-IsReport Tell output samples text = IsTellReport output samples text
-IsReport (Why identity carrier) output samples text = IsWhy identity carrier output samples text
+-- `text` is the report about a recording with signal `signal`
+abbrev pub IsReport : Report → Output → Signal → List ℕ → Type 0
+IsReport Hits output signal text = IsHits output signal.narrow text
+IsReport Ids output signal text = IsIds output signal.narrow text
+IsReport (Search rule) output signal text = IsSearch rule output signal text
+IsReport (Evidence carrier) output signal text = IsEvidence carrier output signal.narrow text
+IsReport Tell output signal text = IsTellReport output signal.narrow text
+IsReport (Why identity carrier) output signal text = IsWhy identity carrier output signal.narrow text
+
+-- ---- what is kept of a recording
 
 -- the number of leading samples that a cell list needs: without cancellation, a list depends only on the first 17
 -- frames
@@ -80,7 +84,8 @@ kept_for_list (Of carrier) = deciding_length
 kept_for_list Cancel = most_samples
 kept_for_list All = deciding_length
 
--- the number of leading samples that a report needs: PSS detections start in the first frame or just after it
+-- the number of leading samples that a report without a rate needs: PSS detections start in the first frame or just
+-- after it
 abbrev pub kept_for : Report → ℕ
 kept_for Hits = least_samples
 kept_for Ids = least_samples
@@ -88,3 +93,9 @@ kept_for (Search rule) = kept_for_list rule
 kept_for (Evidence carrier) = most_samples
 kept_for Tell = most_samples
 kept_for (Why identity carrier) = deciding_length
+
+-- the samples at the given rate that a report needs: only the lists of `search` need any
+abbrev pub wide_for : Report → Wide → Option Wide
+wide_for (Search (Of carrier)) wide = Some wide
+wide_for (Search All) wide = Some wide
+wide_for report wide = None

@@ -17,6 +17,7 @@ use Rattle.lte_args.specs.declared.form.Rule.TheVariants.{Of, Cancel, All}
 use Rattle.lte_args.specs.declared.form.Output.{Output}
 use Rattle.lte_args.specs.declared.form.Output.TheVariants.{Text, Json}
 use Rattle.lte_top.specs.Line.{as_line, IsLine}
+use Rattle.lte_top.specs.declared.reading.Signal.{Signal}
 
 -- ---- one transmission scheme
 
@@ -30,16 +31,20 @@ IsListOf carrier = IsListBy (receiver_of carrier)
 abbrev pub FirstFramesDecideEach : Type 0
 FirstFramesDecideEach = (carrier : Carrier) → AreDecidedFor (receiver_of carrier)
 
+-- the cell list that `search` writes for one transmission scheme
+abbrev pub IsListAt : Carrier → Signal → List Entry → Type 0
+IsListAt carrier signal = IsListOf carrier signal.narrow
+
 -- ---- a cell list's text
 
 abbrev pub list_text : Output → List Entry → List ℕ
 list_text Text entries = report_text entries
 list_text Json entries = as_line (json_text entries)
 
--- `text` is the cell list of `samples` for one transmission scheme
-pub record IsListText (carrier : Carrier) (output : Output) (samples : List Sample) (text : List ℕ) : Type 0 where
+-- `text` is the cell list of a signal for one transmission scheme
+pub record IsListText (carrier : Carrier) (output : Output) (signal : Signal) (text : List ℕ) : Type 0 where
   pub entries : List Entry
-  pub is_list : IsListOf carrier samples entries
+  pub is_list : IsListAt carrier signal entries
   pub text_is : text ≡ list_text output entries
 
 -- ---- all transmission schemes
@@ -49,10 +54,10 @@ abbrev pub lists_text : Output → (Carrier → List Entry) → List ℕ
 lists_text Text lists = all_text lists
 lists_text Json lists = as_line (all_json lists)
 
--- `text` contains the cell lists of the recording `samples`, one for each transmission scheme, in the format `output`
-pub record IsTextOfAll (output : Output) (samples : List Sample) (text : List ℕ) : Type 0 where
+-- `text` contains the cell lists of a signal, one for each transmission scheme, in the format `output`
+pub record IsTextOfAll (output : Output) (signal : Signal) (text : List ℕ) : Type 0 where
   pub lists : Carrier → List Entry
-  pub are_lists : (carrier : Carrier) → IsListOf carrier samples (lists carrier)
+  pub are_lists : (carrier : Carrier) → IsListAt carrier signal (lists carrier)
   pub text_is : text ≡ lists_text output lists
 
 -- ---- every rule
@@ -62,7 +67,7 @@ abbrev pub IsCancelled : Output → List Sample → List ℕ → Type 0
 IsCancelled Text samples text = IsCancelText samples text
 IsCancelled Json samples text = IsLine (IsCancelJson samples) text
 
-abbrev pub IsSearch : Rule → Output → List Sample → List ℕ → Type 0
-IsSearch (Of carrier) output samples text = IsListText carrier output samples text
-IsSearch Cancel output samples text = IsCancelled output samples text
-IsSearch All output samples text = IsTextOfAll output samples text
+abbrev pub IsSearch : Rule → Output → Signal → List ℕ → Type 0
+IsSearch (Of carrier) output signal text = IsListText carrier output signal text
+IsSearch Cancel output signal text = IsCancelled output signal.narrow text
+IsSearch All output signal text = IsTextOfAll output signal text

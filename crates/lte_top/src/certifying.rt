@@ -11,15 +11,16 @@ ghost use Rattle.evidence.specs.Receivers.{receiver_of};
 ghost use Rattle.lte_top.specs.Searching.{IsListOf};
 ghost use Rattle.lte_args.specs.declared.form.Form.TheVariants.{Certify, Check};
 
-use crate::reporting::recording_of;
+use crate::reading::narrow_of;
 use crate::searching::{read_list, room_for_list};
 use crate::status::Status;
 use certificates::{CertificateWork, certify, read_answers};
 use cs_outside::{Failed, Sink, Source};
 use explain::{EntryList, Workspace};
+use lte_args::RecordingForm;
 use lte_types::Carrier;
 use report_text::text_of_answers;
-use sample_file::{Recording, SampleForm};
+use sample_file::Recording;
 use std::alloc::{AllocError, Global};
 
 // The memory for certifying a cell list: for the search, its list, and the certificates.
@@ -36,7 +37,7 @@ struct Rooms {
 pub(crate) fn certify_recording<S: Source, K: Sink>(
     alloc: Global,
     carrier: Carrier,
-    form: SampleForm,
+    form: RecordingForm,
     source: &mut S,
     sink: &mut K,
 ) -> Result<(), Status>
@@ -47,7 +48,7 @@ pub(crate) fn certify_recording<S: Source, K: Sink>(
     ensures reads { (S.state source.old).faults ≤ (S.state source.new).faults }
     ensures writes { (K.state sink.old).faults ≤ (K.state sink.new).faults }
 {
-    let recording = recording_of(alloc, form, source)?;
+    let recording = narrow_of(alloc, form, source)?;
     let mut rooms = rooms_of(alloc)?;
     match certify_list(&recording, carrier, &mut rooms, sink) {
         Ok(()) => Ok(()),

@@ -8,6 +8,7 @@ mod certifying;
 mod laws;
 mod making;
 mod pages;
+mod reading;
 mod reasoning;
 mod reporting;
 mod searching;
@@ -21,7 +22,7 @@ pub use laws::{
     an_input_has_one_answer, the_first_frames_decide_each_list, what_is_applied_is_estimated,
     what_is_made_is_held, what_is_sent_is_found,
 };
-pub use lte_args::{Form, Output, Page, Program, Report, Rule, Turn, Words};
+pub use lte_args::{Form, Output, Page, Program, Rate, RecordingForm, Report, Rule, Turn, Words};
 pub use status::Status;
 pub use top::{run, run_in_memory, run_program};
 pub use version::{DEFINITION, VERSION};

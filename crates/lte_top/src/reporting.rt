@@ -2,31 +2,28 @@
 
 ghost use Rattle.std.specs.Prelude.{◌≡◌, ◌≤◌, All, IfOk, IfErr, string_bytes};
 ghost use Rattle.cs_outside.specs.Outside.{SourceState};
-ghost use Rattle.lte_types.specs.Numerology.{least_samples, most_samples};
-ghost use Rattle.sample_file.specs.Reading.{HasReadRecording, HasReadFront};
 ghost use Rattle.sample_file.specs.Recording.{IsRecording};
 ghost use Rattle.pss_search.specs.Hits.{IsInSpan, IsSmallHit, hits_of as all_hits};
 ghost use Rattle.lte_top.specs.Forms.{recording};
 ghost use Rattle.lte_top.specs.Line.{as_line};
 ghost use Rattle.lte_top.specs.Reports.{IsEvidence, IsEvidenceJson};
-ghost use Rattle.lte_top.specs.Reports.{IsEvidenceText, IsHits, IsIds, IsReport, IsTellReport, kept_for as kept_in};
-ghost use Rattle.lte_top.specs.Reports.{kept_for_list as kept_in_list};
+ghost use Rattle.lte_top.specs.Reports.{IsEvidenceText, IsHits, IsIds, IsReport, IsTellReport};
 ghost use Rattle.lte_top.specs.Run.{Cause, HasOutput};
 ghost use Rattle.lte_args.specs.declared.form.Form.TheVariants.{Report as Reports};
 
+use crate::reading::{Signal, signal_for};
 use crate::reasoning::why_text;
 use crate::searching::{read_list, room_for_list, search_text};
 use crate::status::Status;
 use cs_outside::Source;
 use evidence::{evidence_of_list, support_of_list};
-use explain::DECIDING_SAMPLES;
 use hit_details::{identified_hits, measured_hits, measured_ids};
-use lte_args::{Output, Report, Rule};
-use lte_types::{Carrier, LEAST_SAMPLES, MOST_SAMPLES};
+use lte_args::{Output, RecordingForm, Report};
+use lte_types::Carrier;
 use pss_search::{HitList, hits};
 use report_json::{json_of_evidence, json_of_hits, json_of_ids, tell_json};
 use report_text::{tell_text, text_of_evidence, text_of_hits, text_of_ids};
-use sample_file::{Recording, SampleForm, read_as, read_front};
+use sample_file::Recording;
 use std::alloc::{AllocError, Global};
 
 // Reads a recording to the end of its source, and returns the text of a report about it.
@@ -35,7 +32,7 @@ pub(crate) fn report_text<S: Source>(
     alloc: Global,
     report: Report,
     output: Output,
-    form: SampleForm,
+    form: RecordingForm,
     source: &mut S,
 ) -> Result<String, Status>
     ensures ok { IfOk result (λ text.
@@ -43,71 +40,9 @@ pub(crate) fn report_text<S: Source>(
     ensures err { IfErr result (Cause (recording form) (S.state source.old) (S.state source.new)) }
     ensures never_falls { (S.state source.old).faults ≤ (S.state source.new).faults }
 {
-    let front = front_of(alloc, form, kept_for(&report), source)?;
-    let text = text_of_report(alloc, report, output, &front)?;
+    let signal = signal_for(alloc, &report, form, source)?;
+    let text = text_of_report(alloc, report, output, &signal)?;
     Ok(text)
-}
-
-// Returns the number of leading samples that a report needs.
-fn kept_for(report: &Report) -> usize
-    ensures value { result ≡ kept_in report.now }
-    ensures some { least_samples ≤ result }
-    ensures few { result ≤ most_samples }
-{
-    match report {
-        Report::Hits => LEAST_SAMPLES,
-        Report::Ids => LEAST_SAMPLES,
-        Report::Search(rule) => kept_for_list(*rule),
-        Report::Evidence(_) => MOST_SAMPLES,
-        Report::Tell => MOST_SAMPLES,
-        Report::Why(_, _) => DECIDING_SAMPLES,
-    }
-}
-
-// Returns the number of leading samples that a cell list needs.
-fn kept_for_list(rule: Rule) -> usize
-    ensures value { result ≡ kept_in_list rule }
-    ensures some { least_samples ≤ result }
-    ensures few { result ≤ most_samples }
-{
-    match rule {
-        Rule::Of(_) => DECIDING_SAMPLES,
-        Rule::Cancel => MOST_SAMPLES,
-        Rule::All => DECIDING_SAMPLES,
-    }
-}
-
-// Reads a recording to the end of its source, and keeps its first `most` samples.
-fn front_of<S: Source>(
-    alloc: Global,
-    form: SampleForm,
-    most: usize,
-    source: &mut S,
-) -> Result<Recording, Status>
-    requires some { least_samples ≤ most }
-    requires few { most ≤ most_samples }
-    ensures ok { IfOk result (λ front. HasReadFront form most front (S.state source.old) (S.state source.new)) }
-    ensures valid { IfOk result IsRecording }
-    ensures err { IfErr result (Cause (recording form) (S.state source.old) (S.state source.new)) }
-    ensures never_falls { (S.state source.old).faults ≤ (S.state source.new).faults }
-{
-    let front = read_front(alloc, source, form, most)?;
-    Ok(front)
-}
-
-// Reads a recording to the end of its source, and keeps all its samples.
-pub(crate) fn recording_of<S: Source>(
-    alloc: Global,
-    form: SampleForm,
-    source: &mut S,
-) -> Result<Recording, Status>
-    ensures ok { IfOk result (λ samples. HasReadRecording form samples (S.state source.old) (S.state source.new)) }
-    ensures valid { IfOk result IsRecording }
-    ensures err { IfErr result (Cause (recording form) (S.state source.old) (S.state source.new)) }
-    ensures never_falls { (S.state source.old).faults ≤ (S.state source.new).faults }
-{
-    let recording = read_as(alloc, source, form)?;
-    Ok(recording)
 }
 
 // Returns the text of a report about a recording.
@@ -115,18 +50,18 @@ fn text_of_report(
     alloc: Global,
     report: Report,
     output: Output,
-    recording: &Recording,
+    signal: &Signal,
 ) -> Result<String, AllocError>
-    requires { IsRecording recording.now }
-    ensures { IfOk result (λ text. IsReport report output recording.now (string_bytes text)) }
+    requires { IsRecording signal.now.narrow }
+    ensures { IfOk result (λ text. IsReport report output signal.now (string_bytes text)) }
 {
     match report {
-        Report::Hits => hits_text(alloc, output, recording),
-        Report::Ids => ids_text(alloc, output, recording),
-        Report::Search(rule) => search_text(alloc, rule, output, recording),
-        Report::Evidence(carrier) => evidence_report(alloc, carrier, output, recording),
-        Report::Tell => offset_text(alloc, output, recording),
-        Report::Why(id, carrier) => why_text(alloc, id, carrier, output, recording),
+        Report::Hits => hits_text(alloc, output, &signal.narrow),
+        Report::Ids => ids_text(alloc, output, &signal.narrow),
+        Report::Search(rule) => search_text(alloc, rule, output, signal),
+        Report::Evidence(carrier) => evidence_report(alloc, carrier, output, &signal.narrow),
+        Report::Tell => offset_text(alloc, output, &signal.narrow),
+        Report::Why(id, carrier) => why_text(alloc, id, carrier, output, &signal.narrow),
     }
 }
 

@@ -7,9 +7,10 @@ ghost use Rattle.sample_file.specs.Recording.{IsRecording};
 ghost use Rattle.pss_search.specs.Hits.{hits_of as all_hits};
 ghost use Rattle.explain.specs.Readings.{IsReadingFor};
 ghost use Rattle.evidence.specs.Receivers.{receiver_of};
-ghost use Rattle.lte_top.specs.Searching.{IsListOf, IsListText, IsTextOfAll, IsCancelled, IsSearch};
+ghost use Rattle.lte_top.specs.Searching.{IsListOf, IsListAt, IsListText, IsTextOfAll, IsCancelled, IsSearch};
 ghost use Rattle.lte_top.specs.Searching.{list_text as text_of, lists_text as texts_of};
 
+use crate::reading::Signal;
 use crate::reporting::{hits_of, line_of};
 use clean_air::explain_clean_by;
 use explain::{EntryList, OnePort, Workspace};
@@ -28,15 +29,15 @@ pub(crate) fn search_text(
     alloc: Global,
     rule: Rule,
     output: Output,
-    recording: &Recording,
+    signal: &Signal,
 ) -> Result<String, AllocError>
-    requires { IsRecording recording.now }
-    ensures { IfOk result (λ text. IsSearch rule output recording.now (string_bytes text)) }
+    requires { IsRecording signal.now.narrow }
+    ensures { IfOk result (λ text. IsSearch rule output signal.now (string_bytes text)) }
 {
     match rule {
-        Rule::Of(carrier) => text_of_carrier(alloc, carrier, output, recording),
-        Rule::Cancel => text_of_rounds(alloc, output, recording),
-        Rule::All => text_of_each(alloc, output, recording),
+        Rule::Of(carrier) => text_of_carrier(alloc, carrier, output, signal),
+        Rule::Cancel => text_of_rounds(alloc, output, &signal.narrow),
+        Rule::All => text_of_each(alloc, output, signal),
     }
 }
 
@@ -47,11 +48,11 @@ fn text_of_carrier(
     alloc: Global,
     carrier: Carrier,
     output: Output,
-    recording: &Recording,
+    signal: &Signal,
 ) -> Result<String, AllocError>
-    ensures { IfOk result (λ text. IsListText carrier output recording.now (string_bytes text)) }
+    ensures { IfOk result (λ text. IsListText carrier output signal.now (string_bytes text)) }
 {
-    let list = list_of(alloc, carrier, recording)?;
+    let list = list_of(alloc, carrier, &signal.narrow)?;
     list_text(alloc, output, list.slice())
 }
 
@@ -123,25 +124,25 @@ fn read_list_by(
 // ---- all transmission schemes, and cancellation
 
 // Returns the text of the cell lists for every transmission scheme.
-fn text_of_each(alloc: Global, output: Output, recording: &Recording) -> Result<String, AllocError>
-    requires { IsRecording recording.now }
-    ensures { IfOk result (λ text. IsTextOfAll output recording.now (string_bytes text)) }
+fn text_of_each(alloc: Global, output: Output, signal: &Signal) -> Result<String, AllocError>
+    requires { IsRecording signal.now.narrow }
+    ensures { IfOk result (λ text. IsTextOfAll output signal.now (string_bytes text)) }
 {
-    let lists = lists_of(alloc, recording)?;
+    let lists = lists_of(alloc, signal)?;
     lists_text(alloc, output, &lists)
 }
 
 // Returns the cell lists for every transmission scheme, in the order of `Carrier::ALL`.
-fn lists_of(alloc: Global, recording: &Recording) -> Result<Vec<EntryList>, AllocError>
-    requires { IsRecording recording.now }
-    ensures { IfOk result (λ lists. AllZip (λ carrier. IsListOf carrier recording.now) carriers lists.items) }
+fn lists_of(alloc: Global, signal: &Signal) -> Result<Vec<EntryList>, AllocError>
+    requires { IsRecording signal.now.narrow }
+    ensures { IfOk result (λ lists. AllZip (λ carrier. IsListAt carrier signal.now) carriers lists.items) }
 {
-    let found = hits_of(alloc, recording)?;
+    let found = hits_of(alloc, &signal.narrow)?;
     let hits = found.slice();
     let mut work = Workspace::new(alloc)?;
     let mut lists = Vec::new(alloc);
     for carrier in &Carrier::ALL {
-        lists.push(list_among(alloc, *carrier, recording, hits, &mut work)?)?;
+        lists.push(list_among(alloc, *carrier, signal, hits, &mut work)?)?;
     }
     Ok(lists)
 }
@@ -150,15 +151,15 @@ fn lists_of(alloc: Global, recording: &Recording) -> Result<Vec<EntryList>, Allo
 fn list_among(
     alloc: Global,
     carrier: Carrier,
-    recording: &Recording,
+    signal: &Signal,
     hits: &[Hit],
     work: &mut Workspace,
 ) -> Result<EntryList, AllocError>
-    requires { hits.now ≡ all_hits recording.now }
-    ensures { IfOk result (IsListOf carrier recording.now) }
+    requires { hits.now ≡ all_hits signal.now.narrow }
+    ensures { IfOk result (IsListAt carrier signal.now) }
 {
     let mut list = EntryList::new(alloc)?;
-    read_list_by(recording, carrier, Some(hits), work, &mut list);
+    read_list_by(&signal.narrow, carrier, Some(hits), work, &mut list);
     Ok(list)
 }
 

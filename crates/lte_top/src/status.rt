@@ -125,16 +125,17 @@ impl fmt::Display for Status {
         match self {
             Status::Done => f.write_str("done"),
             Status::Usage => f.write_str(
-                "usage: the arguments match no command; the command help lists all",
+                "usage: the arguments match no command; the command help lists all; \
+                 --rate takes 1.92, 3.84, 7.68, 15.36 or 30.72 (lte_convert converts others)",
             ),
             Status::Ragged => f.write_str(
                 "ragged: the input ends within a sample; check the format, or cut the last bytes",
             ),
             Status::TooShort => f.write_str(
-                "too short: the recording has fewer than 57,600 samples; record at least 30 ms",
+                "too short: the recording has less than 30 ms (57,600 samples without --rate); record more",
             ),
             Status::TooLong => f.write_str(
-                "too long: the input exceeds its limit; cut it, a recording to 1,920,000 samples (1 s)",
+                "too long: the input exceeds its limit; cut it, a recording to 1 s (1,920,000 samples without --rate)",
             ),
             Status::ReadFault => f.write_str(
                 "read fault: standard input could not be read; check the file or the pipe",

@@ -96,11 +96,13 @@ fn run_form<S: Source, K: Sink>(
     ensures writes { (K.state sink.old).faults ≤ (K.state sink.new).faults }
 {
     match form {
-        Form::Report(report, output, samples) => {
-            let text = report_text(alloc, report, output, samples, source)?;
+        Form::Report(report, output, recording) => {
+            let text = report_text(alloc, report, output, recording, source)?;
             write_output(sink, text.as_bytes())
         }
-        Form::Certify(carrier, samples) => certify_recording(alloc, carrier, samples, source, sink),
+        Form::Certify(carrier, recording) => {
+            certify_recording(alloc, carrier, recording, source, sink)
+        }
         Form::Check => {
             let text = answers_text(alloc, source)?;
             write_output(sink, text.as_bytes())

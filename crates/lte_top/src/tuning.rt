@@ -6,7 +6,7 @@ ghost use Rattle.lte_args.specs.declared.form.Form.TheVariants.{Apply};
 ghost use Rattle.lte_top.specs.Run.{IsDone, Ends};
 ghost use Rattle.lte_top.specs.Tuning.{IsTurned};
 
-use crate::reporting::recording_of;
+use crate::reading::recording_of;
 use crate::status::Status;
 use cs_outside::{Failed, Sink, Source};
 use frequency_offset::{applied, turned};

@@ -32,6 +32,8 @@ mod named_numbers;
 #[cfg(test)]
 mod pages;
 #[cfg(test)]
+mod rates;
+#[cfg(test)]
 mod samples_of_8_bits;
 #[cfg(test)]
 mod search;

@@ -6,18 +6,19 @@ use std::alloc::{AllocError, Global};
 use std::test::Fail;
 
 const HELP_OF_THE_RECEIVER: &str =
-    "usage: lte_cli COMMAND [RULE] [--json] [--format cu8] < INPUT > OUTPUT
-hits [--json] [--format cu8]: the places of primary synchronisation signals in a recording
-ids [--json] [--format cu8]: the same with the cell identity and the frame start that each tells
-search [RULE] [--json] [--format cu8]: the list of cells of a recording
+    "usage: lte_cli COMMAND [RULE] [--json] [--format cu8] [--rate R] < INPUT > OUTPUT
+hits [--json] [--format cu8] [--rate R]: the places of primary synchronisation signals in a recording
+  --rate R: of the first 170 ms, at R million samples per second: 1.92, 3.84, 7.68, 15.36 or 30.72
+ids [--json] [--format cu8] [--rate R]: the same with the cell identity and the frame start that each tells
+search [RULE] [--json] [--format cu8] [--rate R]: the list of cells of a recording
   --ports 2: of those with two antenna ports
   --ports 4: of those with four antenna ports
   --prefix long: of those with the extended cyclic prefix
   --cancel: and the lists of what is left where a cell is taken off
   --all: the lists of one antenna port, of two, of the extended cyclic prefix, and of four antenna ports
-evidence [--ports 2 | --ports 4 | --prefix long] [--json] [--format cu8]: what supports each cell of the list
-why PCI [--ports 2 | --ports 4 | --prefix long] [--json] [--format cu8]: why a cell is in the list or not
-certify [--ports 2 | --ports 4 | --prefix long] [--format cu8]: a certificate for each cell of the list
+evidence [--ports 2 | --ports 4 | --prefix long] [--json] [--format cu8] [--rate R]: what supports each cell of the list
+why PCI [--ports 2 | --ports 4 | --prefix long] [--json] [--format cu8] [--rate R]: why a cell is in the list or not
+certify [--ports 2 | --ports 4 | --prefix long] [--format cu8] [--rate R]: a certificate for each cell of the list
 check: whether each of the certificates that are read is accepted
 transmit [--ports 2 | --ports 4 | --prefix long] [--load N]: the samples of the cell that is described
   --load N: with the points of load number N at all places that it leaves open
@@ -26,8 +27,10 @@ help, --help, -h: this page
 version, --version: the versions of the program and of its definition
 ";
 
-const HELP_OF_THE_TUNER: &str = "usage: lte_tune COMMAND [--json] [--format cu8] < INPUT > OUTPUT
-tell [--json] [--format cu8]: the frequency offset of a recording
+const HELP_OF_THE_TUNER: &str =
+    "usage: lte_tune COMMAND [--json] [--format cu8] [--rate R] < INPUT > OUTPUT
+tell [--json] [--format cu8] [--rate R]: the frequency offset of a recording
+  --rate R: of the first 170 ms, at R million samples per second: 1.92, 3.84, 7.68, 15.36 or 30.72
 apply [--format cu8]: the recording with this offset taken off, in 16-bit samples
 apply M [--format cu8]: the recording turned by M steps of 117.1875 Hz, in 16-bit samples
 help, --help, -h: this page

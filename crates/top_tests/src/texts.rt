@@ -92,7 +92,8 @@ fn texts_of_answers(rt: HostRuntime) -> Result<(), Fail> {
         (
             Status::Usage,
             2,
-            "usage: the arguments match no command; the command help lists all",
+            "usage: the arguments match no command; the command help lists all; \
+             --rate takes 1.92, 3.84, 7.68, 15.36 or 30.72 (lte_convert converts others)",
         ),
         (
             Status::Ragged,
@@ -102,12 +103,12 @@ fn texts_of_answers(rt: HostRuntime) -> Result<(), Fail> {
         (
             Status::TooShort,
             4,
-            "too short: the recording has fewer than 57,600 samples; record at least 30 ms",
+            "too short: the recording has less than 30 ms (57,600 samples without --rate); record more",
         ),
         (
             Status::TooLong,
             5,
-            "too long: the input exceeds its limit; cut it, a recording to 1,920,000 samples (1 s)",
+            "too long: the input exceeds its limit; cut it, a recording to 1 s (1,920,000 samples without --rate)",
         ),
         (
             Status::ReadFault,

@@ -1,8 +1,12 @@
 # bash completion for lte_tune
 # Made by scripts/gate.sh made --write: change its sources, not this file.
-_lte_tune_forms='tell --json --format cu8
+_lte_tune_forms='tell --json --format cu8 --rate R
+tell --json --format cu8
+tell --json --rate R
 tell --json
+tell --format cu8 --rate R
 tell --format cu8
+tell --rate R
 tell
 apply --format cu8
 apply
@@ -33,13 +37,19 @@ _lte_tune() {
                 PCI) [[ ${given[word]} =~ ^([0-9]|[1-9][0-9]|[1-4][0-9][0-9]|50[0-3])$ ]] || continue 2 ;;
                 N) [[ ${given[word]} =~ ^(0|[1-9][0-9]*)$ ]] || continue 2 ;;
                 M) [[ ${given[word]} =~ ^(0|-?[1-9][0-9]*)$ ]] || continue 2 ;;
+                R) [[ ${given[word]} =~ ^(1\.92|3\.84|7\.68|15\.36|30\.72)$ ]] || continue 2 ;;
                 "${given[word]}") ;;
                 *) continue 2 ;;
             esac
         done
         next=${form[${#given[@]}]-}
-        case $next in '' | PCI|N|M) continue ;; esac
-        if [[ $next == "$current"* && " ${COMPREPLY[*]} " != *" $next "* ]]; then COMPREPLY+=("$next"); fi
+        case $next in
+            '' | PCI|N|M) continue ;;
+            R) next='1.92 3.84 7.68 15.36 30.72' ;;
+        esac
+        for next in $next; do
+            if [[ $next == "$current"* && " ${COMPREPLY[*]} " != *" $next "* ]]; then COMPREPLY+=("$next"); fi
+        done
     done <<< "$_lte_tune_forms"
 }
 complete -o nosort -F _lte_tune lte_tune

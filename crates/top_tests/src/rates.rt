@@ -1,0 +1,346 @@
+//! Recordings at a given sample rate. Expected values that the standard does not give are from the reference
+//! implementation: `narrowed` of `python/lte_reference/wide_slots.py`, then `search.py` and `forms.py`.
+
+use crate::{
+    command_line, gives, gives_by, is_no_form, output_by, output_of, output_unread, sent_by,
+};
+use lte_top::{Program, Status};
+use std::alloc::{AllocError, Global};
+use std::process::Abort;
+use std::test::Fail;
+use test_support::{PLAIN_REPORT, silence};
+
+// The rates, each with its multiple of 1.92 million samples per second.
+const RATES: [(&'static str, usize); 5] = [
+    ("1.92", 1),
+    ("3.84", 2),
+    ("7.68", 4),
+    ("15.36", 8),
+    ("30.72", 16),
+];
+
+// ---- arguments
+
+#[test]
+fn each_report_takes_each_rate(rt: HostRuntime) -> Result<(), Fail> {
+    for (program, front) in [
+        (Program::Receiver, "hits"),
+        (Program::Receiver, "hits --json --format cu8"),
+        (Program::Receiver, "ids --json"),
+        (Program::Receiver, "search"),
+        (Program::Receiver, "search --ports 2 --format cu8"),
+        (Program::Receiver, "search --ports 4 --json"),
+        (Program::Receiver, "search --prefix long"),
+        (Program::Receiver, "search --cancel"),
+        (Program::Receiver, "search --all --json --format cu8"),
+        (Program::Receiver, "evidence --ports 2"),
+        (Program::Receiver, "evidence --json --format cu8"),
+        (Program::Receiver, "why 503 --ports 4 --json"),
+        (Program::Receiver, "certify"),
+        (Program::Receiver, "certify --prefix long --format cu8"),
+        (Program::Tuner, "tell"),
+        (Program::Tuner, "tell --json --format cu8"),
+    ] {
+        for (rate, _) in RATES {
+            let line = format!(in rt.alloc(); "{front} --rate {rate}")?;
+            let words = command_line(rt.alloc(), &line)?;
+            let (output, _) = output_unread(rt.alloc(), program, &words)?;
+            assert!(rt; output.status == Status::ReadFault, "{line}");
+        }
+    }
+    Ok(())
+}
+
+#[test]
+fn no_other_rate_is_taken(rt: HostRuntime) -> Result<(), Fail> {
+    for back in [
+        "--rate",
+        "--rate 0",
+        "--rate 1",
+        "--rate 1.920",
+        "--rate 01.92",
+        "--rate 1,92",
+        "--rate +1.92",
+        "--rate 1.92e6",
+        "--rate 1920000",
+        "--rate 2.4",
+        "--rate 3.84M",
+        "--rate 11.52",
+        "--rate 23.04",
+        "--rate 61.44",
+        "--rate cu8",
+        "--rate 3.84 7.68",
+        "--rate 3.84 --rate 3.84",
+        "--rate 3.84 --json",
+        "--rate 3.84 --format cu8",
+        "--rate=3.84",
+        "3.84",
+    ] {
+        let line = format!(in rt.alloc(); "search {back}")?;
+        let words = command_line(rt.alloc(), &line)?;
+        assert!(rt;
+            is_no_form(rt.alloc(), Program::Receiver, &words)?,
+            "{line}"
+        );
+    }
+    Ok(())
+}
+
+#[test]
+fn forms_without_a_recording_take_no_rate(rt: HostRuntime) -> Result<(), Fail> {
+    for (program, front) in [
+        (Program::Receiver, "check"),
+        (Program::Receiver, "transmit"),
+        (Program::Receiver, "make 7"),
+        (Program::Receiver, "help"),
+        (Program::Receiver, "version"),
+        (Program::Tuner, "apply"),
+        (Program::Tuner, "apply 5"),
+        (Program::Tuner, "apply --format cu8"),
+        (Program::Tuner, "help"),
+    ] {
+        let line = format!(in rt.alloc(); "{front} --rate 1.92")?;
+        let words = command_line(rt.alloc(), &line)?;
+        assert!(rt; is_no_form(rt.alloc(), program, &words)?, "{line}");
+    }
+    Ok(())
+}
+
+// ---- silence
+
+#[test]
+fn each_report_of_silence(rt: HostRuntime) -> Result<(), Fail> {
+    for (front, report) in [
+        ("hits", "hits 0\n"),
+        ("ids --json", "[]\n"),
+        ("search --ports 2", "cells 0\n"),
+        ("search --ports 4 --json", "[]\n"),
+        ("search --prefix long", "cells 0\n"),
+        ("search --cancel", "cells 0\ncancelled none\n"),
+        ("search --all --json", "[]\n"),
+        ("evidence", "evidence 0\n"),
+        ("certify", ""),
+    ] {
+        let line = format!(in rt.alloc(); "{front} --rate 3.84")?;
+        assert!(rt;
+            gives(rt.alloc(), &line, silence(rt.alloc(), 460_800)?, report)?,
+            "{line}"
+        );
+    }
+    Ok(())
+}
+
+#[test]
+fn silence_is_listed_at_each_rate(rt: HostRuntime) -> Result<(), Fail> {
+    for (rate, factor) in RATES {
+        let zeros = silence(rt.alloc(), 230_400 * factor)?;
+        let line = format!(in rt.alloc(); "search --rate {rate}")?;
+        assert!(rt; gives(rt.alloc(), &line, zeros, "cells 0\n")?, "{line}");
+    }
+    Ok(())
+}
+
+#[test]
+fn silence_of_8_bits_is_listed_at_each_rate(rt: HostRuntime) -> Result<(), Fail> {
+    for (rate, factor) in RATES {
+        let quiet = vec![in rt.alloc(); 127u8; 115_200 * factor]?;
+        let line = format!(in rt.alloc(); "search --format cu8 --rate {rate}")?;
+        assert!(rt; gives(rt.alloc(), &line, quiet, "cells 0\n")?, "{line}");
+    }
+    Ok(())
+}
+
+#[test]
+fn silence_has_no_offset(rt: HostRuntime) -> Result<(), Fail> {
+    let zeros = silence(rt.alloc(), 921_600)?;
+    assert!(rt;
+        gives_by(
+            rt.alloc(),
+            Program::Tuner,
+            "tell --rate 7.68",
+            zeros,
+            "hits 0\n"
+        )?
+    );
+    Ok(())
+}
+
+// ---- lengths
+
+#[test]
+fn lengths_are_limited_in_time(rt: HostRuntime) -> Result<(), Fail> {
+    for (rate, factor) in RATES {
+        let line = format!(in rt.alloc(); "hits --rate {rate}")?;
+        for (count, refusal, code) in [
+            (0, Status::TooShort, 4),
+            (230_400 * factor - 4, Status::TooShort, 4),
+            (230_400 * factor - 1, Status::Ragged, 3),
+            (230_400 * factor + 2, Status::Ragged, 3),
+        ] {
+            let output = output_of(rt.alloc(), &line, silence(rt.alloc(), count)?)?;
+            assert!(rt; output.is_refused(refusal, code), "{line}: {count} bytes");
+        }
+    }
+    Ok(())
+}
+
+#[test]
+fn one_second_is_the_maximum(rt: HostRuntime) -> Result<(), Fail> {
+    let alloc = rt.alloc();
+    for (line, most) in [
+        ("certify --rate 1.92", 7_680_000),
+        ("hits --rate 3.84", 15_360_000),
+        ("hits --format cu8 --rate 7.68", 15_360_000),
+    ] {
+        let whole = vec![in alloc; 127u8; most]?;
+        assert!(rt;
+            output_of(alloc, line, whole)?.status == Status::Done,
+            "{line}"
+        );
+        let longer = vec![in alloc; 127u8; most + 1]?;
+        assert!(rt;
+            output_of(alloc, line, longer)?.is_refused(Status::TooLong, 5),
+            "{line}"
+        );
+    }
+    Ok(())
+}
+
+// ---- cells
+
+// Returns whether a command has the same nonempty output for `first` without a rate, and for `second` at 1.92 million
+// samples per second.
+fn agrees(
+    alloc: Global,
+    program: Program,
+    front: &str,
+    first: &[u8],
+    second: &[u8],
+) -> Result<bool, AllocError> {
+    let plain = output_by(alloc, program, front, first.to_vec(alloc)?)?;
+    let line = format!(in alloc; "{front} --rate 1.92")?;
+    let rated = output_by(alloc, program, &line, second.to_vec(alloc)?)?;
+    Ok(
+        plain.status == Status::Done
+            && !plain.written.is_empty()
+            && rated.is(Status::Done, &plain.written),
+    )
+}
+
+// Checks that commands of `lte_cli` have the same output for the plain cell with `--rate 1.92` as without: nothing is
+// converted at this rate, and the recording is short.
+fn have_the_same_reports(rt: &impl Abort, alloc: Global, fronts: &[&str]) -> Result<(), Fail> {
+    let cell = sent_by(alloc, "")?.written;
+    for front in fronts {
+        assert!(rt;
+            agrees(alloc, Program::Receiver, front, &cell, &cell)?,
+            "{front}"
+        );
+    }
+    Ok(())
+}
+
+#[test]
+fn hits_and_reasons_at_1_92(rt: HostRuntime) -> Result<(), Fail> {
+    have_the_same_reports(&rt, rt.alloc(), &["hits", "ids --json", "why 3"])
+}
+
+#[test]
+fn lists_at_1_92(rt: HostRuntime) -> Result<(), Fail> {
+    have_the_same_reports(&rt, rt.alloc(), &["search --json", "search --all"])
+}
+
+#[test]
+fn rounds_at_1_92(rt: HostRuntime) -> Result<(), Fail> {
+    have_the_same_reports(&rt, rt.alloc(), &["search --cancel"])
+}
+
+#[test]
+fn evidence_at_1_92(rt: HostRuntime) -> Result<(), Fail> {
+    have_the_same_reports(&rt, rt.alloc(), &["evidence", "evidence --json"])
+}
+
+#[test]
+fn certificates_at_1_92(rt: HostRuntime) -> Result<(), Fail> {
+    have_the_same_reports(&rt, rt.alloc(), &["certify"])
+}
+
+// Returns a recording in which each 16-bit sample of `bytes` is repeated `factor` times.
+fn repeated(alloc: Global, bytes: &[u8], factor: usize) -> Result<Vec<u8>, AllocError> {
+    let mut output = Vec::new(alloc);
+    for sample in bytes.chunks(4) {
+        for _ in 0..factor {
+            output.extend_from_slice(sample)?;
+        }
+    }
+    Ok(output)
+}
+
+#[test]
+fn a_cell_is_listed_at_each_rate(rt: HostRuntime) -> Result<(), Fail> {
+    let alloc = rt.alloc();
+    let cell = sent_by(alloc, "")?.written;
+    for (rate, factor) in RATES {
+        let line = format!(in alloc; "search --rate {rate}")?;
+        let bytes = repeated(alloc, &cell, factor)?;
+        assert!(rt; gives(alloc, &line, bytes, PLAIN_REPORT)?, "{line}");
+    }
+    Ok(())
+}
+
+// The hits of the plain cell at 3.84 million samples per second, each sample twice.
+const IDS: &str =
+    "[{\"at\":0,\"energy\":1902696,\"identity\":0,\"n2\":0,\"peak\":3613690761337,\"power\":1996394,\"secondary\":\
+{\"best\":{\"group\":0,\"score\":494746822566,\"subframe\":0},\"second\":{\"group\":166,\"score\":241102192736,\
+\"subframe\":5}},\"subframe\":0,\"t\":832},{\"at\":0,\"energy\":1902756,\"identity\":0,\"n2\":0,\
+\"peak\":3614051937956,\"power\":1996394,\"secondary\":{\"best\":{\"group\":0,\"score\":494638977928,\
+\"subframe\":5},\"second\":{\"group\":166,\"score\":241215183618,\"subframe\":0}},\"subframe\":5,\"t\":10432}]\n";
+
+// The estimate of the plain cell at 15.36 million samples per second, each sample eight times.
+const ESTIMATE: &str =
+    "{\"candidates\":[{\"coarse\":0,\"energy\":1876516,\"peak\":3216136772242,\"power\":1996394,\"turn\":0},\
+{\"coarse\":8,\"energy\":1882049,\"peak\":3022433868625,\"power\":1996394,\"turn\":251},{\"coarse\":-12,\
+\"energy\":1868418,\"peak\":2975850952850,\"power\":1996394,\"turn\":-377},{\"coarse\":-8,\"energy\":1759115,\
+\"peak\":2092514232785,\"power\":1996394,\"turn\":-248}],\"told\":{\"cells\":1,\"hits\":2,\"turn\":0}}\n";
+
+#[test]
+fn hits_are_those_of_the_converted_samples(rt: HostRuntime) -> Result<(), Fail> {
+    let alloc = rt.alloc();
+    let twice = repeated(alloc, &sent_by(alloc, "")?.written, 2)?;
+    assert!(rt; gives(alloc, "ids --json --rate 3.84", twice, IDS)?);
+    Ok(())
+}
+
+#[test]
+fn the_offset_is_that_of_the_converted_samples(rt: HostRuntime) -> Result<(), Fail> {
+    let alloc = rt.alloc();
+    let often = repeated(alloc, &sent_by(alloc, "")?.written, 8)?;
+    let line = "tell --json --rate 15.36";
+    assert!(rt; gives_by(alloc, Program::Tuner, line, often, ESTIMATE)?);
+    Ok(())
+}
+
+// Checks that samples after the first 170 ms, here of large magnitude, have no effect on a command with a rate.
+fn ends_early(rt: &impl Abort, alloc: Global, program: Program, front: &str) -> Result<(), Fail> {
+    let mut first = sent_by(alloc, "")?.written;
+    first.extend_from_slice(&silence(alloc, 1_305_600 - 230_400)?)?;
+    let mut longer = first.clone()?;
+    longer.extend_from_slice(&vec![in alloc; 127u8; 40_000]?)?;
+    assert!(rt; agrees(alloc, program, front, &first, &longer)?, "{front}");
+    Ok(())
+}
+
+#[test]
+fn later_samples_have_no_effect_on_rounds(rt: HostRuntime) -> Result<(), Fail> {
+    ends_early(&rt, rt.alloc(), Program::Receiver, "search --cancel")
+}
+
+#[test]
+fn later_samples_have_no_effect_on_certificates(rt: HostRuntime) -> Result<(), Fail> {
+    ends_early(&rt, rt.alloc(), Program::Receiver, "certify")
+}
+
+#[test]
+fn later_samples_have_no_effect_on_the_offset(rt: HostRuntime) -> Result<(), Fail> {
+    ends_early(&rt, rt.alloc(), Program::Tuner, "tell --json")
+}
