@@ -1,5 +1,5 @@
 -- A recording has one cell list under each rule, and one text for it.
-use Rattle.std.proofs.Common.{◌≡◌, ℕ, zero, suc, ◌<◌, List, [], ◌∷◌, length, map, get_or, slice_index_or, refl, ap, sym, subst, ◌∙◌, arith, string_bytes}
+use Rattle.std.proofs.Common.{◌≡◌, ℕ, zero, suc, ◌<◌, List, [], ◌∷◌, length, map, get_or, slice_index_or, Option, Some, None, refl, ap, sym, subst, ◌∙◌, arith, string_bytes}
 use Rattle.std.proofs.Math.Path.{fun_ext}
 use Rattle.std.proofs.lemmas.Result.{IfOk-weaker}
 use Rattle.std.specs.Prelude.{IfOk, Result, String}
@@ -11,6 +11,8 @@ use Rattle.lte_types.specs.declared.entry.Entry.{Entry}
 use Rattle.lte_types.specs.declared.carrier.Carrier.{Carrier}
 use Rattle.lte_types.specs.Carrier.{carriers}
 use Rattle.explain.proofs.Listed.{is_one_list}
+use Rattle.halving.specs.Wide.{Wide}
+use Rattle.wide_list.proofs.Lists.{one_wide_list}
 use Rattle.report_json.specs.Rounds.{IsCancelJson}
 use Rattle.report_text.proofs.OneText.{one_cancel_text}
 use Rattle.report_json.proofs.OneText.{one_cancel_json}
@@ -22,16 +24,20 @@ use Rattle.lte_top.specs.declared.reading.Signal.{Signal}
 use Rattle.lte_top.specs.Line.{as_line, IsLine}
 use Rattle.evidence.specs.Receivers.{receiver_of}
 use Rattle.lte_types.proofs.Carriers.{each_stands}
-use Rattle.lte_top.specs.Searching.{IsListOf, IsListAt, list_text, lists_text, IsListText, IsTextOfAll, IsCancelled, IsSearch}
+use Rattle.lte_top.specs.Searching.{IsListOf, IsListWith, IsListAt, list_text, lists_text, IsListText, IsTextOfAll, IsCancelled, IsSearch}
 
 -- ---- lists
 
 pub one_list : (carrier : Carrier) (samples : List Sample) (first second : List Entry) → IsListOf carrier samples first → IsListOf carrier samples second → first ≡ second
 one_list carrier samples first second a b = is_one_list (receiver_of carrier) samples first second a.explained b.explained
 
+one_list_with : (wide : Option Wide) (carrier : Carrier) (samples : List Sample) (first second : List Entry) → IsListWith wide carrier samples first → IsListWith wide carrier samples second → first ≡ second
+one_list_with None carrier samples first second a b = one_list carrier samples first second a b
+one_list_with (Some wide) carrier samples first second a b = one_wide_list (receiver_of carrier) wide first second a.is_list b.is_list
+
 -- `search` writes one list for a signal and a transmission scheme
 pub one_list_at : (carrier : Carrier) (signal : Signal) (first second : List Entry) → IsListAt carrier signal first → IsListAt carrier signal second → first ≡ second
-one_list_at carrier signal first second a b = one_list carrier signal.narrow first second a b
+one_list_at carrier signal first second a b = one_list_with signal.wide carrier signal.narrow first second a b
 
 -- ---- texts
 

@@ -1,9 +1,11 @@
 -- A recording's cell lists under every rule, and their texts. (own)
-use Rattle.std.specs.Prelude.{◌≡◌, ℕ, List}
+use Rattle.std.specs.Prelude.{◌≡◌, ℕ, Option, Some, None, List}
 use Rattle.cs_num.specs.declared.Sample.{Sample}
 use Rattle.lte_types.specs.declared.entry.Entry.{Entry}
 use Rattle.lte_types.specs.declared.carrier.Carrier.{Carrier}
 use Rattle.clean_air.specs.Clean.{IsListBy}
+use Rattle.halving.specs.Wide.{Wide, narrowed}
+use Rattle.wide_list.specs.List.{IsWideListFor}
 use Rattle.explain.specs.Deciding.{AreDecidedFor}
 use Rattle.evidence.specs.Receivers.{receiver_of}
 use Rattle.report_json.specs.Rounds.{IsCancelJson}
@@ -31,9 +33,20 @@ IsListOf carrier = IsListBy (receiver_of carrier)
 abbrev pub FirstFramesDecideEach : Type 0
 FirstFramesDecideEach = (carrier : Carrier) → AreDecidedFor (receiver_of carrier)
 
+-- the cell list of a wide recording: the list of its samples at 1.92 million per second, for which all holds that
+-- `IsListOf` states, with SIB1 from the wide samples where it is missing
+pub record IsWideListOf (carrier : Carrier) (wide : Wide) (list : List Entry) : Type 0 where
+  pub is_list : IsWideListFor (receiver_of carrier) wide list
+  pub narrow : IsListOf carrier (narrowed wide) is_list.narrow
+
+-- the cell list of samples at 1.92 million per second, or of the wide recording from which they are converted
+abbrev pub IsListWith : Option Wide → Carrier → List Sample → List Entry → Type 0
+IsListWith None carrier samples list = IsListOf carrier samples list
+IsListWith (Some wide) carrier samples list = IsWideListOf carrier wide list
+
 -- the cell list that `search` writes for one transmission scheme
 abbrev pub IsListAt : Carrier → Signal → List Entry → Type 0
-IsListAt carrier signal = IsListOf carrier signal.narrow
+IsListAt carrier signal = IsListWith signal.wide carrier signal.narrow
 
 -- ---- a cell list's text
 

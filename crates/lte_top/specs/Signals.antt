@@ -41,6 +41,10 @@ signal_at (Some rate) samples = record {
 abbrev pub signal_in : RecordingForm → List ℕ → Signal
 signal_in form bytes = signal_at form.rate (samples_in form.samples bytes)
 
+-- a signal's samples at 1.92 million per second are converted from its samples at the given rate, if it has any
+abbrev pub IsConverted : Signal → Type 0
+IsConverted signal = IfSome signal.wide (λ wide. signal.narrow ≡ narrowed wide)
+
 -- ---- reading
 
 -- a recording was read, and `wide` is its first 170 ms

@@ -13,7 +13,7 @@ ghost use Rattle.lte_top.specs.Forms.{recording};
 ghost use Rattle.lte_top.specs.Reports.{IsReport, kept_for as kept_in, kept_for_list as kept_in_list};
 ghost use Rattle.lte_top.specs.Reports.{wide_for as wide_in};
 ghost use Rattle.lte_top.specs.Run.{Cause, HasOutput};
-ghost use Rattle.lte_top.specs.Signals.{plain, rated, HasReadNarrow, HasReadWide};
+ghost use Rattle.lte_top.specs.Signals.{plain, rated, HasReadNarrow, HasReadWide, IsConverted};
 
 use crate::status::Status;
 use cs_num::Sample;
@@ -46,6 +46,7 @@ pub(crate) fn signal_for<S: Source>(
         IsReport report.now output signal text →
         HasOutput (Reports report.now output form) text (S.state source.old) (S.state source.new)) }
     ensures valid { IfOk result (λ signal. IsRecording signal.narrow) }
+    ensures converted { IfOk result IsConverted }
     ensures err { IfErr result (Cause (recording form) (S.state source.old) (S.state source.new)) }
     ensures never_falls { (S.state source.old).faults ≤ (S.state source.new).faults }
 {
@@ -66,6 +67,7 @@ fn plain_signal<S: Source>(
         IsReport report.now output signal text →
         HasOutput (Reports report.now output (plain form)) text (S.state source.old) (S.state source.new)) }
     ensures valid { IfOk result (λ signal. IsRecording signal.narrow) }
+    ensures converted { IfOk result IsConverted }
     ensures err { IfErr result (Cause (recording (plain form)) (S.state source.old) (S.state source.new)) }
     ensures never_falls { (S.state source.old).faults ≤ (S.state source.new).faults }
 {
@@ -85,6 +87,7 @@ fn wide_signal<S: Source>(
         IsReport report.now output signal text →
         HasOutput (Reports report.now output (rated form rate)) text (S.state source.old) (S.state source.new)) }
     ensures valid { IfOk result (λ signal. IsRecording signal.narrow) }
+    ensures converted { IfOk result IsConverted }
     ensures err { IfErr result (Cause (recording (rated form rate)) (S.state source.old) (S.state source.new)) }
     ensures never_falls { (S.state source.old).faults ≤ (S.state source.new).faults }
 {

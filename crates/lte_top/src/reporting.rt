@@ -9,6 +9,7 @@ ghost use Rattle.lte_top.specs.Line.{as_line};
 ghost use Rattle.lte_top.specs.Reports.{IsEvidence, IsEvidenceJson};
 ghost use Rattle.lte_top.specs.Reports.{IsEvidenceText, IsHits, IsIds, IsReport, IsTellReport};
 ghost use Rattle.lte_top.specs.Run.{Cause, HasOutput};
+ghost use Rattle.lte_top.specs.Signals.{IsConverted};
 ghost use Rattle.lte_args.specs.declared.form.Form.TheVariants.{Report as Reports};
 
 use crate::reading::{Signal, signal_for};
@@ -52,7 +53,8 @@ fn text_of_report(
     output: Output,
     signal: &Signal,
 ) -> Result<String, AllocError>
-    requires { IsRecording signal.now.narrow }
+    requires valid { IsRecording signal.now.narrow }
+    requires converted { IsConverted signal.now }
     ensures { IfOk result (λ text. IsReport report output signal.now (string_bytes text)) }
 {
     match report {

@@ -1,13 +1,15 @@
 //! A recording's cell lists under every rule.
 
-ghost use Rattle.std.specs.Prelude.{◌≡◌, IfOk, IfSome, List, length, map, string_bytes};
+ghost use Rattle.std.specs.Prelude.{◌≡◌, IfOk, IfSome, List, OnOk, length, map, string_bytes};
 ghost use Rattle.std.specs.List.{AllZip};
+ghost use Rattle.halving.specs.Wide.{narrowed};
 ghost use Rattle.lte_types.specs.Carrier.{carriers};
 ghost use Rattle.sample_file.specs.Recording.{IsRecording};
 ghost use Rattle.pss_search.specs.Hits.{hits_of as all_hits};
 ghost use Rattle.explain.specs.Readings.{IsReadingFor};
 ghost use Rattle.evidence.specs.Receivers.{receiver_of};
-ghost use Rattle.lte_top.specs.Searching.{IsListOf, IsListAt, IsListText, IsTextOfAll, IsCancelled, IsSearch};
+ghost use Rattle.lte_top.specs.Searching.{IsWideListOf, IsListOf, IsListAt, IsListText, IsTextOfAll, IsCancelled, IsSearch};
+ghost use Rattle.lte_top.specs.Signals.{IsConverted};
 ghost use Rattle.lte_top.specs.Searching.{list_text as text_of, lists_text as texts_of};
 
 use crate::reading::Signal;
@@ -15,6 +17,7 @@ use crate::reporting::{hits_of, line_of};
 use clean_air::explain_clean_by;
 use explain::{EntryList, OnePort, Workspace};
 use four_ports::FourPorts;
+use halving::WideRecording;
 use long_prefix::ExtendedPrefix;
 use lte_args::{Output, Rule};
 use lte_types::{Carrier, Entry, Hit};
@@ -23,6 +26,7 @@ use report_text::{cancel_text, text, text_of_all};
 use sample_file::Recording;
 use std::alloc::{AllocError, Global};
 use two_ports::TwoPorts;
+use wide_list::{WideWork, inform};
 
 // Returns the output of `search`: a recording's cell list or lists under `rule`.
 pub(crate) fn search_text(
@@ -31,7 +35,8 @@ pub(crate) fn search_text(
     output: Output,
     signal: &Signal,
 ) -> Result<String, AllocError>
-    requires { IsRecording signal.now.narrow }
+    requires valid { IsRecording signal.now.narrow }
+    requires converted { IsConverted signal.now }
     ensures { IfOk result (λ text. IsSearch rule output signal.now (string_bytes text)) }
 {
     match rule {
@@ -50,10 +55,47 @@ fn text_of_carrier(
     output: Output,
     signal: &Signal,
 ) -> Result<String, AllocError>
+    requires valid { IsRecording signal.now.narrow }
+    requires converted { IsConverted signal.now }
     ensures { IfOk result (λ text. IsListText carrier output signal.now (string_bytes text)) }
 {
-    let list = list_of(alloc, carrier, &signal.narrow)?;
+    let mut list = list_of(alloc, carrier, &signal.narrow)?;
+    inform_list(alloc, carrier, signal, &mut list)?;
     list_text(alloc, output, list.slice())
+}
+
+// Changes the list of a signal at 1.92 million samples per second to the one that `search` writes: with SIB1 from the
+// samples at the given rate, if there are any.
+fn inform_list(
+    alloc: Global,
+    carrier: Carrier,
+    signal: &Signal,
+    list: &mut EntryList,
+) -> Result<(), AllocError>
+    requires valid { IsRecording signal.now.narrow }
+    requires converted { IsConverted signal.now }
+    requires listed { IsListOf carrier signal.now.narrow list.old }
+    ensures { OnOk result (IsListAt carrier signal.now list.new) }
+{
+    match &signal.wide {
+        Some(wide) => inform_wide(alloc, carrier, wide, list),
+        None => Ok(()),
+    }
+}
+
+// Changes the list of a wide recording at 1.92 million samples per second to that of the wide recording.
+fn inform_wide(
+    alloc: Global,
+    carrier: Carrier,
+    wide: &WideRecording,
+    list: &mut EntryList,
+) -> Result<(), AllocError>
+    requires valid { IsRecording (narrowed wide.now) }
+    requires listed { IsListOf carrier (narrowed wide.now) list.old }
+    ensures { OnOk result (IsWideListOf carrier wide.now list.new) }
+{
+    let mut work = WideWork::new(alloc)?;
+    inform(alloc, wide, carrier, list, &mut work)
 }
 
 // Returns a cell list's text.
@@ -125,7 +167,8 @@ fn read_list_by(
 
 // Returns the text of the cell lists for every transmission scheme.
 fn text_of_each(alloc: Global, output: Output, signal: &Signal) -> Result<String, AllocError>
-    requires { IsRecording signal.now.narrow }
+    requires valid { IsRecording signal.now.narrow }
+    requires converted { IsConverted signal.now }
     ensures { IfOk result (λ text. IsTextOfAll output signal.now (string_bytes text)) }
 {
     let lists = lists_of(alloc, signal)?;
@@ -134,7 +177,8 @@ fn text_of_each(alloc: Global, output: Output, signal: &Signal) -> Result<String
 
 // Returns the cell lists for every transmission scheme, in the order of `Carrier::ALL`.
 fn lists_of(alloc: Global, signal: &Signal) -> Result<Vec<EntryList>, AllocError>
-    requires { IsRecording signal.now.narrow }
+    requires valid { IsRecording signal.now.narrow }
+    requires converted { IsConverted signal.now }
     ensures { IfOk result (λ lists. AllZip (λ carrier. IsListAt carrier signal.now) carriers lists.items) }
 {
     let found = hits_of(alloc, &signal.narrow)?;
@@ -155,11 +199,14 @@ fn list_among(
     hits: &[Hit],
     work: &mut Workspace,
 ) -> Result<EntryList, AllocError>
-    requires { hits.now ≡ all_hits signal.now.narrow }
+    requires valid { IsRecording signal.now.narrow }
+    requires converted { IsConverted signal.now }
+    requires hits { hits.now ≡ all_hits signal.now.narrow }
     ensures { IfOk result (IsListAt carrier signal.now) }
 {
     let mut list = EntryList::new(alloc)?;
     read_list_by(&signal.narrow, carrier, Some(hits), work, &mut list);
+    inform_list(alloc, carrier, signal, &mut list)?;
     Ok(list)
 }
 
