@@ -1,7 +1,6 @@
 //! The process entry point: arguments, exit code, and the line on standard error.
 
-use lte_process::run_process;
-use lte_top::Program;
+use lte_top::{Program, run_process};
 use std::alloc::{Alloc, Global};
 use std::cell::RefCell;
 use std::env::{Env, FillError};

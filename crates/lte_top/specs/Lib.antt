@@ -15,3 +15,4 @@ pub mod Run
 pub mod Found
 pub mod Applied
 pub mod Why
+pub mod Exit

@@ -8,6 +8,7 @@ mod certifying;
 mod laws;
 mod making;
 mod pages;
+mod process;
 mod reading;
 mod reasoning;
 mod reporting;
@@ -23,6 +24,7 @@ pub use laws::{
     what_is_made_is_held, what_is_sent_is_found,
 };
 pub use lte_args::{Form, Output, Page, Program, Rate, RecordingForm, Report, Rule, Turn, Words};
+pub use process::run_process;
 pub use status::Status;
 pub use top::{run, run_in_memory, run_program};
 pub use version::{DEFINITION, VERSION};

@@ -2,8 +2,7 @@
 //! output.
 #![tactic(auto)]
 
-use lte_args::Program;
-use lte_process::run_process;
+use lte_top::{Program, run_process};
 use std::process::ExitCode;
 
 fn main(rt: HostRuntime) -> ExitCode {

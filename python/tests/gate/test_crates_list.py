@@ -60,7 +60,7 @@ def test_chains_and_memory_of_this_repository():
     crates = crates_list.Crates(TOP, ["lte_cli"])
     chains = crates.chains(lambda name: 1)
     assert max(chains.values()) == chains["finite"] and chains["lte_cli"] == 1
-    assert crates.below["lte_cli"][-1] == "lte_process" and crates.memory("finite") > 1e9
+    assert crates.below["lte_cli"][-1] == "lte_top" and crates.memory("finite") > 1e9
 
 
 def test_no_such_crate():

@@ -1,11 +1,10 @@
-//! Process entry point: turns a process's arguments and standard streams into a call of `lte_top`, and its status into
-//! an exit code and a line on standard error.
+//! Process entry point: turns a process's arguments and standard streams into a call of `run_program`, and its status
+//! into an exit code and a line on standard error.
 //!
 //! If an argument is not UTF-8 text, the answer is `Usage`; if memory for the arguments is refused, it is
 //! `OutOfMemory`. In both cases nothing is read or written.
 //!
 //! Tests: `fault_tests/src/edge.rt`.
-#![tactic(auto)]
 
 ghost use Rattle.std.specs.Prelude.{◌≡◌, ◌⊎◌, Ok, Err, Some, IfOk, IfErr, OnErr, drop, map, string_bytes};
 ghost use Rattle.std.specs.Vec.Iter.{into_iter_items};
@@ -13,10 +12,12 @@ ghost use Rattle.std.specs.IoError.{error_kind};
 ghost use Rattle.std.specs.Process.{exit_status};
 ghost use Rattle.lte_top.specs.Answers.{code_of};
 ghost use Rattle.lte_top.specs.declared.status.Status.TheVariants.{OutOfMemory};
-ghost use Rattle.lte_process.specs.Exit.{IsAnswerTo, IsExit, IsRun, line_of, line_text, refusal_of};
+ghost use Rattle.lte_top.specs.Exit.{IsAnswerTo, IsExit, IsRun, line_of, line_text, refusal_of};
 
+use crate::status::Status;
+use crate::top::run_program;
 use cs_outside::{StdSink, StdSource};
-use lte_top::{Program, Status, Words, run_program};
+use lte_args::{Program, Words};
 use std::alloc::{Alloc, AllocError, Global};
 use std::env::{self, Args, Env};
 use std::fmt;

@@ -13,7 +13,7 @@ use Rattle.lte_top.specs.declared.status.Status.{Status}
 use Rattle.lte_top.specs.declared.status.Status.TheVariants.{Done, OutOfMemory, Usage}
 use Rattle.lte_top.specs.Answers.{code_of, text_of}
 use Rattle.lte_top.specs.Run.{Runs}
-use Rattle.lte_process.specs.declared.Line.{Line}
+use Rattle.lte_top.specs.declared.process.Line.{Line}
 
 -- the answer if the arguments are unavailable: `OutOfMemory` if their allocation failed, otherwise `Usage`, as an
 -- argument that is not UTF-8 text selects no form

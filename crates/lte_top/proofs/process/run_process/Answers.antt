@@ -1,8 +1,8 @@
 use Rattle.std.proofs.Common.{◌∙◌, sym, subst, Ok, Err, map, string_bytes}
 use Rattle.std.specs.Vec.Iter.{into_iter_items}
-use Rattle.lte_process.specs.Exit.{IsRun}
-use Rattle.lte_process.proofs.run_process.Goals.{in-Ok, in-Err}
-use Rattle.lte_process.proofs.run_process.Goals as goal
+use Rattle.lte_top.specs.Exit.{IsRun}
+use Rattle.lte_top.proofs.process.run_process.Goals.{in-Ok, in-Err}
+use Rattle.lte_top.proofs.process.run_process.Goals as goal
 
 pub returns : goal.returns
 returns g c = elim c.match-args.branch [

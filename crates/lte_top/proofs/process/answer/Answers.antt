@@ -3,8 +3,8 @@ use Rattle.cs_outside.specs.Outside.{Outside, SourceState, SinkState}
 use Rattle.lte_args.specs.declared.form.Program.{Program}
 use Rattle.lte_top.specs.declared.status.Status.{Status}
 use Rattle.lte_top.specs.Run.{Runs}
-use Rattle.lte_process.specs.Exit.{at_start}
-use Rattle.lte_process.proofs.answer.Goals as goal
+use Rattle.lte_top.specs.Exit.{at_start}
+use Rattle.lte_top.proofs.process.answer.Goals as goal
 
 -- a reader and a writer with this many failed calls
 abbrev reader : ℕ → SourceState
