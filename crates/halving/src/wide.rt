@@ -12,7 +12,8 @@ use std::alloc::{AllocError, Global};
 use std::marker::Model;
 
 /// A list of samples at 1.92 * 2^rate million samples per second, where `rate` is 0 to 4: 57,600 * 2^rate to 326,400 *
-/// 2^rate samples, 30 ms to 170 ms. Contracts see the samples and the rate exponent. (own)
+/// 2^rate samples of 4 bytes, 30 ms to 170 ms, so at most 20.9 MB. Contracts see the samples and the rate exponent.
+/// (own)
 #[derive(Drop)]
 pub struct WideRecording {
     samples: Vec<Sample>,
@@ -58,8 +59,8 @@ impl WideRecording {
     }
 }
 
-/// Returns a wide recording at 1.92 million samples per second: 57,600 to 326,400 samples. Fails only if an allocation
-/// fails. (own)
+/// Returns a wide recording at 1.92 million samples per second: 57,600 to 326,400 samples, at most 1.3 MB. Meanwhile
+/// two intermediate recordings occupy up to 15.7 MB. Fails only if an allocation fails. (own)
 pub fn narrowed(alloc: Global, wide: &WideRecording) -> Result<Recording, AllocError>
     ensures value { IfOk result (λ narrow. narrow ≡ narrowed_of wide.now) }
     ensures most { IfOk result (λ narrow. length narrow ≤ most_kept) }
