@@ -29,8 +29,8 @@ def tries(recording, rate, cell, start, sfn):
 
 
 def is_alike(one, other):
-    """Whether two grants are for the same blocks and size."""
-    return (one.blocks, one.size) == (other.blocks, other.size)
+    """Whether two grants agree in mapping, run of virtual blocks, and size."""
+    return (one.mapping, one.run, one.size) == (other.mapping, other.run, other.size)
 
 
 def together(cell, frames, grant):

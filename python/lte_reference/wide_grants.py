@@ -17,9 +17,12 @@ FIRST_GAPS = {6: 3, 15: 8, 25: 12, 50: 27, 75: 32, 100: 48}
 
 
 class Grant(NamedTuple):
-    """Format, the blocks of slots 10 and 11, size of the transport block in bits, and redundancy version."""
+    """Format; mapping (`localized`, or distributed by the `first` or `second` gap); start and length of the run of virtual
+    blocks; the blocks of slots 10 and 11; size of the transport block in bits; and redundancy version."""
 
     form: str
+    mapping: str
+    run: tuple
     blocks: tuple
     size: int
     version: int
@@ -96,6 +99,12 @@ def distributed(blocks, second, start, length):
     return tuple(tuple(sorted(physical(blocks, second, odd, v) for v in virtual)) for odd in (False, True))
 
 
+def spread_grant(form, blocks, second, run, size, version):
+    """Returns a grant of distributed blocks by one of the gaps."""
+    mapping = "second" if second else "first"
+    return Grant(form, mapping, run, distributed(blocks, second, *run), size, version)
+
+
 # ---- bits
 
 
@@ -135,13 +144,13 @@ def long_grant(blocks, bits):
     spread, version, column = bits[1] == 1, number(bits[11 + width : 13 + width]), bits[14 + width]
     if bits[0] == 0 or value >= runs(blocks) or scheme >= len(SIZES[column]):
         return None
-    start, length = run_of(blocks, value)
+    run, size = run_of(blocks, value), SIZES[column][scheme]
     if not spread:
-        return Grant("1A", (tuple(range(start, start + length)),) * 2, SIZES[column][scheme], version)
+        return Grant("1A", "localized", run, (tuple(range(run[0], sum(run))),) * 2, size, version)
     second = blocks >= 50 and bits[10 + width] == 1
-    if start + length > virtual_count(blocks, second):
+    if sum(run) > virtual_count(blocks, second):
         return None
-    return Grant("1A distributed", distributed(blocks, second, start, length), SIZES[column][scheme], version)
+    return spread_grant("1A distributed", blocks, second, run, size, version)
 
 
 def short_grant(blocks, bits, sfn):
@@ -150,5 +159,5 @@ def short_grant(blocks, bits, sfn):
     value, count = number(rest[:-5]), short_steps(blocks, second)
     if value >= runs(count):
         return None
-    start, length = (step(blocks) * x for x in run_of(count, value))
-    return Grant("1C", distributed(blocks, second, start, length), SHORT_SIZES[number(rest[-5:])], version_at(sfn))
+    run = tuple(step(blocks) * x for x in run_of(count, value))
+    return spread_grant("1C", blocks, second, run, SHORT_SIZES[number(rest[-5:])], version_at(sfn))
