@@ -10,6 +10,9 @@ the last ones.
     search --all
     tell --json
 
+Behind those of `search` without `--cancel`, of hits, ids and evidence, `--rate R` says that the recording has R million
+samples per second (`wide_search.py`).
+
 Hits, lists, rounds, evidence and candidates are those of the other second programs, whose lines are read here; nothing
 is shared with the repository's code. Recordings are 16-bit. Slow: seconds for each hit. Debian: python3-numpy.
 """
@@ -17,11 +20,17 @@ import functools
 import itertools
 import json
 import sys
+from typing import NamedTuple
+
+import numpy as np
 
 from . import cancel as second_cancel
 from . import evidence as second_evidence
 from . import tune as tune_reference
 from .search import FRAME, RULES, hits, identity, list_lines, listed, ranked, recording
+from .wide_search import KEPT, RATES
+from .wide_search import list_lines as wide_lines
+from .wide_slots import narrowed
 
 NAMES = dict(zip(RULES, ("one-port", "two-ports", "long-prefix", "four-ports")))
 
@@ -131,18 +140,37 @@ def cells(lines):
     return [cell(part) for part in parted(lines, "cell")[1:]]
 
 
-def of_search(r, words):
-    return cells(list_lines(r, listed(r, RULES[words]), RULES[words]))
+class Lists(NamedTuple):
+    """A recording, and of wide ones the number of the rate."""
+
+    samples: np.ndarray
+    rate: int | None = None
+
+    def lines(self, words):
+        """Returns the lines of a list."""
+        rule = RULES[words]
+        if self.rate is None:
+            return list_lines(self.samples, listed(self.samples, rule), rule)
+        return wide_lines(self.samples, self.rate, rule)
+
+    @property
+    def narrow(self):
+        """The samples at 1.92 million per second."""
+        return self.samples if self.rate is None else narrowed(self.samples[: KEPT << self.rate], self.rate)
 
 
-def of_all(r):
-    return [{**value, "rule": name} for words, name in NAMES.items() for value in of_search(r, words)]
+def of_search(lists, words):
+    return cells(lists.lines(words))
 
 
-def lines_of_all(r):
+def of_all(lists):
+    return [{**value, "rule": name} for words, name in NAMES.items() for value in of_search(lists, words)]
+
+
+def lines_of_all(lists):
     for words, name in NAMES.items():
         yield f"rule {name}"
-        yield from list_lines(r, listed(r, RULES[words]), RULES[words])
+        yield from lists.lines(words)
 
 
 def of_cancel(r):
@@ -187,29 +215,29 @@ def of_tell(samples):
     }
 
 
-FORMS = {
-    "hits --json": of_hits,
-    "ids --json": of_ids,
-    "search --cancel --json": of_cancel,
-    "search --all --json": of_all,
-    **{
-        " ".join([command, *words, "--json"]): functools.partial(of, words=words)
-        for command, of in (("search", of_search), ("evidence", of_evidence))
-        for words in RULES
-    },
-}
+LISTS = {"search --all --json": of_all}
+LISTS |= {" ".join(["search", *words, "--json"]): functools.partial(of_search, words=words) for words in RULES}
+FORMS = {"hits --json": of_hits, "ids --json": of_ids, "search --cancel --json": of_cancel}
+FORMS |= {" ".join(["evidence", *words, "--json"]): functools.partial(of_evidence, words=words) for words in RULES}
 
 
 def main():
-    form = " ".join(sys.argv[1:])
-    if form == "search --all":
-        print("\n".join(lines_of_all(recording())))
-    elif form == "tell --json":
+    words, rate = sys.argv[1:], None
+    if words[-2:-1] == ["--rate"] and words[-1] in RATES:
+        words, rate = words[:-2], RATES.index(words[-1])
+    form = " ".join(words)
+    if form == "tell --json" and rate is None:
         print(as_json(of_tell(tune_reference.samples_of(sys.stdin.buffer.read()))))
-    elif form in FORMS:
-        print(as_json(FORMS[form](recording())))
+    elif form in (*LISTS, *FORMS, "search --all") and (rate is None or "--cancel" not in words):
+        print(text_of(form, Lists(recording(), rate)))
     else:
         sys.exit(__doc__)
+
+
+def text_of(form, lists):
+    if form == "search --all":
+        return "\n".join(lines_of_all(lists))
+    return as_json(LISTS[form](lists) if form in LISTS else FORMS[form](lists.narrow))
 
 
 def as_json(value):

@@ -57,11 +57,12 @@ def read_together(cell, frames):
 
 
 def read_frames(recording, rate, cell, start, sfn):
-    """Returns the lines of SIB1, or why there are none, for a cell whose frame of number `sfn` begins at sample `start`
-    at 1.92 million per second."""
+    """Returns where SIB1 is read, of a `frame` alone or several `frames` together, else `none`, and its lines, or why
+    there are none, for a cell whose frame of number `sfn` begins at sample `start` at 1.92 million per second."""
     frames = []
     for frame in tries(recording, rate, cell, start, sfn):
         if frame.answer.block is not None:
-            return frame.answer.text
+            return "frame", frame.answer.text
         frames.append(frame)
-    return read_together(cell, frames) or frames[0].answer.text
+    lines = read_together(cell, frames)
+    return ("frames", lines) if lines else ("none", frames[0].answer.text)

@@ -7,6 +7,7 @@ rate has them. Prints what `search.py` prints. Slow: seconds for each hit.
 Debian: python3-numpy. Recordings: wide_sender.py.
 """
 import sys
+from typing import NamedTuple
 
 from .search import LONG_PREFIX, ONE_PORT, RULES, cell_line, listed, recording, silent, system
 from .wide_frames import read_frames
@@ -17,29 +18,48 @@ RATES = ("1.92", "3.84", "7.68", "15.36", "30.72")
 KEPT = 326_400  # samples at 1.92 million per second from which a list is made
 
 
+class Line(NamedTuple):
+    """An entry of the list, where SIB1 was read, and its lines or why there are none. SIB1 is read in the recording at
+    1.92 million samples per second (`narrow`), or in one wide `frame` or several wide `frames`, or nowhere (`none`)."""
+
+    entry: tuple
+    source: str
+    text: str
+
+
 def cell_of(entry):
     """Returns the cell that an entry's master block describes."""
     _, identity, _, ports, block = entry
     return Cell(identity, ports, WIDTHS[block >> 21], bool(block >> 20 & 1), block >> 18 & 3)
 
 
-def system_lines(wide, rate, narrow, entry, rule):
-    """Returns the lines of SIB1, or why there are none."""
-    block, lines = system(narrow, entry, silent, rule)
+def line_of(wide, rate, narrow, entry, rule):
+    """Returns the line of an entry."""
+    block, text = system(narrow, entry, silent, rule)
     cell = cell_of(entry)
-    if block is not None or rule == LONG_PREFIX or cell.subcarriers >= 128 << rate:
-        return lines
+    if block is not None:
+        return Line(entry, "narrow", text)
+    if rule == LONG_PREFIX or cell.subcarriers >= 128 << rate:
+        return Line(entry, "none", text)
     start, _, sfn, _, _ = entry
-    return read_frames(wide, rate, cell, start, sfn)
+    return Line(entry, *read_frames(wide, rate, cell, start, sfn))
+
+
+def lines_of(samples, rate, rule=ONE_PORT):
+    """Returns the lines of a list's entries."""
+    wide = samples[: KEPT << rate]
+    narrow = narrowed(wide, rate)
+    return [line_of(wide, rate, narrow, entry, rule) for entry in listed(narrow, rule)]
+
+
+def text_of(found):
+    """Returns the text of a list as lines."""
+    return "\n".join([f"cells {len(found)}"] + [f"{cell_line(one.entry)}\n{one.text}" for one in found]).split("\n")
 
 
 def list_lines(samples, rate, rule=ONE_PORT):
-    """Returns the lines of a list."""
-    wide = samples[: KEPT << rate]
-    narrow = narrowed(wide, rate)
-    found = listed(narrow, rule)
-    cells = [f"{cell_line(entry)}\n{system_lines(wide, rate, narrow, entry, rule)}" for entry in found]
-    return "\n".join([f"cells {len(found)}"] + cells).split("\n")
+    """Returns the lines of a list's text."""
+    return text_of(lines_of(samples, rate, rule))
 
 
 if __name__ == "__main__":

@@ -1,17 +1,20 @@
 #!/usr/bin/python3
-"""wide_levels.py [CELLS [LEVEL ...]]
+"""wide_levels.py [--program PATH] [CELLS [LEVEL ...]]
 
-How often the reference implementation reads SIB1 of cells of any bandwidth from one subframe: at each level of Es/N0
-(20, 5 and 0 dB), for each bandwidth and port count, of so many cells (2) by each of the three formats. Observations, no
-claim.
+How often SIB1 of cells of any bandwidth is read from one subframe: at each level of Es/N0 (20, 5 and 0 dB), for each
+bandwidth and port count, of so many cells (2) by each of the three formats. Observations, no claim. Without PATH the
+reference implementation reads, at the cell's position; with it `PATH search --rate R` lists a recording of 30 ms, in
+which one frame has an even number.
 
 A cell has any identity, PHICH, indicator, candidate, resource blocks (2 to 12), size and redundancy version (code rate
 up to 0.6), and load on 60 % of the other blocks; its frame begins up to half a sample of 1.92 Ms/s off the assumed
 place. Es is the mean power of an element of all ports together. Prints a row for each bandwidth, with the cells read by
 1, 2 and 4 ports; then what was read of the others, and how many blocks were wrong. Debian: python3-numpy.
 """
+import argparse
 import collections
 import pathlib
+import subprocess
 import sys
 
 import numpy as np
@@ -20,6 +23,8 @@ sys.path.insert(0, str(pathlib.Path(__file__).resolve().parents[2] / "python"))
 
 from lte_reference import wide_block, wide_grants, wide_places, wide_sender  # noqa: E402
 from lte_reference.cell import text  # noqa: E402
+from lte_reference.search import fields_lines  # noqa: E402
+from lte_reference.wide_search import RATES  # noqa: E402
 
 LEVELS, FORMS, PORTS = (20, 5, 0), ("1A", "1Ad", "1C"), (1, 2, 4)
 LEAD = 20  # samples of 1.92 Ms/s before the frame
@@ -69,19 +74,57 @@ def plan_for(draw, blocks, ports, form):
             return plan, cell
 
 
+def received(draw, plan, level, sfn, frames):
+    """Returns the samples of frames, or of subframes 4 to 6 of one, behind LEAD samples and a fraction."""
+    rate = wide_sender.rate_of(plan.blocks)
+    if frames == 1:
+        waves = wide_sender.Frame(plan, sfn, draw, (4, 5, 6)).samples(rate)
+    else:
+        waves = wide_sender.sent(plan, sfn, frames, rate, draw)
+    lead = round((LEAD + draw.random() - 0.5) * 2**rate)
+    behind = (frames > 1) * (4 << rate)  # the place is told to a sample or two
+    return wide_sender.received(np.pad(waves, ((0, 0), (lead, behind))), draw, level)
+
+
 def outcome(draw, plan, cell, level):
     """Returns `read`, `wrong`, or why nothing was read."""
     rate, sfn = wide_sender.rate_of(plan.blocks), 2 * int(draw.integers(512))
-    waves = wide_sender.Frame(plan, sfn, draw, (4, 5, 6)).samples(rate)
-    lead = round((LEAD + draw.random() - 0.5) * 2**rate)
-    samples = wide_sender.received(np.pad(waves, ((0, 0), (lead, 0))), draw, level)
-    answer = wide_block.read(samples, rate, cell, LEAD, sfn)
+    answer = wide_block.read(received(draw, plan, level, sfn, 1), rate, cell, LEAD, sfn)
     if answer.block is None:
         return " ".join(answer.text.split()[2:])
-    return "read" if answer.block == (plan.text + [0] * plan.size)[: plan.size] else "wrong"
+    return "read" if answer.block == block_of(plan) else "wrong"
 
 
-def main(count, levels):
+def block_of(plan):
+    """Returns the bits of the plan's transport block."""
+    return (plan.text + [0] * plan.size)[: plan.size]
+
+
+def outcome_of_program(draw, plan, level, program):
+    """Returns `read`, `wrong`, `not listed`, or why nothing was read by a program that lists three frames, the second of
+    which has an even number."""
+    samples = received(draw, plan, level, 2 * int(draw.integers(512)) + 1, 3)
+    ports = ["--ports", str(plan.ports)] * (plan.ports > 1)
+    words = [program, "search", *ports, "--rate", RATES[wide_sender.rate_of(plan.blocks)]]
+    done = subprocess.run(words, input=samples.astype("<i2").tobytes(), stdout=subprocess.PIPE, check=True)
+    found = done.stdout.decode().split(f"\ncell {plan.identity} ")[1:]
+    if not found:
+        return "not listed"
+    lines = found[0].split("\ncell ")[0].strip().split("\n")[1:]
+    if lines[0].startswith("sib1 none"):
+        return " ".join(lines[0].split()[2:])
+    sent = int("".join(map(str, block_of(plan))), 2)
+    return "read" if lines == fields_lines(sent, plan.size).split("\n") else "wrong"
+
+
+def outcomes(draw, blocks, ports, level, count, program):
+    """Yields what is read of so many cells by each format."""
+    for form in FORMS * count:
+        plan, cell = plan_for(draw, blocks, ports, form)
+        yield outcome_of_program(draw, plan, level, program) if program else outcome(draw, plan, cell, level)
+
+
+def main(count, levels, program):
     for level in levels:
         print(f"{level} dB\n| Blocks | 1 port | 2 ports | 4 ports |\n|---|---|---|---|")
         every = collections.Counter()
@@ -89,7 +132,7 @@ def main(count, levels):
             row = []
             for ports in PORTS:
                 draw = np.random.default_rng((blocks, ports, level + 100))
-                found = [outcome(draw, *plan_for(draw, blocks, ports, form), level) for form in FORMS * count]
+                found = list(outcomes(draw, blocks, ports, level, count, program))
                 every.update(found)
                 row.append(f"{found.count('read')} of {len(found)}")
             print(f"| {blocks} | {' | '.join(row)} |", flush=True)
@@ -97,5 +140,8 @@ def main(count, levels):
 
 
 if __name__ == "__main__":
-    numbers = [int(word) for word in sys.argv[1:]]
-    main((numbers or [2])[0], numbers[1:] or LEVELS)
+    words = argparse.ArgumentParser(usage=__doc__)
+    words.add_argument("numbers", nargs="*", type=int)
+    words.add_argument("--program")
+    args = words.parse_args()
+    main((args.numbers or [2])[0], args.numbers[1:] or LEVELS, args.program)
