@@ -11,6 +11,10 @@ program refuses, `ProgramRefused` has its cause and exit code; what no program w
 Samples are `bytes` of a recording (signed 16-bit I and Q at 1.92 million samples per second; with `format="u8"` bytes as
 rtl_sdr writes them), a complex numpy array of any scale, or the path of a file that lte_survey reads. Of an array or a
 file at most one second is read.
+
+With `wide_rate` the program reads a recording at this rate (1.92e6, 3.84e6, 7.68e6, 15.36e6 or 30.72e6 samples per
+second), so that SIB1 of cells with more than six resource blocks, or four ports, is read too (`lte_cli --rate`). Bytes
+have this rate. An array or a file is converted to it, and 0.2 seconds are read: more than a list depends on.
 """
 from __future__ import annotations
 
@@ -22,7 +26,7 @@ import subprocess
 from dataclasses import dataclass
 from typing import TYPE_CHECKING, Any, Generic, Iterator, Mapping, TypeVar, Union
 
-from . import foreign, machine, options, records
+from . import foreign, machine, options, rates, records
 from .answers import Answer, Cell, Evidence, Hit, Identity, Tuning
 from .machine import ProgramRefused, Refused
 from .reasons import Why
@@ -34,7 +38,8 @@ if TYPE_CHECKING:
 
 Samples = Union[bytes, str, "os.PathLike[str]", "Complex"]
 A = TypeVar("A", bound=Answer)
-RATE = 1_920_000  # samples per second of a recording
+RATE = rates.NARROW  # samples per second of a recording
+WIDE_SECONDS = 0.2  # that are read of an array or a file for a rate: a list depends on 0.17
 MOST_DESCRIPTION = 65_536  # bytes that `transmit` reads
 
 
@@ -87,36 +92,65 @@ class Recording:
     arguments: tuple[str, ...] = ()
 
 
-def recording_of(samples: Samples, rate: float, format: str | None, shift: float, at: float) -> Recording:
-    """Returns the recording of samples; `rate` is in samples per second, `shift` in hertz, `at` in seconds."""
+@dataclass(frozen=True)
+class Reading:
+    """How samples are read: `rate` in samples per second, `format`, `shift` in hertz, `at` in seconds, and `wide_rate`, the
+    rate at which a program reads them, or None."""
+
+    rate: float
+    format: str | None
+    shift: float
+    at: float
+    wide_rate: float | None = None
+
+    @property
+    def to(self) -> int:
+        """The rate of the recording that is made."""
+        return round(self.wide_rate or RATE)
+
+    @property
+    def seconds(self) -> float:
+        """The seconds of the recording that is made."""
+        return 1 if self.wide_rate is None else WIDE_SECONDS
+
+
+def recording_of(samples: Samples, reading: Reading) -> Recording:
+    """Returns the recording of samples, and the arguments that state its form."""
+    arguments = rates.arguments_of(reading.wide_rate)
     if isinstance(samples, bytes):
-        if rate != RATE or shift or at or format not in (None, "s16", "u8"):
-            raise Refused("bytes are a recording at 1.92e6 samples per second: name a file, or give an array")
-        return Recording(samples, ("--format", "cu8") if format == "u8" else ())
+        if reading.rate != RATE or reading.shift or reading.at or reading.format not in (None, "s16", "u8"):
+            raise Refused(
+                "bytes are a recording at 1.92e6 samples per second, or at wide_rate: name a file, or give an array"
+            )
+        return Recording(samples, (*(("--format", "cu8") if reading.format == "u8" else ()), *arguments))
     if isinstance(samples, (str, os.PathLike)):
-        return Recording(of_file(pathlib.Path(samples), rate, format, shift, at))
-    return Recording(of_array(samples, rate, shift, at))
+        return Recording(of_file(pathlib.Path(samples), reading), arguments)
+    return Recording(of_array(samples, reading), arguments)
 
 
-def of_file(path: pathlib.Path, rate: float, format: str | None, shift: float, at: float) -> bytes:
-    """Returns the recording of at most one second of a file."""
+def of_file(path: pathlib.Path, reading: Reading) -> bytes:
+    """Returns the recording of the first seconds of a file."""
     from . import radio_file
 
-    found = options.FileOptions(path, form=format, rate=None if rate == RATE else rate, shift=shift, at=at)
-    return radio_file.opened(found).recording(at, 1)[0]
+    rate = None if reading.rate == RATE else reading.rate
+    found = options.FileOptions(path, form=reading.format, rate=rate, shift=reading.shift, at=reading.at)
+    return radio_file.opened(found).recording(reading.at, reading.seconds, rate=reading.to)[0]
 
 
-def of_array(samples: Any, rate: float, shift: float, at: float) -> bytes:
-    """Returns the recording of at most one second of a complex array."""
+def of_array(samples: Any, reading: Reading) -> bytes:
+    """Returns the recording of the first seconds of a complex array."""
     import numpy as np
 
     from . import radio
     from .to_ci16 import converted
 
-    x = np.asarray(samples, complex).ravel()[round(at * rate) :][: round(1.05 * rate)]
+    x = np.asarray(samples, complex).ravel()[round(reading.at * reading.rate) :]
+    x = x[: round(1.05 * reading.seconds * reading.rate)]
     if not len(x) or not np.all(np.isfinite(x.real) & np.isfinite(x.imag)):
         raise Refused("an array without samples, or with numbers that are not finite")
-    x = converted(x, rate, shift) if rate != RATE or shift else x[: radio.LONGEST]
+    is_as_it_is = reading.rate == reading.to and not reading.shift
+    x = x if is_as_it_is else converted(x, reading.rate, reading.shift, reading.to)
+    x = x[: round(reading.seconds * reading.to)]
     return radio.to_bytes(x * (radio.FULL / 2 / (radio.peak(x) or 1)))
 
 
@@ -145,21 +179,38 @@ def listed(kind: type[A], arguments: tuple[str, ...], recording: Recording, defi
 
 
 def hits(
-    samples: Samples, *, rate: float = RATE, format: str | None = None, shift: float = 0, at: float = 0
+    samples: Samples,
+    *,
+    rate: float = RATE,
+    format: str | None = None,
+    shift: float = 0,
+    at: float = 0,
+    wide_rate: float | None = None,
 ) -> Answers[Hit]:
     """Returns the PSS detections of a recording (`lte_cli hits`).
 
     `rate` is in samples per second, `format` u8, s8, s16, f32 or sigmf (by the file's name if it is None), `shift` how
-    many hertz above the centre the cell is, `at` the second of the file at which to begin.
+    many hertz above the centre the cell is, `at` the second of the file at which to begin. `wide_rate` is the rate in
+    samples per second at which the program reads the recording (`--rate`): 1.92e6, 3.84e6, 7.68e6, 15.36e6 or 30.72e6,
+    or None for a recording at 1.92e6 without `--rate`; other values are refused. Positions are samples at 1.92e6 with
+    each rate.
     """
-    return listed(Hit, ("hits", "--json"), recording_of(samples, rate, format, shift, at), "hits")
+    recording = recording_of(samples, Reading(rate, format, shift, at, wide_rate))
+    return listed(Hit, ("hits", "--json"), recording, "hits")
 
 
 def ids(
-    samples: Samples, *, rate: float = RATE, format: str | None = None, shift: float = 0, at: float = 0
+    samples: Samples,
+    *,
+    rate: float = RATE,
+    format: str | None = None,
+    shift: float = 0,
+    at: float = 0,
+    wide_rate: float | None = None,
 ) -> Answers[Identity]:
     """Returns the PSS detections with their cell identities (`lte_cli ids`); parameters as in `hits`."""
-    return listed(Identity, ("ids", "--json"), recording_of(samples, rate, format, shift, at), "ids")
+    recording = recording_of(samples, Reading(rate, format, shift, at, wide_rate))
+    return listed(Identity, ("ids", "--json"), recording, "ids")
 
 
 def search(
@@ -172,14 +223,16 @@ def search(
     all: bool = False,
     shift: float = 0,
     at: float = 0,
+    wide_rate: float | None = None,
 ) -> Answers[Cell]:
     """Returns the list of cells (`lte_cli search`), exactly the one that docs/DEFINITION.md defines for the recording.
 
     `ports` (1, 2 or 4) and `prefix` (normal or long) select the rule; with `all` the lists of all four rules are
-    returned, each cell with its `rule`. The other parameters are as in `hits`.
+    returned, each cell with its `rule`. The other parameters are as in `hits`; with a `wide_rate` whose subcarriers hold
+    the cell, SIB1 is read at any bandwidth and with four ports.
     """
     arguments = ("search", "--all", "--json") if all else ("search", *rule_of(ports, prefix).arguments, "--json")
-    recording = recording_of(samples, rate, format, shift, at)
+    recording = recording_of(samples, Reading(rate, format, shift, at, wide_rate))
     return listed(Cell, arguments, recording, "search_all" if all else "search")
 
 
@@ -192,9 +245,10 @@ def evidence(
     prefix: str = "normal",
     shift: float = 0,
     at: float = 0,
+    wide_rate: float | None = None,
 ) -> Answers[Evidence]:
     """Returns what supports each cell of a list (`lte_cli evidence`); parameters as in `search`."""
-    recording = recording_of(samples, rate, format, shift, at)
+    recording = recording_of(samples, Reading(rate, format, shift, at, wide_rate))
     return listed(Evidence, rule_of(ports, prefix).evidence, recording, "evidence")
 
 
@@ -208,13 +262,14 @@ def why(
     prefix: str = "normal",
     shift: float = 0,
     at: float = 0,
+    wide_rate: float | None = None,
 ) -> Why:
     """Returns why the list of `search` with the same parameters has the cell with this identity (0 to 503), or the first
     rule that it fails at each PSS detection (`lte_cli why`)."""
     if not isinstance(identity, numbers.Integral) or not 0 <= identity <= 503:
         raise Refused(f"identity {foreign.shown(identity)}: a whole number from 0 to 503 is needed")
     rule = rule_of(ports, prefix)
-    return reasons_for(int(identity), rule, recording_of(samples, rate, format, shift, at))
+    return reasons_for(int(identity), rule, recording_of(samples, Reading(rate, format, shift, at, wide_rate)))
 
 
 def reasons_for(identity: int, rule: Rule, recording: Recording) -> Why:
@@ -223,9 +278,17 @@ def reasons_for(identity: int, rule: Rule, recording: Recording) -> Why:
     return records.from_json(Why, answer("lte_cli", arguments, recording.data, "why"))
 
 
-def tell(samples: Samples, *, rate: float = RATE, format: str | None = None, shift: float = 0, at: float = 0) -> Tuning:
+def tell(
+    samples: Samples,
+    *,
+    rate: float = RATE,
+    format: str | None = None,
+    shift: float = 0,
+    at: float = 0,
+    wide_rate: float | None = None,
+) -> Tuning:
     """Returns the frequency offset of a recording (`lte_tune tell`); parameters as in `hits`."""
-    recording = recording_of(samples, rate, format, shift, at)
+    recording = recording_of(samples, Reading(rate, format, shift, at, wide_rate))
     found = answer("lte_tune", ("tell", "--json", *recording.arguments), recording.data, "tell")
     return Tuning.from_json(found)
 

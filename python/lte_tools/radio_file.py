@@ -92,23 +92,24 @@ class RadioFile:
         itself = Part(self.path, self.path, 0, self.count, self.begins)
         return next((one for one in self.parts if one.first <= sample < one.first + one.count), itself)
 
-    def is_recording(self) -> bool:
-        """Returns whether a second of it is a recording as it is."""
+    def is_recording(self, rate: int = radio.RATE) -> bool:
+        """Returns whether a second of it is a recording at a rate as it is."""
         plain = len(self.stretches) < 2 and not self.is_exchanged
-        return plain and (self.form, self.rate, self.shift) == ("s16", radio.RATE, 0)
+        return plain and (self.form, self.rate, self.shift) == ("s16", rate, 0)
 
-    def recording(self, start: float, seconds: float, offset: float = 0) -> tuple[bytes, float]:
+    def recording(self, start: float, seconds: float, offset: float = 0, rate: int = radio.RATE) -> tuple[bytes, float]:
         """Returns the recording of a window that begins at second `start`, and what full scale of the file is in it."""
-        if self.is_recording() and offset == 0:
+        if self.is_recording(rate) and offset == 0:
             samples = self.samples(round(start * self.rate), round(seconds * self.rate))
             return radio.to_bytes(samples * (radio.FULL + 1)), radio.FULL + 1
-        return self.filtered(start, seconds, offset)
+        return self.filtered(start, seconds, offset, rate)
 
-    def filtered(self, start: float, seconds: float, offset: float = 0) -> tuple[bytes, float]:
-        """Returns such a recording filtered to six resource blocks, as `to_ci16.py` makes it of any file."""
+    def filtered(self, start: float, seconds: float, offset: float = 0, rate: int = radio.RATE) -> tuple[bytes, float]:
+        """Returns such a recording as `to_ci16.py` makes it of any file: at 1.92 million samples per second filtered to
+        six resource blocks."""
         first = round(start * self.rate)
         samples = self.samples(first, round(seconds * self.rate))
-        window = converted(samples, self.rate, self.shift_at(first) + offset)
+        window = converted(samples, self.rate, self.shift_at(first) + offset, rate)
         scale = radio.FULL / 2 / (radio.peak(window) or 1)
         return radio.to_bytes(window * scale), scale
 

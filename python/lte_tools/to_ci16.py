@@ -36,13 +36,15 @@ def ratio_of(rate: float) -> Fraction:
     raise machine.Refused(f"{rate:,} samples per second: nearer to 0 than any ratio to 1.92e6 that is read")
 
 
-def converted(x: radio.Complex, rate: float, shift: float) -> radio.Complex:
-    """Returns one second at most of samples, in their own scale; the cell is `shift` hertz above the centre."""
+def converted(x: radio.Complex, rate: float, shift: float, to: int = radio.RATE) -> radio.Complex:
+    """Returns one second at most of samples, in their own scale, at the rate `to`; the cell is `shift` hertz above the
+    centre. At 1.92 million samples per second they are filtered to six resource blocks."""
     x = radio.shifted(x - x.mean(), -shift, rate)
-    ratio = ratio_of(rate)
-    x = signal.resample_poly(x, ratio.denominator, ratio.numerator)
-    found: radio.Complex = signal.oaconvolve(x, signal.firwin(129, PASS, fs=radio.RATE), "same")[: radio.LONGEST]
-    return found
+    ratio = ratio_of(rate) * Fraction(radio.RATE, to)
+    found: radio.Complex = signal.resample_poly(x, ratio.denominator, ratio.numerator)
+    if to == radio.RATE:
+        found = signal.oaconvolve(found, signal.firwin(129, PASS, fs=radio.RATE), "same")
+    return found[:to]
 
 
 def parser() -> argparse.ArgumentParser:

@@ -17,6 +17,7 @@ import numpy as np
 import pytest
 
 from lte_reference import cell as reference_cell
+from lte_reference import wide_sender
 from lte_tools import radio
 
 HERE = pathlib.Path(__file__).resolve().parent
@@ -55,6 +56,7 @@ CELL = {
         "tag": 0,
     },
 }
+WIDE_RATE = 7_680_000  # samples per second
 FULL = {"u8": (127.5, 127.5, "u1"), "s8": (0, 128, "i1"), "s16": (0, 32_768, "<i2"), "f32": (0, 1, "<f4")}
 
 
@@ -182,6 +184,23 @@ def drive(tmp_path, sent):
     """A file of bytes at 2.4 million samples per second with the cell 300 kHz above the centre."""
     path = tmp_path / "drive.cu8"
     path.write_bytes(as_radio(sent, "u8", 2_400_000, 300_000))
+    return path
+
+
+@pytest.fixture(scope="session")
+def wave():
+    """The samples of cell 301 of 5 MHz with two ports at WIDE_RATE: four frames and a half, with the SIB1 of cell 217."""
+    plan = wide_sender.Plan(301, 25, 2, reference_cell.text(CELL["sib1"]), cfi=2, start=3, length=8, load=0.3)
+    draw = np.random.default_rng(5)
+    sent = wide_sender.sent(plan, 100, 5, 2, draw)[:, 38_400:]
+    return wide_sender.received(sent, draw, 30) @ (1, 1j)
+
+
+@pytest.fixture
+def wide_file(tmp_path, wave):
+    """A file of them."""
+    path = tmp_path / "wide.ci16"
+    path.write_bytes(radio.to_bytes(wave))
     return path
 
 

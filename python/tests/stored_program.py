@@ -15,6 +15,7 @@ import sys
 HERE = pathlib.Path(__file__).resolve().parent
 STORED = HERE / "stored"
 COUNT, NEAR = 64, 3
+LEAST = 57_600  # samples at 1.92 million per second
 REFUSALS = {
     "too short: the recording has less than 30 ms (57,600 samples without --rate); record more": 4,
     "ragged: the input ends within a sample; check the format, or cut the last bytes": 3,
@@ -49,11 +50,17 @@ def transmitted(name, arguments, data):
     return 0
 
 
+def samples_of(arguments):
+    """Returns the fewest samples of a recording, by its rate."""
+    rate = float(arguments[-1]) if arguments[-2:-1] == ["--rate"] else 1.92
+    return LEAST * round(rate / 1.92)
+
+
 def main():
     (name, *arguments), data = sys.argv[1:], sys.stdin.buffer.read()
     if arguments[:1] == ["transmit"]:
         return transmitted(name, arguments, data)
-    if len(data) % 4 or len(data) < 4 * 57_600:
+    if len(data) % 4 or len(data) < 4 * samples_of(arguments):
         cause = list(REFUSALS)[len(data) % 4 != 0]
         print(f"{name}: {cause}", file=sys.stderr)
         return REFUSALS[cause]
