@@ -4,6 +4,7 @@ Debian: python3-numpy.
 """
 from __future__ import annotations
 
+import dataclasses
 import json
 from typing import Sequence, TypeVar
 
@@ -30,6 +31,10 @@ class SeenCell:
     def add(self, one: Sighting) -> None:
         self.seen.append(one)
 
+    def replace(self, old: Sighting, new: Sighting) -> None:
+        """Puts a sighting in the place of another."""
+        self.seen = [new if one is old else one for one in self.seen]
+
     def take(self, other: SeenCell) -> None:
         """Adds the sightings of another line that is the same cell."""
         self.seen = sorted([*self.seen, *other.seen], key=lambda one: one.seconds)
@@ -54,14 +59,22 @@ class SeenCell:
 
     @property
     def strongest(self) -> Sighting:
-        return max(self.seen, key=lambda one: -1e9 if one.evened is None else one.evened)
+        return max(self.seen, key=lambda one: one.strength)
 
     @property
     def line(self) -> Cell:
-        """The line that says most; of those the most frequent one."""
+        """The line that says most; of those the most frequent one. Without SIB1 its reason is that at the cell's bandwidth,
+        if that was asked."""
         most = max(saying(one.line) for one in self.seen)
         texts = [fixed_text(one.line) for one in self.seen if saying(one.line) == most]
-        return Cell.from_json({"at": 0, "sfn": 0, **json.loads(max(texts, key=texts.count))})
+        line = Cell.from_json({"at": 0, "sfn": 0, **json.loads(max(texts, key=texts.count))})
+        return line if line.sib1 else dataclasses.replace(line, no_sib1=self.unread or line.no_sib1)
+
+    @property
+    def unread(self) -> str | None:
+        """Why SIB1 was not read at the cell's bandwidth in the strongest of the windows that were asked, or None."""
+        asked = [one for one in self.seen if one.unread is not None]
+        return max(asked, key=lambda one: one.strength).unread if asked else None
 
     @property
     def share(self) -> float:

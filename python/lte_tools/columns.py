@@ -352,7 +352,7 @@ COLUMNS: tuple[Column[SurveyCell, Survey], ...] = (
         "no SIB1",
         "",
         None,
-        "the reason why SIB1 was not read",
+        "the reason why SIB1 was not read; `needs 10 MHz` if the file does not have this bandwidth around the carrier",
         lambda cell, survey: cell.no_sib1,
         lambda cell, survey: cell.no_sib1 or "",
         is_left=True,
@@ -412,8 +412,9 @@ PHICH = {
     "two": "Ng 2",
 }
 REASONS = {
-    "ports": "the MIB states this number of antenna ports, with which SIB1 is not read",
-    "bandwidth": "the MIB states this number of resource blocks: SIB1 is read only with 6",
+    "ports": "the MIB states this number of antenna ports, and the list at the cell's bandwidth does not have the cell",
+    "bandwidth": "the MIB states this number of resource blocks, and the list at this bandwidth does not have the cell",
+    "needs": "the file does not have this bandwidth around the cell's carrier",
     "no-search-space": "the control region has this number of control channel elements, fewer than four",
     "no-control": "the control channel has no grant of system information",
     "not-1a": "the control information has a format other than 1A",

@@ -25,7 +25,7 @@ from typing import Any, Callable
 
 import numpy as np
 
-from . import gpsd, hints, levels, places, radio, radio_file, sources, stream, survey_data, survey_table
+from . import gpsd, hints, levels, places, radio, radio_file, sources, stream, survey_data, survey_table, wide
 from .cells import SeenCell, add_sighting, in_windows_order
 from .continuity import Jump, as_one
 from .forms import FORMS, fault_of
@@ -63,11 +63,13 @@ def opened(options: SurveyOptions) -> RadioFile:
 # ---- one window, in a process of its own
 
 
-def look(task: Task, is_known: bool) -> tuple[list[Sighting] | None, Power | None]:
-    """Returns the cells of a window without its samples, and its power; None where these are not numbers."""
+def look(task: Task, is_known: bool, informed: frozenset[int]) -> tuple[list[Sighting] | None, Power | None]:
+    """Returns the cells of a window without its samples, and its power; None where these are not numbers. SIB1 is asked at
+    the bandwidth of cells whose identities are not in `informed`."""
     offset = task.offset if is_known else offset_in(task)
     found = [] if offset is None else sightings(task.with_offset(offset))
-    return found and [one.bare() for one in found], levels.power_of(task)
+    more = [one if one.line.identity in informed else wide.informed(one) for one in found or []]
+    return found and [one.bare() for one in more], levels.power_of(task)
 
 
 def begin_process() -> None:
@@ -86,21 +88,30 @@ class LiveCell(SeenCell):
     def __init__(self, first: Sighting) -> None:
         super().__init__(first)
         self.count, self.least, self.is_old = 1, first.share, False
+        self.has_sib1, self.asked = first.line.sib1 is not None, int(first.unread is not None)
+
+    @property
+    def is_informed(self) -> bool:
+        """Whether SIB1 was read, or asked as often as it is at the cell's bandwidth."""
+        return not self.is_old and (self.has_sib1 or self.asked >= wide.WINDOWS)
 
     def take(self, other: SeenCell) -> None:
         super().take(other)
+        if isinstance(other, LiveCell):
+            self.has_sib1, self.asked = self.has_sib1 or other.has_sib1, self.asked + other.asked
         self.count, self.least = self.count + other.windows, min(self.least, other.share)
 
     def add(self, one: Sighting) -> None:
         self.count += one.task.start != self.seen[-1].task.start
         self.least, self.is_old = min(self.least, one.share), False
+        self.has_sib1, self.asked = self.has_sib1 or one.line.sib1 is not None, self.asked + (one.unread is not None)
         self.seen.append(one)
         if len(self.seen) >= 2 * KEPT:
             self.keep(KEPT)
 
     def keep(self, last: int) -> None:
         """Keeps the first, the strongest, one that says most, and `last` of the last."""
-        most = max(self.seen, key=lambda one: saying(one.line))
+        most = max(self.seen, key=lambda one: (saying(one.line), one.unread is not None))
         kept = {id(one) for one in (self.seen[0], self.strongest, most, *self.seen[-last:])}
         self.seen = [one for one in self.seen if id(one) in kept]
 
@@ -128,6 +139,11 @@ class Live:
         self.starts: collections.deque[float] = collections.deque(maxlen=MOST_POWERS)
         self.pauses = 0  # that were reported
         self.empty: Task | None = None  # the last window that lists nothing
+
+    @property
+    def informed(self) -> frozenset[int]:
+        """The identities of cells whose SIB1 is not asked again."""
+        return frozenset(cell.seen[-1].line.identity for cell in self.cells if cell.is_informed)
 
     def task(self, window: stream.Window) -> Task:
         """Returns a window as a file of its own, which begins where the window does."""
@@ -346,7 +362,7 @@ def look_at_all(live: Live, pool: Any, jobs: int) -> None:
             last = last or time.monotonic() + ENDING
         while len(asked) < jobs and (window := ring.take()):
             check_form(live, window)
-            answer = pool.apply_async(look, (live.task(window), live.is_known), callback=ring.wake)
+            answer = pool.apply_async(look, (live.task(window), live.is_known, live.informed), callback=ring.wake)
             asked.append((window, answer))
         if asked and asked[0][1].ready():
             window, answer = asked.popleft()

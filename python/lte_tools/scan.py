@@ -15,7 +15,7 @@ from typing import TYPE_CHECKING, Any, NamedTuple, Sequence
 import numpy as np
 from scipy import fft
 
-from . import bands, hints, levels, radio, radio_file, recorded, sources
+from . import bands, hints, levels, radio, radio_file, recorded, sources, wide
 from .cells import SeenCell, joined
 from .continuity import Jump, as_one
 from .doubts import doubts_of
@@ -170,7 +170,10 @@ def scanned(options: SurveyOptions, file: RadioFile, ask: Ask) -> Survey:
     whole = {shift: as_one(joined(seen)) for shift, seen in seen_by_shift.items()}
     by_shift = {shift: cells for shift, (cells, _) in whole.items()}
     levels.even([cell for cells in by_shift.values() for cell in cells], [], options.gain)
-    cells = tuple(cell_at(options, file, shift, cell, by_shift) for shift, cell in nearest(by_shift))
+    kept = nearest(by_shift)
+    files = [dataclasses.replace(file, shift=shift, stretches=()) for shift, _ in kept]
+    wide.inform(ask, [cell for _, cell in kept], files)
+    cells = tuple(cell_at(options, file, shift, cell, by_shift) for shift, cell in kept)
     hint = None if any(not cell.chance for cell in cells) else why_none(ask, found, by_shift)
     jumps = different([jump for _, own in whole.values() for jump in own])
     survey = survey_of_cells(options, file, [], Looked(len(starts), spoiled, jumps=jumps), hint)

@@ -246,6 +246,7 @@ class Sighting:
     beside: float | None = None  # dBFS in 15 kHz outside the middle 1.08 MHz, where the MIB states 6 resource blocks
     missing: float = 0  # samples of a recording that are missing before it in the file
     gain: float = 0  # dB of the radio's gain, which its level includes
+    unread: str | None = None  # why SIB1 was not read at the cell's bandwidth, if that was asked (wide.py)
 
     @property
     def seconds(self) -> float:
@@ -266,6 +267,11 @@ class Sighting:
     def evened(self) -> float | None:
         """The level without the radio's gain, or None."""
         return None if self.level is None else self.level - self.gain
+
+    @property
+    def strength(self) -> float:
+        """The level without the radio's gain, very low if none is known, for an order."""
+        return -1e9 if self.evened is None else self.evened
 
     def has_offset_of(self, later: Sighting) -> bool:
         """Returns whether a later sighting has this offset, as far as that of a radio drifts."""

@@ -14,7 +14,7 @@ from typing import Any, Callable, Iterator, Sequence, TypeVar
 
 import numpy as np
 
-from . import hints, levels, live, machine, places, radio_file, scan
+from . import hints, levels, live, machine, places, radio_file, scan, wide
 from .cells import SeenCell, joined
 from .continuity import as_one
 from .options import SurveyOptions
@@ -79,7 +79,9 @@ def surveyed(options: SurveyOptions, file: RadioFile, ask: Ask) -> Survey:
         offsets = np.interp(range(len(tasks)), [i for i, _ in points], [offset for _, offset in points])
     tasks = [task.with_offset(float(offset)) for task, offset in zip(tasks, offsets)]
     found = ask("cells", sightings, tasks)
-    cells, jumps = as_one(joined(flat(found)))
+    lines = joined(flat(found))
+    wide.inform(ask, lines)
+    cells, jumps = as_one(lines)
     powers, steps = levels.even(cells, powers_of(ask, tasks), options.gain)
     is_none = all(cell.is_chance(cells) for cell in cells)
     hint = why_none(ask, tasks, found, cells) if is_none else hints.of_cancelling(cells, file)

@@ -43,7 +43,8 @@ def test_page_names_each_key():
 
 def test_words_have_meanings():
     defined = foreign.schema()["$defs"]
-    reasons = re.sub(r"\([^()]*\)", "", defined["reason"]["properties"]["none"]["pattern"][2:-2]).split("|")
+    patterns = [defined[name]["properties"]["none"]["pattern"].strip("^()$") for name in ("reason", "not_held")]
+    reasons = re.sub(r"\([^()]*\)", "", "|".join(patterns)).split("|")
     assert set(columns.REASONS) == {reason.split(" ")[0] for reason in reasons}
     assert list(BY_NAME) == defined["ruled"]["properties"]["rule"]["enum"]
     assert list(columns.BLOCKS) == defined["cell"]["properties"]["bandwidth"]["enum"]
