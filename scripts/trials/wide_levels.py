@@ -82,7 +82,7 @@ def received(draw, plan, level, sfn, frames):
     else:
         waves = wide_sender.sent(plan, sfn, frames, rate, draw)
     lead = round((LEAD + draw.random() - 0.5) * 2**rate)
-    behind = (frames > 1) * (4 << rate)  # the place is told to a sample or two
+    behind = (frames > 1) * (4 << rate)  # since the listed start may be some samples late
     return wide_sender.received(np.pad(waves, ((0, 0), (lead, behind))), draw, level)
 
 
