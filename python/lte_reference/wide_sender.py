@@ -1,17 +1,18 @@
 #!/usr/bin/python3
-"""python3 -m lte_reference.wide_sender [--frames N] [--sfn N] [--level DB] [--seed N] < DESCRIPTION > RECORDING
+"""python3 -m lte_reference.wide_sender [OPTION ..] [--out FILE]
 
-A transmitter of cells of any bandwidth, 6 to 100 resource blocks, with 1, 2 or 4 antenna ports: whole frames (4) with
-PSS, SSS, PBCH, reference signals, PCFICH, PHICH, PDCCH, SIB1 by format 1A or 1C, and load on the other blocks. The
-recording has the lowest rate of 1.92 * 2^r million samples per second that holds the cell, and noise (20 dB below an
-element; its generator is numpy's, so a recording depends on numpy's version). The description is JSON: the keys of
-`Plan`, with `sib1` as in `cell.py` for `text`. In Bash, a cell of 10 MHz with its list:
+A transmitter of cells of any bandwidth, 6 to 100 resource blocks, with 1, 2 or 4 antenna ports: whole frames with PSS,
+SSS, PBCH, reference signals, PCFICH, PHICH, PDCCH, SIB1 by format 1A or 1C, and load on the other blocks. Writes a
+recording, signed 16-bit I and Q, with noise (its generator is numpy's, so a recording depends on numpy's version). Its
+rate is the lowest of 1.92, 3.84, 7.68, 15.36 and 30.72 million samples per second that holds the cell, or that of --rate.
+A cell of 10 MHz with two ports, and its list:
 
-    S='{"plmns": [{"mcc": "001", "mnc": "01", "reserved": false}], "tac": 1, "cell": 1, "barred": false, "intra": true,
-        "csg": false, "csg_identity": null, "q_rx": -70, "q_offset": null, "p_max": null, "band": 1,
-        "scheduling": [{"period": 8, "sibs": []}], "window": 1, "tag": 0}'
-    python3 -m lte_reference.wide_sender <<< "{\"identity\": 301, \"blocks\": 50, \"ports\": 2, \"sib1\": $S}" |
-        python3 -m lte_reference.wide_search 15.36 --ports 2
+    python3 -m lte_reference.wide_sender --identity 301 --width 50 --ports 2 --out wide.ci16
+    python3 -m lte_reference.wide_search 15.36 --ports 2 < wide.ci16
+
+Format 1C, 12 virtual blocks by the second gap in a candidate of 8 elements, 3 dB above the noise, for six frames:
+
+    python3 -m lte_reference.wide_sender --width 100 --form 1C --level 8 --gap 1 --length 12 --mcs 9 --snr 3 --frames 6
 
 In floating point, and apart from `wide_places.py` and `wide_grants.py`: here elements are claimed on a grid in the
 standard's order, and virtual blocks go through the interleaver's matrix (TS 36.211 section 6.2.3.2). From `cell.py`: the
@@ -19,6 +20,7 @@ codes and the text of SIB1; from `search.py`: the sequences. Debian: python3-num
 """
 import argparse
 import json
+import pathlib
 import sys
 from typing import NamedTuple
 
@@ -33,6 +35,12 @@ GAPS = {6: (3,), 15: (8,), 25: (12,), 50: (27, 9), 75: (32, 16), 100: (48, 16)}
 ASSIGNMENT_BITS = {6: (5, 3), 15: (7, 5), 25: (9, 7), 50: (11, 7), 75: (12, 8), 100: (13, 9)}  # formats 1A and 1C
 INDICATORS = {1: (0, 1, 1), 2: (1, 0, 1), 3: (1, 1, 0)}
 MASKS = {1: 0, 2: 0xFFFF, 4: 0x5555}
+RATES = ("1.92", "3.84", "7.68", "15.36", "30.72")  # million samples per second
+PLAIN = {
+    "plmns": [{"mcc": "001", "mnc": "01", "reserved": False}],
+    **{"tac": 1, "cell": 1, "barred": False, "intra": True, "csg": False, "csg_identity": None, "q_rx": -70},
+    **{"q_offset": None, "p_max": None, "band": 1, "scheduling": [{"period": 8, "sibs": []}], "window": 1, "tag": 0},
+}
 FREE, REFERENCE, TAKEN = 0, 1, 2
 
 
@@ -57,6 +65,10 @@ class Plan(NamedTuple):
     column: int = 2
     version: int | None = None
     load: float = 0.6
+
+    @property
+    def control_symbols(self):
+        return self.cfi + (self.blocks <= 10)
 
     @property
     def size(self):
@@ -215,9 +227,6 @@ class Frame:
         self.send(places, (sent[0::2] + 1j * sent[1::2]) / np.sqrt(2))
         self.kept[7:11, self.middle : self.middle + 72] = TAKEN
 
-    def control_symbols(self):
-        return self.plan.cfi + (self.plan.blocks <= 10)
-
     def groups(self, symbol):
         """Lists a symbol's groups in a subframe by frequency, each as the list of its four subcarriers."""
         if symbol == 0 or symbol == 1 and self.plan.ports == 4:
@@ -237,7 +246,7 @@ class Frame:
         taken = self.acknowledgements(subframe, groups)
         left = [
             [(14 * subframe + l, k) for k in group]
-            for l in range(self.control_symbols())
+            for l in range(self.plan.control_symbols)
             for i, group in enumerate(groups[l])
             if (l, i) not in taken
         ]
@@ -266,6 +275,8 @@ class Frame:
     def channel(self, subframe, left):
         """Sends PDCCH in the groups that are left: SIB1's candidate, and any bits in most of the other elements."""
         plan, count = self.plan, len(left)
+        if plan.element + plan.level > count // 9:
+            raise ValueError(f"only {count // 9} control channel elements")
         bits, is_sent = self.draw.integers(0, 2, 8 * count), np.zeros(8 * count, bool)
         for element in range(count // 9):
             is_sent[72 * element : 72 * element + 72] = plan.load > 0 and self.draw.random() < 0.7
@@ -281,7 +292,7 @@ class Frame:
     def system_information(self):
         """Sends PDSCH with SIB1 in subframe 5 (TS 36.211 sections 6.3 and 6.4)."""
         plan, places = self.plan, []
-        for l in range(self.control_symbols(), 14):
+        for l in range(self.plan.control_symbols, 14):
             for block in sorted(physical_blocks(plan)[l // 7]):
                 for k in range(12 * block, 12 * block + 12):
                     if self.kept[70 + l, k] == FREE:
@@ -295,7 +306,7 @@ class Frame:
         """Sends points of 64-QAM in some of the resource blocks, from the first symbol after the control region."""
         for subframe in self.subframes:
             blocks = self.draw.random(self.plan.blocks) < self.plan.load
-            for l in range(14 * subframe + self.control_symbols(), 14 * subframe + 14):
+            for l in range(14 * subframe + self.plan.control_symbols, 14 * subframe + 14):
                 k = np.flatnonzero((self.kept[l] == FREE) & np.repeat(blocks, 12))
                 levels = 2 * self.draw.integers(0, 8, (2, self.plan.ports, len(k))) - 7
                 self.grid[:, l, k] = (levels[0] + 1j * levels[1]) / np.sqrt(42 * self.plan.ports)
@@ -336,17 +347,108 @@ def received(waves, draw, level, scale=2_500):
     return np.clip(np.rint(np.stack([total.real, total.imag], 1)), -32_768, 32_767).astype(np.int64)
 
 
-def main():
-    words = argparse.ArgumentParser(usage=__doc__)
-    words.add_argument("--frames", type=int, default=4)
-    words.add_argument("--sfn", type=int, default=0)
-    words.add_argument("--level", type=float, default=20)
-    words.add_argument("--seed", type=int, default=1)
-    args, described = words.parse_args(), json.load(sys.stdin)
-    plan = Plan(text=text(described.pop("sib1")), **described)
+def fault_of(plan):
+    """Returns why a plan cannot be sent, or None; control channel elements are counted later."""
+    if plan.gap and plan.blocks < 50:
+        return "the second gap needs 50 resource blocks"
+    unit = 1 if plan.form != "1C" else 2 if plan.blocks < 50 else 4
+    count = plan.blocks if plan.form == "1A" else virtual_blocks(plan, plan.gap)
+    sizes = SHORT_SIZES if plan.form == "1C" else SIZES[plan.column - 2]
+    for is_fault, words in (
+        (not 0 <= plan.identity <= 503, "an identity is 0 to 503"),
+        (plan.extended and plan.control_symbols < 3, "an extended PHICH needs three control symbols"),
+        (plan.start < 0 or plan.length < 1 or plan.start + plan.length > count, f"there are {count} blocks"),
+        (plan.start % unit or plan.length % unit, f"format 1C counts blocks by {unit}"),
+        (not 0 <= plan.scheme < len(sizes), f"a scheme is 0 to {len(sizes) - 1}"),
+    ):
+        if is_fault:
+            return words
+    return None if len(plan.text) <= plan.size else f"SIB1 has {len(plan.text)} bits, and the block {plan.size}"
+
+
+def parser():
+    """Returns the parser of the arguments."""
+    words = argparse.ArgumentParser(description=__doc__, formatter_class=argparse.RawDescriptionHelpFormatter)
+    add = words.add_argument
+    add("--sib1", type=pathlib.Path, metavar="FILE", help="JSON with the key sib1 of `transmit` (a plain one)")
+    add("--identity", type=int, default=0, help="0 to 503 (0)")
+    add("--width", type=int, choices=WIDTHS, default=50, help="resource blocks (50)")
+    add("--ports", type=int, choices=(1, 2, 4), default=1, help="antenna ports (1)")
+    add("--cfi", type=int, choices=(1, 2, 3), default=2, help="control format indicator (2)")
+    add("--phich", choices=("normal", "extended"), default="normal", help="duration of PHICH (normal)")
+    add("--resource", choices=RESOURCES, default="one", help="resource of PHICH (one)")
+    add(
+        "--form", choices=("1A", "1Ad", "1C"), default="1A", help="format of the grant: localized, distributed, 1C (1A)"
+    )
+    add("--level", type=int, choices=(4, 8), default=4, help="control channel elements of the grant (4)")
+    add("--element", type=int, choices=(0, 4, 8, 12), default=0, help="the first of them (0)")
+    add("--start", type=int, default=0, help="the first (virtual) block of SIB1 (0)")
+    add("--length", type=int, default=8, help="the count of its blocks (8; with 6 resource blocks 6)")
+    add("--gap", type=int, choices=(0, 1), default=0, help="1 for the second gap of distributed blocks (0)")
+    add("--mcs", type=int, default=5, help="modulation and coding scheme, which gives the size of the block (5)")
+    add("--column", type=int, choices=(2, 3), default=2, help="column of the table of sizes, with 1A (2)")
+    add(
+        "--version",
+        type=int,
+        choices=range(4),
+        help="redundancy version of each frame, with 1A (by the frame's number)",
+    )
+    add("--load", type=float, default=0.6, help="fraction of the other blocks that are sent (0.6)")
+    add("--snr", type=float, default=20, metavar="DB", help="an element's mean power above the noise (20)")
+    add("--frames", type=int, default=4, help="count of frames (4)")
+    add("--sfn", type=int, default=0, help="number of the first frame (0)")
+    add("--late", type=int, default=0, help="samples at 1.92 million per second of noise in front (0)")
+    add("--rate", choices=RATES, help="million samples per second (the lowest that holds the cell)")
+    add("--seed", type=int, default=1, help="of noise, load and gains (1)")
+    add("--out", type=pathlib.Path, help="a file for the recording (standard output)")
+    return words
+
+
+def plan_of(args):
+    """Returns the plan that arguments describe."""
+    described = json.loads(args.sib1.read_text()) if args.sib1 else {"sib1": PLAIN}
+    return Plan(
+        identity=args.identity,
+        blocks=args.width,
+        ports=args.ports,
+        text=text(described["sib1"]),
+        cfi=args.cfi,
+        extended=args.phich == "extended",
+        resource=RESOURCES.index(args.resource),
+        form=args.form,
+        level=args.level,
+        element=args.element,
+        start=args.start,
+        length=min(args.length, args.width),
+        gap=args.gap,
+        scheme=args.mcs,
+        column=args.column,
+        version=args.version,
+        load=args.load,
+    )
+
+
+def recording_of(plan, args):
+    """Returns the bytes of a recording; refuses what cannot be sent."""
+    rate = rate_of(plan.blocks) if args.rate is None else RATES.index(args.rate)
+    fault = f"{args.rate} holds no {plan.blocks} blocks" if rate < rate_of(plan.blocks) else fault_of(plan)
+    if fault:
+        raise ValueError(fault)
     draw = np.random.default_rng(args.seed)
-    waves = sent(plan, args.sfn, args.frames, rate_of(plan.blocks), draw)
-    sys.stdout.buffer.write(received(waves, draw, args.level).astype("<i2").tobytes())
+    waves = np.pad(sent(plan, args.sfn, args.frames, rate, draw), ((0, 0), (args.late << rate, 0)))
+    return received(waves, draw, args.snr).astype("<i2").tobytes()
+
+
+def main():
+    args = parser().parse_args()
+    try:
+        data = recording_of(plan_of(args), args)
+    except ValueError as fault:
+        sys.exit(f"wide_sender: {fault}")
+    if args.out:
+        args.out.write_bytes(data)
+    else:
+        sys.stdout.buffer.write(data)
 
 
 if __name__ == "__main__":

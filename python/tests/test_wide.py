@@ -2,7 +2,7 @@
 import numpy as np
 import pytest
 
-from lte_reference import search, wide_block, wide_frames, wide_search, wide_sender, wide_slots
+from lte_reference import search, wide_block, wide_frames, wide_grants, wide_search, wide_sender, wide_slots
 from lte_reference.cell import sent, text
 from lte_reference.wide_places import WIDTHS, Cell
 from tests.conftest import CELL
@@ -23,6 +23,7 @@ SIB1 = {
     "window": 10,
     "tag": 5,
 }
+PLAIN_LINE = "sib1 tac 1 cell 1 open allowed csg 0 - rx -70 offset - pmax - band 1 window ms1 tag 0 tdd - extension 0"
 FORMS = {"1A": "1A", "1Ad": "1A distributed", "1C": "1C"}
 # each width with each port count, of which each has each format twice
 CELLS = [(n, p, list(FORMS)[(i + j) % 3]) for i, n in enumerate(WIDTHS) for j, p in enumerate((1, 2, 4))]
@@ -97,6 +98,61 @@ def test_a_wide_recording_is_listed():
     lines = wide_search.list_lines(wide_sender.received(waves, draw, 10), 2, search.FOUR_PORTS)
     assert lines[:2] == ["cells 1", "cell 302 at 12200 sfn 1022 ports 4 n25 phich extended two br 0 spare 0"]
     assert lines[2].startswith("sib1 tac 4660 cell 27447297 open allowed")
+
+
+def bits_of(form, **more):
+    """Returns the payload for a plan with 6 blocks."""
+    plan = wide_sender.Plan(0, 6, 1, [], form=form)._replace(**more)
+    return wide_sender.information(plan, 0)
+
+
+def test_alike_grants_have_one_mapping_run_and_size():
+    grant = wide_grants.long_grant(6, bits_of("1A", version=0))
+    spread = wide_grants.long_grant(6, bits_of("1Ad", version=0))
+    assert {frozenset(blocks) for one in (grant, spread) for blocks in one.blocks} == {frozenset(range(6))}
+    assert wide_frames.is_alike(grant, wide_grants.long_grant(6, bits_of("1A", version=2)))
+    others = [bits_of("1A", start=1, length=5), bits_of("1A", length=5), bits_of("1A", scheme=6)]
+    for other in (spread, *(wide_grants.long_grant(6, bits) for bits in others)):
+        assert not wide_frames.is_alike(grant, other)
+
+
+SENT = (
+    ("--width", "15", "--ports", "4", "--form", "1Ad", "--cfi", "3", "--late", "700", "--sfn", "7", "--identity", "44"),
+    ("--width", "6", "--ports", "2", "--cfi", "3", "--rate", "3.84", "--version", "2", "--phich", "extended"),
+)
+LISTED = (
+    ("cell 44 at 700 sfn 7 ports 4 n15 phich normal one br 0 spare 0", 1, search.FOUR_PORTS),
+    ("cell 0 at 0 sfn 0 ports 2 n6 phich extended one br 0 spare 0", 1, search.TWO_PORTS),
+)
+
+
+@pytest.mark.parametrize("words, listed", zip(SENT, LISTED))
+def test_the_command_line_of_the_transmitter(words, listed, tmp_path, monkeypatch):
+    line, rate, rule = listed
+    monkeypatch.setattr("sys.argv", ["wide_sender", *words, "--snr", "15", "--out", str(tmp_path / "x")])
+    wide_sender.main()
+    samples = np.fromfile(tmp_path / "x", "<i2").astype(np.int64).reshape(-1, 2)
+    assert wide_search.list_lines(samples, rate, rule)[1:3] == [line, PLAIN_LINE]
+
+
+@pytest.mark.parametrize(
+    "words, text",
+    (
+        ("--width 6 --cfi 1 --phich extended", "three control symbols"),
+        ("--width 100 --rate 15.36", "15.36 holds no 100 blocks"),
+        ("--width 6 --cfi 1 --ports 4", "only 1 control channel elements"),
+        ("--mcs 0", "SIB1 has 113 bits, and the block 32"),
+        ("--form 1C --start 3", "format 1C counts blocks by 4"),
+        ("--form 1Ad --gap 1 --width 25", "the second gap"),
+        ("--start 48", "there are 50 blocks"),
+        ("--identity 504", "0 to 503"),
+        ("--mcs 27", "0 to 26"),
+    ),
+)
+def test_what_the_transmitter_refuses(words, text, monkeypatch):
+    monkeypatch.setattr("sys.argv", ["wide_sender", *words.split()])
+    with pytest.raises(SystemExit, match=text):
+        wide_sender.main()
 
 
 @pytest.mark.parametrize("place, taps", ((20, wide_slots.TAPS[1::2]), (21, wide_slots.TAPS[0::2])))
