@@ -72,9 +72,10 @@ class SeenCell:
 
     @property
     def unread(self) -> str | None:
-        """Why SIB1 was not read at the cell's bandwidth in the strongest of the windows that were asked, or None."""
+        """Why SIB1 was not read at the cell's bandwidth in the strongest of the windows that were asked, preferably one whose
+        list there has the cell; or None."""
         asked = [one for one in self.seen if one.unread is not None]
-        return max(asked, key=lambda one: one.strength).unread if asked else None
+        return max(asked, key=lambda one: (one.unread != one.line.no_sib1, one.strength)).unread if asked else None
 
     @property
     def share(self) -> float:

@@ -39,7 +39,6 @@ if TYPE_CHECKING:
 Samples = Union[bytes, str, "os.PathLike[str]", "Complex"]
 A = TypeVar("A", bound=Answer)
 RATE = rates.NARROW  # samples per second of a recording
-WIDE_SECONDS = 0.2  # that are read of an array or a file for a rate: a list depends on 0.17
 MOST_DESCRIPTION = 65_536  # bytes that `transmit` reads
 
 
@@ -111,7 +110,7 @@ class Reading:
     @property
     def seconds(self) -> float:
         """The seconds of the recording that is made."""
-        return 1 if self.wide_rate is None else WIDE_SECONDS
+        return 1 if self.wide_rate is None else rates.SECONDS
 
 
 def recording_of(samples: Samples, reading: Reading) -> Recording:

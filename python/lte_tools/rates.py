@@ -6,6 +6,7 @@ from .machine import Refused
 
 RATES = {1_920_000: "1.92", 3_840_000: "3.84", 7_680_000: "7.68", 15_360_000: "15.36", 30_720_000: "30.72"}
 NARROW = 1_920_000  # samples per second without `--rate`
+SECONDS = 0.2  # that are read of a file for a recording with `--rate`: a list depends on 0.17
 SPACING = 15_000  # hertz from a subcarrier to the next
 SUBCARRIERS = 12  # of a resource block
 

@@ -1,10 +1,12 @@
 #!/usr/bin/python3
-"""to_ci16.py TYPE RATE [SHIFT [START]] < FILE > RECORDING
+"""to_ci16.py TYPE RATE [SHIFT [START]] [--to R] < FILE > RECORDING
 
 Makes a recording of any file of interleaved I and Q: TYPE is u8, s8, s16 or f32 (the low byte first), RATE its samples
 per second, SHIFT the frequency in hertz at which the cell stands in the file (0 where it is the centre), START
 the second at which to begin. Takes off the mean, moves SHIFT to 0, resamples to 1.92 million samples per second,
 filters to the 1.08 MHz of six resource blocks, scales the peak to half of full scale, and writes at most one second.
+With --to R, for `lte_cli search --rate R`, it resamples to R million samples per second, above 1.92 without the filter,
+and writes at most 0.2 seconds, which is more than a list depends on.
 
 Debian: python3-numpy, python3-scipy.
 """
@@ -17,7 +19,7 @@ from fractions import Fraction
 import numpy as np
 from scipy import signal
 
-from . import machine, radio
+from . import machine, radio, rates
 from .arguments import Parser, not_negative, number
 from .arguments import rate as rate_argument
 from .forms import FORMS, is_number
@@ -54,6 +56,7 @@ def parser() -> argparse.ArgumentParser:
     parser.add_argument("rate", metavar="RATE", type=rate_argument, help="samples per second")
     parser.add_argument("shift", metavar="SHIFT", nargs="?", type=number, default=0.0, help="hertz")
     parser.add_argument("start", metavar="START", nargs="?", type=not_negative, default=0.0, help="seconds")
+    parser.add_argument("--to", choices=list(rates.RATES.values()), help="million samples per second of the recording")
     return parser
 
 
@@ -65,14 +68,17 @@ def command() -> None:
     skip = int(args.start * rate) * size
     while skip > 0 and (gone := len(source.read(min(skip, 1 << 20)))):
         skip -= gone
-    data = source.read(int(1.05 * rate) * size)
+    seconds = rates.SECONDS if args.to else 1
+    data = source.read(int(1.05 * seconds * rate) * size)
     numbers = np.frombuffer(data[: len(data) // size * size], form.numbers)
     if len(numbers) == 0:
         raise machine.Refused("no samples")
     if args.form == "f32" and not np.all(is_number(numbers)):
         raise machine.Refused("not numbers of f32: is it another TYPE?")
     parts = numbers.astype(float) - form.middle
-    x = converted(parts[0::2] + 1j * parts[1::2], rate, args.shift)
+    to = next((one for one, text in rates.RATES.items() if text == args.to), rates.NARROW)
+    x = converted(parts[0::2] + 1j * parts[1::2], rate, args.shift, to)
+    x = x[: round(seconds * to)]
     sys.stdout.buffer.write(radio.to_bytes(x * (radio.FULL / 2 / (radio.peak(x) or 1))))
 
 

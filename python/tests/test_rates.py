@@ -1,9 +1,11 @@
 """Lists of recordings at up to 30.72 million samples per second from Python, with the programs' stored answers (stored/)."""
+import sys
+
 import numpy as np
 import pytest
 
 import lte_tools
-from lte_tools import rates, to_ci16
+from lte_tools import radio, rates, to_ci16
 from tests.conftest import WIDE_RATE
 
 
@@ -46,8 +48,17 @@ def test_lowest_rates():
 
 def test_conversion_keeps_what_a_rate_holds():
     """A tone 2 MHz above the carrier is kept at 7.68 million samples per second."""
-    x = np.exp(2j * np.pi * 2.3e6 / 10e6 * np.arange(1_000_000))
+    x = np.exp(2j * np.pi * 2.3e6 / 10e6 * np.arange(100_000))
     found = to_ci16.converted(x, 10e6, 0.3e6, WIDE_RATE)
-    assert len(found) == 768_000
+    assert len(found) == 76_800
     tone = np.exp(2j * np.pi * 2e6 / WIDE_RATE * np.arange(len(found)))
     assert abs(np.vdot(tone, found)) / len(found) == pytest.approx(1, abs=0.02)
+
+
+def test_conversion_by_the_command(command):
+    tone = np.exp(2j * np.pi * 1e6 / 2.4e6 * np.arange(600_000)).astype("<c8").tobytes()
+    words = (sys.executable, "-m", "lte_tools.to_ci16", "f32", "2.4e6", "2e5")
+    found = radio.from_bytes(command(*words, "--to", "3.84", stdin=tone))
+    assert len(found) == 768_000 and radio.peak(found) == pytest.approx(radio.FULL / 2, abs=1)
+    assert abs(np.vdot(np.exp(2j * np.pi * 8e5 / 3.84e6 * np.arange(len(found))), found)) / len(found) > 15_000
+    assert len(command(*words, "0.1", "--to", "1.92", stdin=tone)) == 4 * 288_000

@@ -1,8 +1,11 @@
 """The reference implementations print what the proved programs print."""
 import sys
 
+import numpy as np
 import pytest
 
+from lte_reference import wide_slots
+from lte_reference.search import RULES
 from tests.conftest import CELL, EXAMPLES, RECEIVER, TOP
 from tests.test_recipes import transmitted
 
@@ -56,3 +59,24 @@ def test_other_schemes(command, reference, maker, scheme):
     assert reference("evidence", *words, stdin=data) == command(RECEIVER, "evidence", *words, stdin=data)
     certificate = command(RECEIVER, "certify", *words, stdin=data)
     assert command(sys.executable, "-m", "lte_tools.check_certificate", stdin=certificate) == b"certificates 1\n0 yes\n"
+
+
+SENT = {
+    "7.68": ("--width", "25", "--ports", "2", "--form", "1C", "--cfi", "3", "--mcs", "9", "--late", "900"),
+    "1.92": ("--width", "6", "--ports", "4", "--cfi", "3", "--late", "15000", "--sfn", "3"),
+    "3.84": ("--width", "50", "--ports", "2", "--rate", "15.36"),  # read at too low a rate
+}
+RATE_FORMS = ("search", "search --ports 2", "search --ports 4 --json", "search --all", "hits --json", "evidence --json")
+
+
+@pytest.mark.slow
+@pytest.mark.parametrize("rate", SENT)
+@pytest.mark.parametrize("form", RATE_FORMS)
+def test_rates(command, reference, form, rate):
+    data, words = reference("wide_sender", *SENT[rate], "--snr", "12"), form.split()
+    if rate == "3.84":
+        samples = np.frombuffer(data, "<i2").reshape(-1, 2)
+        data = wide_slots.narrowed(samples, 2).astype("<i2").tobytes()
+    is_text = words[0] == "search" and form in (" ".join(["search", *rule]) for rule in RULES)
+    asked = ["wide_search", rate, *words[1:]] if is_text else ["forms", *words, "--rate", rate]
+    assert reference(*asked, stdin=data) == command(RECEIVER, *words, "--rate", rate, stdin=data)

@@ -119,6 +119,12 @@ def test_three_windows_are_asked_at_most():
     assert asked == [-40.0, -45.0, -50.0] and cell.line.sib1 is None and cell.line.no_sib1 == "no-control"
 
 
+def test_a_reason_at_the_bandwidth_comes_first():
+    every = {level: reason("not-decoded" if level == -50 else "bandwidth") for level in (-60.0, -40.0, -50.0)}
+    asked, cell = asked_of([-60.0, -40.0, -50.0], every)
+    assert asked == [-40.0, -50.0, -60.0] and cell.line.no_sib1 == "not-decoded"
+
+
 def test_a_cell_that_the_file_does_not_hold_is_asked_once():
     asked, cell = asked_of([-60.0, -40.0], {-40.0: reason("needs 10 MHz")})
     assert asked == [-40.0] and cell.line.no_sib1 == "needs 10 MHz"

@@ -4,8 +4,8 @@ _lte_convert() {
     local current=${COMP_WORDS[COMP_CWORD]} choices=''
     COMPREPLY=()
     case ${COMP_WORDS[COMP_CWORD - 1]} in
-
-        *) if [[ $current == -* ]]; then choices='-h --help'; else return; fi ;;
+        --to) choices='1.92 3.84 7.68 15.36 30.72' ;;
+        *) if [[ $current == -* ]]; then choices='-h --help --to'; else return; fi ;;
     esac
     mapfile -t COMPREPLY < <(compgen -W "$choices" -- "$current")
 }
