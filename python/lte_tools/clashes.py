@@ -18,6 +18,13 @@ from .survey_data import Seen, Survey, SurveyCell
 from .survey_windows import Window
 
 MODULI = (3, 6, 30)
+# what a word of the table means
+MEANINGS = {
+    "PCI": "both cells have this identity, so a phone cannot tell them apart",
+    "mod 3": "one primary signal and, with two or four ports, reference signals at the same resource elements",
+    "mod 6": "one primary signal, and reference signals at the same resource elements",
+    "mod 30": "as modulo 6, and the same groups of uplink reference signals",
+}
 FRAME = 0.01  # seconds
 
 

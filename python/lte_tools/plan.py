@@ -288,10 +288,21 @@ def not_heard(planned: Planned, way: Sequence[tuple[float, float]]) -> Finding:
 def summary(findings: Sequence[Finding]) -> str:
     """Returns how many findings of each word there are."""
     counts = {word: sum(one.finding == word for one in findings) for word in FINDINGS}
-    return ", ".join(f"{count} {word.replace('-', ' ')}" for word, count in counts.items() if count) or "no cell"
+    return ", ".join(f"{count} {word_of(word)}" for word, count in counts.items() if count) or "no cell"
 
 
 # ---- the table
+
+
+def word_of(finding: str) -> str:
+    """Returns a word of FINDINGS as the table has it."""
+    return finding.replace("-", " ")
+
+
+def meanings() -> dict[str, str]:
+    """Returns what the words of the table mean."""
+    return {word_of(finding): meaning for finding, meaning in FINDINGS.items()}
+
 
 COLUMNS: tuple[Column[Finding, Survey], ...] = (
     Column(
@@ -301,7 +312,7 @@ COLUMNS: tuple[Column[Finding, Survey], ...] = (
         None,
         "; ".join(f"`{word}`: {meaning}" for word, meaning in FINDINGS.items()),
         lambda one, _: one.finding,
-        lambda one, _: one.finding.replace("-", " "),
+        lambda one, _: word_of(one.finding),
         is_left=True,
     ),
     Column("name", "name", "", None, "name in the plan", lambda one, _: one.name, is_left=True),

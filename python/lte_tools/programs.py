@@ -318,20 +318,28 @@ def transmit(
 
 
 def survey(path: str | os.PathLike[str], **keys: Any) -> Survey:
-    """Returns the survey of a file, as `lte_survey` makes it.
+    """Returns the survey of a file, as `lte_survey` makes it, or the one that a file of JSON has.
 
     `keys` are the fields of `lte_tools.SurveyOptions`: rate, form, shift, carrier, at, every, offset, gain, jobs, scan,
     track, start and others, in the units that it names; `further` are the other files of a drive. Files that they name
     for outputs (geojson, html and others) are written.
     """
-    from . import survey_outputs, surveying
+    from . import survey_outputs
 
     keys["further"] = tuple(map(pathlib.Path, keys.get("further", ())))
-    for key in ("track", "gpsd", "geojson", "kml", "csv_windows", "pcap", "html"):
+    for key in ("track", "gpsd", "geojson", "kml", "csv_windows", "pcap", "html", "plan"):
         if isinstance(keys.get(key), str):
             keys[key] = pathlib.Path(keys[key])
     given = options.checked_survey(options.SurveyOptions(pathlib.Path(path), **keys), "every" in keys)
-    found = surveying.survey_of(given)
+    planned = survey_outputs.planned_of(given)
+    found = surveyed(given)
     survey_outputs.write(given, found)
-    survey_outputs.write_page(given, found)
+    survey_outputs.write_page(given, found, planned)
     return found
+
+
+def surveyed(given: options.SurveyOptions) -> Survey:
+    """Returns the survey of a file of samples, or the one that a file of JSON has."""
+    from . import surveying
+
+    return Survey.read(given.file) if given.is_survey else surveying.survey_of(given)

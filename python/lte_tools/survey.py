@@ -31,8 +31,9 @@ Standard input (-) is looked at as it comes, until it ends or a signal comes; a 
 named pipe waits for its next writer.
 
 Further tables: --plan compares with a list of planned cells, --clashes lists for each cell the others that are nearly as
-strong in the same windows, --coverage sums up how much of the way the strongest cell covers. --csv-windows, --geojson and
---kml have windows without a cell too. In place of samples, FILE may be a survey that --json wrote (.json).
+strong in the same windows, --coverage sums up how much of the way the strongest cell covers; --html has these tables too.
+--csv-windows, --geojson and --kml have windows without a cell too. In place of samples, FILE may be a survey that --json
+wrote (.json).
 
 Debian: python3-numpy, python3-scipy; for --html python3-matplotlib. Needs lte_cli and lte_tune (README, "Build").
 """
@@ -44,7 +45,6 @@ import types
 from typing import Any
 
 from . import machine, options, programs
-from .survey_data import Survey
 
 
 def parser() -> argparse.ArgumentParser:
@@ -59,17 +59,10 @@ def command() -> None:
     from . import survey_outputs
 
     planned = survey_outputs.planned_of(given)
-    survey = found_by(given)
+    survey = programs.surveyed(given)
     survey_outputs.write(given, survey)
     print(survey_outputs.text_of(given, survey, planned), end="", flush=True)
-    survey_outputs.write_page(given, survey)
-
-
-def found_by(given: options.SurveyOptions) -> Survey:
-    """Returns the survey of a file of samples, or the one that a file of JSON has."""
-    from . import surveying
-
-    return Survey.read(given.file) if given.is_survey else surveying.survey_of(given)
+    survey_outputs.write_page(given, survey, planned)
 
 
 def main() -> None:

@@ -3,26 +3,13 @@ from __future__ import annotations
 
 import json
 import pathlib
-from typing import Any, Callable, NamedTuple, Sequence
+from typing import Callable, Sequence
 
 from . import clashes, coverage, kml, machine, pcap, places, plan, survey_table, survey_windows, tables
-from .columns import Column
 from .machine import Refused
 from .options import SurveyOptions
 from .survey_data import Survey
-
-
-class Report(NamedTuple):
-    """A table of a survey besides that of its cells: its key in the JSON, the line above it, its columns and rows."""
-
-    key: str
-    head: str
-    columns: Sequence[Column[Any, Survey]]
-    rows: Sequence[Any]
-
-    def lines(self, survey: Survey) -> list[str]:
-        """Returns an empty line, the line above the table, and the table."""
-        return ["", self.head, *(tables.lines_of(self.columns, self.rows, survey) or ["none"])]
+from .tables import Report
 
 
 def planned_of(options: SurveyOptions) -> list[plan.Planned]:
@@ -34,14 +21,16 @@ def reports_of(options: SurveyOptions, survey: Survey, planned: Sequence[plan.Pl
     """Returns the tables that options ask for."""
     found = []
     if options.plan:
-        rows = plan.findings_of(survey, planned)
-        found.append(Report("plan", f"{options.plan}: {plan.summary(rows)}", plan.COLUMNS, rows))
+        findings = plan.findings_of(survey, planned)
+        head = f"{options.plan}: {plan.summary(findings)}"
+        found.append(Report("plan", "Plan", head, plan.COLUMNS, findings, {"plan": plan.meanings()}))
     if options.clashes is not None:
         head = f"cells within {options.clashes:g} dB in the same windows"
-        found.append(Report("clashes", head, clashes.COLUMNS, clashes.clashes_of(survey, options.clashes)))
+        pairs = clashes.clashes_of(survey, options.clashes)
+        found.append(Report("clashes", "Clashes", head, clashes.COLUMNS, pairs, {"clash": clashes.MEANINGS}))
     if options.coverage:
         parts = coverage.coverage_of(survey, coverage.Limits(*options.coverage))
-        found.append(Report("coverage", coverage.head_of(survey, parts), coverage.COLUMNS, parts))
+        found.append(Report("coverage", "Coverage", coverage.head_of(survey, parts), coverage.COLUMNS, parts))
     return found
 
 
@@ -77,9 +66,9 @@ def write(options: SurveyOptions, survey: Survey) -> None:
         pcap.write(options.pcap, pcap.of_survey(survey, options.earfcn))
 
 
-def write_page(options: SurveyOptions, survey: Survey) -> None:
-    """Writes the page, if options name one."""
+def write_page(options: SurveyOptions, survey: Survey, planned: Sequence[plan.Planned] = ()) -> None:
+    """Writes the page with the tables that options ask for, if they name a page."""
     if options.html:
         from . import survey_page
 
-        survey_page.write(options.html, survey)
+        survey_page.write(options.html, survey, reports_of(options, survey, planned))

@@ -3,11 +3,28 @@ from __future__ import annotations
 
 import csv
 import io
-from typing import Collection, Iterable, Sequence
+from typing import Any, Collection, Iterable, Mapping, NamedTuple, Sequence
 
 from .columns import Column, Row, Value, Whole
+from .survey_data import Survey
 
 FORMULA = ("=", "+", "-", "@", "\t", "\r")  # with which a spreadsheet begins a formula
+
+
+class Report(NamedTuple):
+    """A table of a survey besides that of its cells: its key in the JSON, its title, the line above it, its columns and rows,
+    and by heading what the words below it mean."""
+
+    key: str
+    title: str
+    head: str
+    columns: Sequence[Column[Any, Survey]]
+    rows: Sequence[Any]
+    meanings: Mapping[str, Mapping[str, str]] = {}
+
+    def lines(self, survey: Survey) -> list[str]:
+        """Returns an empty line, the line above the table, and the table."""
+        return ["", self.head, *(lines_of(self.columns, self.rows, survey) or ["none"])]
 
 
 def texts_of(columns: Iterable[Column[Row, Whole]], rows: Sequence[Row], whole: Whole) -> list[dict[str, str]]:

@@ -1,6 +1,7 @@
 """Surveys against a plan and each other, clashes, coverage, and tables and files with windows without a cell."""
 import csv
 import dataclasses
+import html.parser
 import io
 import json
 import os
@@ -10,6 +11,7 @@ import xml.etree.ElementTree
 import pytest
 
 from tests.conftest import EXAMPLES, TOP, is_one_line
+import lte_tools
 from lte_tools import clashes, coverage, foreign, kml, plan, survey_diff, survey_windows
 from lte_tools.survey_data import Part, Power, Survey, Track
 
@@ -366,6 +368,68 @@ def test_tables_below_the_table(tool, stored, made, tmp_path):
     assert [len(found[key]) for key in ("plan", "clashes", "coverage")] == [5, 4, 9]
     foreign.check(found, "survey", "survey")
     assert Survey.from_json(found) == made()
+
+
+class PageTables(html.parser.HTMLParser):
+    """The tables of a page by the heading above them, each a list of rows of texts; each element has to be closed."""
+
+    def __init__(self, text):
+        super().__init__()
+        self.tables, self.heading, self.open, self.row = {}, "", [], []
+        self.feed(text)
+        assert self.open == []
+
+    def handle_starttag(self, tag, attributes):
+        if tag in ("meta", "img", "p", "dt", "dd"):
+            return
+        self.open.append(tag)
+        if tag == "table":
+            self.tables[self.heading] = []
+        if tag == "tr":
+            self.row = []
+            self.tables[self.heading].append(self.row)
+        if tag in ("td", "th"):
+            self.row.append("")
+
+    def handle_endtag(self, tag):
+        assert self.open.pop() == tag
+
+    def handle_data(self, data):
+        if self.open[-1:] == ["h2"]:
+            self.heading = data
+        if {"td", "th"} & set(self.open):
+            self.row[-1] += data
+
+
+def test_page_has_the_tables(tool, stored, made, tmp_path):
+    (tmp_path / "plan.csv").write_text(PLAN.replace("East 1", "? <b>"))
+    tables = ["--plan", tmp_path / "plan.csv", "--clashes", "5", "--coverage", "-62,10"]
+    run = tool("survey", stored(made()), *tables, "--html", tmp_path / "drive.html")
+    assert run.status == 0, run.err
+    text = (tmp_path / "drive.html").read_text()
+    found = PageTables(text).tables
+    assert re.findall("<h2>(.*?)</h2>", text) == ["Map", "Plan", "Clashes", "Coverage", "Over time"]
+    assert {name: len(rows) - 1 for name, rows in found.items()} == {"": 3, "Plan": 5, "Clashes": 4, "Coverage": 9}
+    assert found["Plan"][1][:2] == ["wrong identity", "North 2"] and found["Plan"][2][:2] == ["wrong area", "? <b>"]
+    assert found["Clashes"][1][:5] == ["63", str(CELLS[63]), "33", str(CELLS[33]), "mod 30"]
+    assert found["Coverage"][3][:3] == ["level at least -62 dBFS", "3", "50.0"]
+    assert "<p>coverage of 6 windows and 0.56 km of the way." in text
+    assert 'title="the planned cell has another physical-layer identity"' in text
+    assert 'title="as modulo 6, and the same groups of uplink reference signals"' in text
+
+
+def test_page_has_a_table_without_rows(tool, stored, made, tmp_path):
+    out = tmp_path / "drive.html"
+    run = tool("survey", stored(made({63: LEVELS[63]})), "--clashes", "5", "--html", out)
+    assert run.status == 0, run.err
+    assert "<h2>Clashes</h2><p>cells within 5 dB in the same windows.\n<p>None." in out.read_text()
+
+
+def test_page_from_python(stored, made, tmp_path):
+    (tmp_path / "plan.csv").write_text(PLAN)
+    out = tmp_path / "drive.html"
+    found = lte_tools.survey(stored(made()), plan=str(tmp_path / "plan.csv"), html=str(out))
+    assert found == made() and len(PageTables(out.read_text()).tables["Plan"]) == 6
 
 
 def test_one_table_as_csv(tool, stored, made):
