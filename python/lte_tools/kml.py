@@ -15,6 +15,7 @@ from .survey_windows import InWindow, Window, are_next
 COLOURS = ("ffb46f1f", "ff1a73d9", "ff4e8f2f", "ffb04f8a", "ff3d38b8", "ff665c67")
 HOLE, WAY = "ff808080", "ffbbbbbb"
 ICON = "http://maps.google.com/mapfiles/kml/shapes/placemark_circle.png"
+ON_GROUND = "<tessellate>1</tessellate>"  # a line that follows the ground; else hills hide it
 HEAD = '<?xml version="1.0" encoding="UTF-8"?>\n<kml xmlns="http://www.opengis.net/kml/2.2"><Document>\n'
 FOOT = "</Document></kml>\n"
 
@@ -54,7 +55,7 @@ def way_of(windows: Sequence[Window], survey: Survey) -> list[str]:
                 lines.append([])
             lines[-1].append(window)
     shown = [" ".join(coordinates(window.place) for window in line if window.place) for line in lines if line[1:]]
-    strings = "".join(f"<LineString><coordinates>{line}</coordinates></LineString>" for line in shown)
+    strings = "".join(f"<LineString>{ON_GROUND}<coordinates>{line}</coordinates></LineString>" for line in shown)
     name = "<name>Way</name><styleUrl>#way</styleUrl>"
     return [f"<Placemark>{name}<MultiGeometry>{strings}</MultiGeometry></Placemark>\n"] if shown else []
 
@@ -86,12 +87,17 @@ def hole(window: Window) -> str:
     return placemark("no certain cell", "hole", window.place or (0, 0), places.hole_at(window))
 
 
+def value_text(value: object) -> str:
+    """Returns a value as XML has it: a truth value as `true` or `false`."""
+    return text(str(value).lower() if isinstance(value, bool) else value)
+
+
 def placemark(name: str, style: str, place: tuple[float, float], values: dict[str, object]) -> str:
     """Returns a point with its values, and its time if there is one."""
     time = values.get("time")
     when = f"<TimeStamp><when>{text(time)}</when></TimeStamp>" if time else ""
     data = "".join(
-        f'<Data name="{text(key)}"><value>{text(value)}</value></Data>'
+        f'<Data name="{text(key)}"><value>{value_text(value)}</value></Data>'
         for key, value in values.items()
         if value is not None
     )

@@ -188,6 +188,67 @@ def test_files_of_places_have_holes(tool, stored, made, tmp_path):
     assert len((tmp_path / "csv-windows").read_text().splitlines()) == 13
 
 
+# what the schema of KML 2.2 allows in an element that is written here, in this order; names in one text may be mixed
+KML = {
+    "kml": ["Document"],
+    "Document": ["name", "Style", "Placemark Folder"],
+    "Folder": ["name", "Placemark"],
+    "Placemark": ["name", "TimeStamp", "styleUrl", "ExtendedData", "Point MultiGeometry"],
+    "Style": ["IconStyle", "LabelStyle", "LineStyle"],
+    "IconStyle": ["color", "scale", "Icon"],
+    "LabelStyle": ["scale"],
+    "LineStyle": ["color", "width"],
+    "Icon": ["href"],
+    "TimeStamp": ["when"],
+    "ExtendedData": ["Data"],
+    "Data": ["value"],
+    "MultiGeometry": ["LineString"],
+    "LineString": ["tessellate", "coordinates"],
+    "Point": ["coordinates"],
+}
+MANY = {"Style", "Placemark", "Folder", "Data", "LineString"}
+
+
+def in_order(element):
+    """Whether an element has only children that the schema allows, in its order."""
+    names, groups = [tag_of(child) for child in element], KML.get(tag_of(element), [])
+    ranks = [place for name in names for place, group in enumerate(groups) if name in group.split()]
+    is_once = all(names.count(name) == 1 for name in names if name not in MANY)
+    return len(ranks) == len(names) and ranks == sorted(ranks) and is_once
+
+
+def tag_of(element):
+    return element.tag.partition("}")[2]
+
+
+@pytest.fixture
+def kml_root(made):
+    """The KML of a survey with a false detection, read again."""
+    survey = made()
+    cells = (*survey.cells[:2], dataclasses.replace(survey.cells[2], chance=True))
+    return xml.etree.ElementTree.fromstring(kml.of_survey(dataclasses.replace(survey, cells=cells)))
+
+
+def test_kml_has_the_order_of_the_schema(kml_root):
+    assert [tag_of(one) for one in kml_root.iter() if not in_order(one)] == []
+    assert {one.tag.partition("}")[0] for one in kml_root.iter()} == {"{http://www.opengis.net/kml/2.2"}
+
+
+def test_kml_has_valid_values(kml_root):
+    texts = {}
+    for one in kml_root.iter():
+        texts.setdefault(tag_of(one), []).append(one.text or "")
+    ids = [one.get("id") for one in kml_root.iter() if tag_of(one) == "Style"]
+    assert len(ids) == len(set(ids)) and {f"#{one}" for one in ids} >= set(texts["styleUrl"])
+    assert all(re.fullmatch("[0-9a-f]{8}", colour) for colour in texts["color"])
+    assert all(re.fullmatch(r"\d{4}-\d\d-\d\dT[\d:.]+Z", when) for when in texts["when"])
+    points = [point.split(",") for line in texts["coordinates"] for point in line.split()]
+    assert {lon for lon, _ in points} == {"13.0000000"} and all(52 <= float(lat) <= 52.005 for _, lat in points)
+    values = {(one.get("name"), one[0].text) for one in kml_root.iter() if tag_of(one) == "Data"}
+    assert {value for name, value in values if name in ("chance", "spoiled")} == {"true", "false"}
+    assert texts["tessellate"] == ["1"]
+
+
 # ---- clashes
 
 
