@@ -5,9 +5,10 @@ another one, then places get the time at which they came.
 """
 from __future__ import annotations
 
+import os
 import pathlib
-import statistics
 import stat
+import statistics
 import threading
 import time
 
@@ -18,16 +19,20 @@ CLOCK = 2.0  # seconds by which this machine's clock may differ from that of GPS
 SHOWN = 1 << 20  # characters of a line
 
 
+def with_writer(path: str, _: int) -> int:
+    """Opens a named pipe for reading and writing: so it does not end where its writer does."""
+    return os.open(path, os.O_RDWR | os.O_CLOEXEC)
+
+
 class Receiver:
-    """Reads places in a thread, until its file ends."""
+    """Reads places from a named pipe in a thread, also from its next writers, as when gpspipe begins again."""
 
     def __init__(self, path: pathlib.Path) -> None:
         self.path = path
         self.places: list[track.Place] = []
         self.late: list[float] = []  # seconds by which places came after their times
         self.fault: str | None = None
-        self.is_live = str(path) != "-" and path.exists() and stat.S_ISFIFO(path.stat().st_mode)
-        if not self.is_live:
+        if str(path) == "-" or not path.exists() or not stat.S_ISFIFO(path.stat().st_mode):
             raise Refused(f"{path}: not a named pipe: mkfifo {path}; gpspipe -w > {path} & writes to one")
         self.thread = threading.Thread(target=self.read, daemon=True)
         self.thread.start()
@@ -35,7 +40,7 @@ class Receiver:
     def read(self) -> None:
         """Keeps the place of each line that has one."""
         try:
-            with self.path.open(encoding="utf-8", errors="replace") as file:
+            with open(self.path, encoding="utf-8", errors="replace", opener=with_writer) as file:
                 while line := file.readline(SHOWN):
                     self.take(line)
         except OSError as fault:

@@ -45,6 +45,29 @@ def test_gpsd_that_is_refused(tmp_path, name):
     assert wanted in str(refused.value) and "a.json" in str(refused.value)
 
 
+def write_places(path, *times):
+    with path.open("w") as file:
+        file.write(lines(*({**POINT, "time": track.iso(one)} for one in times)))
+
+
+def wait_for(receiver, count):
+    """Waits until a receiver has so many places, some seconds at most."""
+    end = time.monotonic() + 20
+    while len(receiver.places) < count and time.monotonic() < end:
+        time.sleep(0.01)
+
+
+def test_gpsd_that_begins_again(tmp_path):
+    """A named pipe gets a second writer, as when gpspipe is started again."""
+    path = tmp_path / "gps"
+    os.mkfifo(path)
+    receiver, now = gpsd.Receiver(path), time.time()
+    for i in range(2):
+        write_places(path, now + i, now + i + 0.5)
+        wait_for(receiver, 2 * i + 2)
+    assert len(receiver.track().places) == 4
+
+
 def test_gpsd_on_a_pipe(tmp_path, monkeypatch):
     """Places keep the time of GPS, unless this machine's clock is another one."""
     notes = []
@@ -54,10 +77,8 @@ def test_gpsd_on_a_pipe(tmp_path, monkeypatch):
         os.mkfifo(path)
         receiver = gpsd.Receiver(path)
         now = time.time() - late
-        with path.open("w") as file:
-            for i in range(3):
-                file.write(lines({**POINT, "time": track.iso(now + i / 100)}))
-        receiver.thread.join(5)
+        write_places(path, *(now + i / 100 for i in range(3)))
+        wait_for(receiver, 3)
         found = receiver.track()
         assert len(found.places) == 3 and abs(found.first - (now if late < 2 else time.time())) < 2
     assert len(notes) == 1 and "3,600.0 s ahead of GPS" in notes[0]
