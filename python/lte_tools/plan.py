@@ -2,6 +2,7 @@
 
 The plan is a CSV file with a head line, in any order and with any further columns: `identity` (or `pci`), and as far as they
 are known `name`, `cell` (of 28 bits, or `enodeb` and `sector`), `tac`, `plmn` (262-02 or 26202), `earfcn`, `lat` and `lon`.
+NAMES has other names that are read for these.
 A cell whose SIB1 was read is looked for in the plan by its cell identity, and by its network where the plan has one; another
 one by its physical-layer identity alone.
 """
@@ -26,7 +27,22 @@ from .survey_data import Survey
 
 MOST_BYTES = 64_000_000
 MOST_CELLS = 500_000
-NAMES = {"pci": "identity", "latitude": "lat", "longitude": "lon", "site": "name", "eci": "cell", "enb": "enodeb"}
+# other names of columns, without the spaces, hyphens and underscores in them
+NAMES = {
+    "pci": "identity",
+    "latitude": "lat",
+    "longitude": "lon",
+    "long": "lon",
+    "site": "name",
+    "sitename": "name",
+    "eci": "cell",
+    "enb": "enodeb",
+    "enbid": "enodeb",
+    "enodebid": "enodeb",
+    "sectorid": "sector",
+    "earfcndl": "earfcn",
+    "dlearfcn": "earfcn",
+}
 RANGES = {"identity": 503, "cell": 2**28 - 1, "enodeb": 2**20 - 1, "sector": 255, "tac": 65_535, "earfcn": 262_143}
 # words of a finding, the gravest first, and what they mean
 FINDINGS = {
@@ -68,7 +84,7 @@ def read(path: pathlib.Path) -> list[Planned]:
     delimiter = next((one for one in ";\t" if one in head and "," not in head), ",")
     rows = csv.reader(io.StringIO(text, newline=""), delimiter=delimiter)
     try:
-        names = [NAMES.get(name.strip().lower(), name.strip().lower()) for name in next(rows, [])]
+        names = [column_of(name) for name in next(rows, [])]
         if "identity" not in names:
             raise BadLine("no column identity or pci: the first line is identity,cell,tac,lat,lon or the like")
         if twice := next((name for name in names if name in (*RANGES, "lat", "lon") and names.count(name) > 1), None):
@@ -81,6 +97,12 @@ def read(path: pathlib.Path) -> list[Planned]:
     if not found:
         raise Refused(f"{path}: no cell in it")
     return found
+
+
+def column_of(name: str) -> str:
+    """Returns the column that a name in the head line means."""
+    plain = re.sub(r"[\s_-]", "", name.lower())
+    return NAMES.get(plain, plain)
 
 
 def limited(rows: Iterator[list[str]]) -> Iterator[list[str]]:
@@ -107,13 +129,14 @@ def planned_of(line: int, row: dict[str, str]) -> Planned:
 
 
 def number_of(name: str, text: str) -> int | None:
-    """Returns a number of a column, None if it is empty."""
+    """Returns a number of a column, None if it is empty; pandas writes 5501 as 5501.0 below an empty field."""
     text = text.strip()
     if not text:
         return None
-    if not re.fullmatch(r"[0-9]{1,9}", text) or int(text) > RANGES[name]:
+    found = re.fullmatch(r"([0-9]{1,9})([.,]0*)?", text)
+    if not found or int(found[1]) > RANGES[name]:
         raise BadLine(f"{name}: {foreign.shown(text)} is not a whole number from 0 to {RANGES[name]}")
-    return int(text)
+    return int(found[1])
 
 
 def network_of(row: dict[str, str]) -> str | None:
@@ -127,12 +150,12 @@ def network_of(row: dict[str, str]) -> str | None:
 
 
 def place_of(row: dict[str, str]) -> tuple[float, float] | None:
-    """Returns longitude and latitude of a row, None if both are empty."""
+    """Returns longitude and latitude of a row, with a point or a comma before the decimals; None if both are empty."""
     texts = row.get("lon", "").strip(), row.get("lat", "").strip()
     if texts == ("", ""):
         return None
     try:
-        lon, lat = map(float, texts)
+        lon, lat = (float(one.replace(",", ".")) for one in texts)
     except ValueError:
         raise BadLine(f"lat, lon: {foreign.shown(texts[1])}, {foreign.shown(texts[0])} is not a place") from None
     if not (abs(lat) <= 90 and abs(lon) <= 180):

@@ -381,6 +381,14 @@ def test_plan_by_identity_alone(made, tmp_path):
     ]
 
 
+def test_plan_of_a_spreadsheet(made, tmp_path):
+    """Names as other programs write them, decimal commas, and whole numbers with a point."""
+    text = "\ufeffSite Name;eNodeB-ID;Sector_ID;PCI;TAC;Latitude;Long;EARFCN DL\nA;70001;1;63.0;4711,0;52,001;13,0;\n"
+    (tmp_path / "plan.csv").write_text(text, encoding="utf-8")
+    (one,) = plan.read(tmp_path / "plan.csv")
+    assert one == plan.Planned(2, "A", 63, CELLS[63], 4711, None, None, (13.0, 52.001))
+
+
 def test_reuse_and_carriers(made, tmp_path):
     survey = made()
     twice = dataclasses.replace(survey.cells[2], identity=63)
@@ -396,6 +404,7 @@ BAD_PLANS = {
     "line 3: identity: '504' is not a whole number from 0 to 503": "pci\n1\n504\n",
     "line 2: no identity": "pci,tac\n,7\n",
     "tac: '-1'": "pci,tac\n1,-1\n",
+    "tac: '7.5'": "pci,tac\n1,7.5\n",
     "line 2: lat, lon: 91, 0 is no place on earth": "pci,lat,lon\n1,91,0\n",
     "lat, lon: nan, 0 is no place": "pci,lat,lon\n1,nan,0\n",
     "lat, lon: '', '7' is not a place": "pci,lat,lon\n1,,7\n",
