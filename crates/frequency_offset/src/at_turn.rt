@@ -134,8 +134,9 @@ fn angle(m: &i16, i: usize) -> i64
     (*m as i64 * i as i64) >> 7
 }
 
-// Returns `sample` minus `mean`, rotated back by the phase `angle`, in 1/128 of a cycle.
-fn turned_back(sample: Sample, mean: Cpx, angle: i64) -> Sample
+/// Returns `sample` minus `mean`, whose components are within 32,768, rotated back by the phase `angle`, in 1/128 of a
+/// cycle; rounded, and clamped to 16 bits. (own)
+pub fn turned_back(sample: Sample, mean: Cpx, angle: i64) -> Sample
     requires { IsWithin 32768 mean }
     ensures { result ≡ turned_back_by (value_of sample) mean angle }
 {

@@ -47,10 +47,11 @@ impl<'a> Centred<'a> {
     }
 }
 
-// Returns the mean of the samples.
-fn mean(samples: &[Sample]) -> Cpx
+/// Returns the mean of 1 to 30,720,000 samples, a second at up to 30.72 million per second, each component rounded to
+/// nearest, halves up. (own)
+pub fn mean(samples: &[Sample]) -> Cpx
     requires some { 0 < length samples.now }
-    requires few { length samples.now ≤ most_samples }
+    requires few { length samples.now ≤ 16 * most_samples }
     ensures value { result ≡ mean_of_all samples.now }
     ensures small { IsWithin 32768 result }
 {
@@ -58,7 +59,7 @@ fn mean(samples: &[Sample]) -> Cpx
 }
 
 fn sum_of(samples: &[Sample]) -> Cpx
-    requires { length samples.now ≤ most_samples }
+    requires { length samples.now ≤ 16 * most_samples }
     ensures value { result ≡ sum_of_all samples.now }
     ensures small { IsWithin (length samples.now * 32768) result }
 {

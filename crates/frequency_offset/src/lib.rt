@@ -20,7 +20,9 @@ mod order;
 mod table;
 mod taking;
 
+pub use at_turn::turned_back;
 pub use candidate::Candidate;
+pub use centred::mean;
 pub use estimation::{Estimation, OffsetEstimate, applied, tell, tell_with_candidates, turned};
 pub use fraction::Fraction;
 pub use laws::{the_turn_estimated, turned_recordings};
