@@ -41,8 +41,7 @@ receiver() {
 }
 
 tuner() {
-    printf '%s\n' tell{' --json',}{' --format cu8',} | rated
-    printf '%s\n' apply{,' -7'}{' --format cu8',}
+    printf '%s\n' tell{' --json',}{' --format cu8',} apply{,' -7'}{' --format cu8',} | rated
     printf '%s\n' help --help -h version --version
 }
 
@@ -58,7 +57,7 @@ fronts() { # fronts < FORMS: each front of each form, without its last word and 
 questions() { # questions < FORMS: lines FRONT|BEGIN: behind each front, also of words that begin somehow; and odd fronts
     fronts | while IFS= read -r front; do printf '%s\n' "$front|" "$front|-" "$front|--p" "$front|s"; done
     printf '%s|\n' 'hits --format cu8' 'search --json --ports' 'search --ports 3' 'make 07' 'why 504' 'why 07' \
-        'apply 7.5' 'hits --rate' 'hits --rate 2' 'tell --rate 3.84' 'apply --rate' unknown
+        'apply 7.5' 'hits --rate' 'hits --rate 2' 'tell --rate 3.84' unknown
 }
 
 wanted() { # wanted FORMS < QUESTIONS: the words that may come next, in the forms' order, but no number of a recording

@@ -98,7 +98,7 @@ def rate_words(random):
 
 def rate_of(given):
     """The words without a rate at their end, and the rate as a multiple of 1.92 million samples per second."""
-    if given[-2:-1] == ["--rate"] and given[-1] in RATES and given[0] != "apply":
+    if given[-2:-1] == ["--rate"] and given[-1] in RATES:
         return given[:-2], RATES[given[-1]]
     return given, 1
 

@@ -1,2 +1,1 @@
 pub mod OneForm
-pub mod LastPart

@@ -233,18 +233,35 @@ turn_back (negsuc n) small =
     let low = small.0 in
     let numeral = decimal_is_IsNumeral (suc n) (omega (arith, ints, low)) in ap (λ k. neg_ℤ (pos k)) numeral.1
 
--- the argument count decides whether a phase step and a sample format are given
+-- the argument count decides whether a phase step is given: each other part has two arguments
 abbrev apply_in : List (List ℕ) → Form
-apply_in [] = Apply AsEstimated Ci16
-apply_in (m ∷ []) = Apply (Steps (turn_in m)) Ci16
-apply_in (word ∷ next ∷ []) = Apply AsEstimated Cu8
-apply_in (m ∷ word ∷ next ∷ rest) = Apply (Steps (turn_in m)) Cu8
+apply_in [] = Apply AsEstimated (recording_in [])
+apply_in (m ∷ []) = Apply (Steps (turn_in m)) (recording_in [])
+apply_in (a ∷ b ∷ []) = Apply AsEstimated (recording_in (a ∷ b ∷ []))
+apply_in (m ∷ a ∷ b ∷ []) = Apply (Steps (turn_in m)) (recording_in (a ∷ b ∷ []))
+apply_in (a ∷ b ∷ c ∷ d ∷ []) = Apply AsEstimated (recording_in (a ∷ b ∷ c ∷ d ∷ []))
+apply_in (m ∷ a ∷ b ∷ c ∷ d ∷ rest) = Apply (Steps (turn_in m)) (recording_in (a ∷ b ∷ c ∷ d ∷ []))
 
-apply_back : (turn : Turn) (form : SampleForm) → IsAskedTurn turn → apply_in (turn_words turn ++ samples_words form) ≡ Apply turn form
-apply_back AsEstimated Ci16 within = refl
-apply_back AsEstimated Cu8 within = refl
-apply_back (Steps m) Ci16 within = ap (λ k. Apply (Steps k) Ci16) (turn_back m within)
-apply_back (Steps m) Cu8 within = ap (λ k. Apply (Steps k) Cu8) (turn_back m within)
+-- the arguments of a recording's form have no phase step in front
+estimated_before : (samples : SampleForm) (rate : Option Rate) → apply_in (samples_words samples ++ rate_words rate) ≡ Apply AsEstimated (recording_in (samples_words samples ++ rate_words rate))
+estimated_before Ci16 None = refl
+estimated_before Ci16 (Some rate) = refl
+estimated_before Cu8 None = refl
+estimated_before Cu8 (Some rate) = refl
+
+steps_before : (word : List ℕ) (samples : SampleForm) (rate : Option Rate) →
+    apply_in (word ∷ (samples_words samples ++ rate_words rate)) ≡ Apply (Steps (turn_in word)) (recording_in (samples_words samples ++ rate_words rate))
+steps_before word Ci16 None = refl
+steps_before word Ci16 (Some rate) = refl
+steps_before word Cu8 None = refl
+steps_before word Cu8 (Some rate) = refl
+
+apply_back : (turn : Turn) (form : RecordingForm) → IsAskedTurn turn → apply_in (turn_words turn ++ recording_words form) ≡ Apply turn form
+apply_back AsEstimated form within = estimated_before form.samples form.rate ∙ ap (Apply AsEstimated) (recording_back form.samples form.rate)
+apply_back (Steps m) form within =
+    steps_before (signed_decimal m) form.samples form.rate
+    ∙ ap (λ (of : RecordingForm). Apply (Steps (turn_in (signed_decimal m))) of) (recording_back form.samples form.rate)
+    ∙ ap (λ k. Apply (Steps k) form) (turn_back m within)
 
 -- ---- the form that arguments select: a new form adds a line here, and one below
 

@@ -117,7 +117,7 @@ AreWordsOf (Certify carrier form) words = words ≡ codes "certify" ∷ carrier_
 AreWordsOf Check words = words ≡ codes "check" ∷ []
 AreWordsOf (Transmit carrier load) words = words ≡ codes "transmit" ∷ carrier_words carrier ++ load_words load
 AreWordsOf (Make carrier n) words = words ≡ codes "make" ∷ decimal n ∷ carrier_words carrier
-AreWordsOf (Apply turn form) words = words ≡ codes "apply" ∷ turn_words turn ++ samples_words form
+AreWordsOf (Apply turn form) words = words ≡ codes "apply" ∷ turn_words turn ++ recording_words form
 AreWordsOf (Print program page) words = ArePageWords page words
 
 -- a frequency correction in the permitted range: -2,048 to 2,047 steps of 117.1875 Hz

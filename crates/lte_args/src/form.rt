@@ -100,8 +100,8 @@ pub enum Form {
     Transmit(Carrier, Option<u32>),
     /// `make N`: the cell list of synthetic recording number N under a transmission scheme.
     Make(Carrier, u32),
-    /// `apply`: a frequency-corrected recording, in 16-bit samples. It takes no rate.
-    Apply(Turn, SampleForm),
+    /// `apply`: a frequency-corrected recording, in 16-bit samples at the rate of the input.
+    Apply(Turn, RecordingForm),
     /// A page about a program.
     Print(Program, Page),
 }
@@ -211,8 +211,8 @@ fn of_tuner(words: &[String]) -> Option<Form>
 {
     if let Some((output, recording)) = report_parts(words, "tell") {
         Some(Form::Report(Report::Tell, output, recording))
-    } else if let Some((turn, samples)) = apply_parts(words) {
-        Some(Form::Apply(turn, samples))
+    } else if let Some((turn, recording)) = apply_parts(words) {
+        Some(Form::Apply(turn, recording))
     } else {
         let page = page_of(words)?;
         Some(Form::Print(Program::Tuner, page))

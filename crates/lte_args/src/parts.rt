@@ -4,7 +4,6 @@
 ghost use Rattle.std.specs.Prelude.{◌≡◌, ◌↔◌, ◌<◌, ◌≤◌, ◌^◌, ℕ, Option, Some, List, [], ◌∷◌, ◌++◌, map, IfSome};
 ghost use Rattle.std.specs.Prelude.{IsNone, IsTrue, codes, string_bytes};
 ghost use Rattle.std.specs.Fmt.{decimal};
-ghost use Rattle.sample_file.specs.declared.form.SampleForm.{SampleForm as SampleFormValue};
 ghost use Rattle.lte_args.specs.declared.form.Rate.{Rate as RateValue};
 ghost use Rattle.lte_args.specs.declared.form.RecordingForm.{RecordingForm as RecordingFormValue};
 ghost use Rattle.lte_types.specs.declared.carrier.Carrier.{Carrier as CarrierValue};
@@ -77,15 +76,6 @@ fn samples_in(words: &[String]) -> (SampleForm, &[String])
 }
 
 // ---- last parts: each parser accepts all its arguments or returns `None`
-
-// Parses a sample format that no further arguments follow.
-fn samples_of(words: &[String]) -> Option<SampleForm>
-    ensures some { IfSome result (λ form. map string_bytes words.now ≡ samples_words form) }
-    ensures none { IsNone result → (form : SampleFormValue) → map string_bytes words.now ≡ samples_words form → ⊥ }
-{
-    let (samples, words) = samples_in(words);
-    if are_none(words) { Some(samples) } else { None }
-}
 
 // Parses an optional sample rate.
 fn rate_of(words: &[String]) -> Option<Option<Rate>>
@@ -264,21 +254,21 @@ pub(crate) fn make_parts(words: &[String]) -> Option<(Carrier, u32)>
     Some((carrier, n))
 }
 
-// Parses `apply`: its optional phase step and its sample format.
-pub(crate) fn apply_parts(words: &[String]) -> Option<(Turn, SampleForm)>
+// Parses `apply`: its optional phase step and its recording form.
+pub(crate) fn apply_parts(words: &[String]) -> Option<(Turn, RecordingForm)>
     ensures some { IfSome result (λ parts. IsAskedTurn parts.0
-        × (map string_bytes words.now ≡ codes "apply" ∷ turn_words parts.0 ++ samples_words parts.1)) }
-    ensures none { IsNone result → (turn : TurnValue) (form : SampleFormValue) → IsAskedTurn turn →
-        map string_bytes words.now ≡ codes "apply" ∷ turn_words turn ++ samples_words form → ⊥ }
+        × (map string_bytes words.now ≡ codes "apply" ∷ turn_words parts.0 ++ recording_words parts.1)) }
+    ensures none { IsNone result → (turn : TurnValue) (form : RecordingFormValue) → IsAskedTurn turn →
+        map string_bytes words.now ≡ codes "apply" ∷ turn_words turn ++ recording_words form → ⊥ }
 {
     let words = after(words, "apply")?;
-    if let Some(samples) = samples_of(words) {
-        Some((Turn::AsEstimated, samples))
+    if let Some(recording) = recording_of(words) {
+        Some((Turn::AsEstimated, recording))
     } else {
         let (text, words) = words.split_first()?;
         let m = steps_of(text.as_str())?;
-        let samples = samples_of(words)?;
-        Some((Turn::Steps(m), samples))
+        let recording = recording_of(words)?;
+        Some((Turn::Steps(m), recording))
     }
 }
 

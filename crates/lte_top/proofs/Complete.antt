@@ -34,7 +34,7 @@ one_length (Certify carrier form) bytes first second a b = one_certified_length 
 one_length Check bytes first second a b = ap length (one_check bytes first second a b)
 one_length (Transmit carrier load) bytes first second a b = one_transmitted_length carrier load bytes first second a b
 one_length (Make carrier n) bytes first second a b = ap length (one_made carrier n first second a b)
-one_length (Apply turn form) bytes first second a b = ap length (one_turned turn (samples_in form bytes) first second a b)
+one_length (Apply turn form) bytes first second a b = ap length (one_turned form.rate turn (samples_in form.samples bytes) first second a b)
 one_length (Print program page) bytes first second a b = ap length (a ∙ sym b)
 
 -- ---- inputs: a new one adds a line

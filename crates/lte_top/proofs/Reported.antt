@@ -1,5 +1,5 @@
 -- A recording has one text per report, and one corrected recording.
-use Rattle.std.proofs.Common.{◌≡◌, ℕ, List, ap, sym, subst, ◌∙◌}
+use Rattle.std.proofs.Common.{◌≡◌, ℕ, Option, Some, None, List, ap, sym, subst, ◌∙◌}
 use Rattle.std.specs.List.{AllZip}
 use Rattle.cs_num.specs.declared.Sample.{Sample}
 use Rattle.lte_types.specs.declared.carrier.Carrier.{Carrier}
@@ -13,6 +13,11 @@ use Rattle.report_json.specs.Offset.{estimation_json, IsTellJson}
 use Rattle.frequency_offset.specs.Candidates.{taken_of}
 use Rattle.report_text.specs.Offset.{offset_text}
 use Rattle.frequency_offset.proofs.OneEstimate.{has_one_estimate, is_one_applied}
+use Rattle.frequency_offset.specs.Estimation.{turn_of}
+use Rattle.halving.specs.Wide.{narrowed}
+use Rattle.wide_turn.specs.Turned.{front, turned}
+use Rattle.lte_args.specs.declared.form.Rate.{Rate}
+use Rattle.lte_args.specs.Words.{exponent_of}
 use Rattle.reasons.proofs.OneReason.{one_reason}
 use Rattle.lte_args.specs.declared.form.Report.{Report}
 use Rattle.lte_args.specs.declared.form.Report.TheVariants.{Hits, Ids, Search, Evidence, Tell, Why}
@@ -71,6 +76,12 @@ one_report (Evidence carrier) output signal first second a b = one_evidence carr
 one_report Tell output signal first second a b = one_decoding output signal.narrow first second a b
 one_report (Why identity carrier) output signal first second a b = one_why identity carrier output signal.narrow first second a b
 
-pub one_turned : (turn : Turn) (samples : List Sample) (first second : List ℕ) → IsTurnedAsBytes turn samples first → IsTurnedAsBytes turn samples second → first ≡ second
-one_turned AsEstimated samples first second a b = a.bytes ∙ ap bytes_of (is_one_applied samples a.samples b.samples a.are b.are) ∙ sym b.bytes
-one_turned (Steps m) samples first second a b = a.bytes ∙ ap bytes_of (a.are ∙ sym b.are) ∙ sym b.bytes
+pub one_turned : (rate : Option Rate) (turn : Turn) (samples : List Sample) (first second : List ℕ) → IsTurnedAsBytes rate turn samples first → IsTurnedAsBytes rate turn samples second →
+    first ≡ second
+one_turned None AsEstimated samples first second a b = a.bytes ∙ ap bytes_of (is_one_applied samples a.samples b.samples a.are b.are) ∙ sym b.bytes
+one_turned None (Steps m) samples first second a b = a.bytes ∙ ap bytes_of (a.are ∙ sym b.are) ∙ sym b.bytes
+one_turned (Some rate) AsEstimated samples first second a b =
+    let wide = narrowed (front (exponent_of rate) samples) in
+    let same = has_one_estimate wide a.are.estimate b.are.estimate a.are.is_estimated b.are.is_estimated in
+    a.bytes ∙ ap bytes_of (a.are.samples_are ∙ ap (λ estimate. turned (exponent_of rate) samples (turn_of estimate)) same ∙ sym b.are.samples_are) ∙ sym b.bytes
+one_turned (Some rate) (Steps m) samples first second a b = a.bytes ∙ ap bytes_of (a.are ∙ sym b.are) ∙ sym b.bytes

@@ -21,9 +21,9 @@ pub record HasReportedCells (text : List ℕ) (samples : List Sample) : Type 0 w
   pub recording : IsRecording samples
   pub cells : IfSome estimate (λ estimate. HasCells samples estimate.cells)
 
--- a law: for the same input in either sample format, `apply` writes a valid 16-bit recording with as many cells as
+-- a law: for the same input in either sample format, without a rate, `apply` writes a valid 16-bit recording with as many cells as
 -- `tell` reports
 abbrev pub WhatIsAppliedIsEstimated : Type 0
 WhatIsAppliedIsEstimated = (form : SampleForm) (bytes text applied : List ℕ) → IsRecording (samples_in form bytes) →
-    IsOutput (Reports Tell Text (plain form)) bytes text → IsOutput (Apply AsEstimated form) bytes applied →
+    IsOutput (Reports Tell Text (plain form)) bytes text → IsOutput (Apply AsEstimated (plain form)) bytes applied →
     HasReportedCells text (samples_of applied)

@@ -10,7 +10,7 @@ use Rattle.lte_args.specs.declared.form.Form.TheVariants.{Apply, Print}
 use Rattle.lte_top.specs.declared.status.Status.{Status}
 use Rattle.lte_top.specs.declared.status.Status.TheVariants.{Ragged, TooShort, BadCell, BadCertificate}
 use Rattle.cell_json.specs.Reading.{refusal_by}
-use Rattle.lte_top.specs.Signals.{plain, factor_of, signal_in}
+use Rattle.lte_top.specs.Signals.{factor_of, signal_in}
 use Rattle.lte_top.specs.Transmitting.{most_description_bytes, IsTransmitted}
 use Rattle.lte_top.specs.Certificates.{IsChecked, IsCertified}
 use Rattle.certificates.specs.Stream.{most_bytes as most_certificate_bytes, IsBrokenAt}
@@ -35,7 +35,7 @@ input_of (Certify carrier form) = recording form
 input_of Check = certificates
 input_of (Transmit carrier load) = description carrier
 input_of (Make carrier n) = nothing
-input_of (Apply turn form) = recording (plain form)
+input_of (Apply turn form) = recording form
 input_of (Print program page) = nothing
 
 -- the maximum length of an input in bytes
@@ -96,5 +96,6 @@ IsOutput (Certify carrier form) bytes written = IsCertified carrier (signal_in f
 IsOutput Check bytes written = IsChecked bytes written
 IsOutput (Transmit carrier load) bytes written = IsTransmitted carrier load bytes written
 IsOutput (Make carrier n) bytes written = IsMadeText carrier n written
-IsOutput (Apply turn form) bytes written = IsTurnedAsBytes turn (samples_in form bytes) written
+IsOutput (Apply turn form) bytes written =
+    IsTurnedAsBytes form.rate turn (samples_in form.samples bytes) written
 IsOutput (Print program page) bytes written = written ≡ page_text program page

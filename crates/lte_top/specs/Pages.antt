@@ -49,8 +49,8 @@ help_text Tuner =
     codes "usage: lte_tune COMMAND [--json] [--format cu8] [--rate R] < INPUT > OUTPUT\n"
     ++ codes "tell [--json] [--format cu8] [--rate R]: the frequency offset of a recording\n"
     ++ codes "  --rate R: of the first 170 ms, at R million samples per second: 1.92, 3.84, 7.68, 15.36 or 30.72\n"
-    ++ codes "apply [--format cu8]: the recording with this offset taken off, in 16-bit samples\n"
-    ++ codes "apply M [--format cu8]: the recording turned by M steps of 117.1875 Hz, in 16-bit samples\n"
+    ++ codes "apply [--format cu8] [--rate R]: the recording with this offset taken off, in 16-bit samples\n"
+    ++ codes "apply M [--format cu8] [--rate R]: the recording turned by M steps of 117.1875 Hz, in 16-bit samples\n"
     ++ codes "help, --help, -h: this page\n"
     ++ codes "version, --version: the versions of the program and of its definition\n"
 

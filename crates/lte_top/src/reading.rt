@@ -4,7 +4,7 @@ ghost use Rattle.std.specs.Prelude.{◌≡◌, ◌*◌, ◌^◌, ◌≤◌, IfOk
 ghost use Rattle.cs_outside.specs.Outside.{SourceState};
 ghost use Rattle.halving.specs.Wide.{most_kept};
 ghost use Rattle.lte_types.specs.Numerology.{least_samples, most_samples};
-ghost use Rattle.sample_file.specs.Reading.{HasReadRecording, HasReadFront};
+ghost use Rattle.sample_file.specs.Reading.{HasReadRecording, HasReadRecordingAt, HasReadFront};
 ghost use Rattle.sample_file.specs.Recording.{IsRecording};
 ghost use Rattle.lte_args.specs.declared.form.Form.TheVariants.{Report as Reports};
 ghost use Rattle.lte_args.specs.declared.form.Output.{Output as OutputValue};
@@ -185,6 +185,25 @@ pub(crate) fn recording_of<S: Source>(
 {
     let recording = read_as(alloc, source, form)?;
     Ok(recording)
+}
+
+// Reads a recording with a rate to the end of its source, and keeps all its samples.
+pub(crate) fn samples_of<S: Source>(
+    alloc: Global,
+    form: SampleForm,
+    rate: Rate,
+    source: &mut S,
+) -> Result<Vec<Sample>, Status>
+    ensures ok { IfOk result (λ samples.
+        HasReadRecordingAt (2 ^ exponent_of rate) form samples.items (S.state source.old) (S.state source.new)) }
+    ensures least { IfOk result (λ samples. 2 ^ exponent_of rate * least_samples ≤ length samples.items) }
+    ensures most { IfOk result (λ samples. length samples.items ≤ 2 ^ exponent_of rate * most_samples) }
+    ensures err { IfErr result (Cause (recording (rated form rate)) (S.state source.old) (S.state source.new)) }
+    ensures never_falls { (S.state source.old).faults ≤ (S.state source.new).faults }
+{
+    let factor = rate.factor();
+    let samples = read_front_at(alloc, source, form, factor, factor * MOST_SAMPLES)?;
+    Ok(samples)
 }
 
 // ---- parts of recordings

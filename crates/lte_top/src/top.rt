@@ -112,7 +112,7 @@ fn run_form<S: Source, K: Sink>(
             let text = made_text(alloc, carrier, n)?;
             write_output(sink, text.as_bytes())
         }
-        Form::Apply(turn, samples) => apply_turn(alloc, turn, samples, source, sink),
+        Form::Apply(turn, recording) => apply_turn(alloc, turn, recording, source, sink),
         Form::Print(program, page) => {
             let text = page_text(alloc, program, page)?;
             write_output(sink, text.as_bytes())

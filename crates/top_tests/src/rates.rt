@@ -39,6 +39,9 @@ fn each_report_takes_each_rate(rt: HostRuntime) -> Result<(), Fail> {
         (Program::Receiver, "certify"),
         (Program::Receiver, "certify --prefix long --format cu8"),
         (Program::Tuner, "tell"),
+        (Program::Tuner, "apply"),
+        (Program::Tuner, "apply 0 --format cu8"),
+        (Program::Tuner, "apply -2048"),
         (Program::Tuner, "tell --json --format cu8"),
     ] {
         for (rate, _) in RATES {
@@ -94,9 +97,6 @@ fn forms_without_a_recording_take_no_rate(rt: HostRuntime) -> Result<(), Fail> {
         (Program::Receiver, "make 7"),
         (Program::Receiver, "help"),
         (Program::Receiver, "version"),
-        (Program::Tuner, "apply"),
-        (Program::Tuner, "apply 5"),
-        (Program::Tuner, "apply --format cu8"),
         (Program::Tuner, "help"),
     ] {
         let line = format!(in rt.alloc(); "{front} --rate 1.92")?;
@@ -263,6 +263,27 @@ fn evidence_at_1_92(rt: HostRuntime) -> Result<(), Fail> {
 #[test]
 fn certificates_at_1_92(rt: HostRuntime) -> Result<(), Fail> {
     have_the_same_reports(&rt, rt.alloc(), &["certify"])
+}
+
+#[test]
+fn corrections_at_1_92(rt: HostRuntime) -> Result<(), Fail> {
+    let alloc = rt.alloc();
+    let cell = sent_by(alloc, "")?.written;
+    for front in ["apply", "apply 5", "apply -2048"] {
+        assert!(rt; agrees(alloc, Program::Tuner, front, &cell, &cell)?, "{front}");
+    }
+    Ok(())
+}
+
+#[test]
+fn corrected_silence_is_silence(rt: HostRuntime) -> Result<(), Fail> {
+    let (alloc, tuner) = (rt.alloc(), Program::Tuner);
+    let zeros = silence(alloc, 460_800)?;
+    for line in ["apply --rate 3.84", "apply 9 --rate 3.84"] {
+        let output = output_by(alloc, tuner, line, zeros.clone()?)?;
+        assert!(rt; output.is(Status::Done, &zeros), "{line}");
+    }
+    Ok(())
 }
 
 // Returns a recording in which each 16-bit sample of `bytes` is repeated `factor` times.

@@ -8,9 +8,13 @@ tell --format cu8 --rate R
 tell --format cu8
 tell --rate R
 tell
+apply --format cu8 --rate R
 apply --format cu8
+apply --rate R
 apply
+apply M --format cu8 --rate R
 apply M --format cu8
+apply M --rate R
 apply M
 help
 --help
