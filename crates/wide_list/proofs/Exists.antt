@@ -39,7 +39,7 @@ some_reason elements (offer ∷ rest) none = by (some_saying offer)
     by (Ok fields, answers) = absurd (none 0 offer (omega arith) fields answers)
     by (Err reason, answers) = (reason, answers)
 
-some_answer_alone : (frame : Frame) → (answer : Result Sib1 Sib1Reason) × AnswersAlone frame answer
+pub some_answer_alone : (frame : Frame) → (answer : Result Sib1 Sib1Reason) × AnswersAlone frame answer
 some_answer_alone frame = by (first_or_none HasFields fields_or_not frame.offers)
   where
     by : ((fields : Sib1) × IsFirstOf HasFields frame.offers fields) ⊎ HaveNone HasFields frame.offers → (answer : Result Sib1 Sib1Reason) × AnswersAlone frame answer
@@ -81,7 +81,7 @@ module _ (wide : Wide) (cell : Cell) (start sfn : ℕ) where
       let control = some_control (slot_at wide cell start j 10) ((sfn + j) % 1024) in
       (frame_of (slot_at wide cell start j 10) (slot_at wide cell start j 11) (sfn + j) control.0, record { control = control.0; decoded = control.1; is = refl })
 
-  some_alone : (i : ℕ) → (answer : Result Sib1 Sib1Reason) × Alone i answer
+  pub some_alone : (i : ℕ) → (answer : Result Sib1 Sib1Reason) × Alone i answer
   some_alone i =
       let frame = some_frame (even_frame sfn i) in
       let answer = some_answer_alone frame.0 in (answer.0, record { frame = frame.0; is = frame.1; answers = answer.1 })

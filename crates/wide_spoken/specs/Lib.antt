@@ -1,0 +1,4 @@
+pub mod Sent
+pub mod Spoken
+pub mod Listed
+pub mod Laws
