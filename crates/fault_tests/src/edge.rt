@@ -11,9 +11,12 @@ use std::process::{Abort, ExitCode};
 use std::test::Fail;
 
 // The lines on standard error for arguments that match no command.
-const RECEIVER_USAGE: &str = "lte_cli: usage: the arguments match no command; the command help lists all; \
+const RECEIVER_USAGE: &str =
+    "lte_cli: usage: the arguments match no command; the command help lists all; \
     --rate takes 1.92, 3.84, 7.68, 15.36 or 30.72 (lte_convert converts others)\n";
-const TUNER_USAGE: &str = "lte_tune: usage: the arguments match no command; the command help lists all; \
+
+const TUNER_USAGE: &str =
+    "lte_tune: usage: the arguments match no command; the command help lists all; \
     --rate takes 1.92, 3.84, 7.68, 15.36 or 30.72 (lte_convert converts others)\n";
 
 // A runtime with its own arguments, which records the text on standard error. The arguments are the parts of `line`
@@ -131,15 +134,7 @@ fn six_arguments_are_words(rt: HostRuntime) -> Result<(), Fail> {
             "lte_cli: too short: the recording has less than 30 ms (57,600 samples without --rate); record more\n",
         )?;
         let line = format!(in alloc; "lte_cli {rule} --json --format")?;
-        ends_with(
-            &rt,
-            alloc,
-            receiver,
-            &line,
-            b"\0\0",
-            2,
-            RECEIVER_USAGE,
-        )?;
+        ends_with(&rt, alloc, receiver, &line, b"\0\0", 2, RECEIVER_USAGE)?;
         let line = format!(in alloc; "lte_cli {rule} --json")?;
         ends_with(
             &rt,
@@ -209,9 +204,6 @@ fn an_argument_that_is_not_text_is_usage(rt: HostRuntime) -> Result<(), Fail> {
         printed: RefCell::new(String::new(alloc)),
     };
     let exit = run_process(&process, Program::Receiver, Broken, io::sink());
-    assert!(rt;
-        exit == ExitCode::from(2)
-            && process.has_printed(RECEIVER_USAGE)
-    );
+    assert!(rt; exit == ExitCode::from(2) && process.has_printed(RECEIVER_USAGE));
     Ok(())
 }

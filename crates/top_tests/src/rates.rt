@@ -270,7 +270,10 @@ fn corrections_at_1_92(rt: HostRuntime) -> Result<(), Fail> {
     let alloc = rt.alloc();
     let cell = sent_by(alloc, "")?.written;
     for front in ["apply", "apply 5", "apply -2048"] {
-        assert!(rt; agrees(alloc, Program::Tuner, front, &cell, &cell)?, "{front}");
+        assert!(rt;
+            agrees(alloc, Program::Tuner, front, &cell, &cell)?,
+            "{front}"
+        );
     }
     Ok(())
 }
