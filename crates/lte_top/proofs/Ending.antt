@@ -16,7 +16,6 @@ use Rattle.lte_types.specs.declared.entry.Entry.{Entry}
 use Rattle.lte_args.specs.declared.form.RecordingForm.{RecordingForm}
 use Rattle.lte_args.specs.declared.form.Form.TheVariants.{Certify, Apply}
 use Rattle.lte_args.specs.declared.form.Turn.{Turn}
-use Rattle.lte_args.specs.declared.form.Turn.TheVariants.{AsEstimated, Steps}
 use Rattle.lte_top.specs.declared.status.Status.{Status}
 use Rattle.lte_top.specs.Certificates.{IsCertified}
 use Rattle.certificates.specs.Certifying.{HasCertifiedAll, HasCertifiedSome}

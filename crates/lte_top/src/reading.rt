@@ -1,6 +1,6 @@
 //! Reading recordings, at 1.92 million samples per second or at a given rate.
 
-ghost use Rattle.std.specs.Prelude.{◌≡◌, ◌*◌, ◌^◌, ◌≤◌, IfOk, IfErr, IfSome, ℕ, List, length};
+ghost use Rattle.std.specs.Prelude.{◌≡◌, ◌*◌, ◌^◌, ◌≤◌, IfOk, IfErr, ℕ, List, length};
 ghost use Rattle.cs_outside.specs.Outside.{SourceState};
 ghost use Rattle.halving.specs.Wide.{most_kept};
 ghost use Rattle.lte_types.specs.Numerology.{least_samples, most_samples};

@@ -1,5 +1,4 @@
-use Rattle.std.proofs.Common.{ℕ, List, subst}
-use Rattle.cs_num.specs.declared.Sample.{Sample}
+use Rattle.std.proofs.Common.{ℕ, subst}
 use Rattle.sample_file.specs.Reading.{HasReadRecordingAt}
 use Rattle.lte_top.proofs.Ending.{whole_at}
 use Rattle.lte_top.proofs.reading.samples_of.Goals as goal

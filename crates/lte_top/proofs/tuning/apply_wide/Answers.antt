@@ -1,4 +1,3 @@
-use Rattle.std.proofs.Common.{refl}
 use Rattle.lte_top.specs.Signals.{rated}
 use Rattle.lte_top.proofs.Ending.{applied_done, applied_fault}
 use Rattle.lte_top.proofs.tuning.apply_wide.Goals as goal
