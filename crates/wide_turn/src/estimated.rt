@@ -14,9 +14,8 @@ use halving::{WideRecording, narrowed};
 use sample_file::Recording;
 use std::alloc::{AllocError, Global};
 
-/// Corrects a recording of 30 ms to one second at 2^`rate` times 1.92 million samples per second by the frequency offset
-/// that is estimated from its first 170 ms, or by 0 without an estimate. `rate` is at most 4. Fails only if an
-/// allocation fails. (own)
+/// Corrects a recording of 30 ms to one second by the frequency offset that its first 170 ms give, if any. The rate is
+/// 2^`rate` times 1.92 million samples per second, `rate` at most 4. (own)
 pub fn applied(alloc: Global, samples: Vec<Sample>, rate: u8) -> Result<Vec<Sample>, AllocError>
     requires rate { rate ≤ 4 }
     requires least { least_samples * 2 ^ rate ≤ length samples.items }

@@ -10,9 +10,8 @@ ghost use Rattle.wide_turn.specs.Turned.{angle as angle_of, turned as turned_by}
 use cs_num::{Cpx, Sample};
 use frequency_offset::{mean, turned_back};
 
-/// Corrects a recording of 1 to 30,720,000 samples at 2^`rate` times 1.92 million samples per second by offset `m`:
-/// subtracts the mean, shifts the frequency by `-m` times 117.1875 Hz, rounds, and clamps to 16 bits. `rate` is at most
-/// 4. Does not allocate. (own)
+/// Corrects a recording of 1 to 30,720,000 samples at 2^`rate` times 1.92 million per second, `rate` at most 4:
+/// subtracts the mean, shifts the frequency by `-m` times 117.1875 Hz, rounds, and clamps to 16 bits. (own)
 #[tactic(auto, unfolding(crate::specs::Turned::turned_at))]
 pub fn turned(samples: Vec<Sample>, rate: u8, m: i16) -> Vec<Sample>
     requires rate { rate ≤ 4 }
