@@ -77,14 +77,23 @@ def step_between(before: Sequence[Power], after: Sequence[Power]) -> Step | None
 
 
 def begin_of_step(before: Sequence[Power], here: Power, after: Sequence[Power]) -> float:
-    """Returns the second of a step: within a window whose total power is between that of those before and after, else at
-    the begin of the first window after it."""
+    """Returns the second of a step: within a window whose total power is between that of those before and after, as far
+    as its noise floor fits that, else at the begin of the first window after it."""
     old, new = (np.median([10 ** ((one.total or 0) / 10) for one in part]) for part in (before[:-1] or before, after))
     for mixed in (before[-1], here):
         part = float((new - 10 ** ((mixed.total or 0) / 10)) / (new - old)) if new != old else 0.0
-        if MIXED < part < 1 - MIXED:
+        if MIXED < part < 1 - MIXED and fits_noise(part, mixed, before, after):
             return mixed.seconds + part * WINDOW
     return here.seconds
+
+
+def fits_noise(part: float, mixed: Power, before: Sequence[Power], after: Sequence[Power]) -> bool:
+    """Returns whether a window's noise floor, which is a median over time, may step after this part of the window; if
+    only its total power is between, then a cell fades."""
+    to_old, to_new = (abs(noise_of(mixed) - median(one)) for one in (before, after))
+    if min(to_old, to_new) >= ALIKE:
+        return True
+    return part >= 0.5 if to_old < to_new else part <= 0.5
 
 
 def noise_of(one: Power) -> float:

@@ -90,6 +90,14 @@ def test_gain_step_within_a_window():
     assert step.decibels == 6 and step.seconds == pytest.approx(4.25 * WINDOW, abs=0.01)
 
 
+def test_gain_step_while_a_cell_fades():
+    """The step is between two windows; in the second one a cell is weaker, so that its total power is between."""
+    values = powers([-70.0] * 5 + [-62.0] * 5)
+    values[5] = dataclasses.replace(values[5], total=-37.0)
+    (step,) = levels.steps_of(values, cells([-40.0] * 5 + [-32.0] * 5))
+    assert step == Step(round(5 * WINDOW, 2), 8)
+
+
 @pytest.mark.parametrize(
     "noise_steps, cells_step",
     [((0, 6), (0, 0)), ((0, 0), (0, 6)), ((0, 1), (0, 1)), ((0, 6), (0, -6))],
