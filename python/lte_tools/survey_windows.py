@@ -30,6 +30,11 @@ class InWindow(NamedTuple):
         """Its level, very low if none is known, for an order."""
         return -1e9 if self.seen.level is None else self.seen.level
 
+    @property
+    def rank(self) -> tuple[float, float]:
+        """Its order in the window: by level, and by signal to noise where the gain steps, so that no cell has a level."""
+        return self.level, -1e9 if self.seen.ratio is None else self.seen.ratio
+
 
 @dataclass(frozen=True)
 class Window:
@@ -63,7 +68,7 @@ def windows_of(survey: Survey) -> list[Window]:
     for number, cell in enumerate(survey.cells):
         for one in cell.seen:
             found, here = InWindow(number, cell, one), seen.setdefault(start_of(one, starts, survey.window), {})
-            here[number] = max(here.get(number, found), found, key=lambda pair: pair.level)
+            here[number] = max(here.get(number, found), found, key=lambda pair: pair.rank)
     times = Times(survey)
     return [
         Window(
@@ -72,7 +77,7 @@ def windows_of(survey: Survey) -> list[Window]:
             places.get(start) or next((one.seen.place for one in cells.values() if one.seen.place), None),
             powers.get(start),
             start in survey.spoiled,
-            tuple(sorted(cells.values(), key=lambda one: -one.level)),
+            tuple(sorted(cells.values(), key=lambda one: one.rank, reverse=True)),
         )
         for start, cells in sorted(seen.items())
     ]

@@ -125,6 +125,19 @@ def test_windows_have_their_cells(made):
     assert [window.place for window in windows] == WAY and windows[3].strongest is None
 
 
+def test_strongest_cell_of_a_window_without_levels(made):
+    """Where the radio's gain steps no cell has a level: the strongest one is that of the greatest ratio."""
+    cells = tuple(
+        dataclasses.replace(
+            cell, seen=tuple(dataclasses.replace(one, level=None, ratio=10.0 + number) for one in cell.seen)
+        )
+        for number, cell in enumerate(made().cells)
+    )
+    windows = survey_windows.windows_of(dataclasses.replace(made(), cells=cells))
+    found = [window.strongest.cell.identity if window.strongest else None for window in windows]
+    assert found == [33, 33, 64, None, 64, 64]
+
+
 def test_windows_of_an_older_survey(made):
     older = dataclasses.replace(made(), powers=(), track=None, datetime=None)
     bare = dataclasses.replace(older, cells=without_place(older))
