@@ -408,6 +408,12 @@ def numpy_looks():
             lines_together,
         ),
         Look(
+            "README.md",
+            "$PY -m lte_reference.wide_sender --identity 301 --width 50 --ports 2"
+            " | $PY -m lte_reference.wide_search 15.36 --ports 2",
+            lines_together,
+        ),
+        Look(
             "",
             "$PY -m lte_reference.cell < examples/shipped_cell.json",
             file_itself("crates/capture_example/stdin"),
