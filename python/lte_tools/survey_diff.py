@@ -100,7 +100,8 @@ class Difference(Answer):
 
 
 class Squares(NamedTuple):
-    """Squares on a plane, by whole numbers to the east and to the north."""
+    """Squares on a plane, by whole numbers to the east and to the north. The plane's middle is that of square 0, 0: so two
+    ways on one straight road are not on two sides of a border."""
 
     ground: Ground
     side: float
@@ -108,11 +109,11 @@ class Squares(NamedTuple):
     def of(self, place: tuple[float, float]) -> Square:
         """Returns the square of a place."""
         east, north = self.ground.metres(*place)
-        return math.floor(east / self.side), math.floor(north / self.side)
+        return math.floor(east / self.side + 0.5), math.floor(north / self.side + 0.5)
 
     def middle(self, square: Square) -> tuple[float, float]:
         """Returns longitude and latitude of a square's middle."""
-        east, north = ((part + 0.5) * self.side for part in square)
+        east, north = (part * self.side for part in square)
         lon, lat = self.ground.place(east, north)
         return round(lon, 7), round(lat, 7)
 

@@ -584,6 +584,12 @@ def test_difference_by_place(made):
     assert [one.difference for one in found.best] == [3.0, 3.0, 4.0, None, 4.0, 0.0]
 
 
+def test_difference_of_two_ways_on_one_road(made):
+    """The ways are 7 m apart, as places of GPS are."""
+    after = made(AFTER, [(lon + 0.0001, lat) for lon, lat in WAY], {65: 7})
+    assert survey_diff.difference_of(made(), after).squares == 6
+
+
 def test_difference_where_one_did_not_pass(made):
     way = [(13.0, 52.0 + 0.001 * i) for i in range(3, 9)]
     found = survey_diff.difference_of(made(), made({63: [-60.0] * 6}, way, name="after.cu8"))
