@@ -1,10 +1,23 @@
 #!/usr/bin/python3
 """python3 -m lte_reference.deep [all] < RECORDING
 
-A second program for the list of accumulated half-frames, `ids --deep`: cells far below the strongest one. It was written
-from the rules in docs/DEFINITION.md, "Accumulated half-frames", and shares the tables of `search.py` alone. Every number
-is whole: sums of products run in doubles where they stay below 2^53, else in 64 bits or more. Half a second for 17
-frames, three for a second. Debian: python3-numpy.
+A second program for a list that is accumulated over half-frames: identities of cells far below the strongest one
+(docs/DECISIONS.md, "Accumulated half-frames"). Of `search.py` it shares the tables and the primary signal alone. Every
+number is whole: sums of products run in doubles where they stay below 2^53, else in 64 bits or more. Takes half a second
+for 17 frames, three seconds for a second. Debian: python3-numpy.
+
+The rules, over K half-frames of 9,600 samples; C, E, P, p, s and seen are those of docs/DEFINITION.md, rules 1 to 3:
+
+1. Positions t are 137 to 9,736, on a circle. K is the number of half-frames h in which each position has a useful part.
+2. The ratio of N2 at t in h is floor(C / (floor(E * P / 2^24) + 1)) at t + 9,600h; A(t) is its sum over h.
+3. A maximum has A(t) > 0, no greater A within 9 positions, and no equal A in the 9 before it. A candidate is a maximum
+   that fewer than 64 maxima of this N2 precede, by greater A, or equal A and lower t.
+4. z is the sum of r(t + n) * conj p(n) in h, e the energy of both symbols. The vote on n = 0 to 61 is
+   trunc(re(seen(t - 137, n + 5) * conj z) / (floor(e / 4,096) + 1)). The 124 signs are those of the sums of the votes
+   over h of even number, then over h of odd number.
+5. The pair of N1 and a half-frame whose 124 signs, s of this half-frame and s of the next, match most often is taken: of
+   several the one of subframe 0, then of the lowest N1. With 93 matches it is a detection.
+6. A detection is listed unless one that precedes it as in 3 has the same identity at a distance of at most 137.
 """
 import sys
 from typing import NamedTuple
@@ -19,6 +32,7 @@ KEPT = 326_400  # samples that decide the list, unless all do
 REACH = 9  # a candidate has no greater accumulated correlation at this distance
 CANDIDATES = 64  # of each primary signal
 SIGNS = 93  # of 124 that agree with the secondary signals of a cell
+ONE = 2**24  # the greatest ratio
 ECHO = 137  # distance within which a cell is listed once
 WAVES = [wave(n2) for n2 in range(3)]
 POWERS = [int((p * p + q * q).sum()) for p, q in WAVES]
@@ -71,13 +85,13 @@ def energies(parts):
 
 
 def ratios(r, h):
-    """Returns for each N2 the ratios at the 9,600 positions of half-frame h, in parts of 65,536."""
+    """Returns for each N2 the ratios at the 9,600 positions of half-frame h, in parts of 2^24."""
     first = FIRST + HALF_FRAME * h
     views = np.lib.stride_tricks.sliding_window_view(r[first : first + HALF_FRAME + 127].astype(float), 128, axis=0)
     parts = views.reshape(HALF_FRAME, 256)
     sums, energy = np.rint(parts @ SUMS).astype(np.int64), energies(parts)
     squares = sums[:, 0::2] ** 2 + sums[:, 1::2] ** 2
-    return np.array([squares[:, n2] // (energy * POWERS[n2] // 65_536 + 1) for n2 in range(3)])
+    return np.array([squares[:, n2] // (energy * POWERS[n2] // ONE + 1) for n2 in range(3)])
 
 
 def accumulated(r, halves):
@@ -107,13 +121,13 @@ def products(r, t, n2, halves):
 
 
 def truncated(a, b):
-    """Returns a / b, rounded toward 0; 0 where b is 0."""
-    return np.where(b > 0, np.sign(a) * (abs(a) // np.maximum(b, 1)), 0)
+    """Returns a / b, rounded toward 0."""
+    return np.sign(a) * (abs(a) // b)
 
 
 def signs_of(values, energy):
     """Returns 124 signs, 1, 0 or -1: of the sums over half-frames of even number, then over those of odd number."""
-    votes = truncated(values, energy[:, None])
+    votes = truncated(values, energy[:, None] // 4_096 + 1)
     return np.sign(np.concatenate([votes[0::2].sum(0), votes[1::2].sum(0)]))
 
 
@@ -132,7 +146,7 @@ def found_at(r, t, n2, halves, sum_of_ratios):
     if agreeing[best] < SIGNS:
         return None
     half, n1 = 5 * (best // 168), best % 168
-    ratio = 1_000 * int(sum_of_ratios) // (65_536 * halves)
+    ratio = 1_000 * int(sum_of_ratios) // (ONE * halves)
     return Entry(t, n2, n1, half, int(agreeing[best]), ratio, power(values, n2, n1, half))
 
 
