@@ -3,8 +3,8 @@
 
 A second program for a list that is accumulated over half-frames: identities of cells far below the strongest one
 (docs/DECISIONS.md, "Accumulated half-frames"). Of `search.py` it shares the tables and the primary signal alone. Every
-number is whole: sums of products run in doubles where they stay below 2^53, else in 64 bits or more. Takes half a second
-for 17 frames, three seconds for a second. Debian: python3-numpy.
+number is whole: sums of products run in doubles where they stay below 2^53, else in 64 bits or more. It takes half a
+second for 17 frames, three seconds for a second. Debian: python3-numpy.
 
 The rules, over K half-frames of 9,600 samples; C, E, P, p, s and seen are those of docs/DEFINITION.md, rules 1 to 3:
 
@@ -15,8 +15,8 @@ The rules, over K half-frames of 9,600 samples; C, E, P, p, s and seen are those
 4. z is the sum of r(t + n) * conj p(n) in h, e the energy of both symbols. The vote on n = 0 to 61 is
    trunc(re(seen(t - 137, n + 5) * conj z) / (floor(e / 4,096) + 1)). The 124 signs are those of the sums of the votes
    over h of even number, then over h of odd number.
-5. The pair of N1 and a half-frame whose 124 signs, s of this half-frame and s of the next, match most often is taken: of
-   several the one of subframe 0, then of the lowest N1. With 93 matches it is a detection.
+5. The pair of N1 and a half-frame whose 124 signs, s of this half-frame and s of the next, match most often is taken:
+   of several the one of subframe 0, then of the lowest N1. With 93 matches it is a detection.
 6. A detection is listed unless one that precedes it as in 3 has the same identity at a distance of at most 137.
 """
 import sys

@@ -1,4 +1,4 @@
-"""The reference implementation of the list over half-frames: cells in noise, silence, constants, ties and full scale."""
+"""The reference implementation of the list over half-frames: cells in noise, constants, ties and full scale."""
 import functools
 import math
 import pathlib
@@ -93,7 +93,8 @@ def test_sums_of_full_scale_are_exact():
     for h in range(5):
         re, im = (column.tolist() for column in r[1_000 + 9_600 * h :][:128].T)
         before = r[863 + 9_600 * h :][:128]
-        z = sum(a * c + b * d for a, b, c, d in zip(re, im, p, q)), sum(b * c - a * d for a, b, c, d in zip(re, im, p, q))
+        pairs = list(zip(re, im, p, q))
+        z = sum(a * c + b * d for a, b, c, d in pairs), sum(b * c - a * d for a, b, c, d in pairs)
         first, last = search.seen(r, 863 + 9_600 * h)[[5, 66]].tolist()
         assert values[h, 0] == first[0] * z[0] + first[1] * z[1] and values[h, 61] == last[0] * z[0] + last[1] * z[1]
         assert energy[h] == sum(x * x for x in re + im) + int((before**2).sum())

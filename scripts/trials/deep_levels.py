@@ -5,14 +5,15 @@ deep_levels.py ghosts [--halves N] [--count N] [--seed N] [KIND ...]
 
 What the reference implementation of `ids --deep` lists of synthetic recordings. Observations, no claim.
 
-levels: a cell in noise, at each level of Es/N0 in dB. Prints how many of the cells are listed (identity, and frame start
-within 16 samples), and all other entries.
-below: a cell of 20 dB with load, and a neighbour so many dB below it, with any timing. Prints how many of the neighbours
-and of the strong cells are listed, and all other entries.
+levels: a cell in noise, at each level of Es/N0 in dB. Prints how many of the cells are listed (identity, and frame
+start within 16 samples), and how many other entries.
+below: a cell of 20 dB with load, and a neighbour that many dB below it, with any timing. Prints how many of the
+neighbours and of the strong cells are listed, and how many other entries.
 ghosts: recordings without a cell, of fourteen kinds of noise and interference. Prints for each kind how many candidates
-match in at least 80, 84 and 88 of 124 signs, how many are expected by the binomial law, and how many entries are listed.
+match in at least 80, 84 and 88 of 124 signs, how many the binomial law expects, and how many entries are listed.
 
-A recording has so many half-frames (33, which is 0.17 s, or 199, a second). Seeds are printed. Debian: python3-numpy.
+A recording has 33 half-frames (0.17 s) unless `--halves` is given; a second has 199. The seed is printed.
+Debian: python3-numpy.
 """
 import argparse
 import math
