@@ -87,8 +87,8 @@ fn estimated_with(alloc: Global, centred: &Centred) -> Result<Option<OffsetEstim
     estimated_among(alloc, centred, &taken)
 }
 
-// Returns the estimated offset; 0 without an estimate.
-fn turn_of(estimate: &Option<OffsetEstimate>) -> i16
+/// Returns the estimated offset in steps of 117.1875 Hz; 0 without an estimate. (own)
+pub fn turn_of(estimate: &Option<OffsetEstimate>) -> i16
     ensures { result ≡ turn_that_is estimate.now }
 {
     match estimate {

@@ -2,14 +2,14 @@
 
 ghost use Rattle.std.specs.Prelude.{◌≡◌, ◌*◌, ◌^◌, ◌≤◌, IfOk, length};
 ghost use Rattle.lte_types.specs.Numerology.{least_samples, most_samples};
-ghost use Rattle.frequency_offset.specs.Estimation.{IsEstimated, turn_of as turn_that_is};
+ghost use Rattle.frequency_offset.specs.Estimation.{IsEstimated};
 ghost use Rattle.halving.specs.Wide.{narrowed as narrowed_of};
 ghost use Rattle.wide_turn.specs.Turned.{front as front_of, IsApplied};
 
 use crate::turned;
 use cs_num::Sample;
 use explain::DECIDING_SAMPLES;
-use frequency_offset::{OffsetEstimate, tell};
+use frequency_offset::{tell, turn_of};
 use halving::{WideRecording, narrowed};
 use sample_file::Recording;
 use std::alloc::{AllocError, Global};
@@ -48,15 +48,5 @@ fn front(alloc: Global, samples: &[Sample], rate: u8) -> Result<WideRecording, A
     match WideRecording::new(kept, rate) {
         Some(wide) => Ok(wide),
         None => unreachable!(),
-    }
-}
-
-// Returns the estimated offset; 0 without an estimate.
-fn turn_of(estimate: &Option<OffsetEstimate>) -> i16
-    ensures { result ≡ turn_that_is estimate.now }
-{
-    match estimate {
-        Some(estimate) => estimate.turn,
-        None => 0,
     }
 }
