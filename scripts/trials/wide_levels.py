@@ -1,10 +1,10 @@
 #!/usr/bin/python3
-"""wide_levels.py [--program PATH] [CELLS [LEVEL ...]]
+"""wide_levels.py [--program PATH] [--frames N] [CELLS [LEVEL ...]]
 
 How often SIB1 of cells of any bandwidth is read from one subframe: at each level of Es/N0 (20, 5 and 0 dB), for each
 bandwidth and port count, of so many cells (2) by each of the three formats. Observations, no claim. Without PATH the
-reference implementation reads, at the cell's position; with it `PATH search --rate R` lists a recording of 30 ms, in
-which one frame has an even number.
+reference implementation reads, at the cell's position; with it `PATH search --rate R` lists a recording of N frames (3),
+the first of odd number, so that one of three frames carries SIB1, and four of nine.
 
 A cell has any identity, PHICH, indicator, candidate, resource blocks (2 to 12), size and redundancy version (code rate
 up to 0.6), and load on 60 % of the other blocks; its frame begins up to half a sample of 1.92 Ms/s off the assumed
@@ -100,10 +100,10 @@ def block_of(plan):
     return (plan.text + [0] * plan.size)[: plan.size]
 
 
-def outcome_of_program(draw, plan, level, program):
-    """Returns `read`, `wrong`, `not listed`, or why nothing was read by a program that lists three frames, the second of
+def outcome_of_program(draw, plan, level, program, frames):
+    """Returns `read`, `wrong`, `not listed`, or why nothing was read by a program that lists so many frames, the second of
     which has an even number."""
-    samples = received(draw, plan, level, 2 * int(draw.integers(512)) + 1, 3)
+    samples = received(draw, plan, level, 2 * int(draw.integers(512)) + 1, frames)
     ports = ["--ports", str(plan.ports)] * (plan.ports > 1)
     words = [program, "search", *ports, "--rate", RATES[wide_sender.rate_of(plan.blocks)]]
     done = subprocess.run(words, input=samples.astype("<i2").tobytes(), stdout=subprocess.PIPE, check=True)
@@ -117,14 +117,14 @@ def outcome_of_program(draw, plan, level, program):
     return "read" if lines == fields_lines(sent, plan.size).split("\n") else "wrong"
 
 
-def outcomes(draw, blocks, ports, level, count, program):
+def outcomes(draw, blocks, ports, level, count, program, frames):
     """Yields what is read of so many cells by each format."""
     for form in FORMS * count:
         plan, cell = plan_for(draw, blocks, ports, form)
-        yield outcome_of_program(draw, plan, level, program) if program else outcome(draw, plan, cell, level)
+        yield outcome_of_program(draw, plan, level, program, frames) if program else outcome(draw, plan, cell, level)
 
 
-def main(count, levels, program):
+def main(count, levels, program, frames):
     for level in levels:
         print(f"{level} dB\n| Blocks | 1 port | 2 ports | 4 ports |\n|---|---|---|---|")
         every = collections.Counter()
@@ -132,7 +132,7 @@ def main(count, levels, program):
             row = []
             for ports in PORTS:
                 draw = np.random.default_rng((blocks, ports, level + 100))
-                found = list(outcomes(draw, blocks, ports, level, count, program))
+                found = list(outcomes(draw, blocks, ports, level, count, program, frames))
                 every.update(found)
                 row.append(f"{found.count('read')} of {len(found)}")
             print(f"| {blocks} | {' | '.join(row)} |", flush=True)
@@ -143,5 +143,6 @@ if __name__ == "__main__":
     words = argparse.ArgumentParser(usage=__doc__)
     words.add_argument("numbers", nargs="*", type=int)
     words.add_argument("--program")
+    words.add_argument("--frames", type=int, default=3)
     args = words.parse_args()
-    main((args.numbers or [2])[0], args.numbers[1:] or LEVELS, args.program)
+    main((args.numbers or [2])[0], args.numbers[1:] or LEVELS, args.program, args.frames)
