@@ -1,5 +1,5 @@
 -- The transport block that is decoded from sums by coded bit, and the SIB1 fields in it (TS 36.212 section 5.3.2).
-use Rattle.std.specs.Prelude.{◌≡◌, ℕ, Bool, List, ℤ, Option, None, Some, Result, Err}
+use Rattle.std.specs.Prelude.{◌≡◌, ℕ, Bool, List, ℤ, Option, None, Some, option_and_then, Result, Ok, Err}
 use Rattle.lte_types.specs.declared.sib1.Sib1.{Sib1}
 use Rattle.lte_types.specs.declared.sib1_reason.Sib1Reason.{Sib1Reason}
 use Rattle.lte_types.specs.declared.sib1_reason.Sib1Reason.TheVariants.{BlockTooLarge, NotDecoded}
@@ -32,3 +32,19 @@ SumsSay (Some sums) size answer = Decodes sums size answer
 -- `answer` is the SIB1 fields in an offer's transport block, or the first reason why there are none
 abbrev pub OfferSays : Offer → Result Sib1 Sib1Reason → Type 0
 OfferSays offer answer = SumsSay offer.sums offer.grant.size answer
+
+-- ---- the bits of the block
+
+-- the transport block of `size` bits that decodes from `sums`, without its CRC, if the size has a row and a CRC passes
+abbrev pub block_in : List (List ℤ) → ℕ → Option (List Bool)
+block_in sums size = option_and_then (λ row. block row sums) (row_for size)
+
+-- an offer's transport block, without its CRC, if one is decoded
+abbrev pub offer_block : Offer → Option (List Bool)
+offer_block offer = option_and_then (λ sums. block_in sums offer.grant.size) offer.sums
+
+-- `bits` are the transport block that was decoded, and `fields` are the SIB1 fields in them
+pub record CarriesFields (decoded : Option (List Bool)) (bits : List Bool) : Type 0 where
+  pub fields : Sib1
+  pub is : decoded ≡ Some bits
+  pub says : Says bits (Ok fields)

@@ -1,3 +1,4 @@
 pub mod Sums
 pub mod Block
+pub mod Answer
 pub mod Laws

@@ -12,6 +12,7 @@ mod table;
 mod total;
 mod values;
 
+pub use block::{SystemBlock, fields_of};
 pub use laws::{blocks_have_rows, one_answer};
 pub use sums::{GrantSums, sums_of};
 pub use total::Total;

@@ -7,9 +7,10 @@ ghost use Rattle.turbo_code.specs.Table.{IsAnyRow};
 ghost use Rattle.turbo_code.specs.Reading.{summed};
 ghost use Rattle.turbo_dec.specs.Decoder.{IsSmall};
 ghost use Rattle.wide_block.specs.Sums.{offer_of};
-ghost use Rattle.wide_block.specs.Block.{OfferSays};
+ghost use Rattle.wide_block.specs.Block.{OfferSays, CarriesFields, offer_block};
+ghost use Rattle.wide_block.specs.Answer.{fields_in};
 
-use crate::block::fields_in;
+use crate::block::{SystemBlock, block_in, fields_of};
 use crate::row::row_for;
 use crate::table::Table;
 use crate::values::shared_values;
@@ -55,8 +56,17 @@ impl GrantSums {
         ensures answer { OfferSays self.now result }
         ensures valid { IfOk result IsValid }
     {
+        fields_of(self.system_block(turbo))
+    }
+
+    /// Returns the grant's transport block, and the SIB1 fields in it. Fails as `fields` does.
+    pub fn system_block(&self, turbo: &mut Work) -> Result<SystemBlock, Sib1Reason>
+        ensures answer { OfferSays self.now (fields_in result) }
+        ensures bits { IfOk result (λ found. CarriesFields (offer_block self.now) found.bits.items) }
+        ensures valid { IfOk (fields_in result) IsValid }
+    {
         match &self.sums {
-            Some(sums) => fields_in(sums, self.grant.size, turbo),
+            Some(sums) => block_in(sums, self.grant.size, turbo),
             None => Err(Sib1Reason::BlockTooLarge),
         }
     }

@@ -3,10 +3,11 @@
 ghost use Rattle.std.specs.Prelude.{◌≡◌, ◌+◌, ◌<◌, IfOk};
 ghost use Rattle.lte_types.specs.Ranges.{IsValid};
 ghost use Rattle.wide_block.specs.Sums.{limited as limited_of, plus_any, zero_sums};
-ghost use Rattle.wide_block.specs.Block.{Decodes};
+ghost use Rattle.wide_block.specs.Block.{Decodes, CarriesFields, block_in as block_in_sums};
+ghost use Rattle.wide_block.specs.Answer.{fields_in};
 
 use crate::GrantSums;
-use crate::block::fields_in;
+use crate::block::{SystemBlock, block_in, fields_of};
 use crate::table::{Table, limited, plus};
 use lte_types::{Sib1, Sib1Reason};
 use std::marker::Model;
@@ -61,6 +62,17 @@ impl Total {
         ensures answer { Decodes (limited_of self.now.sums) size result }
         ensures valid { IfOk result IsValid }
     {
-        fields_in(&limited(&self.sums), size, turbo)
+        fields_of(self.system_block(size, turbo))
+    }
+
+    /// Returns the transport block of `size` bits that decodes from the sums, clamped to -4,096 to 4,096, and the SIB1
+    /// fields in it. Fails as `GrantSums::fields` does.
+    pub fn system_block(&self, size: u16, turbo: &mut Work) -> Result<SystemBlock, Sib1Reason>
+        ensures answer { Decodes (limited_of self.now.sums) size (fields_in result) }
+        ensures bits { IfOk result (λ found. CarriesFields (block_in_sums (limited_of self.now.sums) size)
+            found.bits.items) }
+        ensures valid { IfOk (fields_in result) IsValid }
+    {
+        block_in(&limited(&self.sums), size, turbo)
     }
 }
