@@ -24,7 +24,7 @@ use Rattle.wide_list.proofs.Same.{no_fields, no_fields_with, not_alone}
 
 -- ---- one frame alone
 
-fields_or_not : (offer : Offer) → ((fields : Sib1) × HasFields offer fields) ⊎ HasNone HasFields offer
+pub fields_or_not : (offer : Offer) → ((fields : Sib1) × HasFields offer fields) ⊎ HasNone HasFields offer
 fields_or_not offer = by (some_saying offer)
   where
     by : (answer : Result Sib1 Sib1Reason) × OfferSays offer answer → ((fields : Sib1) × HasFields offer fields) ⊎ HasNone HasFields offer
@@ -59,7 +59,7 @@ fields_with_or_not frames period offer = by (some_answer (added (like_offers fra
 pub none_together : (frames : List Frame) (frame : Frame) → HaveNone (HasFieldsWith frames frame.period) frame.offers → HasNone (HasFieldsTogether frames) frame
 none_together frames frame none fields first = first_of-none (HasFieldsWith frames frame.period) frame.offers fields none first
 
-together_or_not : (frames : List Frame) (frame : Frame) → ((fields : Sib1) × HasFieldsTogether frames frame fields) ⊎ HasNone (HasFieldsTogether frames) frame
+pub together_or_not : (frames : List Frame) (frame : Frame) → ((fields : Sib1) × HasFieldsTogether frames frame fields) ⊎ HasNone (HasFieldsTogether frames) frame
 together_or_not frames frame = by (first_or_none (HasFieldsWith frames frame.period) (fields_with_or_not frames frame.period) frame.offers)
   where
     by : ((fields : Sib1) × HasFieldsTogether frames frame fields) ⊎ HaveNone (HasFieldsWith frames frame.period) frame.offers →
@@ -147,6 +147,9 @@ module _ (wide : Wide) (cell : Cell) (start sfn : ℕ) where
         );
         each = λ i inside d. subst (IsFrame wide cell start sfn (even_frame sfn i)) (sym (values_below_at frame count i d (omega (arith, inside, size)))) (some_frame (even_frame sfn i)).1;
       }
+
+  pub some_tried : (frames : List Frame) × AreTried wide cell start sfn frames
+  some_tried = (tried_frames, frames_are_tried)
 
   unread : (reason : Sib1Reason) → NoneBefore 8 → Alone 0 (Err reason) → AreUnread wide cell start sfn reason tried_frames
   unread reason none refused = record {

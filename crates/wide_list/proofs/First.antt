@@ -1,7 +1,9 @@
 -- The first item in a list that has a value.
-use Rattle.std.proofs.Common.{◌≡◌, ◌⊎◌, inl, inr, zero, suc, ◌<◌, ◌≤◌, List, [], ◌∷◌, get_or, arith, subst}
+use Rattle.std.proofs.Common.{◌≡◌, ◌⊎◌, inl, inr, ℕ, zero, suc, ◌<◌, ◌≤◌, List, [], ◌∷◌, length, get_or, arith, subst}
 use Rattle.std.specs.List.{AllWithin}
 use Rattle.std.proofs.lemmas.Bool.{cases_lt}
+use Rattle.std.proofs.lemmas.List.{get_or_default}
+use Rattle.std.proofs.lemmas.List.Elements.{at_read}
 use Rattle.wide_list.specs.First.{HasNone, HaveNone, IsFirstOf}
 
 module _ {A B : Type 0} (Has : A → B → Type 0) where
@@ -56,3 +58,40 @@ module _ {A B : Type 0} (Has : A → B → Type 0) where
       by (inl found) later = inl (found.0, record { at = 0; inside = omega arith; has = λ d. found.1; none = λ k d low high. absurd (omega (arith, high)) })
       by (inr none) (inl first) = inl (first.0, first_after item items first.0 none first.1)
       by (inr none) (inr later) = inr (none_after item items none later)
+
+-- ---- two kinds of values, which items have together: each value `c` of the second kind comes with a value `b` of the
+-- first, such that `Belong b c`
+
+module _ {A B C : Type 0} (Has : A → B → Type 0) (Also : A → C → Type 0) (Belong : B → C → Type 0)
+    (back : (item : A) (c : C) → Also item c → (b : B) × Has item b × Belong b c) where
+  -- items without a value of the first kind have none of the second
+  pub none_also : (items : List A) (low high : ℕ) → AllWithin (HasNone Has) items low high → AllWithin (HasNone Also) items low high
+  none_also items low high none k d from to c also = let found = back (get_or items k d) c also in none k d from to found.0 found.1
+
+  pub all_none_also : (items : List A) → HaveNone Has items → HaveNone Also items
+  all_none_also items none k d inside c also = let found = back (get_or items k d) c also in none k d inside found.0 found.1
+
+  -- an item is the first with a value of the second kind, if no earlier item has one of the first kind
+  pub first_here : (items : List A) (at : ℕ) (item : A) (c : C) → at < length items → item ≡ get_or items at item → AllWithin (HasNone Has) items 0 at →
+      Also item c → IsFirstOf Also items c
+  first_here items at item c inside is none also = record {
+    at = at;
+    inside = inside;
+    has = at_read items (λ x. Also x c) at item inside is also;
+    none = none_also items 0 at none;
+  }
+
+  -- the first value of the first kind comes with the first of the second
+  pub first_also : ((item : A) (b : B) → Has item b → (c : C) × Also item c × Belong b c) → (items : List A) (b : B) → IsFirstOf Has items b →
+      (c : C) × IsFirstOf Also items c × Belong b c
+  first_also to [] b first = let no = first.inside in absurd (omega (arith, no))
+  first_also to (x ∷ xs) b first =
+      let item = get_or (x ∷ xs) first.at x in
+      let found = to item b (first.has x) in
+      (found.0, first_here (x ∷ xs) first.at item found.0 first.inside (get_or_default (x ∷ xs) first.at x item first.inside) first.none found.1, found.2)
+
+  -- an item that has a value of the first kind, or none, has one of the second, or none
+  pub decided_also : ((item : A) (b : B) → Has item b → (c : C) × Also item c × Belong b c) → (item : A) → ((b : B) × Has item b) ⊎ HasNone Has item →
+      ((c : C) × Also item c) ⊎ HasNone Also item
+  decided_also to item (inl (b, has)) = let found = to item b has in inl (found.0, found.1)
+  decided_also to item (inr none) = inr (λ c also. let found = back item c also in none found.0 found.1)

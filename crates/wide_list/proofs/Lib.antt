@@ -4,5 +4,6 @@ pub mod Same
 pub mod Exists
 pub mod Reading
 pub mod Lengths
+pub mod Blocks
 pub mod Lists
 pub mod Slots

@@ -2,7 +2,7 @@
 use Rattle.std.proofs.Common.{◌≡◌, ◌∙◌, inl, inr, ℕ, suc, ◌+◌, ◌<◌, ◌≤◌, ◌≢◌, Bool, true, false, List, [], ◌∷◌, length, get_or, set, ap, Result, Ok, Err, All, IfOk, OnOk, arith, refl, sym, subst}
 use Rattle.std.specs.List.{AllZip, HoldsAt}
 use Rattle.std.proofs.lemmas.Bool.{cases_lt, true≢false}
-use Rattle.std.proofs.lemmas.List.{set-get_or, get_or-set_same, get_or-set_other, length-set}
+use Rattle.std.proofs.lemmas.List.{set-get_or, get_or-set_same, get_or-set_other, get_or_default, length-set}
 use Rattle.std.proofs.lemmas.List.Elements.{at_read, AllZip-get_or, length_all_zip, Contains-get_or}
 use Rattle.cs_num.specs.declared.Sample.{Sample}
 use Rattle.lte_types.specs.declared.frame.Half.{Half}
@@ -19,9 +19,20 @@ use Rattle.explain.specs.Entries.{IsListFor, with_system}
 use Rattle.explain.proofs.Listed.{is_one_list, is_sound, each_once}
 use Rattle.wide_list.specs.System.{IsWideSystem}
 use Rattle.wide_list.specs.List.{cell_of, is_read_wide, HasWideSystem, IsInformed, InformsAt}
+use Rattle.wide_list.specs.Bits.{AreSystemBits, AreWideBits}
 use Rattle.wide_list.specs.Laws.{IsOneWideList}
 use Rattle.wide_list.proofs.Same.{one_wide_system}
 use Rattle.wide_list.proofs.Reading.{system_is_valid}
+
+-- ---- two lists, related item by item
+
+pub zip_of : {A B : Type 0} (R : A → B → Type 0) (xs : List A) (ys : List B) → length ys ≡ length xs →
+    ((k : ℕ) (d : A) (e : B) → k < length xs → R (get_or xs k d) (get_or ys k e)) → AllZip R xs ys
+zip_of R [] [] size each = tt
+zip_of R [] (y ∷ ys) size each = absurd (omega (arith, size))
+zip_of R (x ∷ xs) [] size each = absurd (omega (arith, size))
+zip_of R (x ∷ xs) (y ∷ ys) size each =
+    (each 0 x y (omega arith), zip_of R xs ys (omega (arith, size)) (λ k d e inside. each (suc k) d e (omega (arith, inside))))
 
 -- ---- one entry
 
@@ -77,6 +88,23 @@ module _ (carrier : Carrier) (wide : Wide) where
     new_is = sym (ap (set old at) is ∙ set-get_or old at before);
   }
 
+  -- the bits of the transport block of the entry at an index, if its system information is read from wide samples
+  pub bits_read : (at : ℕ) (old : List Entry) (before : Entry) (bits : List Bool) → at < length old → before ≡ get_or old at before →
+      is_read_wide carrier wide.rate before ≡ true → AreSystemBits wide (cell_of before) before.start before.sfn bits →
+      HoldsAt (λ entry. AreWideBits carrier wide entry bits) old at
+  bits_read at old before bits inside is read are = at_read old (λ entry. AreWideBits carrier wide entry bits) at before inside is (record {
+    read = λ e. are;
+    empty = λ e. absurd (true≢false (sym read ∙ e));
+  })
+
+  -- no bits, if it is not
+  pub bits_unread : (at : ℕ) (old : List Entry) (before : Entry) (bits : List Bool) → at < length old → before ≡ get_or old at before →
+      is_read_wide carrier wide.rate before ≡ false → bits ≡ [] → HoldsAt (λ entry. AreWideBits carrier wide entry bits) old at
+  bits_unread at old before bits inside is not none = at_read old (λ entry. AreWideBits carrier wide entry bits) at before inside is (record {
+    read = λ e. absurd (true≢false (sym e ∙ not));
+    empty = λ e. none;
+  })
+
   -- ---- lists
 
   -- the list `now` is `old` with the first n entries informed
@@ -117,16 +145,13 @@ module _ (carrier : Carrier) (wide : Wide) where
       rest : (k : ℕ) (d : Entry) → n + 1 ≤ k → get_or new k d ≡ get_or old k d
       rest k d from = other k d (omega (arith, from)) ∙ are.rest k d (omega (arith, from))
 
-  zip_of : (old now : List Entry) → length now ≡ length old →
-      ((k : ℕ) (d : Entry) → k < length old → IsInformed carrier wide (get_or old k d) (get_or now k d)) → AllZip (IsInformed carrier wide) old now
-  zip_of [] [] size each = tt
-  zip_of [] (y ∷ ys) size each = absurd (omega (arith, size))
-  zip_of (x ∷ xs) [] size each = absurd (omega (arith, size))
-  zip_of (x ∷ xs) (y ∷ ys) size each =
-      (each 0 x (omega arith), zip_of xs ys (omega (arith, size)) (λ k d inside. each (suc k) d (omega (arith, inside))))
-
   pub all_informed : (old now : List Entry) → AreInformed (length old) old now → AllZip (IsInformed carrier wide) old now
-  all_informed old now are = zip_of old now are.size are.done
+  all_informed old now are = zip_of (IsInformed carrier wide) old now are.size each
+    where
+      each : (k : ℕ) (d e : Entry) → k < length old → IsInformed carrier wide (get_or old k d) (get_or now k e)
+      each k d e inside =
+          let size = are.size in
+          subst (λ entry. IsInformed carrier wide (get_or old k d) entry) (get_or_default now k d e (omega (arith, inside, size))) (are.done k d inside)
 
   pub informed_are_valid : (old new : List Entry) → AllZip (IsInformed carrier wide) old new → All (λ entry. IfOk entry.sib1 IsValid) old →
       All (λ entry. IfOk entry.sib1 IsValid) new

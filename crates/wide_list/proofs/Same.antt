@@ -27,13 +27,13 @@ answer_with fields = Ok fields
 abbrev reason_with : Sib1Reason → Result Sib1 Sib1Reason
 reason_with reason = Err reason
 
-same_fields : (a b : Sib1) → answer_with a ≡ answer_with b → a ≡ b
+pub same_fields : (a b : Sib1) → answer_with a ≡ answer_with b → a ≡ b
 same_fields a b e = cc
 
 same_reasons : (a b : Sib1Reason) → reason_with a ≡ reason_with b → a ≡ b
 same_reasons a b e = cc
 
-not_both : (fields : Sib1) (reason : Sib1Reason) → answer_with fields ≡ reason_with reason → ⊥
+pub not_both : (fields : Sib1) (reason : Sib1Reason) → answer_with fields ≡ reason_with reason → ⊥
 not_both fields reason e = absurd cc
 
 -- ---- one frame
@@ -78,7 +78,7 @@ together_once frames frame a b s t =
 
 -- ---- the frames of a cell
 
-abbrev no_frame : Frame
+abbrev pub no_frame : Frame
 no_frame = record { period = 0; elements = 0; offers = [] }
 
 module _ (wide : Wide) (cell : Cell) (start sfn : ℕ) where
@@ -112,7 +112,7 @@ module _ (wide : Wide) (cell : Cell) (start sfn : ℕ) where
       let tried : IsTried (narrowed wide) start sfn (length a) = (y.tried (length a)).0 less in
       let inside = (x.tried (length a)).1 tried in absurd (omega (arith, inside))
 
-  one_tried : (a b : List Frame) → AreTried wide cell start sfn a → AreTried wide cell start sfn b → a ≡ b
+  pub one_tried : (a b : List Frame) → AreTried wide cell start sfn a → AreTried wide cell start sfn b → a ≡ b
   one_tried a b x y = by_order (cases_lt (length a) (length b)) (cases_lt (length b) (length a))
     where
       by_order : (length a < length b) ⊎ (length b ≤ length a) → (length b < length a) ⊎ (length a ≤ length b) → a ≡ b

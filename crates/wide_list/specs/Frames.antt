@@ -1,6 +1,6 @@
 -- What subframe 5 of a frame offers, and the SIB1 fields in a frame alone. SIB1 is sent in subframe 5 of even-numbered
 -- frames, and does not change within 80 ms (TS 36.331 section 5.2.1.2). The order of trial is own.
-use Rattle.std.specs.Prelude.{◌≡◌, ℕ, ◌+◌, ◌/◌, ◌%◌, nat_lt, if◌then◌else◌, List, [], ◌∷◌, map, Result, Ok, Err}
+use Rattle.std.specs.Prelude.{◌≡◌, ℕ, ◌+◌, ◌/◌, ◌%◌, nat_lt, if◌then◌else◌, Bool, List, [], ◌∷◌, map, Result, Ok, Err}
 use Rattle.lte_types.specs.declared.sib1.Sib1.{Sib1}
 use Rattle.lte_types.specs.declared.sib1_reason.Sib1Reason.{Sib1Reason}
 use Rattle.lte_types.specs.declared.sib1_reason.Sib1Reason.TheVariants.{NoSearchSpace, NoControl}
@@ -10,7 +10,7 @@ use Rattle.wide_slot.specs.Lines.{smoothing}
 use Rattle.wide_slot.specs.Slot.{WideSeen, seen_slot}
 use Rattle.wide_control.specs.Control.{SeenControl, IsControl}
 use Rattle.wide_block.specs.Sums.{Offer, offer_of}
-use Rattle.wide_block.specs.Block.{OfferSays}
+use Rattle.wide_block.specs.Block.{OfferSays, CarriesFields, offer_block}
 use Rattle.explain.specs.Frame.{frame_at}
 use Rattle.wide_list.specs.First.{HaveNone, IsFirstOf}
 
@@ -81,3 +81,13 @@ pub record IsAlone (wide : Wide) (cell : Cell) (start sfn j : ℕ) (answer : Res
   pub frame : Frame
   pub is : IsFrame wide cell start sfn j frame
   pub answers : AnswersAlone frame answer
+
+-- ---- the transport block of a frame alone
+
+-- `bits` are an offer's transport block, which carries SIB1 fields
+abbrev pub HasBits : Offer → List Bool → Type 0
+HasBits offer bits = CarriesFields (offer_block offer) bits
+
+-- `bits` are the transport block of a frame's first offer that has fields
+abbrev pub HasBitsAlone : Frame → List Bool → Type 0
+HasBitsAlone frame bits = IsFirstOf HasBits frame.offers bits

@@ -3,4 +3,5 @@ pub mod Frames
 pub mod Together
 pub mod System
 pub mod List
+pub mod Bits
 pub mod Laws

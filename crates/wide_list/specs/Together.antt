@@ -8,7 +8,7 @@ use Rattle.wide_grant.specs.declared.grant.Mapping.{Mapping}
 use Rattle.wide_grant.specs.declared.grant.Mapping.TheVariants.{Localized, FirstGap, SecondGap}
 use Rattle.wide_grant.specs.declared.grant.WideGrant.{WideGrant}
 use Rattle.wide_block.specs.Sums.{Offer, plus_any, added}
-use Rattle.wide_block.specs.Block.{Decodes}
+use Rattle.wide_block.specs.Block.{Decodes, CarriesFields, block_in}
 use Rattle.wide_list.specs.First.{IsFirstOf}
 use Rattle.wide_list.specs.Frames.{Frame}
 
@@ -53,3 +53,15 @@ HasFieldsWith frames period offer fields = AnswersWith frames period offer (Ok f
 -- `fields` are those of a frame's first offer that has any, together with the frames' offers like it
 abbrev pub HasFieldsTogether : List Frame → Frame → Sib1 → Type 0
 HasFieldsTogether frames frame fields = IsFirstOf (HasFieldsWith frames frame.period) frame.offers fields
+
+-- ---- the transport block of frames together
+
+-- `bits` are the transport block of an offer in a period, together with the frames' offers like it, and carry SIB1
+-- fields
+abbrev pub HasBitsWith : List Frame → ℕ → Offer → List Bool → Type 0
+HasBitsWith frames period offer bits =
+    CarriesFields (block_in (added (like_offers frames period offer.grant)) offer.grant.size) bits
+
+-- `bits` are the transport block of a frame's first offer that has fields, together with the frames' offers like it
+abbrev pub HasBitsTogether : List Frame → Frame → List Bool → Type 0
+HasBitsTogether frames frame bits = IsFirstOf (HasBitsWith frames frame.period) frame.offers bits

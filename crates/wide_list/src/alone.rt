@@ -1,21 +1,25 @@
 //! The SIB1 fields in a frame alone.
 
-ghost use Rattle.std.specs.Prelude.{◌≡◌, ◌≢◌};
-ghost use Rattle.wide_list.specs.Frames.{AnswersAlone, reason_without as reason_without_of};
+ghost use Rattle.std.specs.Prelude.{◌≡◌, ◌≢◌, IfOk};
+ghost use Rattle.wide_block.specs.Answer.{fields_in};
+ghost use Rattle.wide_list.specs.Frames.{AnswersAlone, HasBitsAlone, reason_without as reason_without_of};
 
 use crate::offers::FrameOffers;
-use lte_types::{Sib1, Sib1Reason};
+use lte_types::Sib1Reason;
 use turbo_dec::Work;
+use wide_block::SystemBlock;
 
-/// Returns the SIB1 fields of the first offer that has any, or else the first offer's reason. Without offers, the reason
-/// is `NoSearchSpace` if there are fewer than four control channel elements, otherwise `NoControl`.
-pub(crate) fn answer_alone(frame: &FrameOffers, work: &mut Work) -> Result<Sib1, Sib1Reason>
-    ensures { AnswersAlone frame.now result }
+/// Returns the SIB1 fields of the first offer that has any, with their transport block, or else the first offer's
+/// reason. Without offers, the reason is `NoSearchSpace` if there are fewer than four control channel elements,
+/// otherwise `NoControl`.
+pub(crate) fn answer_alone(frame: &FrameOffers, work: &mut Work) -> Result<SystemBlock, Sib1Reason>
+    ensures answer { AnswersAlone frame.now (fields_in result) }
+    ensures bits { IfOk result (λ found. HasBitsAlone frame.now found.bits.items) }
 {
     let mut reason = reason_without(frame.elements());
     for (at, offer) in frame.offers().iter().enumerate() {
-        let other = match offer.fields(work) {
-            Ok(fields) => return Ok(fields),
+        let other = match offer.system_block(work) {
+            Ok(found) => return Ok(found),
             Err(other) => other,
         };
         reason = first_reason(at, reason, other);

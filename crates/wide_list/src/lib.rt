@@ -14,7 +14,7 @@ mod tried;
 mod work;
 
 pub use found::FoundCell;
-pub use informing::inform;
-pub use laws::{one_wide_list, one_wide_system};
+pub use informing::{inform, inform_with_blocks};
+pub use laws::{one_system_block, one_wide_list, one_wide_system};
 pub use system::system_in;
 pub use work::WideWork;

@@ -1,62 +1,68 @@
 //! The SIB1 fields in the frames of one period of 80 ms together.
 
-ghost use Rattle.std.specs.Prelude.{◌≡◌, ◌+◌, ◌≤◌, ◌<◌, length, MatchOption};
+ghost use Rattle.std.specs.Prelude.{◌≡◌, ◌+◌, ◌≤◌, ◌<◌, length, IfOk, IfSome, MatchOption};
 ghost use Rattle.wide_block.specs.Sums.{total, zero_sums};
+ghost use Rattle.wide_block.specs.Answer.{fields_in};
 ghost use Rattle.wide_list.specs.First.{HaveNone, IsFirstOf};
 ghost use Rattle.wide_list.specs.Together.{is_same_mapping as is_same, is_alike as is_alike_of, first_like};
 ghost use Rattle.wide_list.specs.Together.{like_in, like_offers, with_offer};
 ghost use Rattle.wide_list.specs.Together.{AnswersWith, HasFieldsWith, HasFieldsTogether};
+ghost use Rattle.wide_list.specs.Together.{HasBitsWith, HasBitsTogether};
 
 use crate::offers::FrameOffers;
-use lte_types::{Sib1, Sib1Reason};
+use lte_types::Sib1Reason;
 use turbo_dec::Work;
-use wide_block::{GrantSums, Total};
+use wide_block::{GrantSums, SystemBlock, Total};
 use wide_grant::{Mapping, WideGrant};
 
 /// Returns the SIB1 fields of the first offer, in the order of frames, that has any together with the frames' offers
-/// like it. Returns `None` if no offer has.
-pub(crate) fn first_together(frames: &[FrameOffers], work: &mut Work) -> Option<Sib1>
+/// like it, with their transport block. Returns `None` if no offer has.
+pub(crate) fn first_together(frames: &[FrameOffers], work: &mut Work) -> Option<SystemBlock>
     requires { length frames.now ≤ 8 }
-    ensures { MatchOption result (HaveNone (HasFieldsTogether frames.now) frames.now)
-        (IsFirstOf (HasFieldsTogether frames.now) frames.now) }
+    ensures fields { MatchOption result (HaveNone (HasFieldsTogether frames.now) frames.now)
+        (λ found. IsFirstOf (HasFieldsTogether frames.now) frames.now found.fields) }
+    ensures bits { IfSome result (λ found. IsFirstOf (HasBitsTogether frames.now) frames.now found.bits.items) }
 {
     for frame in frames {
         match together_in(frames, frame, work) {
-            Some(fields) => return Some(fields),
+            Some(found) => return Some(found),
             None => {}
         }
     }
     None
 }
 
-// Returns the SIB1 fields of a frame's first offer that has any together with the frames' offers like it, or `None`.
-fn together_in(frames: &[FrameOffers], frame: &FrameOffers, work: &mut Work) -> Option<Sib1>
+// Returns the SIB1 fields of a frame's first offer that has any together with the frames' offers like it, with their
+// transport block, or `None`.
+fn together_in(frames: &[FrameOffers], frame: &FrameOffers, work: &mut Work) -> Option<SystemBlock>
     requires { length frames.now ≤ 8 }
-    ensures { MatchOption result (HaveNone (HasFieldsWith frames.now frame.now.period) frame.now.offers)
-        (HasFieldsTogether frames.now frame.now) }
+    ensures fields { MatchOption result (HaveNone (HasFieldsWith frames.now frame.now.period) frame.now.offers)
+        (λ found. HasFieldsTogether frames.now frame.now found.fields) }
+    ensures bits { IfSome result (λ found. HasBitsTogether frames.now frame.now found.bits.items) }
 {
     for offer in frame.offers() {
         match answer_with_like(frames, frame.period(), offer, work) {
-            Ok(fields) => return Some(fields),
+            Ok(found) => return Some(found),
             Err(_) => {}
         }
     }
     None
 }
 
-// Returns the answer of an offer in a period, together with the frames' offers like it.
+// Returns the answer of an offer in a period, together with the frames' offers like it, with its transport block.
 fn answer_with_like(
     frames: &[FrameOffers],
     period: u16,
     offer: &GrantSums,
     work: &mut Work,
-) -> Result<Sib1, Sib1Reason>
+) -> Result<SystemBlock, Sib1Reason>
     requires { length frames.now ≤ 8 }
-    ensures { AnswersWith frames.now period offer.now result }
+    ensures answer { AnswersWith frames.now period offer.now (fields_in result) }
+    ensures bits { IfOk result (λ found. HasBitsWith frames.now period offer.now found.bits.items) }
 {
     let mut sums = Total::new();
     add_all(frames, period, offer.grant(), &mut sums);
-    sums.fields(offer.grant().size, work)
+    sums.system_block(offer.grant().size, work)
 }
 
 // Adds the sums of the frames' offers in a period that are like a grant, the first of each frame.

@@ -5,6 +5,7 @@ use Rattle.explain.specs.Frame.{IsWhole}
 use Rattle.explain.specs.System.{even_frame}
 use Rattle.wide_list.specs.Frames.{Frame, IsFrame, IsAlone}
 use Rattle.wide_list.proofs.Reading.{each_more, none_more, first_more}
+use Rattle.wide_list.proofs.Blocks.{alone_block}
 use Rattle.wide_list.proofs.system.read_alone.Goals as goal
 
 pub frame_in-requires-clause-whole : goal.frame_in-requires-clause-whole
@@ -22,10 +23,21 @@ returns-in-Ok-clause-read c =
       answers = record {
         frame = c.in_ok-frame.frame;
         is = subst (λ j. IsFrame wide found.cell found.start found.sfn j c.in_ok-frame.frame) c.even_frame.ensures.value c.in_ok-frame.ensures;
-        answers = c.in-Ok.ensures;
+        answers = c.in-Ok.ensures.answer;
       };
       first = c.loop-i.invariant.none;
     }
+
+pub returns-in-Ok-clause-bits : goal.returns-in-Ok-clause-bits
+returns-in-Ok-clause-bits c =
+    let wide = c.args.wide.now in
+    let found = c.args.found.now in
+    let i = c.loop-i.i in
+    let frame = c.in_ok-frame.frame in
+    let is : IsFrame wide found.cell found.start found.sfn (even_frame found.sfn i) frame =
+    subst (λ j. IsFrame wide found.cell found.start found.sfn j frame) c.even_frame.ensures.value c.in_ok-frame.ensures in
+    alone_block wide found.cell found.start found.sfn i frame c.in-Ok.block.bits.items
+    ((c.tried_frames-count.ensures.tried i).0 c.loop-i-test.true) is c.in-Ok.ensures.bits c.loop-i.invariant.none
 
 pub loop-i-preserved : goal.loop-i-preserved
 loop-i-preserved c =
@@ -38,7 +50,7 @@ loop-i-preserved c =
     let is : IsFrame wide found.cell found.start found.sfn (even_frame found.sfn i) frame =
     subst (λ j. IsFrame wide found.cell found.start found.sfn j frame) c.even_frame.ensures.value c.in_ok-frame.ensures in
     let alone : IsAlone wide found.cell found.start found.sfn (even_frame found.sfn i) (Err c.in-Err.other) =
-    record { frame = frame; is = is; answers = c.in-Err.ensures } in
+    record { frame = frame; is = is; answers = c.in-Err.ensures.answer } in
     let pushed : c.push.new.self.items ≡ old ++ frame ∷ [] = c.in_ok-push.ensures.items in
     let P : ℕ → Frame → Type 0 = λ h frame. IsFrame wide found.cell found.start found.sfn (even_frame found.sfn h) frame in
     record {
