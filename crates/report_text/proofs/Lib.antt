@@ -1,3 +1,4 @@
 pub mod Pieces
 pub mod AnswerLines
 pub mod OneText
+mod RuledTexts

@@ -20,7 +20,7 @@ mod rounds;
 mod supports;
 mod words;
 
-pub use all::text_of_all;
+pub use all::{text_of_all, text_of_ruled};
 pub use answers::text_of_answers;
 pub use cancelled::{text_of_cancelled, text_of_cancelled_none};
 pub use hits::{text_of_hits, text_of_ids};

@@ -1,17 +1,7 @@
-use Rattle.std.proofs.Common.{ap, ◌∙◌}
-use Rattle.std.proofs.lemmas.Slice.Zip.{Zip-more, either_empty_from_Zip}
-use Rattle.lte_types.specs.Carrier.{carriers}
-use Rattle.report_text.specs.All.{ruled_text}
-use Rattle.report_parts.proofs.Zipped.{put_for, put_more, put_last, put_by}
+use Rattle.std.proofs.Common.{ap, ◌∙◌, map, string_bytes}
+use Rattle.report_text.specs.Lines.{report_text}
 use Rattle.report_text.proofs.all.text_of_all.Goals as goal
-
-pub loop-carrier-preserved : goal.loop-carrier-preserved
-loop-carrier-preserved c =
-    let next = Zip-more c.loop-carrier.carrier-iterator c.next.new.self c.next.result (c.in-Some.carrier, c.in-Some.list) c.in-Some.is c.next.ensures.steps in
-    put_more ruled_text _ _ c.in-Some.carrier.now c.in-Some.list.now _ _ _ _ _ _ next.0 next.1 c.loop-carrier.invariant c.in_ok-push_str.ensures.bytes
-    (c.deref.ensures ∙ c.in_ok-lines.ensures ∙ ap (ruled_text c.in-Some.carrier.now) c.slice.ensures)
 
 pub returns : goal.returns
 returns c of are =
-    let ended = either_empty_from_Zip c.loop-carrier.carrier-iterator c.next.new.self c.next.result c.in-None.is c.next.ensures.steps in
-    put_last ruled_text _ _ _ _ ended c.loop-carrier.invariant ∙ ap (put_for ruled_text carriers) are ∙ put_by ruled_text of carriers
+    c.text_of_ruled.ensures (λ carrier. report_text (of carrier)) (ap (map string_bytes) c.deref.ensures.value ∙ c.in_ok-texts.ensures ∙ ap (map report_text) are)
