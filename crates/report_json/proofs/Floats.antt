@@ -27,6 +27,8 @@ use Rattle.report_json.specs.Values.{natural, integer, list_of, or_null}
 use Rattle.report_json.specs.Cells.{plmn_value, message_value, tdd_value, sib1_value, system_value, entry_value}
 use Rattle.report_json.specs.All.{ruled_value, ruled_values, all_value}
 use Rattle.report_json.specs.Evidence.{complex_value, port_value, pairs_value, bits_value, support_value}
+use Rattle.report_json.specs.declared.supported.SupportedCell.{SupportedCell}
+use Rattle.report_json.specs.Supported.{cell_value}
 
 -- a value without floats has a text
 pub written : (seen value : Data) (r : Result (String Global) AllocError) → seen ≡ value → has_float value ≡ false →
@@ -101,6 +103,13 @@ pub in_support : (shown : Shown) → has_float (support_value shown) ≡ false
 in_support shown =
     or_from _ _ (in_list port_value in_port shown.slot.channel)
     (or_from _ _ (in_bits shown.block) (or_from _ _ (in_pairs shown.slot.values) refl))
+
+pub in_cell : (cell : SupportedCell) → has_float (cell_value cell) ≡ false
+in_cell cell =
+    let shown = cell.support.now in
+    or_from _ _ (in_list port_value in_port shown.slot.channel)
+    (or_from _ _ (in_system cell.entry.now.sib1)
+    (or_from _ _ (in_bits shown.block) (or_from _ _ (in_pairs shown.slot.values) refl)))
 
 in_choice : (choice : Choice) → has_float (choice_value choice) ≡ false
 in_choice choice = or_from _ _ (in_integer choice.score) refl

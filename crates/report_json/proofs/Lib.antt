@@ -3,3 +3,4 @@ pub mod RoundsFloats
 pub mod OffsetFloats
 pub mod OneText
 mod ItemTexts
+mod SupportedCells

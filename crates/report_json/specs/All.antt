@@ -1,7 +1,7 @@
 -- A recording's cell lists for all transmission schemes, as JSON. (own)
 use Rattle.std.specs.Prelude.{ℕ, List, map, codes}
 use Rattle.std.specs.List.{flat_map}
-use Rattle.serde_json.specs.Data.{Data, string, array, object, put}
+use Rattle.serde_json.specs.Data.{Data, string, array, object, Members, put}
 use Rattle.serde_json.specs.View.{items_of}
 use Rattle.serde_json.specs.Written.{compact_text}
 use Rattle.lte_types.specs.declared.carrier.Carrier.{Carrier}
@@ -10,9 +10,12 @@ use Rattle.lte_types.specs.Carrier.{carriers}
 use Rattle.report_parts.specs.Words.{rule_word}
 use Rattle.report_json.specs.Cells.{entry_members}
 
--- the object for a cell, with the name of its list's transmission scheme (key `rule`)
+-- the members of a cell's object, with the name of its list's transmission scheme (key `rule`)
+abbrev pub ruled_members : Carrier → Entry → Members
+ruled_members carrier entry = put (codes "rule") (string (rule_word carrier)) (entry_members entry)
+
 abbrev pub ruled_value : Carrier → Entry → Data
-ruled_value carrier entry = object (put (codes "rule") (string (rule_word carrier)) (entry_members entry))
+ruled_value carrier entry = object (ruled_members carrier entry)
 
 -- the objects for the cells in a list, each with the name of the list's transmission scheme (key `rule`)
 abbrev pub ruled_values : Carrier → List Entry → List Data

@@ -43,12 +43,16 @@ abbrev pub block_members : List Bool → List Bool → Members → Members
 block_members master block members =
     put (codes "sib1_block") (bits_value block) (put (codes "mib") (string (hex_word master)) members)
 
--- the object for a list entry: the numbers that identify and support the entry, its slot, and the bits in its blocks
+-- ---- an entry
+
+-- `members`, with the numbers that support an entry, its slot, and the bits in its blocks added
+abbrev pub shown_members : Shown → Members → Members
+shown_members shown members =
+    block_members shown.master shown.block (slot_members shown.slot (put_each (numbers_in shown.numbers) members))
+
+-- the object for a list entry: the numbers that identify the entry, and what supports it
 abbrev pub support_value : Shown → Data
-support_value shown = object (
-    block_members shown.master shown.block (
-    slot_members shown.slot (
-    put_each (numbers_in shown.numbers) (put_each (place_in shown.numbers) no_members))))
+support_value shown = object (shown_members shown (put_each (place_in shown.numbers) no_members))
 
 -- the JSON of a cell list's evidence, without spaces
 unfoldable pub evidence_json : List Shown → List ℕ

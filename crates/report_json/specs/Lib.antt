@@ -3,5 +3,6 @@ pub mod Cells
 pub mod Hits
 pub mod Evidence
 pub mod All
+pub mod Supported
 pub mod Rounds
 pub mod Offset

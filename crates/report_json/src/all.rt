@@ -1,15 +1,16 @@
 //! A recording's cell lists for all transmission schemes, as JSON.
 
 ghost use Rattle.std.specs.Prelude.{◌≡◌, ◌++◌, IfOk, OnOk, List, length, map, string_bytes};
-ghost use Rattle.serde_json.specs.View.{view};
+ghost use Rattle.serde_json.specs.View.{view, members_view};
 ghost use Rattle.lte_types.specs.Carrier.{carriers};
-ghost use Rattle.report_json.specs.All.{ruled_value as value_of, ruled_values, all_value, all_json};
+ghost use Rattle.report_json.specs.All.{ruled_members as members_by, ruled_value as value_of, ruled_values};
+ghost use Rattle.report_json.specs.All.{all_value, all_json};
 
 use crate::cells::members_of;
 use explain::EntryList;
 use lte_types::{Carrier, Entry};
 use report_parts::rule_word;
-use serde_json::{ToValue, Value, put};
+use serde_json::{Map, ToValue, Value, put};
 use std::alloc::{AllocError, Global};
 
 /// Returns the cell `lists` for all transmission schemes, in the order of `Carrier::ALL`, as one JSON array of cell
@@ -54,8 +55,20 @@ fn add_ruled(
 fn ruled_value(alloc: Global, rule: Carrier, entry: &Entry) -> Result<Value, AllocError>
     ensures { IfOk result (λ value. view value ≡ value_of rule entry.now) }
 {
+    let members = ruled_members(alloc, rule, entry)?;
+    Ok(Value::from(members))
+}
+
+/// Returns the members of a cell's object, with the rule of its list.
+pub(crate) fn ruled_members(
+    alloc: Global,
+    rule: Carrier,
+    entry: &Entry,
+) -> Result<Map<String, Value>, AllocError>
+    ensures { IfOk result (λ members. members_view members.entries ≡ members_by rule entry.now) }
+{
     let mut members = members_of(alloc, entry)?;
     let word = rule_word(rule).to_value(alloc)?;
     put(&mut members, alloc, "rule", word)?;
-    Ok(Value::from(members))
+    Ok(members)
 }

@@ -11,6 +11,7 @@ mod laws;
 mod named;
 mod offset;
 mod rounds;
+mod supported;
 mod supports;
 mod values;
 
@@ -20,4 +21,5 @@ pub use hits::{json_of_hits, json_of_ids};
 pub use laws::one_cancel_json;
 pub use offset::tell_json;
 pub use rounds::{cancel_json, json_of_rounds};
+pub use supported::{SupportedList, json_of_supported};
 pub use supports::json_of_evidence;

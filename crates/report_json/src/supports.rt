@@ -9,7 +9,7 @@ ghost use Rattle.serde_json.specs.View.{view, members_view};
 ghost use Rattle.report_json.specs.Values.{integer, list_of};
 ghost use Rattle.report_json.specs.Evidence.{slot_members, complex_value, port_value};
 ghost use Rattle.report_json.specs.Evidence.{block_members, bits_value as bits_value_of};
-ghost use Rattle.report_json.specs.Evidence.{support_value, evidence_json};
+ghost use Rattle.report_json.specs.Evidence.{shown_members, support_value, evidence_json};
 
 use crate::named::put_numbers;
 use crate::values::{ToJson, list_text, list_value, pair_value};
@@ -33,13 +33,24 @@ impl ToJson for Support {
 
     fn to_json(&self, alloc: Global) -> Result<Value, AllocError> {
         let mut members = Map::new(alloc);
-        let numbers = self.numbers();
-        put_numbers(alloc, &place_in(numbers), &mut members)?;
-        put_numbers(alloc, &numbers_in(numbers), &mut members)?;
-        put_slot(alloc, self.slot(), &mut members)?;
-        put_blocks(alloc, self.master().slice(), self.block(), &mut members)?;
+        put_numbers(alloc, &place_in(self.numbers()), &mut members)?;
+        put_shown(alloc, self, &mut members)?;
         Ok(Value::from(members))
     }
+}
+
+/// Adds the numbers that support an entry, its slot, and the bits in its blocks.
+pub(crate) fn put_shown(
+    alloc: Global,
+    support: &Support,
+    members: &mut Map<String, Value>,
+) -> Result<(), AllocError>
+    ensures { OnOk result (members_view members.new.entries
+        ≡ shown_members support.now (members_view members.old.entries)) }
+{
+    put_numbers(alloc, &numbers_in(support.numbers()), members)?;
+    put_slot(alloc, support.slot(), members)?;
+    put_blocks(alloc, support.master().slice(), support.block(), members)
 }
 
 // The array with the real and the imaginary part.
