@@ -43,7 +43,8 @@ BUDGETS = {
     "python/lte_reference/README.md": 620,
 }
 EXAMPLES = TOP / "scripts/examples/outputs"
-OUTPUTS = ("hits", "ids", "search", "search_all", "search_cancel", "evidence", "why", "tell", "survey", "diff")
+LISTS = ("search", "search_all", "search_cancel", "evidence", "evidence_all")
+OUTPUTS = ("hits", "ids", *LISTS, "why", "tell", "survey", "diff")
 WORD = re.compile(r"`([^`]+)`")
 PLACE = re.compile(
     r"(?:crates/)?(?:(?:(\w+)/)?(specs|src|proofs|must-fail|wrong)/)?([\w/]+\.(?:antt|rt|edit))(?::([\w']+))?"

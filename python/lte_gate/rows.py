@@ -279,17 +279,20 @@ PLAIN_FORMS = (
     ("search --json", TESTS + "search.rt"),
     ("search --all", TESTS + "search_all.rt"),
     ("search --cancel --json", TESTS + "search_cancel.rt"),
+    ("evidence --all", TESTS + "evidence_all.rt"),
     ("tell --json", TESTS + "tell_and_apply.rt"),
 )
 TWO_PORTS_FORMS = (
     ("search --ports 2 --json", TESTS + "search_two_ports.rt"),
     ("evidence --ports 2 --json", TESTS + "evidence_of_cells.rt"),
     ("search --all --json", TESTS + "search_all.rt"),
+    ("evidence --all --json", TESTS + "evidence_all.rt"),
 )
 FOUR_PORTS_FORMS = (
     ("search --ports 4 --json", TESTS + "search_four_ports.rt"),
     ("search --all", TESTS + "search_all.rt"),
     ("evidence --ports 4 --json", TESTS + "evidence_of_cells.rt"),
+    ("evidence --all", TESTS + "evidence_all.rt"),
 )
 LONG_PREFIX_FORMS = (
     ("search --prefix long --json", TESTS + "search_long_prefix.rt"),
@@ -304,6 +307,8 @@ SHOWN_FORMS = (
     ("evidence --json", OUTPUTS + "evidence.json"),
     ("search --cancel --json", OUTPUTS + "search_cancel.json"),
     ("search --all --json", OUTPUTS + "search_all.json"),
+    ("evidence --all", "docs/FORMATS.md"),
+    ("evidence --all --json", OUTPUTS + "evidence_all.json"),
 )
 OTHER_CARRIERS = (
     ("two_ports", "--ports 2"),

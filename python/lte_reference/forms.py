@@ -5,9 +5,9 @@ A second program for what stands in docs/FORMATS.md for these words: it prints w
 the last ones.
 
     hits --json, ids --json
-    evidence [--ports 2 | --ports 4 | --prefix long] --json
+    evidence [--ports 2 | --ports 4 | --prefix long | --all] --json
     search [--ports 2 | --ports 4 | --prefix long | --cancel | --all] --json
-    search --all
+    evidence --all, search --all
     tell --json
 
 Behind those of `search` without `--cancel`, of hits, ids and evidence, `--rate R` says that the recording has R million
@@ -204,6 +204,23 @@ def of_evidence(r, words):
     return found
 
 
+def of_all_evidence(r):
+    """The cells of all lists, each with its evidence."""
+    found = []
+    for words, name in NAMES.items():
+        for value, support in zip(of_search(Lists(r), words), of_evidence(r, words), strict=True):
+            if any(value[key] != support[key] for key in value.keys() & support.keys()):
+                raise ValueError(value)
+            found.append({**value, **support, "rule": name})
+    return found
+
+
+def lines_of_all_evidence(r):
+    for words, name in NAMES.items():
+        yield f"rule {name}"
+        yield from second_evidence.lines(r, RULES[words])
+
+
 def of_tell(samples):
     by = tune_reference.Second()
     taken = tune_reference.taken(samples, by)
@@ -219,6 +236,8 @@ LISTS = {"search --all --json": of_all}
 LISTS |= {" ".join(["search", *words, "--json"]): functools.partial(of_search, words=words) for words in RULES}
 FORMS = {"hits --json": of_hits, "ids --json": of_ids, "search --cancel --json": of_cancel}
 FORMS |= {" ".join(["evidence", *words, "--json"]): functools.partial(of_evidence, words=words) for words in RULES}
+FORMS["evidence --all --json"] = of_all_evidence
+TEXTS = {"search --all": lines_of_all, "evidence --all": lambda lists: lines_of_all_evidence(lists.narrow)}
 
 
 def main():
@@ -228,15 +247,15 @@ def main():
     form = " ".join(words)
     if form == "tell --json" and rate is None:
         print(as_json(of_tell(tune_reference.samples_of(sys.stdin.buffer.read()))))
-    elif form in (*LISTS, *FORMS, "search --all") and (rate is None or "--cancel" not in words):
+    elif form in (*LISTS, *FORMS, *TEXTS) and (rate is None or "--cancel" not in words):
         print(text_of(form, Lists(recording(), rate)))
     else:
         sys.exit(__doc__)
 
 
 def text_of(form, lists):
-    if form == "search --all":
-        return "\n".join(lines_of_all(lists))
+    if form in TEXTS:
+        return "\n".join(TEXTS[form](lists))
     return as_json(LISTS[form](lists) if form in LISTS else FORMS[form](lists.narrow))
 
 

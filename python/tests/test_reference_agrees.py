@@ -20,6 +20,8 @@ FORMS = (
     "search --all --json",
     "search --cancel --json",
     "search --all",
+    "evidence --all",
+    "evidence --all --json",
 )
 SCHEMES = (("two_ports", "--ports 2"), ("four_ports", "--ports 4"), ("long_prefix", "--prefix long"))
 

@@ -31,7 +31,7 @@ receiver() {
     printf '%s\n' {hits,ids}{' --json',}{' --format cu8',} | rated
     printf '%s\n' search{' --ports 2',' --ports 4',' --prefix long',' --cancel',' --all',}{' --json',}{' --format cu8',} |
         rated
-    ports evidence {' --json',''}{' --format cu8',''} | rated
+    printf '%s\n' evidence{' --ports 2',' --ports 4',' --prefix long',' --all',}{' --json',}{' --format cu8',} | rated
     ports 'why 271' {' --json',''}{' --format cu8',''} | rated
     ports certify {' --format cu8',''} | rated
     echo check

@@ -48,7 +48,7 @@ CARRIERS = (
     ["--prefix", "long"],
     ["--ports", "4"],
 )  # of `make`, `transmit`, `evidence`, `certify`
-LISTS = (["--cancel"], ["--all"])  # of `search` alone
+LISTS = (["--cancel"], ["--all"])  # of `search`; the second also of `evidence`
 RULES = (*CARRIERS[1:], *LISTS)
 REPORTS = ("hits", "ids", "search", "evidence", "tell")  # that `--json` stands behind
 RATES = {"1.92": 1, "3.84": 2, "7.68": 4, "15.36": 8, "30.72": 16}  # each with its multiple of 1.92 million per second
@@ -78,7 +78,9 @@ def words(random, command):
         front += [turn] * (turn != "")
     elif command == "search" and random.random() < 0.35:
         front += random.choice(RULES)
-    elif command in ("evidence", "certify") and random.random() < 0.35:
+    elif command == "evidence" and random.random() < 0.35:
+        front += random.choices(RULES, [25, 25, 25, 2, 23])[0]
+    elif command == "certify" and random.random() < 0.35:
         front += random.choices(RULES, [32, 32, 32, 2, 2])[0]
     json_words = ["--json"] if random.random() < (0.25 if command in REPORTS else 0.03) else []
     form = random.choices([[], ["--format", "cu8"], ["--format", "ci8"], ["--format"]], [80, 15, 2, 1])[0]
@@ -128,7 +130,8 @@ def is_form(given):
         rest = rest[:-1]
     if command == "apply" and len(rest) == 1:
         return is_turn(rest[0])
-    return rest == [] or rest in {"search": RULES, "evidence": CARRIERS, "certify": CARRIERS}.get(command, ())
+    rules = {"search": RULES, "evidence": (*CARRIERS, ["--all"]), "certify": CARRIERS}
+    return rest == [] or rest in rules.get(command, ())
 
 
 def shown(given):

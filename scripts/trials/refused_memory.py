@@ -62,7 +62,8 @@ def forms(program):
     """Words and a valid input of each form of lte_cli."""
     recording = CELL.read_bytes()
     certificates = run(program, ["certify"], recording)[1]
-    for words in ("hits", "ids", *(f"search {rule}" for rule in RULES), *(f"evidence {rule}" for rule in CARRIERS)):
+    evidence = (f"evidence {rule}" for rule in (*CARRIERS, "--all"))
+    for words in ("hits", "ids", *(f"search {rule}" for rule in RULES), *evidence):
         yield from of_both(words, recording)
         yield from of_both(words + " --json", recording)
     for rule in CARRIERS:

@@ -1,9 +1,9 @@
 //! Runs in which each call to a source or a sink fails once, and runs with one-byte pieces.
 
 use crate::forms::{
-    APPLYING, AS_JSON, AT_RATES, BY_OTHER_RULES, BY_OTHER_RULES_AND_WORDS, CANCELLING, Form,
-    OF_8_BITS, OF_8_BITS_AS_JSON, OF_ALL, OF_LISTS_BY_OTHER_RULES, OTHERS, PAGES, REASONS, REPORTS,
-    SENDING, TELLING,
+    APPLYING, AS_JSON, AT_RATES, BY_OTHER_RULES, BY_OTHER_RULES_AND_WORDS, CANCELLING,
+    EVIDENCE_OF_ALL, Form, OF_8_BITS, OF_8_BITS_AS_JSON, OF_ALL, OF_LISTS_BY_OTHER_RULES, OTHERS,
+    PAGES, REASONS, REPORTS, SENDING, TELLING,
 };
 use crate::inputs::{Input, bytes_of, recording};
 use cs_outside::{FailSink, FailSource, MemSource, StdSink, StdSource};
@@ -208,6 +208,11 @@ fn each_call_of_lists_of_what_is_left_that_fails_is_a_fault(rt: HostRuntime) -> 
 #[test]
 fn each_call_of_lists_of_every_carrier_that_fails_is_a_fault(rt: HostRuntime) -> Result<(), Fail> {
     fail_each(&rt, rt.alloc(), Program::Receiver, &OF_ALL)
+}
+
+#[test]
+fn each_call_of_evidence_of_every_list_that_fails_is_a_fault(rt: HostRuntime) -> Result<(), Fail> {
+    fail_each(&rt, rt.alloc(), Program::Receiver, &EVIDENCE_OF_ALL)
 }
 
 #[test]

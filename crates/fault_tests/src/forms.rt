@@ -104,6 +104,14 @@ pub const OF_ALL: [Form; 4] = [
     ("search --all --json --format cu8", Input::Cell8),
 ];
 
+/// The evidence for the lists of every transmission scheme.
+pub const EVIDENCE_OF_ALL: [Form; 4] = [
+    ("evidence --all", Input::Cell16),
+    ("evidence --all --json", Input::TwoPorts),
+    ("evidence --all --format cu8", Input::Cell8),
+    ("evidence --all --json --format cu8", Input::Cell8),
+];
+
 /// The forms with a sample rate.
 pub const AT_RATES: [Form; 4] = [
     ("hits --rate 1.92", Input::Cell16),

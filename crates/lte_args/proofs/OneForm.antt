@@ -19,6 +19,8 @@ use Rattle.lte_args.specs.declared.form.RecordingForm.{RecordingForm}
 use Rattle.lte_args.specs.declared.form.Form.{Form}
 use Rattle.lte_args.specs.declared.form.Form.TheVariants.{Report as Reports, Certify, Check, Transmit, Make, Apply, Print}
 use Rattle.lte_args.specs.declared.form.Report.TheVariants.{Hits, Ids, Search, Evidence, Tell, Why}
+use Rattle.lte_args.specs.declared.form.Lists.{Lists}
+use Rattle.lte_args.specs.declared.form.Lists.TheVariants.{Of as ListOf, All as AllLists}
 use Rattle.lte_args.specs.declared.form.Rule.{Rule}
 use Rattle.lte_args.specs.declared.form.Rule.TheVariants.{Of, Cancel, All}
 use Rattle.lte_args.specs.declared.form.Output.{Output}
@@ -27,7 +29,7 @@ use Rattle.lte_args.specs.declared.form.Turn.{Turn}
 use Rattle.lte_args.specs.declared.form.Turn.TheVariants.{AsEstimated, Steps}
 use Rattle.lte_args.specs.declared.form.Page.{Page}
 use Rattle.lte_args.specs.declared.form.Page.TheVariants.{Help, Version}
-use Rattle.lte_args.specs.Words.{samples_words, rate_word, rate_words, recording_words, output_words, rule_words, carrier_words, load_words, turn_words, ArePageWords, AreWordsOf, IsAskedLoad, IsTurn, IsAskedTurn, IsInRange, program_of, IsWordsOf}
+use Rattle.lte_args.specs.Words.{samples_words, rate_word, rate_words, recording_words, output_words, rule_words, carrier_words, lists_words, load_words, turn_words, ArePageWords, AreWordsOf, IsAskedLoad, IsTurn, IsAskedTurn, IsInRange, program_of, IsWordsOf}
 
 -- whether the argument is this word
 abbrev is_word : List ℕ → List ℕ → Bool
@@ -127,12 +129,40 @@ carrier_before of Text form = by_parts form.samples form.rate
     by_parts Cu8 rate = refl
 carrier_before of Json form = refl
 
+abbrev lists_in : (Lists → List (List ℕ) → Form) → List (List ℕ) → Form
+lists_in of [] = of (ListOf OnePort) []
+lists_in of (word ∷ words) =
+    if is_word word (codes "--all") then of AllLists words
+    else carrier_in (λ carrier. of (ListOf carrier)) (word ∷ words)
+
+lists_back : (of : Lists → List (List ℕ) → Form) (lists : Lists) (rest : List (List ℕ)) → lists_in of rest ≡ of (ListOf OnePort) rest →
+    lists_in of (lists_words lists ++ rest) ≡ of lists rest
+lists_back of (ListOf OnePort) rest usual = usual
+lists_back of (ListOf TwoPorts) rest usual = refl
+lists_back of (ListOf LongPrefix) rest usual = refl
+lists_back of (ListOf FourPorts) rest usual = refl
+lists_back of AllLists rest usual = refl
+
+lists_before : (of : Lists → List (List ℕ) → Form) (output : Output) (form : RecordingForm) →
+    lists_in of (output_words output ++ recording_words form) ≡ of (ListOf OnePort) (output_words output ++ recording_words form)
+lists_before of Text form = by_parts form.samples form.rate
+  where
+    by_parts : (samples : SampleForm) (rate : Option Rate) → lists_in of (samples_words samples ++ rate_words rate) ≡ of (ListOf OnePort) (samples_words samples ++ rate_words rate)
+    by_parts Ci16 None = refl
+    by_parts Ci16 (Some rate) = refl
+    by_parts Cu8 rate = refl
+lists_before of Json form = refl
+
+-- the rule of `search` with the arguments of `lists`
+abbrev rule_of : Lists → Rule
+rule_of (ListOf carrier) = Of carrier
+rule_of AllLists = All
+
 abbrev rule_in : (Rule → List (List ℕ) → Form) → List (List ℕ) → Form
 rule_in of [] = of (Of OnePort) []
 rule_in of (word ∷ words) =
     if is_word word (codes "--cancel") then of Cancel words
-    else if is_word word (codes "--all") then of All words
-    else carrier_in (λ carrier. of (Of carrier)) (word ∷ words)
+    else lists_in (λ lists. of (rule_of lists)) (word ∷ words)
 
 rule_back : (of : Rule → List (List ℕ) → Form) (rule : Rule) (rest : List (List ℕ)) → rule_in of rest ≡ of (Of OnePort) rest →
     rule_in of (rule_words rule ++ rest) ≡ of rule rest
@@ -163,14 +193,14 @@ search_back rule output form =
     ap (rule_in searched_by) (append_assoc (rule_words rule) (output_words output) (recording_words form))
     ∙ rule_back searched_by rule (output_words output ++ recording_words form) (rule_before searched_by output form) ∙ report_back (Reports (Search rule)) output form
 
-abbrev supported_by : Carrier → List (List ℕ) → Form
-supported_by carrier words = report_in (Reports (Evidence carrier)) words
+abbrev supported_by : Lists → List (List ℕ) → Form
+supported_by lists words = report_in (Reports (Evidence lists)) words
 
-evidence_back : (carrier : Carrier) (output : Output) (form : RecordingForm) →
-    carrier_in supported_by (carrier_words carrier ++ output_words output ++ recording_words form) ≡ Reports (Evidence carrier) output form
-evidence_back carrier output form =
-    ap (carrier_in supported_by) (append_assoc (carrier_words carrier) (output_words output) (recording_words form))
-    ∙ carrier_back supported_by carrier (output_words output ++ recording_words form) (carrier_before supported_by output form) ∙ report_back (Reports (Evidence carrier)) output form
+evidence_back : (lists : Lists) (output : Output) (form : RecordingForm) →
+    lists_in supported_by (lists_words lists ++ output_words output ++ recording_words form) ≡ Reports (Evidence lists) output form
+evidence_back lists output form =
+    ap (lists_in supported_by) (append_assoc (lists_words lists) (output_words output) (recording_words form))
+    ∙ lists_back supported_by lists (output_words output ++ recording_words form) (lists_before supported_by output form) ∙ report_back (Reports (Evidence lists)) output form
 
 abbrev reasoned_by : ℕ → Carrier → List (List ℕ) → Form
 reasoned_by identity carrier words = report_in (Reports (Why identity carrier)) words
@@ -271,7 +301,7 @@ form_of program (word ∷ words) =
     if is_word word (codes "hits") then report_in (Reports Hits) words
     else if is_word word (codes "ids") then report_in (Reports Ids) words
     else if is_word word (codes "search") then rule_in searched_by words
-    else if is_word word (codes "evidence") then carrier_in supported_by words
+    else if is_word word (codes "evidence") then lists_in supported_by words
     else if is_word word (codes "why") then why_in words
     else if is_word word (codes "tell") then report_in (Reports Tell) words
     else if is_word word (codes "certify") then carrier_in certified_by words
@@ -294,7 +324,7 @@ form_of_words : (form : Form) (words : List (List ℕ)) → AreWordsOf form word
 form_of_words (Reports Hits output form) words e within = ap (form_of (program_of (Reports Hits output form))) e ∙ report_back (Reports Hits) output form
 form_of_words (Reports Ids output form) words e within = ap (form_of (program_of (Reports Ids output form))) e ∙ report_back (Reports Ids) output form
 form_of_words (Reports (Search rule) output form) words e within = ap (form_of (program_of (Reports (Search rule) output form))) e ∙ search_back rule output form
-form_of_words (Reports (Evidence carrier) output form) words e within = ap (form_of (program_of (Reports (Evidence carrier) output form))) e ∙ evidence_back carrier output form
+form_of_words (Reports (Evidence lists) output form) words e within = ap (form_of (program_of (Reports (Evidence lists) output form))) e ∙ evidence_back lists output form
 form_of_words (Reports Tell output form) words e within = ap (form_of (program_of (Reports Tell output form))) e ∙ report_back (Reports Tell) output form
 form_of_words (Reports (Why identity carrier) output form) words e within = ap (form_of (program_of (Reports (Why identity carrier) output form))) e ∙ why_back carrier identity output form within
 form_of_words (Certify carrier form) words e within = ap (form_of (program_of (Certify carrier form))) e ∙ certify_back carrier form

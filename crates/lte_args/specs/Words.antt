@@ -16,6 +16,8 @@ use Rattle.lte_args.specs.declared.form.Form.TheVariants.{Report as Reports, Cer
 use Rattle.lte_args.specs.declared.form.Form.TheVariants.{Apply, Print}
 use Rattle.lte_args.specs.declared.form.Report.{Report}
 use Rattle.lte_args.specs.declared.form.Report.TheVariants.{Hits, Ids, Search, Evidence, Tell, Why}
+use Rattle.lte_args.specs.declared.form.Lists.{Lists}
+use Rattle.lte_args.specs.declared.form.Lists.TheVariants.{Of as ListOf, All as AllLists}
 use Rattle.lte_args.specs.declared.form.Rule.{Rule}
 use Rattle.lte_args.specs.declared.form.Rule.TheVariants.{Of, Cancel, All}
 use Rattle.lte_args.specs.declared.form.Output.{Output}
@@ -79,18 +81,23 @@ abbrev pub load_words : Option ℕ → List (List ℕ)
 load_words None = []
 load_words (Some n) = codes "--load" ∷ decimal n ∷ []
 
+-- the arguments that select a report's cell lists
+abbrev pub lists_words : Lists → List (List ℕ)
+lists_words (ListOf carrier) = carrier_words carrier
+lists_words AllLists = codes "--all" ∷ []
+
 -- the arguments of a cell list's rule
 abbrev pub rule_words : Rule → List (List ℕ)
-rule_words (Of carrier) = carrier_words carrier
+rule_words (Of carrier) = lists_words (ListOf carrier)
 rule_words Cancel = codes "--cancel" ∷ []
-rule_words All = codes "--all" ∷ []
+rule_words All = lists_words AllLists
 
--- the arguments of a report: its command, then its cell identity, rule or transmission scheme, if it has one
+-- the arguments of a report: its command, then its cell identity, rule, lists or transmission scheme, if it has one
 abbrev pub report_words : Report → List (List ℕ)
 report_words Hits = codes "hits" ∷ []
 report_words Ids = codes "ids" ∷ []
 report_words (Search rule) = codes "search" ∷ rule_words rule
-report_words (Evidence carrier) = codes "evidence" ∷ carrier_words carrier
+report_words (Evidence lists) = codes "evidence" ∷ lists_words lists
 report_words Tell = codes "tell" ∷ []
 report_words (Why identity carrier) = codes "why" ∷ decimal identity ∷ carrier_words carrier
 

@@ -116,11 +116,20 @@ pub enum Report {
     /// `search`: the cell list under a rule.
     Search(Rule),
     /// `evidence`: the evidence for each listed cell.
-    Evidence(Carrier),
+    Evidence(Lists),
     /// `tell`: the frequency offset.
     Tell,
     /// `why PCI`: the reasons why a cell identity is in the cell list of a transmission scheme, or is not.
     Why(CellId, Carrier),
+}
+
+/// Which cell lists a report covers: one, or all.
+#[derive(Clone, Copy, Debug, PartialEq, Eq)]
+pub enum Lists {
+    /// The list for one transmission scheme, selected as in `Rule::Of`.
+    Of(Carrier),
+    /// `--all`: the lists for all transmission schemes.
+    All,
 }
 
 /// Which cell list `search` writes.
@@ -186,8 +195,8 @@ fn of_receiver(words: &[String]) -> Option<Form>
         Some(Form::Report(Report::Ids, output, recording))
     } else if let Some((rule, output, recording)) = search_parts(words) {
         Some(Form::Report(Report::Search(rule), output, recording))
-    } else if let Some((carrier, output, recording)) = evidence_parts(words) {
-        Some(Form::Report(Report::Evidence(carrier), output, recording))
+    } else if let Some((lists, output, recording)) = evidence_parts(words) {
+        Some(Form::Report(Report::Evidence(lists), output, recording))
     } else if let Some((id, carrier, output, recording)) = why_parts(words) {
         Some(Form::Report(Report::Why(id, carrier), output, recording))
     } else if let Some((carrier, recording)) = certify_parts(words) {

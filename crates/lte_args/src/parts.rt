@@ -7,15 +7,16 @@ ghost use Rattle.std.specs.Fmt.{decimal};
 ghost use Rattle.lte_args.specs.declared.form.Rate.{Rate as RateValue};
 ghost use Rattle.lte_args.specs.declared.form.RecordingForm.{RecordingForm as RecordingFormValue};
 ghost use Rattle.lte_types.specs.declared.carrier.Carrier.{Carrier as CarrierValue};
+ghost use Rattle.lte_args.specs.declared.form.Lists.{Lists as ListsValue};
 ghost use Rattle.lte_args.specs.declared.form.Output.{Output as OutputValue};
 ghost use Rattle.lte_args.specs.declared.form.Page.{Page as PageValue};
 ghost use Rattle.lte_args.specs.declared.form.Rule.{Rule as RuleValue};
 ghost use Rattle.lte_args.specs.declared.form.Turn.{Turn as TurnValue};
 ghost use Rattle.lte_args.specs.Words.{samples_words, rate_words, recording_words, output_words, rule_words};
-ghost use Rattle.lte_args.specs.Words.{rate_word, carrier_words, load_words, turn_words};
+ghost use Rattle.lte_args.specs.Words.{rate_word, carrier_words, lists_words, load_words, turn_words};
 ghost use Rattle.lte_args.specs.Words.{BeginsWithNo, IsAskedLoad, IsAskedTurn, ArePageWords};
 
-use crate::form::{Output, Page, Rate, RecordingForm, Rule, Turn};
+use crate::form::{Lists, Output, Page, Rate, RecordingForm, Rule, Turn};
 use crate::numbers::{identity_of, number_of, steps_of};
 use lte_types::{Carrier, CellId};
 use sample_file::SampleForm;
@@ -29,11 +30,32 @@ fn rule_in(words: &[String]) -> (Rule, &[String])
 {
     if let Some(rest) = after(words, "--cancel") {
         (Rule::Cancel, rest)
-    } else if let Some(rest) = after(words, "--all") {
-        (Rule::All, rest)
+    } else {
+        let (lists, rest) = lists_in(words);
+        (rule_of(lists), rest)
+    }
+}
+
+// Returns the rule of `search` with the arguments of `lists`.
+fn rule_of(lists: Lists) -> Rule
+    ensures { rule_words result ≡ lists_words lists }
+{
+    match lists {
+        Lists::Of(carrier) => Rule::Of(carrier),
+        Lists::All => Rule::All,
+    }
+}
+
+// Parses the lists that a report covers; the default is the list for one antenna port.
+fn lists_in(words: &[String]) -> (Lists, &[String])
+    ensures named { map string_bytes words.now ≡ lists_words result.0 ++ map string_bytes result.1.now }
+    ensures unnamed { lists_words result.0 ≡ [] → BeginsWithNo lists_words (map string_bytes words.now) }
+{
+    if let Some(rest) = after(words, "--all") {
+        (Lists::All, rest)
     } else {
         let (carrier, rest) = carrier_in(words);
-        (Rule::Of(carrier), rest)
+        (Lists::Of(carrier), rest)
     }
 }
 
@@ -184,18 +206,18 @@ pub(crate) fn search_parts(words: &[String]) -> Option<(Rule, Output, RecordingF
     Some((rule, output, recording))
 }
 
-// Parses `evidence`: its transmission scheme, output format and recording form.
-pub(crate) fn evidence_parts(words: &[String]) -> Option<(Carrier, Output, RecordingForm)>
+// Parses `evidence`: its lists, output format and recording form.
+pub(crate) fn evidence_parts(words: &[String]) -> Option<(Lists, Output, RecordingForm)>
     ensures some { IfSome result (λ parts. map string_bytes words.now ≡
-        codes "evidence" ∷ carrier_words parts.0 ++ output_words parts.1 ++ recording_words parts.2) }
-    ensures none { IsNone result → (carrier : CarrierValue) (output : OutputValue) (form : RecordingFormValue) →
+        codes "evidence" ∷ lists_words parts.0 ++ output_words parts.1 ++ recording_words parts.2) }
+    ensures none { IsNone result → (lists : ListsValue) (output : OutputValue) (form : RecordingFormValue) →
         map string_bytes words.now ≡
-        codes "evidence" ∷ carrier_words carrier ++ output_words output ++ recording_words form → ⊥ }
+        codes "evidence" ∷ lists_words lists ++ output_words output ++ recording_words form → ⊥ }
 {
     let words = after(words, "evidence")?;
-    let (carrier, words) = carrier_in(words);
+    let (lists, words) = lists_in(words);
     let (output, recording) = output_of(words)?;
-    Some((carrier, output, recording))
+    Some((lists, output, recording))
 }
 
 // Parses `why`: its cell identity, transmission scheme, output format and recording form.

@@ -20,7 +20,7 @@ use Rattle.lte_top.specs.Certificates.{IsChecked, IsCertified}
 use Rattle.lte_top.specs.Errors.{of_stream}
 use Rattle.lte_top.specs.Forms.{certificates, RefusesCertificates}
 use Rattle.evidence.specs.Receivers.{receiver_of}
-use Rattle.lte_top.proofs.Lists.{one_list}
+use Rattle.lte_top.proofs.OneList.{one_list}
 use Rattle.lte_top.specs.Run.{Cause, HasOutput}
 
 -- an input has one output

@@ -146,7 +146,7 @@ kept_report (Search (Of carrier)) output samples text valid is =
 kept_report (Search AllLists) output samples text valid is =
     record { lists = is.lists; are_lists = λ carrier. list_decides carrier samples (is.lists carrier) valid (is.are_lists carrier); text_is = is.text_is }
 kept_report (Search Cancel) output samples text valid is = subst (λ (kept : List Sample). IsReport (Search Cancel) output (alone kept) text) (take_all most_samples samples valid.most) is
-kept_report (Evidence carrier) output samples text valid is = subst (λ (kept : List Sample). IsReport (Evidence carrier) output (alone kept) text) (take_all most_samples samples valid.most) is
+kept_report (Evidence lists) output samples text valid is = subst (λ (kept : List Sample). IsReport (Evidence lists) output (alone kept) text) (take_all most_samples samples valid.most) is
 kept_report Tell output samples text valid is = subst (λ (kept : List Sample). IsReport Tell output (alone kept) text) (take_all most_samples samples valid.most) is
 kept_report (Why identity carrier) output samples text valid is =
     record { reasons = is.reasons; are = reasons_decide carrier samples identity is.reasons is.are; text_is = is.text_is }
@@ -173,7 +173,7 @@ wide_report Ids output samples wide text is = is
 wide_report (Search (Of carrier)) output samples wide text is = is
 wide_report (Search Cancel) output samples wide text is = is
 wide_report (Search AllLists) output samples wide text is = is
-wide_report (Evidence carrier) output samples wide text is = is
+wide_report (Evidence lists) output samples wide text is = is
 wide_report Tell output samples wide text is = is
 wide_report (Why identity carrier) output samples wide text is = is
 

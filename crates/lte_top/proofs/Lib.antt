@@ -1,4 +1,5 @@
-pub mod Lists
+pub mod OneList
+pub mod SupportedLists
 pub mod Checked
 pub mod Transmitted
 pub mod Ending

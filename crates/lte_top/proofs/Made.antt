@@ -19,7 +19,7 @@ use Rattle.lte_top.specs.Making.{Counts, IsSentCell, IsMadeOutput, cell_of, IsMa
 use Rattle.lte_top.specs.Searching.{IsListOf}
 use Rattle.lte_top.proofs.Held.{one_count, one_counted}
 use Rattle.lte_top.proofs.Carriers.{held}
-use Rattle.lte_top.proofs.Lists.{one_list}
+use Rattle.lte_top.proofs.OneList.{one_list}
 
 -- ---- the cell that a synthetic recording sends
 

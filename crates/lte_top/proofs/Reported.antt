@@ -1,14 +1,8 @@
 -- A recording has one text per report, and one corrected recording.
-use Rattle.std.proofs.Common.{◌≡◌, ℕ, Option, Some, None, List, ap, sym, subst, ◌∙◌}
-use Rattle.std.specs.List.{AllZip}
+use Rattle.std.proofs.Common.{◌≡◌, ℕ, Option, Some, None, List, ap, sym, ◌∙◌}
 use Rattle.cs_num.specs.declared.Sample.{Sample}
 use Rattle.lte_types.specs.declared.carrier.Carrier.{Carrier}
 use Rattle.sample_file.specs.Recording.{bytes_of}
-use Rattle.evidence.specs.Evidence.{IsEvidenceFor}
-use Rattle.evidence.specs.Shown.{IsShownFor}
-use Rattle.evidence.proofs.Only.{one_for_each, one_shown_for_each}
-use Rattle.report_text.specs.Evidence.{evidence_text}
-use Rattle.report_json.specs.Evidence.{evidence_json}
 use Rattle.report_json.specs.Offset.{estimation_json, IsTellJson}
 use Rattle.frequency_offset.specs.Candidates.{taken_of}
 use Rattle.report_text.specs.Offset.{offset_text}
@@ -26,11 +20,12 @@ use Rattle.lte_args.specs.declared.form.Output.TheVariants.{Text, Json}
 use Rattle.lte_args.specs.declared.form.Turn.{Turn}
 use Rattle.lte_args.specs.declared.form.Turn.TheVariants.{AsEstimated, Steps}
 use Rattle.lte_top.specs.declared.reading.Signal.{Signal}
-use Rattle.lte_top.specs.Reports.{IsEvidence, IsEvidenceJson, IsEvidenceText, IsTellReport, IsHits, IsIds, IsReport}
+use Rattle.lte_top.specs.Reports.{IsTellReport, IsHits, IsIds, IsReport}
 use Rattle.evidence.specs.Receivers.{receiver_of}
 use Rattle.lte_top.specs.Why.{IsWhy, why_text}
 use Rattle.lte_top.specs.Tuning.{IsTurnedAsBytes}
-use Rattle.lte_top.proofs.Lists.{one_line, one_list, one_search}
+use Rattle.lte_top.proofs.OneList.{one_line, one_search}
+use Rattle.lte_top.proofs.SupportedLists.{one_evidence}
 
 one_hits : (output : Output) (samples : List Sample) (first second : List ℕ) → IsHits output samples first → IsHits output samples second → first ≡ second
 one_hits Text samples first second a b = a ∙ sym b
@@ -39,22 +34,6 @@ one_hits Json samples first second a b = a ∙ sym b
 one_ids : (output : Output) (samples : List Sample) (first second : List ℕ) → IsIds output samples first → IsIds output samples second → first ≡ second
 one_ids Text samples first second a b = a ∙ sym b
 one_ids Json samples first second a b = a ∙ sym b
-
-one_evidence_text : (carrier : Carrier) (samples : List Sample) (first second : List ℕ) → IsEvidenceText carrier samples first → IsEvidenceText carrier samples second → first ≡ second
-one_evidence_text carrier samples first second a b =
-    let same = one_list carrier samples a.entries b.entries a.is_list b.is_list in
-    let numbers = one_for_each (receiver_of carrier) samples b.entries a.numbers b.numbers (subst (λ entries. AllZip (IsEvidenceFor (receiver_of carrier) samples) entries a.numbers) same a.each) b.each in
-    a.text_is ∙ ap evidence_text numbers ∙ sym b.text_is
-
-one_evidence_json : (carrier : Carrier) (samples : List Sample) (first second : List ℕ) → IsEvidenceJson carrier samples first → IsEvidenceJson carrier samples second → first ≡ second
-one_evidence_json carrier samples first second a b =
-    let same = one_list carrier samples a.entries b.entries a.is_list b.is_list in
-    let shown = one_shown_for_each (receiver_of carrier) samples b.entries a.shown b.shown (subst (λ entries. AllZip (IsShownFor (receiver_of carrier) samples) entries a.shown) same a.each) b.each in
-    a.text_is ∙ ap evidence_json shown ∙ sym b.text_is
-
-one_evidence : (carrier : Carrier) (output : Output) (samples : List Sample) (first second : List ℕ) → IsEvidence carrier output samples first → IsEvidence carrier output samples second → first ≡ second
-one_evidence carrier Text samples first second a b = one_evidence_text carrier samples first second a b
-one_evidence carrier Json samples first second a b = one_line (IsEvidenceJson carrier samples) (one_evidence_json carrier samples) first second a b
 
 one_tell_json : (samples : List Sample) (first second : List ℕ) → IsTellJson samples first → IsTellJson samples second → first ≡ second
 one_tell_json samples first second a b =
@@ -72,7 +51,7 @@ pub one_report : (report : Report) (output : Output) (signal : Signal) (first se
 one_report Hits output signal first second a b = one_hits output signal.narrow first second a b
 one_report Ids output signal first second a b = one_ids output signal.narrow first second a b
 one_report (Search rule) output signal first second a b = one_search rule output signal first second a b
-one_report (Evidence carrier) output signal first second a b = one_evidence carrier output signal.narrow first second a b
+one_report (Evidence lists) output signal first second a b = one_evidence lists output signal.narrow first second a b
 one_report Tell output signal first second a b = one_decoding output signal.narrow first second a b
 one_report (Why identity carrier) output signal first second a b = one_why identity carrier output signal.narrow first second a b
 

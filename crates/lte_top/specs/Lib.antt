@@ -2,6 +2,7 @@ pub mod Transmitting
 pub mod Line
 pub mod Signals
 pub mod Searching
+pub mod Supporting
 pub mod Certificates
 pub mod Reports
 pub mod Pages

@@ -1,19 +1,11 @@
 -- The reports about a recording. (own)
 use Rattle.std.specs.Prelude.{◌≡◌, ℕ, Option, Some, None, List, map}
-use Rattle.std.specs.List.{AllZip}
 use Rattle.cs_num.specs.declared.Sample.{Sample}
 use Rattle.halving.specs.Wide.{Wide}
-use Rattle.lte_types.specs.declared.entry.Entry.{Entry}
-use Rattle.lte_types.specs.declared.carrier.Carrier.{Carrier}
 use Rattle.lte_types.specs.Numerology.{least_samples, most_samples}
 use Rattle.pss_search.specs.Hits.{hits_of}
 use Rattle.hit_details.specs.Details.{identified, measured, measured_id}
-use Rattle.lte_types.specs.declared.evidence.Evidence.{Evidence as Numbers}
-use Rattle.evidence.specs.Evidence.{IsEvidenceFor}
-use Rattle.evidence.specs.Shown.{Shown, IsShownFor}
-use Rattle.report_text.specs.Evidence.{evidence_text}
 use Rattle.report_text.specs.Hits.{hits_text, ids_text}
-use Rattle.report_json.specs.Evidence.{evidence_json}
 use Rattle.report_json.specs.Hits.{hits_json, ids_json}
 use Rattle.lte_args.specs.declared.form.Report.{Report}
 use Rattle.lte_args.specs.declared.form.Report.TheVariants.{Hits, Ids, Search, Evidence, Tell, Why}
@@ -25,9 +17,9 @@ use Rattle.report_json.specs.Offset.{IsTellJson}
 use Rattle.report_text.specs.Offset.{IsTellText}
 use Rattle.explain.specs.Deciding.{deciding_length}
 use Rattle.lte_top.specs.Line.{as_line, IsLine}
-use Rattle.evidence.specs.Receivers.{receiver_of}
 use Rattle.lte_top.specs.declared.reading.Signal.{Signal}
-use Rattle.lte_top.specs.Searching.{IsListOf, IsSearch}
+use Rattle.lte_top.specs.Searching.{IsSearch}
+use Rattle.lte_top.specs.Supporting.{IsEvidence}
 use Rattle.lte_top.specs.Why.{IsWhy}
 
 -- ---- each report
@@ -40,27 +32,6 @@ abbrev pub IsIds : Output → List Sample → List ℕ → Type 0
 IsIds Text samples text = text ≡ ids_text (map (identified samples) (hits_of samples))
 IsIds Json samples text = text ≡ as_line (ids_json (map (measured_id samples) (hits_of samples)))
 
--- `text` is the evidence for each listed cell, in listing order, as lines of text
-pub record IsEvidenceText (carrier : Carrier) (samples : List Sample) (text : List ℕ) : Type 0 where
-  pub entries : List Entry
-  pub is_list : IsListOf carrier samples entries
-  pub numbers : List Numbers
-  pub each : AllZip (IsEvidenceFor (receiver_of carrier) samples) entries numbers
-  pub text_is : text ≡ evidence_text numbers
-
--- `text` is the evidence for each listed cell, with the pilots and soft values of its slot and the bits in its blocks,
--- as JSON
-pub record IsEvidenceJson (carrier : Carrier) (samples : List Sample) (text : List ℕ) : Type 0 where
-  pub entries : List Entry
-  pub is_list : IsListOf carrier samples entries
-  pub shown : List Shown
-  pub each : AllZip (IsShownFor (receiver_of carrier) samples) entries shown
-  pub text_is : text ≡ evidence_json shown
-
-abbrev pub IsEvidence : Carrier → Output → List Sample → List ℕ → Type 0
-IsEvidence carrier Text samples text = IsEvidenceText carrier samples text
-IsEvidence carrier Json samples text = IsLine (IsEvidenceJson carrier samples) text
-
 -- `text` is the report on the recording's frequency offset
 abbrev pub IsTellReport : Output → List Sample → List ℕ → Type 0
 IsTellReport Text samples text = IsTellText samples text
@@ -71,7 +42,7 @@ abbrev pub IsReport : Report → Output → Signal → List ℕ → Type 0
 IsReport Hits output signal text = IsHits output signal.narrow text
 IsReport Ids output signal text = IsIds output signal.narrow text
 IsReport (Search rule) output signal text = IsSearch rule output signal text
-IsReport (Evidence carrier) output signal text = IsEvidence carrier output signal.narrow text
+IsReport (Evidence lists) output signal text = IsEvidence lists output signal.narrow text
 IsReport Tell output signal text = IsTellReport output signal.narrow text
 IsReport (Why identity carrier) output signal text = IsWhy identity carrier output signal.narrow text
 
@@ -90,7 +61,7 @@ abbrev pub kept_for : Report → ℕ
 kept_for Hits = least_samples
 kept_for Ids = least_samples
 kept_for (Search rule) = kept_for_list rule
-kept_for (Evidence carrier) = most_samples
+kept_for (Evidence lists) = most_samples
 kept_for Tell = most_samples
 kept_for (Why identity carrier) = deciding_length
 

@@ -14,6 +14,7 @@ mod reasoning;
 mod reporting;
 mod searching;
 mod status;
+mod supporting;
 mod top;
 mod transmitting;
 mod tuning;
@@ -23,7 +24,9 @@ pub use laws::{
     an_input_has_one_answer, the_first_frames_decide_each_list, what_is_applied_is_estimated,
     what_is_made_is_held, what_is_sent_is_found,
 };
-pub use lte_args::{Form, Output, Page, Program, Rate, RecordingForm, Report, Rule, Turn, Words};
+pub use lte_args::{
+    Form, Lists, Output, Page, Program, Rate, RecordingForm, Report, Rule, Turn, Words,
+};
 pub use process::run_process;
 pub use status::Status;
 pub use top::{run, run_in_memory, run_program};

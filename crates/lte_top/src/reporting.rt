@@ -6,24 +6,22 @@ ghost use Rattle.sample_file.specs.Recording.{IsRecording};
 ghost use Rattle.pss_search.specs.Hits.{IsInSpan, IsSmallHit, hits_of as all_hits};
 ghost use Rattle.lte_top.specs.Forms.{recording};
 ghost use Rattle.lte_top.specs.Line.{as_line};
-ghost use Rattle.lte_top.specs.Reports.{IsEvidence, IsEvidenceJson};
-ghost use Rattle.lte_top.specs.Reports.{IsEvidenceText, IsHits, IsIds, IsReport, IsTellReport};
+ghost use Rattle.lte_top.specs.Reports.{IsHits, IsIds, IsReport, IsTellReport};
 ghost use Rattle.lte_top.specs.Run.{Cause, HasOutput};
 ghost use Rattle.lte_top.specs.Signals.{IsConverted};
 ghost use Rattle.lte_args.specs.declared.form.Form.TheVariants.{Report as Reports};
 
 use crate::reading::{Signal, signal_for};
 use crate::reasoning::why_text;
-use crate::searching::{read_list, room_for_list, search_text};
+use crate::searching::search_text;
 use crate::status::Status;
+use crate::supporting::evidence_report;
 use cs_outside::Source;
-use evidence::{evidence_of_list, support_of_list};
 use hit_details::{identified_hits, measured_hits, measured_ids};
 use lte_args::{Output, RecordingForm, Report};
-use lte_types::Carrier;
 use pss_search::{HitList, hits};
-use report_json::{json_of_evidence, json_of_hits, json_of_ids, tell_json};
-use report_text::{tell_text, text_of_evidence, text_of_hits, text_of_ids};
+use report_json::{json_of_hits, json_of_ids, tell_json};
+use report_text::{tell_text, text_of_hits, text_of_ids};
 use sample_file::Recording;
 use std::alloc::{AllocError, Global};
 
@@ -61,7 +59,7 @@ fn text_of_report(
         Report::Hits => hits_text(alloc, output, &signal.narrow),
         Report::Ids => ids_text(alloc, output, &signal.narrow),
         Report::Search(rule) => search_text(alloc, rule, output, signal),
-        Report::Evidence(carrier) => evidence_report(alloc, carrier, output, &signal.narrow),
+        Report::Evidence(lists) => evidence_report(alloc, lists, output, &signal.narrow),
         Report::Tell => offset_text(alloc, output, &signal.narrow),
         Report::Why(id, carrier) => why_text(alloc, id, carrier, output, &signal.narrow),
     }
@@ -112,52 +110,6 @@ pub(crate) fn hits_of(alloc: Global, recording: &Recording) -> Result<HitList, A
     let mut list = HitList::new(alloc)?;
     hits(recording, &mut list);
     Ok(list)
-}
-
-// ---- evidence
-
-// Returns the report on the evidence for each listed cell, as text or JSON.
-fn evidence_report(
-    alloc: Global,
-    carrier: Carrier,
-    output: Output,
-    recording: &Recording,
-) -> Result<String, AllocError>
-    ensures { IfOk result (λ text. IsEvidence carrier output recording.now (string_bytes text)) }
-{
-    match output {
-        Output::Text => evidence_text(alloc, carrier, recording),
-        Output::Json => line_of(evidence_json(alloc, carrier, recording)?),
-    }
-}
-
-// Returns the evidence for each listed cell as lines of text.
-fn evidence_text(
-    alloc: Global,
-    carrier: Carrier,
-    recording: &Recording,
-) -> Result<String, AllocError>
-    ensures { IfOk result (λ text. IsEvidenceText carrier recording.now (string_bytes text)) }
-{
-    let (mut work, mut list) = room_for_list(alloc)?;
-    read_list(recording, carrier, &mut work, &mut list);
-    let numbers = evidence_of_list(alloc, recording, carrier, list.slice(), work.readings())?;
-    text_of_evidence(alloc, &numbers)
-}
-
-// Returns the evidence for each listed cell as JSON, with the pilots and soft values of its slot and the bits in its
-// blocks.
-fn evidence_json(
-    alloc: Global,
-    carrier: Carrier,
-    recording: &Recording,
-) -> Result<String, AllocError>
-    ensures { IfOk result (λ text. IsEvidenceJson carrier recording.now (string_bytes text)) }
-{
-    let (mut work, mut list) = room_for_list(alloc)?;
-    read_list(recording, carrier, &mut work, &mut list);
-    let shown = support_of_list(alloc, recording, carrier, list.slice(), work.readings())?;
-    json_of_evidence(alloc, &shown)
 }
 
 // ---- the frequency offset

@@ -142,9 +142,9 @@ pub(crate) fn read_list(
     read_list_by(recording, carrier, None, work, list);
 }
 
-// Lists the cells with the receiver for `carrier`, which is chosen only here. `hits` are the recording's PSS
-// detections, if already computed.
-fn read_list_by(
+// Lists the cells as `read_list` does, with the receiver for `carrier`, which is chosen only here. `hits` are the
+// recording's PSS detections, if already computed.
+pub(crate) fn read_list_by(
     recording: &Recording,
     carrier: Carrier,
     hits: Option<&[Hit]>,

@@ -16,7 +16,7 @@ search [RULE] [--json] [--format cu8] [--rate R]: the list of cells of a recordi
   --prefix long: of those with the extended cyclic prefix
   --cancel: and the lists of what is left where a cell is taken off
   --all: the lists of one antenna port, of two, of the extended cyclic prefix, and of four antenna ports
-evidence [--ports 2 | --ports 4 | --prefix long] [--json] [--format cu8] [--rate R]: what supports each cell of the list
+evidence [--ports 2 | --ports 4 | --prefix long | --all] [--json] [--format cu8] [--rate R]: what supports each listed cell
 why PCI [--ports 2 | --ports 4 | --prefix long] [--json] [--format cu8] [--rate R]: why a cell is in the list or not
 certify [--ports 2 | --ports 4 | --prefix long] [--format cu8] [--rate R]: a certificate for each cell of the list
 check: whether each of the certificates that are read is accepted

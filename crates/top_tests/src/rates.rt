@@ -257,7 +257,7 @@ fn rounds_at_1_92(rt: HostRuntime) -> Result<(), Fail> {
 
 #[test]
 fn evidence_at_1_92(rt: HostRuntime) -> Result<(), Fail> {
-    have_the_same_reports(&rt, rt.alloc(), &["evidence", "evidence --json"])
+    have_the_same_reports(&rt, rt.alloc(), &["evidence", "evidence --all --json"])
 }
 
 #[test]

@@ -37,6 +37,11 @@ fn each_report_reads_8_bit_numbers(rt: HostRuntime) -> Result<(), Fail> {
             "rule one-port\ncells 0\nrule two-ports\ncells 0\nrule long-prefix\ncells 0\nrule four-ports\ncells 0\n",
         ),
         ("search --all --json --format cu8", "[]\n"),
+        (
+            "evidence --all --format cu8",
+            "rule one-port\nevidence 0\nrule two-ports\nevidence 0\nrule long-prefix\nevidence 0\nrule four-ports\nevidence 0\n",
+        ),
+        ("evidence --all --json --format cu8", "[]\n"),
         ("certify --format cu8", ""),
     ] {
         let bytes = quiet(rt.alloc(), 115_200)?;

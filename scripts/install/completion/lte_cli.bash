@@ -88,6 +88,14 @@ evidence --prefix long --format cu8 --rate R
 evidence --prefix long --format cu8
 evidence --prefix long --rate R
 evidence --prefix long
+evidence --all --json --format cu8 --rate R
+evidence --all --json --format cu8
+evidence --all --json --rate R
+evidence --all --json
+evidence --all --format cu8 --rate R
+evidence --all --format cu8
+evidence --all --rate R
+evidence --all
 evidence --json --format cu8 --rate R
 evidence --json --format cu8
 evidence --json --rate R

@@ -4,7 +4,7 @@ use Rattle.std.proofs.lemmas.Slice.Zip.{AllZip-long}
 use Rattle.lte_types.specs.declared.entry.Entry.{Entry}
 use Rattle.lte_types.specs.Carrier.{carriers}
 use Rattle.lte_top.specs.Searching.{IsListAt}
-use Rattle.lte_top.proofs.Lists.{all_text_is}
+use Rattle.lte_top.proofs.OneList.{all_text_is}
 use Rattle.lte_top.proofs.searching.text_of_each.Goals as goal
 
 pub lists_text-requires : goal.lists_text-requires

@@ -1,5 +1,5 @@
 use Rattle.evidence.specs.Receivers.{receiver_of}
-use Rattle.lte_top.proofs.reporting.evidence_text.Given as goal
+use Rattle.lte_top.proofs.supporting.evidence_text.Given as goal
 
 abbrev pub ghost-evidence_of_list : goal.ghost-evidence_of_list
 ghost-evidence_of_list a = receiver_of a.carrier

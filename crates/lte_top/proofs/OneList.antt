@@ -65,17 +65,22 @@ made_of R of one [] (y ∷ ys) all = absurd all
 made_of R of one (x ∷ xs) [] all = absurd all
 made_of R of one (x ∷ xs) (y ∷ ys) all = ap (λ z. z ∷ ys) (one x y all.0) ∙ ap (λ l. of x ∷ l) (made_of R of one xs ys all.1)
 
+-- one value per transmission scheme, in order, is a function of the scheme if each scheme has one such value
+pub by_scheme : {A : Type 0} (Is : Carrier → A → Type 0) → ((carrier : Carrier) (first second : A) → Is carrier first → Is carrier second → first ≡ second) → (d : A) (values : List A) →
+    AllZip Is carriers values → (of : Carrier → A) × ((carrier : Carrier) → Is carrier (of carrier)) × (values ≡ map of carriers)
+by_scheme {A} Is one d values all =
+    let of : Carrier → A = λ carrier. get_or values (each_stands carrier).0 d in
+    let each : (carrier : Carrier) → Is carrier (of carrier) = λ carrier. let place = each_stands carrier in beside Is carriers values d place.0 carrier all place.1 place.2 in
+    (of, each, made_of Is of (λ carrier value is. one carrier value (of carrier) is (each carrier)) carriers values all)
+
 -- one list per transmission scheme has the text of all lists
 pub all_text_is : (output : Output) (signal : Signal) (lists : List (List Entry)) (r : Result (String Global) AllocError) →
     AllZip (λ carrier. IsListAt carrier signal) carriers lists →
     ((of : Carrier → List Entry) → lists ≡ map of carriers → IfOk r (λ text. string_bytes text ≡ lists_text output of)) → IfOk r (λ text. IsTextOfAll output signal (string_bytes text))
 all_text_is output signal lists r listed texts =
-    let Is : Carrier → List Entry → Type 0 = λ carrier. IsListAt carrier signal in
-    let of : Carrier → List Entry = λ carrier. get_or lists (each_stands carrier).0 [] in
-    let each : (carrier : Carrier) → Is carrier (of carrier) = λ carrier. let place = each_stands carrier in beside Is carriers lists [] place.0 carrier listed place.1 place.2 in
-    let same : lists ≡ map of carriers = made_of Is of (λ carrier list is. one_list_at carrier signal list (of carrier) is (each carrier)) carriers lists listed in
-    IfOk-weaker r (λ text. string_bytes text ≡ lists_text output of) (λ text. IsTextOfAll output signal (string_bytes text))
-    (λ text is. record { lists = of; are_lists = each; text_is = is }) (texts of same)
+    let by = by_scheme (λ carrier. IsListAt carrier signal) (λ carrier. one_list_at carrier signal) [] lists listed in
+    IfOk-weaker r (λ text. string_bytes text ≡ lists_text output by.0) (λ text. IsTextOfAll output signal (string_bytes text))
+    (λ text is. record { lists = by.0; are_lists = by.1; text_is = is }) (texts by.0 by.2)
 
 one_text_of_all : (output : Output) (signal : Signal) (first second : List ℕ) → IsTextOfAll output signal first → IsTextOfAll output signal second → first ≡ second
 one_text_of_all output signal first second a b =
