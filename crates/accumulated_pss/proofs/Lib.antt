@@ -1,0 +1,9 @@
+pub mod Ratios
+pub mod Windows
+pub mod Rows
+pub mod Circle
+pub mod RightTest
+pub mod Kept
+pub mod Order
+pub mod Listed
+pub mod Short
