@@ -1,0 +1,6 @@
+//! Tests of the detection accumulated over half-frames against the reference implementation,
+//! `python/lte_reference/deep.py`.
+#![tactic(auto)]
+
+#[cfg(test)]
+mod primary_candidates;
