@@ -1,0 +1,32 @@
+//! SSS detection over many half-frames: the 124 signs of the secondary signal at a candidate position of the primary
+//! signal, and the cell that they match, if at least 93 do.
+//! Tests: the crate `accumulated_tests`.
+#![tactic(auto)]
+
+mod best;
+mod detecting;
+mod matching;
+mod rows;
+mod votes;
+
+ghost use Rattle.accumulated_sss.specs.Laws.{DetectionIsRight, OnlyOneDetection, CoveredSamplesDecide, PatternsAreAll, CoincidencesAreCounted, CoincidencesAreFew, CoincidencesAreRare};
+
+pub use detecting::{Detection, detect};
+
+/// A law: `detect` returns exactly the detection at a candidate, and there is at most one. The samples that the
+/// half-frames cover decide it.
+pub fn detection_is_right()
+    ensures right { DetectionIsRight }
+    ensures only { OnlyOneDetection }
+    ensures covered { CoveredSamplesDecide }
+{}
+
+/// A law: of the 2^124 patterns of signs, 234,004,971,861,876,424,919,930,303,080 match given signs in at least 93
+/// positions, whatever the signs are, and not more if some of them are 0. Over 64,512 comparisons, 192 candidates with
+/// 336 pairs of a group and a half-frame, this is at most one pattern in 1,400.
+pub fn coincidences_are_rare()
+    ensures all { PatternsAreAll }
+    ensures counted { CoincidencesAreCounted }
+    ensures few { CoincidencesAreFew }
+    ensures rare { CoincidencesAreRare }
+{}

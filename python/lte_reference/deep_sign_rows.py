@@ -1,0 +1,97 @@
+"""python3 -m lte_reference.deep_sign_rows
+
+Prints rows with what `deep.py` finds at candidates of recordings that tests make again (crates/accumulated_tests): the
+number of the recording, the position, N2, the count of half-frames, and then N1, the subframe, the matching signs and
+the power of the detection, or four times 0 where there is none.
+
+A recording has 57,600 samples, each the sum of noise and of a cell's two signals. The noise is drawn: components from
+-level to level, in order re, im, sample. In half-frame h, counted from position t, the secondary symbol begins at t - 137
+and the primary symbol at t, each 128 samples times the gain.
+"""
+from typing import NamedTuple
+
+import numpy as np
+
+from . import deep
+from .search import W_IMAG, W_REAL, rounded, secondary
+from .wide_rows import drawn
+
+SAMPLES = 57_600
+
+
+class Made(NamedTuple):
+    """A recording: the noise's level and seed, the gain, the cell's N1, N2 and first half-frame, and its position."""
+
+    level: int
+    seed: int
+    gain: int
+    n1: int
+    n2: int
+    half: int
+    t: int
+
+
+RECORDINGS = (
+    Made(0, 1, 0, 0, 0, 0, 137),  # silence
+    Made(300, 2, 0, 0, 0, 0, 137),  # noise alone
+    Made(0, 3, 1, 167, 2, 5, 9_736),  # a cell alone, at the last position
+    Made(0, 4, -3, 0, 0, 0, 137),  # a cell alone, at the first position
+    Made(300, 5, 1, 42, 1, 5, 4_321),
+    Made(420, 6, 1, 99, 0, 0, 1_000),
+    Made(500, 7, 1, 120, 2, 5, 5_555),
+    Made(32_767, 8, 60, 7, 1, 0, 2_222),
+)
+QUESTIONS = (
+    (0, 500, 0, 5),
+    (1, 137, 0, 5),
+    (1, 9_736, 2, 5),
+    (2, 9_736, 2, 5),
+    (2, 9_736, 2, 1),
+    (2, 9_736, 1, 5),
+    (2, 9_736 - 136, 2, 5),
+    (3, 137, 0, 5),
+    (3, 137, 0, 2),
+    (3, 138, 0, 5),
+    (4, 4_321, 1, 5),
+    (4, 4_321, 1, 4),
+    (4, 4_321, 1, 1),
+    (4, 4_322, 1, 5),
+    (4, 4_321 - 136, 1, 5),
+    (5, 1_000, 0, 5),
+    (5, 1_000, 0, 4),
+    (6, 5_555, 2, 5),
+    (6, 5_555, 2, 3),
+    (7, 2_222, 1, 5),
+)
+
+
+def secondary_wave(n1, n2, half):
+    """Returns the useful part of the secondary symbol, as pairs."""
+    values = 127 * np.array(secondary(n1, n2, half))[:, None]
+    return np.stack([rounded((values * w[5:67]).sum(0), 17) for w in (W_REAL, W_IMAG)], 1)
+
+
+def recording(made):
+    draw = drawn(made.seed)
+    r = np.array([next(draw) % (2 * made.level + 1) - made.level for _ in range(2 * SAMPLES)]).reshape(SAMPLES, 2)
+    for h in range(6):
+        half = (made.half, 5 - made.half)[h % 2]
+        for at, wave in (
+            (made.t - 137, secondary_wave(made.n1, made.n2, half)),
+            (made.t, np.stack(deep.WAVES[made.n2], 1)),
+        ):
+            room = max(0, min(128, SAMPLES - at - 9_600 * h))
+            r[at + 9_600 * h :][:room] += made.gain * wave[:room]
+    return np.clip(r, -32_768, 32_767)
+
+
+def main():
+    made = [recording(each) for each in RECORDINGS]
+    for i, t, n2, halves in QUESTIONS:
+        entry = deep.found_at(made[i], t, n2, halves, 0)
+        found = [entry.n1, entry.half, entry.signs, entry.power] if entry else [0, 0, 0, 0]
+        print(f"({i}, {t}, {n2}, {halves}, {found}),")
+
+
+if __name__ == "__main__":
+    main()
