@@ -1,8 +1,8 @@
 """python3 -m lte_reference.deep_sign_rows
 
-Prints rows with what `deep.py` finds at candidates of recordings that tests make again (crates/accumulated_tests): the
-number of the recording, the position, N2, the count of half-frames, and then N1, the subframe, the matching signs and
-the power of the detection, or four times 0 where there is none.
+Prints what `deep.py` finds at candidates of recordings that tests make again (crates/accumulated_tests), as the tests
+write it: the recording, the position, N2 and the number of half-frames, and then N1, the subframe, the matching signs
+and the power of the detection, or four times 0 if there is none.
 
 A recording has 57,600 samples, each the sum of noise and of a cell's two signals. The noise is drawn: components from
 -level to level, in order re, im, sample. In half-frame h, counted from position t, the secondary symbol begins at t - 137
@@ -22,6 +22,7 @@ SAMPLES = 57_600
 class Made(NamedTuple):
     """A recording: the noise's level and seed, the gain, the cell's N1, N2 and first half-frame, and its position."""
 
+    name: str
     level: int
     seed: int
     gain: int
@@ -32,37 +33,24 @@ class Made(NamedTuple):
 
 
 RECORDINGS = (
-    Made(0, 1, 0, 0, 0, 0, 137),  # silence
-    Made(300, 2, 0, 0, 0, 0, 137),  # noise alone
-    Made(0, 3, 1, 167, 2, 5, 9_736),  # a cell alone, at the last position
-    Made(0, 4, -3, 0, 0, 0, 137),  # a cell alone, at the first position
-    Made(300, 5, 1, 42, 1, 5, 4_321),
-    Made(420, 6, 1, 99, 0, 0, 1_000),
-    Made(500, 7, 1, 120, 2, 5, 5_555),
-    Made(32_767, 8, 60, 7, 1, 0, 2_222),
+    Made("silence", 0, 1, 0, 0, 0, 0, 137),
+    Made("noise", 300, 2, 0, 0, 0, 0, 137),
+    Made("last", 0, 3, 1, 167, 2, 5, 9_736),
+    Made("first", 0, 4, -3, 0, 0, 0, 137),
+    Made("clear", 300, 5, 1, 42, 1, 5, 4_321),
+    Made("faint", 420, 6, 1, 99, 0, 0, 1_000),
+    Made("faintest", 500, 7, 1, 120, 2, 5, 5_555),
 )
-QUESTIONS = (
-    (0, 500, 0, 5),
-    (1, 137, 0, 5),
-    (1, 9_736, 2, 5),
-    (2, 9_736, 2, 5),
-    (2, 9_736, 2, 1),
-    (2, 9_736, 1, 5),
-    (2, 9_736 - 136, 2, 5),
-    (3, 137, 0, 5),
-    (3, 137, 0, 2),
-    (3, 138, 0, 5),
-    (4, 4_321, 1, 5),
-    (4, 4_321, 1, 4),
-    (4, 4_321, 1, 1),
-    (4, 4_322, 1, 5),
-    (4, 4_321 - 136, 1, 5),
-    (5, 1_000, 0, 5),
-    (5, 1_000, 0, 4),
-    (6, 5_555, 2, 5),
-    (6, 5_555, 2, 3),
-    (7, 2_222, 1, 5),
-)
+# of each recording the positions, N2 and numbers of half-frames that are asked for
+CANDIDATES = {
+    "silence": ((500, 0, 5),),
+    "noise": ((137, 0, 5), (9_736, 2, 5)),
+    "last": ((9_736, 2, 5), (9_736, 2, 1), (9_736, 1, 5), (9_600, 2, 5)),
+    "first": ((137, 0, 5), (137, 0, 2), (138, 0, 5)),
+    "clear": ((4_321, 1, 5), (4_321, 1, 4), (4_321, 1, 1), (4_322, 1, 5), (4_185, 1, 5)),
+    "faint": ((1_000, 0, 5), (1_000, 0, 4)),
+    "faintest": ((5_555, 2, 5), (5_555, 2, 3)),
+}
 
 
 def secondary_wave(n1, n2, half):
@@ -86,11 +74,12 @@ def recording(made):
 
 
 def main():
-    made = [recording(each) for each in RECORDINGS]
-    for i, t, n2, halves in QUESTIONS:
-        entry = deep.found_at(made[i], t, n2, halves, 0)
-        found = [entry.n1, entry.half, entry.signs, entry.power] if entry else [0, 0, 0, 0]
-        print(f"({i}, {t}, {n2}, {halves}, {found}),")
+    for made in RECORDINGS:
+        r = recording(made)
+        for t, n2, halves in CANDIDATES[made.name]:
+            entry = deep.found_at(r, t, n2, halves, 0)
+            found = [entry.n1, entry.half, entry.signs, entry.power] if entry else [0, 0, 0, 0]
+            print(f"found(&{made.name}, {t}, {n2}, {halves}) == {found}")
 
 
 if __name__ == "__main__":

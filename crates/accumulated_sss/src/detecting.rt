@@ -20,6 +20,9 @@ use pss_search::signal_power;
 use sample_file::Recording;
 use sync_seq::{in_middle, pss, sss};
 
+// How many of 124 signs have to match.
+const LEAST_MATCHES: u8 = 93;
+
 /// What is detected at a candidate. (own)
 #[derive(Clone, Copy, Debug, PartialEq, Eq)]
 pub struct Detection {
@@ -50,18 +53,15 @@ pub fn detect(recording: &Recording, halves: usize, t: usize, n2: u8) -> Option<
     let even = row(recording, halves, t, n2, &wave, 0);
     let odd = row(recording, halves, t, n2, &wave, 1);
     let pair = best(&signs(&even.votes), &signs(&odd.votes), n2);
-    if pair.matches < 93 {
+    if pair.matches < LEAST_MATCHES {
         return None;
     }
+    let sum = signal_sum(&even.products, &odd.products, n2, pair);
     Some(Detection {
         n1: pair.n1,
         half: pair.half,
         matches: pair.matches,
-        power: power(
-            halves,
-            n2,
-            signal_sum(&even.products, &odd.products, n2, pair),
-        ),
+        power: power(halves, n2, sum),
     })
 }
 

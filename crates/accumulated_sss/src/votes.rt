@@ -115,7 +115,8 @@ fn product(value: Cpx, z: Cpx) -> i64
     ensures value { result ≡ product_of value z }
     ensures small { nat_abs result ≤ 2 ^ 57 }
 {
-    value.mul(z.conj()).re
+    let conjugate = z.conj();
+    value.mul(conjugate).re
 }
 
 // Returns the energy of the 128 samples from index `at`.

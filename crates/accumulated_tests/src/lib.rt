@@ -4,3 +4,5 @@
 
 #[cfg(test)]
 mod primary_candidates;
+#[cfg(test)]
+mod secondary_signs;

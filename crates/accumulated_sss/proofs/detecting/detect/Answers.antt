@@ -22,9 +22,9 @@ module _ (recording : List Sample) (halves t n2 : ℕ) (even odd : List ℤ)
   matches_are : (n1 m : ℕ) (half : Half) → m ≡ matches_by even odd n2 n1 half → m ≡ cell_matches (signs recording halves t n2) n2 n1 half
   matches_are n1 m half e = e ∙ ap₂ (λ a b. matches_by a b n2 n1 half) is_even is_odd ∙ signs_match recording halves t n2 n1 half
 
-pub returns-then-pair-lt93-clause-value : goal.returns-then-pair-lt93-clause-value
+pub returns-then-pair-lt-LEAST_MATCHES-clause-value : goal.returns-then-pair-lt-LEAST_MATCHES-clause-value
 unfolding detection_at
-returns-then-pair-lt93-clause-value c =
+returns-then-pair-lt-LEAST_MATCHES-clause-value c =
     let recording = c.args.recording.now in
     let is_even = c.signs.ensures.value ∙ ap signs_of c.row-even.ensures.votes in
     let is_odd = c.signs-2.ensures.value ∙ ap signs_of c.row-odd.ensures.votes in
@@ -32,7 +32,7 @@ returns-then-pair-lt93-clause-value c =
     let is = pair_is recording c.args.halves c.args.t c.args.n2 c.signs.result c.signs-2.result is_even is_odd pair.n1 pair.half c.best-pair.ensures.pair in
     let count = matches_are recording c.args.halves c.args.t c.args.n2 c.signs.result c.signs-2.result is_even is_odd pair.n1 pair.matches pair.half c.best-pair.ensures.matches in
     let same = count ∙ ap (λ (p : ℕ × Half). cell_matches (signs recording c.args.halves c.args.t c.args.n2) c.args.n2 p.0 p.1) is in
-    sym (not_enough (chosen recording c.args.halves c.args.t c.args.n2) (subst (λ n. n < 93) same c.if-pair-lt93.true))
+    sym (not_enough (chosen recording c.args.halves c.args.t c.args.n2) (subst (λ n. n < 93) same c.if-pair-lt-LEAST_MATCHES.true))
 
 pub returns-clause-right : goal.returns-clause-right
 returns-clause-right c =
@@ -42,17 +42,17 @@ returns-clause-right c =
     let pair = c.best-pair.result in
     let is = pair_is recording c.args.halves c.args.t c.args.n2 c.signs.result c.signs-2.result is_even is_odd pair.n1 pair.half c.best-pair.ensures.pair in
     let count = matches_are recording c.args.halves c.args.t c.args.n2 c.signs.result c.signs-2.result is_even is_odd pair.n1 pair.matches pair.half c.best-pair.ensures.matches in
-    let sum : c.signal_sum.result ≡ signal_sum recording c.args.halves c.args.t c.args.n2 pair.n1 pair.half =
-    c.signal_sum.ensures.value ∙ ap₂ (λ a b. signal_sum_by a b c.args.n2 pair.n1 pair.half) c.row-even.ensures.products c.row-odd.ensures.products
+    let sum : c.signal_sum-sum.result ≡ signal_sum recording c.args.halves c.args.t c.args.n2 pair.n1 pair.half =
+    c.signal_sum-sum.ensures.value ∙ ap₂ (λ a b. signal_sum_by a b c.args.n2 pair.n1 pair.half) c.row-even.ensures.products c.row-odd.ensures.products
     ∙ products_sum recording c.args.halves c.args.t c.args.n2 pair.n1 pair.half in
-    let small = c.signal_sum.ensures.small in
-    let fits : FitsSigned w128 c.signal_sum.result = fits_signed_from_abs w128 c.signal_sum.result (omega (arith, small)) in
-    let power : c.power.result ≡ power_of c.args.halves c.args.n2 c.signal_sum.result = simp to_z-of_z at c.power.ensures in
+    let small = c.signal_sum-sum.ensures.small in
+    let fits : FitsSigned w128 c.signal_sum-sum.result = fits_signed_from_abs w128 c.signal_sum-sum.result (omega (arith, small)) in
+    let power : c.power.result ≡ power_of c.args.halves c.args.n2 c.signal_sum-sum.result = simp to_z-of_z at c.power.ensures in
     record {
       best = subst (λ (p : ℕ × Half). IsBest (match_counts recording c.args.halves c.args.t c.args.n2) p.0 p.1) (sym is)
           (best_pair_is_best (match_counts recording c.args.halves c.args.t c.args.n2));
       matches = count;
-      enough = c.if-pair-lt93.false;
+      enough = c.if-pair-lt-LEAST_MATCHES.false;
       power = power ∙ ap (power_of c.args.halves c.args.n2) sum;
     }
 
