@@ -74,6 +74,11 @@ def lines_together(text):
     return [exactly(text)]
 
 
+def each_line(text):
+    """Returns a pattern for each line, in any order."""
+    return [exactly(line) for line in text.splitlines()]
+
+
 NUMBERS = ("t", "peak", "cost", "total", "frames", "frame", "phase", "power", "noise")
 
 
@@ -365,6 +370,7 @@ def numpy_looks():
             for topic, file in (("control", "places"), ("shared", "places"), ("inits", "inits"))
         ),
         Look("crates/accumulated_tests/src/primary_candidates.rt", "$PY -m lte_reference.deep_rows", lines_each),
+        Look("crates/accumulated_tests/src/secondary_signs.rt", "$PY -m lte_reference.deep_sign_rows", each_line),
         Look(
             "crates/list_tests/src/rounds_of_recordings.rt",
             "$PY -m lte_reference.cell | $PY -m lte_reference.cancel",

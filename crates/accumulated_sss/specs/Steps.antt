@@ -52,7 +52,7 @@ matches_by even odd n2 n1 half =
 unfoldable pub signed_sum : List ℤ → (ℕ → ℤ) → ℤ
 signed_sum row signs = sum_below 62 (λ n. signs n *ℤ number_at row n)
 
--- the same counts, by group and half-frame
+-- the matches in both lists by group and half-frame, as integers
 abbrev pub counts_by : List ℤ → List ℤ → ℕ → ℕ → Half → ℤ
 counts_by even odd n2 n1 half = pos (matches_by even odd n2 n1 half)
 

@@ -21,9 +21,8 @@ pub fn detection_is_right()
     ensures covered { CoveredSamplesDecide }
 {}
 
-/// A law: of the 2^124 patterns of signs, 234,004,971,861,876,424,919,930,303,080 match given signs in at least 93
-/// positions, whatever the signs are, and not more if some of them are 0. Over 64,512 comparisons, 192 candidates with
-/// 336 pairs of a group and a half-frame, this is at most one pattern in 1,400.
+/// A law: whatever 124 signs are given, 234,004,971,861,876,424,919,930,303,080 of the 2^124 patterns match them in at
+/// least 93 positions, and not more if some are 0. In 64,512 comparisons this is at most one pattern in 1,400.
 pub fn coincidences_are_rare()
     ensures all { PatternsAreAll }
     ensures counted { CoincidencesAreCounted }
