@@ -4,8 +4,8 @@ Prints what `deep.py` finds at candidates of recordings that tests make again (c
 write it: the recording, the position, N2 and the number of half-frames, and then N1, the subframe, the matching signs
 and the power of the detection, or four times 0 if there is none.
 
-A recording has 57,600 samples, each the sum of noise and of a cell's two signals. The noise is drawn: components from
--level to level, in order re, im, sample. In half-frame h, counted from position t, the secondary symbol begins at t - 137
+A recording has 57,600 samples, each the sum of noise, a constant in both components and a cell's two signals. The noise
+is drawn: components from -level to level, in order re, im, sample. In half-frame h, counted from position t, the secondary symbol begins at t - 137
 and the primary symbol at t, each 128 samples times the gain.
 """
 from typing import NamedTuple
@@ -20,11 +20,12 @@ SAMPLES = 57_600
 
 
 class Made(NamedTuple):
-    """A recording: the noise's level and seed, the gain, the cell's N1, N2 and first half-frame, and its position."""
+    """A recording: the noise's level and seed, the constant, and a cell's gain, N1, N2, first half-frame and position."""
 
     name: str
     level: int
     seed: int
+    constant: int
     gain: int
     n1: int
     n2: int
@@ -33,17 +34,19 @@ class Made(NamedTuple):
 
 
 RECORDINGS = (
-    Made("silence", 0, 1, 0, 0, 0, 0, 137),
-    Made("noise", 300, 2, 0, 0, 0, 0, 137),
-    Made("last", 0, 3, 1, 167, 2, 5, 9_736),
-    Made("first", 0, 4, -3, 0, 0, 0, 137),
-    Made("clear", 300, 5, 1, 42, 1, 5, 4_321),
-    Made("faint", 420, 6, 1, 99, 0, 0, 1_000),
-    Made("faintest", 500, 7, 1, 120, 2, 5, 5_555),
+    Made("silence", 0, 1, 0, 0, 0, 0, 0, 137),
+    Made("constant", 0, 1, 12_345, 0, 0, 0, 0, 137),
+    Made("noise", 300, 2, 0, 0, 0, 0, 0, 137),
+    Made("last", 0, 3, 0, 1, 167, 2, 5, 9_736),
+    Made("first", 0, 4, 0, -3, 0, 0, 0, 137),
+    Made("clear", 300, 5, 0, 1, 42, 1, 5, 4_321),
+    Made("faint", 420, 6, 0, 1, 99, 0, 0, 1_000),
+    Made("faintest", 500, 7, 0, 1, 120, 2, 5, 5_555),
 )
 # of each recording the positions, N2 and numbers of half-frames that are asked for
 CANDIDATES = {
     "silence": ((500, 0, 5),),
+    "constant": ((500, 0, 5),),
     "noise": ((137, 0, 5), (9_736, 2, 5)),
     "last": ((9_736, 2, 5), (9_736, 2, 1), (9_736, 1, 5), (9_600, 2, 5)),
     "first": ((137, 0, 5), (137, 0, 2), (138, 0, 5)),
@@ -62,6 +65,7 @@ def secondary_wave(n1, n2, half):
 def recording(made):
     draw = drawn(made.seed)
     r = np.array([next(draw) % (2 * made.level + 1) - made.level for _ in range(2 * SAMPLES)]).reshape(SAMPLES, 2)
+    r += made.constant
     for h in range(6):
         half = (made.half, 5 - made.half)[h % 2]
         for at, wave in (

@@ -14,11 +14,13 @@ use std::test::Fail;
 use sync_seq::sss;
 use test_support::{level, primary_grid, silent};
 
-// A recording: the level and seed of the noise, and the gain, group, root, first half-frame and position of a cell.
+// A recording: the level and seed of the noise, a constant added to both components, and the gain, group, root, first
+// half-frame and position of a cell.
 #[derive(Clone, Copy)]
 struct Made {
     level: u32,
     seed: u32,
+    constant: i64,
     gain: i64,
     n1: u16,
     n2: u8,
@@ -39,7 +41,7 @@ fn component(state: u32, level: u32) -> i64
     (((state >> 16) % (2 * level + 1)) as i64).wrapping_sub(level as i64)
 }
 
-fn draw(samples: &mut [Sample], level: u32, seed: u32)
+fn draw(samples: &mut [Sample], level: u32, seed: u32, constant: i64)
     requires { level ≤ 16000 }
 {
     let mut state = seed;
@@ -47,8 +49,8 @@ fn draw(samples: &mut [Sample], level: u32, seed: u32)
         let before = next(state);
         state = next(before);
         samples[i] = Cpx {
-            re: component(before, level),
-            im: component(state, level),
+            re: component(before, level).wrapping_add(constant),
+            im: component(state, level).wrapping_add(constant),
         }
         .nearest_sample();
     }
@@ -120,7 +122,7 @@ fn recording_of(alloc: Global, made: &Made) -> Result<Recording, Fail>
     requires last { made.now.t ≤ 9736 }
 {
     let mut samples = silent(alloc, 57_600)?;
-    draw(&mut samples[..], made.level, made.seed);
+    draw(&mut samples[..], made.level, made.seed, made.constant);
     let primary = synth(&primary_grid(made.n2));
     let zero = synth(&secondary_grid(&sss(made.n1, made.n2, Half::Zero)));
     let five = synth(&secondary_grid(&sss(made.n1, made.n2, Half::Five)));
@@ -162,6 +164,7 @@ fn found(recording: &Recording, t: usize, n2: u8, halves: usize) -> [u64; 4]
 const SILENCE: Made = Made {
     level: 0,
     seed: 1,
+    constant: 0,
     gain: 0,
     n1: 0,
     n2: 0,
@@ -172,9 +175,15 @@ const SILENCE: Made = Made {
 // ---- without a cell
 
 #[test]
-fn silence_and_noise_have_no_detection(rt: HostRuntime) -> Result<(), Fail> {
+fn recordings_without_a_cell_have_no_detection(rt: HostRuntime) -> Result<(), Fail> {
     let silence = recording_of(rt.alloc(), &SILENCE)?;
     assert!(rt; found(&silence, 500, 0, 5) == [0, 0, 0, 0]);
+    let constant = Made {
+        constant: 12_345,
+        ..SILENCE
+    };
+    let constant = recording_of(rt.alloc(), &constant)?;
+    assert!(rt; found(&constant, 500, 0, 5) == [0, 0, 0, 0]);
     let noise = Made {
         level: 300,
         seed: 2,
@@ -229,6 +238,7 @@ fn cell_in_noise_is_detected(rt: HostRuntime) -> Result<(), Fail> {
     let clear = Made {
         level: 300,
         seed: 5,
+        constant: 0,
         gain: 1,
         n1: 42,
         n2: 1,
@@ -250,6 +260,7 @@ fn cell_in_more_noise_is_detected(rt: HostRuntime) -> Result<(), Fail> {
     let faint = Made {
         level: 420,
         seed: 6,
+        constant: 0,
         gain: 1,
         n1: 99,
         n2: 0,
@@ -262,6 +273,7 @@ fn cell_in_more_noise_is_detected(rt: HostRuntime) -> Result<(), Fail> {
     let faintest = Made {
         level: 500,
         seed: 7,
+        constant: 0,
         gain: 1,
         n1: 120,
         n2: 2,
