@@ -10,7 +10,7 @@ ghost use Rattle.accumulated_sss.specs.Detection.{IsDetection, above_0, detectio
 ghost use Rattle.accumulated_sss.specs.Steps.{signal_sum_by};
 ghost use Rattle.accumulated_sss.specs.Laws.{covered};
 
-use crate::best::{Pair, best};
+use crate::best::{Pair, most_matching};
 use crate::matching::{signed_sum, signs};
 use crate::rows::row;
 use cs_num::Cpx;
@@ -52,7 +52,7 @@ pub fn detect(recording: &Recording, halves: usize, t: usize, n2: u8) -> Option<
     prove!(count <= 1_920_000);
     let even = row(recording, halves, t, n2, &wave, 0);
     let odd = row(recording, halves, t, n2, &wave, 1);
-    let pair = best(&signs(&even.votes), &signs(&odd.votes), n2);
+    let pair = most_matching(&signs(&even.votes), &signs(&odd.votes), n2);
     if pair.matches < LEAST_MATCHES {
         return None;
     }

@@ -8,7 +8,7 @@ ghost use Rattle.accumulated_sss.specs.Votes.{product, vote};
 ghost use Rattle.accumulated_sss.specs.Steps.{added as added_lists, row_of};
 ghost use Rattle.accumulated_sss.specs.Laws.{covered};
 
-use crate::votes::{energy_of_both, products, votes};
+use crate::votes::{energy_of_both, products, votes_for};
 use cs_num::Cpx;
 use lte_types::{HALF_FRAME_LENGTH, USEFUL_LENGTH};
 use sample_file::Recording;
@@ -47,7 +47,7 @@ pub(crate) fn row(
     for j in 0..(halves + 1 - parity) / 2 {
         let at = t + HALF_FRAME_LENGTH * (2 * j + parity);
         let here = products(recording, at, n2, wave);
-        let votes = votes(&here, energy_of_both(recording, at));
+        let votes = votes_for(&here, energy_of_both(recording, at));
         vote_sums = added(&vote_sums, &votes);
         product_sums = added(&product_sums, &here);
     }

@@ -47,7 +47,7 @@ pub(crate) fn energy_of_both(recording: &Recording, at: usize) -> u64
 }
 
 // Returns the 62 votes for products and the energy of both symbols.
-pub(crate) fn votes(products: &[i64; 62], energy: u64) -> [i64; 62]
+pub(crate) fn votes_for(products: &[i64; 62], energy: u64) -> [i64; 62]
     requires products { AllWithin (2 ^ 57) products.now }
     requires energy { energy ≤ 2 ^ 39 }
     ensures value { result ≡ votes_of energy products.now }

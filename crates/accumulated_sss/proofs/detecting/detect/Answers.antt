@@ -28,9 +28,9 @@ returns-then-pair-lt-LEAST_MATCHES-clause-value c =
     let recording = c.args.recording.now in
     let is_even = c.signs.ensures.value ∙ ap signs_of c.row-even.ensures.votes in
     let is_odd = c.signs-2.ensures.value ∙ ap signs_of c.row-odd.ensures.votes in
-    let pair = c.best-pair.result in
-    let is = pair_is recording c.args.halves c.args.t c.args.n2 c.signs.result c.signs-2.result is_even is_odd pair.n1 pair.half c.best-pair.ensures.pair in
-    let count = matches_are recording c.args.halves c.args.t c.args.n2 c.signs.result c.signs-2.result is_even is_odd pair.n1 pair.matches pair.half c.best-pair.ensures.matches in
+    let pair = c.most_matching-pair.result in
+    let is = pair_is recording c.args.halves c.args.t c.args.n2 c.signs.result c.signs-2.result is_even is_odd pair.n1 pair.half c.most_matching-pair.ensures.pair in
+    let count = matches_are recording c.args.halves c.args.t c.args.n2 c.signs.result c.signs-2.result is_even is_odd pair.n1 pair.matches pair.half c.most_matching-pair.ensures.matches in
     let same = count ∙ ap (λ (p : ℕ × Half). cell_matches (signs recording c.args.halves c.args.t c.args.n2) c.args.n2 p.0 p.1) is in
     sym (not_enough (chosen recording c.args.halves c.args.t c.args.n2) (subst (λ n. n < 93) same c.if-pair-lt-LEAST_MATCHES.true))
 
@@ -39,9 +39,9 @@ returns-clause-right c =
     let recording = c.args.recording.now in
     let is_even = c.signs.ensures.value ∙ ap signs_of c.row-even.ensures.votes in
     let is_odd = c.signs-2.ensures.value ∙ ap signs_of c.row-odd.ensures.votes in
-    let pair = c.best-pair.result in
-    let is = pair_is recording c.args.halves c.args.t c.args.n2 c.signs.result c.signs-2.result is_even is_odd pair.n1 pair.half c.best-pair.ensures.pair in
-    let count = matches_are recording c.args.halves c.args.t c.args.n2 c.signs.result c.signs-2.result is_even is_odd pair.n1 pair.matches pair.half c.best-pair.ensures.matches in
+    let pair = c.most_matching-pair.result in
+    let is = pair_is recording c.args.halves c.args.t c.args.n2 c.signs.result c.signs-2.result is_even is_odd pair.n1 pair.half c.most_matching-pair.ensures.pair in
+    let count = matches_are recording c.args.halves c.args.t c.args.n2 c.signs.result c.signs-2.result is_even is_odd pair.n1 pair.matches pair.half c.most_matching-pair.ensures.matches in
     let sum : c.signal_sum-sum.result ≡ signal_sum recording c.args.halves c.args.t c.args.n2 pair.n1 pair.half =
     c.signal_sum-sum.ensures.value ∙ ap₂ (λ a b. signal_sum_by a b c.args.n2 pair.n1 pair.half) c.row-even.ensures.products c.row-odd.ensures.products
     ∙ products_sum recording c.args.halves c.args.t c.args.n2 pair.n1 pair.half in

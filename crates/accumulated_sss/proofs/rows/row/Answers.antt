@@ -23,9 +23,9 @@ loop-j-preserved c =
     let f : ℕ → ℕ → ℤ = λ j. vote recording c.args.n2 (primary_at c.args.t (2 * j + c.args.parity)) in
     let g : ℕ → ℕ → ℤ = λ j. product recording c.args.n2 (primary_at c.args.t (2 * j + c.args.parity)) in
     record {
-      votes = subst (AreSums (j + 1) f) (sym c.added-vote_sums.ensures) (more_sums j f c.loop-j.vote_sums c.votes-votes.result c.loop-j.invariant.votes
-          (c.votes-votes.ensures.value ∙ ap₂ votes_of c.energy_of_both.ensures.value c.products-here.ensures.value ∙ votes_are recording c.args.n2 at)
-          c.votes-votes.ensures.small);
+      votes = subst (AreSums (j + 1) f) (sym c.added-vote_sums.ensures) (more_sums j f c.loop-j.vote_sums c.votes_for-votes.result c.loop-j.invariant.votes
+          (c.votes_for-votes.ensures.value ∙ ap₂ votes_of c.energy_of_both.ensures.value c.products-here.ensures.value ∙ votes_are recording c.args.n2 at)
+          c.votes_for-votes.ensures.small);
       products = subst (AreSums (j + 1) g) (sym c.added-product_sums.ensures) (more_sums j g c.loop-j.product_sums c.products-here.result c.loop-j.invariant.products
           c.products-here.ensures.value c.products-here.ensures.small);
     }

@@ -2,7 +2,7 @@ use Rattle.std.proofs.Common.{◌-◌}
 use Rattle.lte_types.specs.declared.frame.Half.TheVariants.{Zero, Five}
 use Rattle.accumulated_sss.specs.Steps.{counts_by}
 use Rattle.accumulated_sss.proofs.Leaders.{IsLeader}
-use Rattle.accumulated_sss.proofs.best.best.Given as goal
+use Rattle.accumulated_sss.proofs.best.most_matching.Given as goal
 
 abbrev pub invariant-loop-n1 : goal.invariant-loop-n1
 invariant-loop-n1 l = record {

@@ -7,7 +7,7 @@ use Rattle.std.specs.Prelude.{nat_abs}
 use Rattle.finite.proofs.Items.{item-within}
 use Rattle.accumulated_sss.specs.Votes.{vote_of}
 use Rattle.accumulated_sss.specs.Steps.{number_at, votes_of}
-use Rattle.accumulated_sss.proofs.votes.votes.Goals as goal
+use Rattle.accumulated_sss.proofs.votes.votes_for.Goals as goal
 
 pub loop-n-init : goal.loop-n-init
 loop-n-init c = record {

@@ -2,7 +2,7 @@ use Rattle.std.proofs.Common.{◌≡◌, ℕ, ◌<◌, ◌^◌, length, pos, sli
 use Rattle.finite.specs.Sizes.{AllWithin}
 use Rattle.accumulated_sss.specs.Votes.{vote_of}
 use Rattle.accumulated_sss.specs.Steps.{number_at}
-use Rattle.accumulated_sss.proofs.votes.votes.Given as goal
+use Rattle.accumulated_sss.proofs.votes.votes_for.Given as goal
 
 abbrev pub invariant-loop-n : goal.invariant-loop-n
 invariant-loop-n l = record {

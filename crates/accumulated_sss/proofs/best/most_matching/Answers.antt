@@ -2,7 +2,7 @@ use Rattle.std.proofs.Common.{◌≡◌, ◌+◌, ◌-◌, ℕ, ℤ, pos, arith,
 use Rattle.lte_types.specs.declared.frame.Half.TheVariants.{Zero, Five}
 use Rattle.accumulated_sss.specs.Steps.{counts_by}
 use Rattle.accumulated_sss.proofs.Leaders.{IsLeader, first_leader, next_leader, IsChosen, chosen_of_both}
-use Rattle.accumulated_sss.proofs.best.best.Goals as goal
+use Rattle.accumulated_sss.proofs.best.most_matching.Goals as goal
 
 pub loop-n1-init : goal.loop-n1-init
 loop-n1-init c = record {
