@@ -209,11 +209,6 @@ def table_and_sums(name):
     return patterns
 
 
-def lines_each(text):
-    """Returns a pattern for each line."""
-    return [exactly(line) for line in text.splitlines()]
-
-
 def file_itself(name):
     """Returns a message if the output differs from the file."""
     return lambda data: ["" if data == (TOP / name).read_bytes() else f"(other bytes than those of {name})"]
@@ -369,7 +364,7 @@ def numpy_looks():
             Look(f"crates/wide_tests/src/{file}.rt", f"$PY -m lte_reference.wide_rows {topic}", checksums)
             for topic, file in (("control", "places"), ("shared", "places"), ("inits", "inits"))
         ),
-        Look("crates/accumulated_tests/src/primary_candidates.rt", "$PY -m lte_reference.deep_rows", lines_each),
+        Look("crates/accumulated_tests/src/primary_candidates.rt", "$PY -m lte_reference.deep_rows", each_line),
         Look("crates/accumulated_tests/src/secondary_signs.rt", "$PY -m lte_reference.deep_sign_rows", each_line),
         Look(
             "crates/list_tests/src/rounds_of_recordings.rt",
