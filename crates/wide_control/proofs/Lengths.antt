@@ -1,5 +1,5 @@
 -- Lengths of lists of soft values, and of PDCCH groups.
-use Rattle.std.proofs.Common.{◌≡◌, ℕ, zero, suc, ◌*◌, ◌/◌, List, length, ℤ, refl, inl, inr, arith, length-append}
+use Rattle.std.proofs.Common.{◌≡◌, ℕ, zero, suc, ◌*◌, ◌/◌, ◌<◌, List, length, refl, inl, inr, arith, length-append}
 use Rattle.std.proofs.lemmas.Bool.Decides.{eqb_tells}
 use Rattle.finite.specs.Lists.{joined_below}
 use Rattle.finite.proofs.Lists.{values_below-length}
@@ -11,12 +11,13 @@ use Rattle.wide_slot.specs.Values.{place_values, pair_values, single_at, paired_
 use Rattle.wide_control.specs.Values.{ordered_groups}
 
 -- n lists with k items each, concatenated
-length-joined : (n k : ℕ) (f : ℕ → List ℤ) → ((i : ℕ) → length (f i) ≡ k) → length (joined_below n f) ≡ k * n
+pub length-joined : {A : Type 0} (n k : ℕ) (f : ℕ → List A) → ((i : ℕ) → i < n → length (f i) ≡ k) →
+    length (joined_below n f) ≡ k * n
 unfolding joined_below
 length-joined zero k f each = omega arith
 length-joined (suc n) k f each =
-    let before = length-joined n k f each in
-    let here = each n in
+    let before = length-joined n k f (λ i below. each i (omega (arith, below))) in
+    let here = each n (omega arith) in
     let both = length-append (joined_below n f) (f n) in
     omega (arith, before, here, both)
 
@@ -25,8 +26,8 @@ pub length-placed : (first second : WideSeen) (places : List WidePlace) (n : ℕ
     length (placed_values first second places) ≡ 4 * n
 unfolding placed_values place_values pair_values
 length-placed first second places n even = elim (eqb_tells first.cell.ports 1) [
-  | inl (t, same) ↦ rw t (let h = length-joined (length places) 2 (single_at first second places) (λ i. refl) in omega (arith, h, even))
-  | inr (f, other) ↦ rw f (let h = length-joined (length places / 2) 4 (paired_at first second places) (λ i. refl) in omega (arith, h, even))
+  | inl (t, same) ↦ rw t (let h = length-joined (length places) 2 (single_at first second places) (λ i below. refl) in omega (arith, h, even))
+  | inr (f, other) ↦ rw f (let h = length-joined (length places / 2) 4 (paired_at first second places) (λ i below. refl) in omega (arith, h, even))
 ]
 
 -- as many groups in quadruplet order

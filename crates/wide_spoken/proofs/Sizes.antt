@@ -1,9 +1,8 @@
 -- Sizes of payloads, and the number of soft values of a candidate.
-use Rattle.std.proofs.Common.{◌≡◌, ℕ, zero, suc, ◌+◌, ◌*◌, ◌<◌, ◌≤◌, ◌^◌, Bool, true, false, not, nat_le, cond, List, [], ◌∷◌, ◌++◌, length, get_or, filter, All, refl, arith, length-append}
+use Rattle.std.proofs.Common.{◌≡◌, ℕ, zero, suc, ◌+◌, ◌*◌, ◌<◌, ◌≤◌, ◌^◌, Bool, true, false, not, nat_le, cond, List, [], ◌∷◌, ◌++◌, length, get_or, filter, All, refl, arith}
 use Rattle.std.specs.List.{flat_map, range_with_len}
 use Rattle.std.proofs.lemmas.Bool.{leb-true}
 use Rattle.std.proofs.lemmas.List.Sums.{prefix_len-le-length}
-use Rattle.finite.specs.Lists.{joined_below}
 use Rattle.soft_bits.proofs.Channel.{length-descrambled}
 use Rattle.grid_map.specs.Scrambling.{pdcch_c_init}
 use Rattle.wide_cell.specs.Cell.{Cell}
@@ -22,7 +21,7 @@ use Rattle.wide_control.specs.declared.format.DciFormat.TheVariants.{Format1A, F
 use Rattle.wide_control.specs.Format.{payload_size}
 use Rattle.wide_control.specs.Values.{candidate_values, ordered_groups}
 use Rattle.wide_control.specs.Control.{Search, searches, searches_of, searches_among}
-use Rattle.wide_control.proofs.Lengths.{length-placed, length-ordered}
+use Rattle.wide_control.proofs.Lengths.{length-joined, length-placed, length-ordered}
 
 -- ---- payloads
 
@@ -81,21 +80,11 @@ searches_inside count = among_inside count candidates four_levels
 
 -- ---- the soft values of a candidate
 
--- n lists with k items each, joined
-length-joined_below : {A : Type 0} (n k : ℕ) (f : ℕ → List A) → ((i : ℕ) → i < n → length (f i) ≡ k) → length (joined_below n f) ≡ k * n
-unfolding joined_below
-length-joined_below zero k f each = omega arith
-length-joined_below (suc n) k f each =
-    let before = length-joined_below n k f (λ i below. each i (omega (arith, below))) in
-    let here = each n (omega arith) in
-    let both = length-append (joined_below n f) (f n) in
-    omega (arith, before, here, both)
-
 length-candidate_places : (cell : Cell) (groups : List WideReg) (c : Candidate) → All (λ (g : WideReg). is_group cell g ≡ true) groups →
     9 * (c.first + c.level) ≤ length groups → length (candidate_places cell groups c) ≡ 4 * (9 * c.level)
 unfolding candidate_places
 length-candidate_places cell groups c valid there =
-    length-joined_below (9 * c.level) 4 (λ j. group_places cell (get_or groups (9 * c.first + j) (group 0 0)))
+    length-joined (9 * c.level) 4 (λ j. group_places cell (get_or groups (9 * c.first + j) (group 0 0)))
     (λ j below. group_four cell (get_or groups (9 * c.first + j) (group 0 0)) (valid (9 * c.first + j) (group 0 0) (omega (arith, below, there))))
 
 -- a candidate has 72 soft values for each control channel element
