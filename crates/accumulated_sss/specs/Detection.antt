@@ -55,8 +55,8 @@ detection_at recording halves t n2 = if_enough (detected recording halves t n2 (
 
 -- ---- the same as a relation
 
--- `found` is a detection at a candidate: no other pair of a group and a half-frame has more matches, each earlier pair has
--- fewer, at least 93 signs match, and the power is that of the pair
+-- `found` is a detection at a candidate: no other pair of a group and a half-frame has more matches, each earlier pair
+-- has fewer, at least 93 signs match, and the power is that of the pair
 pub record IsDetection (recording : List Sample) (halves t n2 : ℕ) (found : Detection) : Type 0 where
   pub best : IsBest (match_counts recording halves t n2) found.n1 found.half
   pub matches : found.matches ≡ cell_matches (signs recording halves t n2) n2 found.n1 found.half

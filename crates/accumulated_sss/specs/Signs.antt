@@ -1,5 +1,5 @@
--- The 124 signs at a candidate, 62 from half-frames of even number and 62 from those of odd number, and how many of them
--- match those of a cell. (own; the sequences are in TS 36.211 section 6.11.2.1)
+-- The 124 signs at a candidate, 62 from half-frames of even number and 62 from those of odd number, and how many of
+-- them match those of a cell. (own; the sequences are in TS 36.211 section 6.11.2.1)
 use Rattle.std.specs.Prelude.{ℕ, ◌+◌, ◌-◌, ◌*◌, ◌/◌, List, ℤ, nat_lt, if◌then◌else◌}
 use Rattle.std.specs.Int.{int_signum}
 use Rattle.std.specs.Ordering.{int_eq}
@@ -21,8 +21,8 @@ half_count halves parity = (halves + 1 - parity) / 2
 abbrev pub primary_at : ℕ → ℕ → ℕ
 primary_at t h = t + half_frame_length * h
 
--- the sum over the half-frames `parity`, `parity` + 2 and so on among the first `halves`; `f` has a value for each sample
--- at which the primary symbol of a half-frame begins
+-- the sum over the half-frames `parity`, `parity` + 2 and so on among the first `halves`; `f` has a value for each
+-- sample at which the primary symbol of a half-frame begins
 unfoldable pub every_other : ℕ → ℕ → ℕ → (ℕ → ℤ) → ℤ
 every_other halves t parity f = sum_below (half_count halves parity) (λ j. f (primary_at t (2 * j + parity)))
 

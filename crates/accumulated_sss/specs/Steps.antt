@@ -56,7 +56,7 @@ signed_sum row signs = sum_below 62 (λ n. signs n *ℤ number_at row n)
 abbrev pub counts_by : List ℤ → List ℤ → ℕ → ℕ → Half → ℤ
 counts_by even odd n2 n1 half = pos (matches_by even odd n2 n1 half)
 
--- the sum of two lists of 62 products, each times the sign of the group `n1`, where half-frames of even number are `half`
+-- the sum of two lists of 62 products, each times the sign of the group `n1`, if half-frames of even number are `half`
 unfoldable pub signal_sum_by : List ℤ → List ℤ → ℕ → ℕ → Half → ℤ
 signal_sum_by even odd n2 n1 half =
     signed_sum even (sss_at n1 n2 half) +ℤ signed_sum odd (sss_at n1 n2 (next_half half))

@@ -1,5 +1,5 @@
--- What one half-frame says of the secondary signal at a candidate: a vote for each of its 62 signs. (own; the signals are
--- in TS 36.211 section 6.11)
+-- What one half-frame says of the secondary signal at a candidate: a vote for each of its 62 signs. (own; the signals
+-- are in TS 36.211 section 6.11)
 use Rattle.std.specs.Prelude.{ℕ, ◌+◌, ◌-◌, ◌/◌, List, ℤ, pos, int_div}
 use Rattle.cs_num.specs.declared.Sample.{Sample}
 use Rattle.cs_num.specs.Complex.{times, conjugate}

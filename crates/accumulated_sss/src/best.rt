@@ -32,8 +32,8 @@ struct Counts {
     in_5: u8,
 }
 
-// Returns the pair with most matches: of several one of subframe 0, then the lowest group. `even` and `odd` are the signs
-// from half-frames of even and of odd number.
+// Returns the pair with most matches: of several one of subframe 0, then the lowest group. `even` and `odd` are the
+// signs from half-frames of even and of odd number.
 pub(crate) fn most_matching(even: &[i8; 62], odd: &[i8; 62], n2: u8) -> Pair
     requires even { AllWithin 1 even.now }
     requires odd { AllWithin 1 odd.now }

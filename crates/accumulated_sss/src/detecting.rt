@@ -81,8 +81,8 @@ fn wave_of(n2: u8) -> [Cpx; USEFUL_LENGTH]
     synth(&grid_of(n2))
 }
 
-// Returns the sum of all products, each times the sign of the pair's group. `even` and `odd` are the products summed over
-// half-frames of even and of odd number.
+// Returns the sum of all products, each times the sign of the pair's group. `even` and `odd` are the products summed
+// over half-frames of even and of odd number.
 fn signal_sum(even: &[i128; 62], odd: &[i128; 62], n2: u8, pair: Pair) -> i128
     requires even { AllWithin (2 ^ 64) even.now }
     requires odd { AllWithin (2 ^ 64) odd.now }

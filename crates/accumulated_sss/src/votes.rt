@@ -16,8 +16,8 @@ use observe::symbol;
 use sample_file::Recording;
 use sync_seq::MIDDLE;
 
-// Returns the 62 products of the demodulated secondary symbol with the correlation z, if the primary symbol's useful part
-// begins at sample `at`; `wave` is the primary signal `n2`.
+// Returns the 62 products of the demodulated secondary symbol with the correlation z, if the primary symbol's useful
+// part begins at sample `at`; `wave` is the primary signal `n2`.
 pub(crate) fn products(
     recording: &Recording,
     at: usize,
