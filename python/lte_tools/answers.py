@@ -170,9 +170,9 @@ class Cell(Answer):
     @classmethod
     def from_json(cls, value: dict[str, Any]) -> Cell:
         """Returns a line of the program's JSON."""
-        sib1, reason = sib1_of(value["sib1"])
-        found: dict[str, Any] = {key: one for key, one in value.items() if key in cls.__dataclass_fields__}
-        found["sib1"], found["no_sib1"] = sib1, reason
+        readers = records.readers_of(cls)  # type: ignore[arg-type]
+        found = {name: read(value[name]) for name, read in readers if name in value and name != "sib1"}
+        found["sib1"], found["no_sib1"] = sib1_of(value["sib1"])
         return cls(**found)
 
     def to_json(self) -> dict[str, Any]:

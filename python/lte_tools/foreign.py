@@ -6,6 +6,7 @@ number out of range, or one that is not finite.
 from __future__ import annotations
 
 import functools
+import itertools
 import json
 import math
 import pathlib
@@ -160,15 +161,26 @@ def fault_of_list(value: list[object], form: dict[str, Any], place: str) -> str 
     if not form.get("minItems", 0) <= len(value) <= form.get("maxItems", len(value)):
         return f"{place or 'the whole'}: {len(value)} items"
     first, items = form.get("prefixItems", []), resolved(form.get("items", {}))
-    if items.get("type") == "integer" and not first:  # as most numbers of evidence
-        low, high = items.get("minimum", -LARGEST), items.get("maximum", LARGEST)
-        if all(type(item) is int and low <= item <= high for item in value):
-            return None
+    if not first and are_numbers(value, items):
+        return None
     for i, item in enumerate(value):
         inner = first[i] if i < len(first) else items
         if fault := fault_of(item, inner, f"{place}[{i}]"):
             return fault
     return None
+
+
+def are_numbers(value: list[Any], form: dict[str, Any]) -> bool:
+    """Returns whether all items are integers, or arrays of such, as a form has them: most of what evidence has is checked
+    here at once. What is not is checked item by item."""
+    if form.get("type") == "integer":
+        low, high = form.get("minimum", -LARGEST), form.get("maximum", LARGEST)
+        return set(map(type, value)) <= {int} and (not value or low <= min(value) and max(value) <= high)
+    if form.get("type") != "array" or "prefixItems" in form or "items" not in form or set(map(type, value)) != {list}:
+        return False
+    sizes, least = set(map(len, value)), form.get("minItems", 0)
+    is_sized = all(least <= size <= form.get("maxItems", size) for size in sizes)
+    return is_sized and are_numbers(list(itertools.chain.from_iterable(value)), resolved(form["items"]))
 
 
 def fault_of_object(value: dict[str, object], form: dict[str, Any], place: str) -> str | None:

@@ -111,12 +111,12 @@ def program(name: str) -> str:
 
 
 def answer(words: list[str], data: bytes) -> Any:
-    """Returns a program's JSON answer for a recording."""
+    """Returns a program's JSON answer for a recording, which it reads from a file in memory: a pipe holds a small part."""
     command = " ".join(words[1:])
-    try:
-        done = subprocess.run(words, input=data, capture_output=True, check=False)
-    except BrokenPipeError:
-        raise Refused(f"{words[0]}: reads no recording: is it the program?") from None
+    with open(os.memfd_create("recording"), "w+b", buffering=0) as file:
+        file.write(data)
+        file.seek(0)
+        done = subprocess.run(words, stdin=file, capture_output=True, check=False)
     if done.returncode:
         cause = done.stderr.decode(errors="replace").strip() or f"status {done.returncode}"
         raise ProgramRefused(command, cause, done.returncode)

@@ -25,21 +25,21 @@ PSS_ROOTS = (25, 29, 34)  # TS 36.211 table 6.11.1.1-1, by the identity within i
 
 def from_bytes(data: bytes) -> Complex:
     """Returns the samples of ci16_le bytes; an odd end is left out."""
-    parts = np.frombuffer(data[: len(data) // 4 * 4], "<i2").astype(float)
-    found: Complex = parts[0::2] + 1j * parts[1::2]
+    found: Complex = np.frombuffer(data, "<i2", len(data) // 4 * 2).astype(float).view(complex)
     return found
 
 
 def to_bytes(x: npt.ArrayLike) -> bytes:
     """Returns the samples as ci16_le bytes, each component rounded and kept within 16 bits."""
-    parts = np.ascontiguousarray(x, complex).view(float)
-    found: bytes = np.clip(np.round(parts), -FULL - 1, FULL).astype("<i2").tobytes()
+    parts = np.round(np.ascontiguousarray(x, complex).view(float))
+    found: bytes = np.clip(parts, -FULL - 1, FULL, out=parts).astype("<i2").tobytes()
     return found
 
 
 def peak(x: Complex) -> float:
     """Returns the maximum absolute value of a component."""
-    return float(max(np.abs(x.real).max(), np.abs(x.imag).max()))
+    parts = np.ascontiguousarray(x, complex).view(float)
+    return float(max(parts.max(), -parts.min()))
 
 
 def shifted(x: Complex, hertz: float, rate: float = RATE) -> Complex:

@@ -5,40 +5,55 @@ import dataclasses
 import functools
 import types
 import typing
-from typing import Any, TypeVar
+from typing import Any, Callable, TypeVar
 
 T = TypeVar("T")
+Reader = Callable[[Any], Any]
 PLAIN = {int, float, str, bool}
 
 
 def from_json(kind: type[T], value: dict[str, Any]) -> T:
     """Returns a dataclass of the keys of a JSON object; a key that is missing keeps its field's default."""
-    hints = hints_of(kind)  # type: ignore[arg-type]
-    names = [one.name for one in dataclasses.fields(kind)]
-    return kind(**{name: typed(hints[name], value[name]) for name in names if name in value})
+    readers = readers_of(kind)  # type: ignore[arg-type]
+    return kind(**{name: read(value[name]) for name, read in readers if name in value})
 
 
 @functools.cache
-def hints_of(kind: type) -> dict[str, Any]:
-    """Returns the types of a dataclass's fields."""
-    return typing.get_type_hints(kind)
+def readers_of(kind: type) -> list[tuple[str, Reader]]:
+    """Returns the names of a dataclass's fields, and how the value of each is read."""
+    hints = typing.get_type_hints(kind)
+    return [(one.name, reader_of(hints[one.name])) for one in dataclasses.fields(kind)]
 
 
 def typed(hint: Any, value: Any) -> Any:
     """Returns a JSON value as a field of this type has it: tuples of arrays, dataclasses of objects."""
+    return reader_of(hint)(value)
+
+
+@functools.cache
+def reader_of(hint: Any) -> Reader:
+    """Returns how a JSON value of a type is read."""
     origin, inner = typing.get_origin(hint), typing.get_args(hint)
     if origin in (typing.Union, types.UnionType):
-        if value is None:
-            return None
-        return typed(next(one for one in inner if one is not type(None)), value)
+        read = reader_of(next(one for one in inner if one is not type(None)))
+        return lambda value: None if value is None else read(value)
     if origin is tuple:
-        if PLAIN.issuperset(one for one in inner if one is not Ellipsis):
-            return tuple(value)
-        hints = [inner[0]] * len(value) if inner[-1] is Ellipsis else inner
-        return tuple(typed(one, part) for one, part in zip(hints, value))
+        return reader_of_tuple(inner)
     if dataclasses.is_dataclass(hint) or hasattr(hint, "from_json"):
-        return getattr(hint, "from_json", functools.partial(from_json, hint))(value)
-    return value
+        found: Reader = getattr(hint, "from_json", functools.partial(from_json, hint))
+        return found
+    return lambda value: value
+
+
+def reader_of_tuple(inner: tuple[Any, ...]) -> Reader:
+    """Returns how an array is read whose items have these types, or with an ellipsis all the first one."""
+    if PLAIN.issuperset(one for one in inner if one is not Ellipsis):
+        return tuple
+    if inner[-1] is Ellipsis:
+        read = reader_of(inner[0])
+        return lambda value: tuple(map(read, value))
+    readers = [reader_of(one) for one in inner]
+    return lambda value: tuple(read(part) for read, part in zip(readers, value))
 
 
 def to_json(value: Any) -> Any:
