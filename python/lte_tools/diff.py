@@ -51,7 +51,7 @@ def command() -> None:
     for path, survey in ((args.before, before), (args.after, after)):
         if (args.picture or args.csv_places) and not survey.is_placed:
             raise Refused(f"{path}: no place in it: lte_survey --track gives places")
-    found = survey_diff.difference_of(before, after, args.square)
+    found = survey_diff.difference_of(before, after, args.square, (str(args.before), str(args.after)))
     if args.csv_places:
         machine.write(args.csv_places, survey_diff.csv_of_places(found).encode())
     if args.picture:

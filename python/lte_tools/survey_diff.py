@@ -84,7 +84,7 @@ class CellDifference(Answer):
 
 @dataclass(frozen=True)
 class Difference(Answer):
-    """Two surveys: their files, the unit of levels, the side of squares in metres and how many both pass, None without
+    """Two surveys: names that tell them apart, the unit of levels, the side of squares in metres and how many both pass, None without
     tracks, the cells, and of each square the strongest cell's numbers in both."""
 
     before: str
@@ -160,8 +160,11 @@ def squares_of(before: Survey, after: Survey, side: float) -> Squares | None:
 # ---- the difference
 
 
-def difference_of(before: Survey, after: Survey, side: float = SQUARE) -> Difference:
-    """Returns what differs; refuses surveys whose levels have two units."""
+def difference_of(
+    before: Survey, after: Survey, side: float = SQUARE, paths: tuple[str, str] | None = None
+) -> Difference:
+    """Returns what differs; refuses surveys whose levels have two units. If both are of files with one name, the surveys are
+    named by `paths`, which are their own."""
     if before.unit != after.unit:
         raise Refused(
             f"{after.file}: levels in {after.unit}, and those of {before.file} in {before.unit}: --gain for both"
@@ -169,9 +172,10 @@ def difference_of(before: Survey, after: Survey, side: float = SQUARE) -> Differ
     squares = squares_of(before, after, side)
     one, other = Surveyed(before, squares), Surveyed(after, squares)
     common = sorted(one.best.keys() & other.best.keys())
+    names = paths if paths and before.file == after.file else (before.file, after.file)
     return Difference(
-        before=before.file,
-        after=after.file,
+        before=names[0],
+        after=names[1],
         unit=before.unit,
         square=side if squares else None,
         squares=len(common) if squares else None,
@@ -409,7 +413,7 @@ def signed(value: float | None) -> str:
 
 def head_of(found: Difference) -> str:
     """Returns the line above the table."""
-    names = f"{found.before} and {found.after}, levels in {found.unit}"
+    names = f"before {found.before}, after {found.after}, levels in {found.unit}"
     if found.square is None:
         return f"{names}: not both have places, so medians over all windows are compared"
     return f"{names}: {found.squares} squares of {found.square:g} m that both pass"

@@ -622,7 +622,10 @@ def test_diff_writes_all(tool, stored, made, tmp_path):
     pair = stored(made(), "before.json"), stored(made(AFTER, cells={65: 7}, name="-after.cu8"), "after.json")
     run = tool("diff", *pair, "--picture", tmp_path / "map.png", "--csv-places", tmp_path / "places.csv")
     assert run.status == 0, run.err
-    assert run.out.splitlines()[0] == "drive.cu8 and -after.cu8, levels in dBFS: 6 squares of 50 m that both pass"
+    assert (
+        run.out.splitlines()[0]
+        == "before drive.cu8, after -after.cu8, levels in dBFS: 6 squares of 50 m that both pass"
+    )
     assert re.search(r"^both +63 .* \+4\.0 +\+3\.0 +\+6\.0 +\+4\.0 +5 +0 +0$", run.out, re.M)
     assert (tmp_path / "map.png").read_bytes().startswith(b"\x89PNG")
     rows = rows_of((tmp_path / "places.csv").read_text())
@@ -660,6 +663,15 @@ def test_diff_refuses(tool, stored, made, tmp_path):
         "required": [good],
     }
     for text, words in cases.items():
+def test_diff_of_files_with_one_name(tool, stored, made, tmp_path):
+    """Both drives were recorded as drive.cu8, so the surveys' own paths tell them apart."""
+    pair = stored(made(), "old.json"), stored(made(AFTER, cells={65: 7}), "new.json")
+    first = tool("diff", *pair).out.splitlines()[0]
+    assert first.startswith(f"before {tmp_path}/old.json, after {tmp_path}/new.json, levels in dBFS: 6 squares")
+    found = json.loads(tool("diff", *pair, "--json").out)
+    assert (found["before"], found["after"]) == tuple(map(str, pair))
+
+
         run = tool("diff", *words)
         assert is_one_line(run) and text in run.err, (text, run)
     assert not (tmp_path / "x.png").exists()
