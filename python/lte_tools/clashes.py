@@ -9,7 +9,7 @@ from __future__ import annotations
 import math
 import statistics
 from dataclasses import dataclass
-from typing import NamedTuple, Sequence
+from typing import Mapping, NamedTuple, Sequence
 
 from . import survey_windows
 from .answers import Answer
@@ -30,14 +30,16 @@ FRAME = 0.01  # seconds
 
 @dataclass(frozen=True)
 class Clash(Answer):
-    """A cell and another one on its carrier: identities, cell identities of SIB1 or None, the carrier in hertz or None, the
-    moduli of MODULI by which the identities are equal, the windows that list both within the limit, those that list both,
-    and medians over the former: the other's level above the cell's in dB, and the microseconds from the begin of a frame
-    of the cell to the nearest begin of one of the other."""
+    """A cell and another one on its carrier: identities, letters on the map or None, cell identities of SIB1 or None, the
+    carrier in hertz or None, the moduli of MODULI by which the identities are equal, the windows that list both within the
+    limit, those that list both, and medians over the former: the other's level above the cell's in dB, and the
+    microseconds from the begin of a frame of the cell to the nearest begin of one of the other."""
 
     identity: int
+    letter: str | None
     cell: int | None
     other: int
+    other_letter: str | None
     other_cell: int | None
     frequency: float | None
     moduli: tuple[int, ...]
@@ -76,11 +78,11 @@ def clashes_of(survey: Survey, within: float) -> list[Clash]:
     numbers: dict[int, set[int]] = {}
     for number, other in [*pairs, *namesakes(survey.cells)]:
         numbers.setdefault(number, set()).add(other)
-    found = []
+    found, clashing = [], Clashing(survey, within, survey_windows.letters_of(survey))
     for number in sorted(numbers):
         cell, others = survey.cells[number], [(other, survey.cells[other]) for other in sorted(numbers[number])]
         same = [(other, one) for other, one in others if one.shift == cell.shift]
-        own = [clash_of(survey, (cell, one), pairs.get((number, other), []), within) for other, one in same]
+        own = [clashing.clash((number, other), pairs.get((number, other), [])) for other, _ in same]
         found += sorted((one for one in own if one.windows or one.word == "PCI"), key=lambda one: -one.windows)
     return found
 
@@ -105,22 +107,32 @@ def pairs_of(windows: Sequence[Window]) -> dict[tuple[int, int], list[Pair]]:
     return found
 
 
-def clash_of(survey: Survey, cells: tuple[SurveyCell, SurveyCell], pairs: Sequence[Pair], within: float) -> Clash:
-    """Returns what two cells have in common."""
-    cell, other = cells
-    near = [pair for pair in pairs if pair.difference is not None and abs(pair.difference) <= within]
-    return Clash(
-        identity=cell.identity,
-        cell=cell.sib1.cell if cell.sib1 else None,
-        other=other.identity,
-        other_cell=other.sib1.cell if other.sib1 else None,
-        frequency=survey.carrier if cell.shift is None else cell.frequency,
-        moduli=tuple(modulus for modulus in MODULI if cell.identity % modulus == other.identity % modulus),
-        windows=len(near),
-        together=len(pairs),
-        difference=survey_windows.median([pair.difference for pair in near]),
-        time=time_of(near, survey.rate),
-    )
+class Clashing(NamedTuple):
+    """A survey whose cells are compared, the decibels within which they clash, and its cells' letters by their numbers."""
+
+    survey: Survey
+    within: float
+    letters: Mapping[int, str]
+
+    def clash(self, numbers: tuple[int, int], pairs: Sequence[Pair]) -> Clash:
+        """Returns what two cells have in common, by their numbers and the windows that list both."""
+        cell, other = (self.survey.cells[number] for number in numbers)
+        letter, other_letter = (self.letters.get(number) for number in numbers)
+        near = [pair for pair in pairs if pair.difference is not None and abs(pair.difference) <= self.within]
+        return Clash(
+            identity=cell.identity,
+            letter=letter,
+            cell=cell.sib1.cell if cell.sib1 else None,
+            other=other.identity,
+            other_letter=other_letter,
+            other_cell=other.sib1.cell if other.sib1 else None,
+            frequency=self.survey.carrier if cell.shift is None else cell.frequency,
+            moduli=tuple(modulus for modulus in MODULI if cell.identity % modulus == other.identity % modulus),
+            windows=len(near),
+            together=len(pairs),
+            difference=survey_windows.median([pair.difference for pair in near]),
+            time=time_of(near, self.survey.rate),
+        )
 
 
 def time_of(pairs: Sequence[Pair], rate: float) -> float | None:
@@ -144,9 +156,19 @@ def modulus_column(place: int) -> Column[Clash, Survey]:
 
 
 COLUMNS: tuple[Column[Clash, Survey], ...] = (
+    Column("letter", "map", "", None, "the cell's letter on the map", lambda one, _: one.letter, is_left=True),
     Column("identity", "PCI", "", None, "the cell's identity", lambda one, _: one.identity),
     Column("cell", "cell", "", None, "the cell identity of its SIB1", lambda one, _: one.cell),
-    Column("other", "other PCI", "", None, "identity of another cell on its carrier", lambda one, _: one.other),
+    Column(
+        "other_letter",
+        "other map",
+        "",
+        None,
+        "letter on the map of another cell on its carrier",
+        lambda one, _: one.other_letter,
+        is_left=True,
+    ),
+    Column("other", "other PCI", "", None, "the identity of that one", lambda one, _: one.other),
     Column("other_cell", "other cell", "", None, "the cell identity of that one's SIB1", lambda one, _: one.other_cell),
     Column("frequency", None, "Hz", None, "the carrier's frequency", lambda one, _: one.frequency),
     *map(modulus_column, range(len(MODULI))),

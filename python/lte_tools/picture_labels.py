@@ -7,11 +7,11 @@ from __future__ import annotations
 import collections
 import itertools
 import math
-import string
-from typing import Iterable, Iterator, Mapping, NamedTuple, Sequence
+from typing import Iterable, Mapping, NamedTuple, Sequence
 
 import numpy as np
 
+from . import survey_windows
 from .picture_style import COLOURS, MARKS
 from .radio import Real
 
@@ -50,12 +50,6 @@ class Label(NamedTuple):
         return math.dist((self.x, self.y), self.mark[:2]) > LINE
 
 
-def letters() -> Iterator[str]:
-    """Yields A to Z, AA to ZZ, and so on."""
-    for count in itertools.count(1):
-        yield from map("".join, itertools.product(string.ascii_uppercase, repeat=count))
-
-
 # ---- signs
 
 
@@ -74,7 +68,7 @@ def signs_of(cells: Iterable[int], points: Sequence[Point] = ()) -> dict[int, Si
     """Returns a letter, a mark and a colour for each cell: the colour that is rarest among its neighbours."""
     near, found = neighbours_of(points), dict[int, Sign]()
     used: collections.Counter[str] = collections.Counter()
-    for cell, letter in zip(cells, letters()):
+    for cell, letter in zip(cells, survey_windows.letters()):
         cost = {colour: 0 for colour in MAP_COLOURS}
         for other, (_, _, colour) in found.items():
             cost[colour] += near.get((cell, other), 0)

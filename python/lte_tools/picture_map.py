@@ -9,7 +9,6 @@ from __future__ import annotations
 
 import itertools
 import math
-from collections import Counter
 from typing import Any, NamedTuple, Sequence
 
 import numpy as np
@@ -101,12 +100,6 @@ def middle_of(group: Sequence[Spot]) -> Spot:
     return group[len(group) // 2]._replace(level=float(np.median(levels)) if levels else None)
 
 
-def leaders_of(spots: Sequence[Spot]) -> list[int]:
-    """Returns the cells that are strongest somewhere, by number, those at most places first."""
-    named = Counter(spot.cell for spot in spots if spot.cell is not None)
-    return sorted(named, key=lambda number: (-named[number], number))
-
-
 # ---- the map
 
 
@@ -144,7 +137,7 @@ class Map(Frame):
         self.levels = [mark.level for mark in self.marks if mark.level is not None]
         self.low, self.high = picture_survey.bounds(self.levels)
         self.points = [self.point(mark) for mark in self.marks]
-        self.signs = picture_labels.signs_of(leaders_of(self.spots), self.points)
+        self.signs = picture_labels.signs_of(survey_windows.leaders_of(found), self.points)
 
     def area(self, level: float | None) -> float:
         """Returns the square points of a mark."""

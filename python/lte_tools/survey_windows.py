@@ -2,10 +2,13 @@
 from __future__ import annotations
 
 import bisect
+import collections
+import itertools
 import math
 import statistics
+import string
 from dataclasses import dataclass
-from typing import NamedTuple, Sequence
+from typing import Iterator, NamedTuple, Sequence
 
 from . import tables, track
 from .arguments import SHORTEST
@@ -140,6 +143,24 @@ def are_next(survey: Survey, one: float, other: float) -> bool:
 def strongest_of(survey: Survey) -> dict[float, InWindow]:
     """Returns by the second at which a window begins its strongest cell that is not a false detection."""
     return {window.seconds: window.strongest for window in windows_of(survey) if window.strongest}
+
+
+def leaders_of(survey: Survey) -> list[int]:
+    """Returns the cells that are the strongest at some position of the track, by number, those at most positions first."""
+    best, placed = strongest_of(survey), survey.track.windows if survey.track else ()
+    count = collections.Counter(best[second].number for second, _, _ in placed if second in best)
+    return sorted(count, key=lambda number: (-count[number], number))
+
+
+def letters_of(survey: Survey) -> dict[int, str]:
+    """Returns by the numbers of cells the letters that they have on the map."""
+    return dict(zip(leaders_of(survey), letters()))
+
+
+def letters() -> Iterator[str]:
+    """Yields A to Z, AA to ZZ, and so on."""
+    for count in itertools.count(1):
+        yield from map("".join, itertools.product(string.ascii_uppercase, repeat=count))
 
 
 # ---- the table

@@ -12,7 +12,7 @@ import pytest
 
 from tests.conftest import EXAMPLES, TOP, is_one_line
 import lte_tools
-from lte_tools import clashes, coverage, foreign, kml, plan, survey_diff, survey_windows
+from lte_tools import clashes, coverage, foreign, kml, picture_map, plan, survey_diff, survey_windows
 from lte_tools.survey_data import Part, Power, Survey, Track
 
 CELLS = {63: 70_001 * 256 + 1, 33: 70_001 * 256 + 2, 64: 70_055 * 256 + 1}  # identity and cell identity of SIB1
@@ -277,6 +277,20 @@ def test_clashes(made):
     assert other.time == pytest.approx(0.0, abs=0.1)  # 19,200 samples are a frame
 
 
+def test_clashes_have_the_letters_of_the_map(made, tool, stored):
+    """Cell 63 is the strongest at three positions, 64 at two, and 33 at none."""
+    found = {(one.identity, one.other): one for one in clashes.clashes_of(made(), 5)}
+    assert (found[63, 64].letter, found[63, 64].other_letter) == ("A", "B")
+    assert (found[33, 63].letter, found[33, 63].other_letter) == (None, "A")
+    signs = picture_map.Map(made(), picture_map.ALONE).signs
+    assert {number: sign[0] for number, sign in signs.items()} == survey_windows.letters_of(made()) == {0: "A", 2: "B"}
+    run = tool("survey", stored(made()), "--clashes", "5")
+    head, first = run.out.splitlines()[-5:-3]
+    assert head.split()[:6] == ["map", "PCI", "cell", "other", "map", "other"] and first.split()[:2] == ["A", "63"]
+    bare = clashes.clashes_of(dataclasses.replace(made(), track=None), 5)
+    assert {one.letter for one in bare} == {None}
+
+
 def test_two_cells_of_one_identity(made):
     survey = made()
     third = dataclasses.replace(survey.cells[2], identity=63)
@@ -494,7 +508,7 @@ def test_page_has_the_tables(tool, stored, made, tmp_path):
     assert re.findall("<h2>(.*?)</h2>", text) == ["Map", "Plan", "Clashes", "Coverage", "Over time"]
     assert {name: len(rows) - 1 for name, rows in found.items()} == {"": 3, "Plan": 5, "Clashes": 4, "Coverage": 9}
     assert found["Plan"][1][:2] == ["wrong identity", "North 2"] and found["Plan"][2][:2] == ["wrong area", "? <b>"]
-    assert found["Clashes"][1][:5] == ["63", str(CELLS[63]), "33", str(CELLS[33]), "mod 30"]
+    assert found["Clashes"][1][:7] == ["A", "63", str(CELLS[63]), "-", "33", str(CELLS[33]), "mod 30"]
     assert found["Coverage"][3][:3] == ["level at least -62 dBFS", "3", "50.0"]
     assert "<p>coverage of 6 windows and 0.56 km of the way." in text
     assert 'title="the planned cell has another physical-layer identity"' in text
@@ -649,6 +663,15 @@ def test_diff_writes_all(tool, stored, made, tmp_path):
     assert tool("diff", *pair, "--picture", tmp_path / "map.svg", "--square", "400").status == 0
 
 
+def test_diff_of_files_with_one_name(tool, stored, made, tmp_path):
+    """Both drives were recorded as drive.cu8, so the surveys' own paths tell them apart."""
+    pair = stored(made(), "old.json"), stored(made(AFTER, cells={65: 7}), "new.json")
+    first = tool("diff", *pair).out.splitlines()[0]
+    assert first.startswith(f"before {tmp_path}/old.json, after {tmp_path}/new.json, levels in dBFS: 6 squares")
+    found = json.loads(tool("diff", *pair, "--json").out)
+    assert (found["before"], found["after"]) == tuple(map(str, pair))
+
+
 def test_diff_refuses(tool, stored, made, tmp_path):
     good = stored(made(), "good.json")
     other = stored(dataclasses.replace(made(), unit="dBm"), "dbm.json")
@@ -663,15 +686,6 @@ def test_diff_refuses(tool, stored, made, tmp_path):
         "required": [good],
     }
     for text, words in cases.items():
-def test_diff_of_files_with_one_name(tool, stored, made, tmp_path):
-    """Both drives were recorded as drive.cu8, so the surveys' own paths tell them apart."""
-    pair = stored(made(), "old.json"), stored(made(AFTER, cells={65: 7}), "new.json")
-    first = tool("diff", *pair).out.splitlines()[0]
-    assert first.startswith(f"before {tmp_path}/old.json, after {tmp_path}/new.json, levels in dBFS: 6 squares")
-    found = json.loads(tool("diff", *pair, "--json").out)
-    assert (found["before"], found["after"]) == tuple(map(str, pair))
-
-
         run = tool("diff", *words)
         assert is_one_line(run) and text in run.err, (text, run)
     assert not (tmp_path / "x.png").exists()
