@@ -6,7 +6,7 @@ return frozen dataclasses (docs/NOTEBOOKS.md).
 import importlib
 from typing import TYPE_CHECKING, Any
 
-from .answers import Cell, Evidence, Hit, Identity, Sib1, Tuning
+from .answers import Cell, CellEvidence, Evidence, Hit, Identity, Sib1, Tuning
 from .machine import ProgramRefused, Refused
 from .options import SurveyOptions
 from .programs import Answers, Transmission, evidence, hits, ids, search, tell, transmit, why
@@ -19,6 +19,7 @@ if TYPE_CHECKING:
 __all__ = [
     "Answers",
     "Cell",
+    "CellEvidence",
     "Evidence",
     "Hit",
     "Identity",

@@ -219,6 +219,17 @@ class Evidence(Answer):
 
 
 @dataclass(frozen=True)
+class CellEvidence(Cell, Evidence):
+    """A line of one of the four lists with what supports it (`lte_cli evidence --all`): the fields of `Cell` with its `rule`,
+    and those of `Evidence`."""
+
+    @property
+    def cell(self) -> Cell:
+        """The line alone."""
+        return Cell(**{name: getattr(self, name) for name in Cell.__dataclass_fields__})
+
+
+@dataclass(frozen=True)
 class Offset(Answer):
     """The frequency offset of a recording (`lte_tune tell`): the phase step `turn`, the detections, and the cells that a
     list has once it is corrected."""

@@ -4,8 +4,8 @@ Debian: python3-numpy.
 """
 from __future__ import annotations
 
+import collections
 import dataclasses
-import json
 from typing import Sequence, TypeVar
 
 import numpy as np
@@ -66,8 +66,8 @@ class SeenCell:
         """The line that says most; of those the most frequent one. Without SIB1 its reason is that at the cell's bandwidth,
         if that was asked."""
         most = max(saying(one.line) for one in self.seen)
-        texts = [fixed_text(one.line) for one in self.seen if saying(one.line) == most]
-        line = Cell.from_json({"at": 0, "sfn": 0, **json.loads(max(texts, key=texts.count))})
+        counts = collections.Counter(one.fixed for one in self.seen if saying(one.line) == most)
+        line = max(counts, key=counts.__getitem__)
         return line if line.sib1 else dataclasses.replace(line, no_sib1=self.unread or line.no_sib1)
 
     @property
@@ -118,11 +118,6 @@ class SeenCell:
 
 
 C = TypeVar("C", bound=SeenCell)
-
-
-def fixed_text(line: Cell) -> str:
-    """Returns what stays of a line from window to window."""
-    return json.dumps({key: value for key, value in line.to_json().items() if key not in ("at", "sfn")}, sort_keys=True)
 
 
 def joined(found: Sequence[Sighting]) -> list[SeenCell]:

@@ -13,7 +13,7 @@ import numpy as np
 
 from . import radio
 from .cells import CLOCK, SeenCell, in_windows_order
-from .sightings import CYCLE, NEAR, Sighting, distance, is_alike
+from .sightings import CYCLE, NEAR, Sighting, distance, is_alike, is_of_one_cell
 from .survey_data import Gap
 
 FRAMES = CYCLE // radio.FRAME  # frame numbers
@@ -127,19 +127,17 @@ class Pair(NamedTuple):
 def pairs_of(cells: Sequence[SeenCell]) -> list[Pair]:
     """Returns the pairs of a line and the latest one that ended before it began, each of them no false detection."""
     drift, sure = drift_of(cells), [cell for cell in cells if not cell.is_chance(cells) and cell.repeats is None]
+    ends = [(cell.line, cell.seen[-1]) for cell in sure]
     pairs = []
-    for later in sure:
-        first = later.seen[0]
-        before = [cell for cell in sure if cell.seen[-1].seconds < first.seconds and is_alike(cell.line, later.line)]
-        before = [cell for cell in before if cell.line.identity == later.line.identity]
+    for line, first in [(cell.line, cell.seen[0]) for cell in sure]:
+        before = [end for end in ends if end[1].seconds < first.seconds and is_of_one_cell(end[0], line)]
         if not before:
             continue
-        former = max(before, key=lambda cell: cell.seen[-1].seconds)
-        last = former.seen[-1]
+        former, last = max(before, key=lambda end: end[1].seconds)
         if last.has_offset_of(first):
             apart = first.seconds - last.seconds
             samples = (last.epoch - first.epoch + drift * apart) % CYCLE
-            is_sure = apart < NEXT or later.line.sib1 is not None and former.line.sib1 == later.line.sib1
+            is_sure = apart < NEXT or line.sib1 is not None and former.sib1 == line.sib1
             pairs.append(Pair(Jump(last.seconds, first.seconds, samples), is_sure))
     return pairs
 

@@ -17,7 +17,7 @@ import numpy as np
 from . import radio, spectrum
 from .cells import SeenCell
 from .radio_file import Spoiled
-from .sightings import WINDOW, Sighting, Task, samples_of
+from .sightings import WINDOW, Sighting, Task, samples_of, sightings_in
 from .survey_data import Power, Step
 
 STEP = 2  # dB: the minimum of a gain step
@@ -32,14 +32,20 @@ CLOSE = 3  # seconds on either side of a step in which a cell is compared
 # ---- one window
 
 
-def power_of(task: Task) -> Power | None:
-    """Returns the power of a window in dBFS, or None where its samples are not numbers."""
-    try:
-        x = samples_of(task)
-    except Spoiled:
-        return None
+def power_of(task: Task, samples: radio.Complex) -> Power:
+    """Returns the power of a window with these samples in dBFS."""
+    x = samples - samples.mean()
     total, floor = float(np.mean(np.abs(x) ** 2)), spectrum.floor_of(x, task.file.rate)
     return Power(round(task.start, 6), rounded(total), rounded(floor))
+
+
+def looked_at(task: Task) -> tuple[list[Sighting] | None, Power | None]:
+    """Returns the cells of a window and its power, None where its samples are not numbers."""
+    try:
+        samples = samples_of(task)
+    except Spoiled:
+        return None, None
+    return sightings_in(task, samples), power_of(task, samples)
 
 
 def rounded(power: float) -> float | None:

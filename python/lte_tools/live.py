@@ -31,8 +31,8 @@ from .continuity import Jump, as_one
 from .forms import FORMS, fault_of
 from .machine import Refused, note
 from .options import Gain, SurveyOptions
-from .radio_file import RadioFile
-from .sightings import VAGUE, WINDOW, Sighting, Task, offset_in, saying, sightings
+from .radio_file import RadioFile, Spoiled
+from .sightings import VAGUE, WINDOW, Sighting, Task, offset_in, samples_of, saying, sightings_in
 from .summary import Looked, survey_of_cells
 from .survey_data import Power, Survey
 from .track import Track
@@ -66,10 +66,14 @@ def opened(options: SurveyOptions) -> RadioFile:
 def look(task: Task, is_known: bool, informed: frozenset[int]) -> tuple[list[Sighting] | None, Power | None]:
     """Returns the cells of a window without its samples, and its power; None where these are not numbers. SIB1 is asked at
     the bandwidth of cells whose identities are not in `informed`."""
-    offset = task.offset if is_known else offset_in(task)
-    found = [] if offset is None else sightings(task.with_offset(offset))
-    more = [one if one.line.identity in informed else wide.informed(one) for one in found or []]
-    return found and [one.bare() for one in more], levels.power_of(task)
+    try:
+        samples = samples_of(task)
+    except Spoiled:
+        return None, None
+    offset = task.offset if is_known else offset_in(task, samples)
+    found = [] if offset is None else sightings_in(task.with_offset(offset), samples)
+    more = [one if one.line.identity in informed else wide.informed(one) for one in found]
+    return [one.bare() for one in more], levels.power_of(task, samples)
 
 
 def begin_process() -> None:

@@ -21,6 +21,7 @@ from .rules import LONG_PREFIX, Rule
 
 SLOTS = 10  # that are read, from a frame's start
 SLOT = radio.FRAME // 20  # samples
+LENGTH = SLOTS * SLOT  # samples that are read
 USEFUL = 128  # samples of a symbol
 PILOTS = 12  # of a symbol, in 6 resource blocks
 SKIPPED = 1_600  # bits of the pseudo-random sequence (TS 36.211 section 7.2)
@@ -41,14 +42,14 @@ def coincide(identity: int, other: int, ports: int) -> bool:
     return identity != other and (identity - other) % (6 if ports == 1 else 3) == 0
 
 
-def in_pilots(x: Complex, at: int, identity: int, rule: Rule) -> int | None:
-    """Returns the identity of a neighbour in the pilots of a cell's first antenna port, or None; `at` is the sample of a
-    recording at which a frame of the cell begins."""
-    if at + SLOTS * SLOT > len(x):
+def in_pilots(x: Complex, identity: int, rule: Rule) -> int | None:
+    """Returns the identity of a neighbour in the pilots of a cell's first antenna port, or None; `x` are LENGTH samples of a
+    recording from the start of a frame of the cell."""
+    if len(x) < LENGTH:
         return None
     cell = Port(identity, 0)
     own = sequences((cell,), rule)[0]
-    channel = straight(pilots_of(x, at, cell, rule) * own.conj())
+    channel = straight(pilots_of(x, cell, rule) * own.conj())
     left = (channel - channel.mean(0)) * own
     others = candidates_of(cell)
     power = float(np.mean(np.abs(left) ** 2))
@@ -70,9 +71,9 @@ def candidates_of(cell: Port) -> tuple[Port, ...]:
     )
 
 
-def pilots_of(x: Complex, at: int, cell: Port, rule: Rule) -> Complex:
+def pilots_of(x: Complex, cell: Port, rule: Rule) -> Complex:
     """Returns a port's resource elements with reference signals: by slot, those of its first symbol, then the later ones."""
-    begin = at + (32 if rule is LONG_PREFIX else 10) + SLOT * np.arange(SLOTS)
+    begin = (32 if rule is LONG_PREFIX else 10) + SLOT * np.arange(SLOTS)
     found = []
     for place, later in enumerate((0, rule.later)):
         blocks = x[(begin + later)[:, None] + np.arange(USEFUL)]

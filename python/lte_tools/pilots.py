@@ -14,7 +14,7 @@ Debian: python3-numpy.
 from __future__ import annotations
 
 import functools
-from typing import Iterator, NamedTuple, Sequence
+from typing import NamedTuple, Sequence
 
 import numpy as np
 import numpy.typing as npt
@@ -52,7 +52,8 @@ class Measured(NamedTuple):
 def measured(evidence: Sequence[Evidence], rule: Rule, known: tuple[int, ...] = ()) -> Measured:
     """Returns what `evidence` of a rule's list says of a cell, once or of several of its frames; `known` are the delays
     of further paths in samples."""
-    first, *others = (fit_of(evidence, earliest, known) for earliest in EARLIEST)
+    slots = slots_of(evidence)
+    first, *others = (fit_of(slots, paths_from(slots.subcarrier, earliest, known)) for earliest in EARLIEST)
     best = min(others, key=lambda fit: fit.noise)
     fit = best if best.noise < CLEARLY * first.noise else first
     every = [pilots_of(one, port) for one in evidence for port in range(len(one.channel))]
@@ -60,6 +61,31 @@ def measured(evidence: Sequence[Evidence], rule: Rule, known: tuple[int, ...] = 
     hertz = radio.RATE / rule.later / (2 * np.pi)
     error = min(np.sqrt(fit.noise / 2 / max(fit.knowledge, 1e-9)), np.pi)
     return Measured((power - fit.noise) / SCALE, fit.noise / SCALE, float(hertz * fit.turn), float(hertz * error))
+
+
+class Slots(NamedTuple):
+    """Slots of a cell, one for each evidence and each port whose pilots give a phase: the 24 pilots of each, which of them
+    are in its first symbol, the subcarrier of the first, and from how many frames they are."""
+
+    pilots: radio.Complex
+    in_first: npt.NDArray[np.bool_]
+    subcarrier: int
+    frames: int
+
+
+def slots_of(evidence: Sequence[Evidence]) -> Slots:
+    """Returns the slots of a cell's evidence (TS 36.211 section 6.10.1.2)."""
+    pilots, in_first, first = list[radio.Complex](), [], evidence[0].identity % 3
+    for one in evidence:
+        for port in range(min(2, len(one.channel))):
+            pilots.append(pilots_of(one, port))
+            in_first.append((first + 3 * np.arange(24) - one.identity - 3 * port) % 6 == 0)
+    return Slots(np.array(pilots), np.array(in_first), first, len(evidence))
+
+
+def pilots_of(one: Evidence, port: int) -> radio.Complex:
+    found: radio.Complex = np.array(one.channel[port], float).view(complex)[:, 0]
+    return found
 
 
 class Fit(NamedTuple):
@@ -71,74 +97,50 @@ class Fit(NamedTuple):
     knowledge: float
 
 
-def fit_of(evidence: Sequence[Evidence], earliest: int, known: tuple[int, ...]) -> Fit:
-    slots = [slot for one in evidence for slot in slots_of(one, earliest, known)]
-    products = [np.vdot(kept(first), kept(later)) for first, later in map(parts_of, slots)]
-    turn = float(np.angle(np.sum(products)))
-    straight = [slot._replace(pilots=first_and_turned(slot, turn)) for slot in slots]
-    noise = np.mean([np.sum(np.abs(slot.pilots - kept(slot)) ** 2) / (24 - slot.size) for slot in straight])
-    return Fit(turn, float(noise), sum(knowledge(slot, float(noise)) for slot in straight) / len(evidence))
+def fit_of(slots: Slots, paths: Paths) -> Fit:
+    first, later = (paths.kept(slots.pilots * part) for part in (slots.in_first, ~slots.in_first))
+    turn = float(np.angle(np.vdot(first, later)))
+    pilots = np.where(slots.in_first, 1, np.exp(-1j * turn)) * slots.pilots  # all as in the first symbol
+    signal = paths.kept(pilots)
+    noise = float(np.mean(energy(pilots - signal))) / (24 - paths.size)
+    return Fit(turn, noise, float(np.sum(knowledge(slots, signal, paths, noise))) / slots.frames)
 
 
-class Slot(NamedTuple):
-    """The 24 pilots of a port in a slot, which of them are in its first symbol, and the waves that paths make."""
-
-    pilots: radio.Complex
-    in_first: npt.NDArray[np.bool_]
-    waves: radio.Complex
-
-    @property
-    def size(self) -> int:
-        """How many numbers describe the channel."""
-        return int(self.waves.shape[1])
-
-
-def slots_of(one: Evidence, earliest: int, known: tuple[int, ...]) -> Iterator[Slot]:
-    """Returns those of the ports whose pilots give a phase (TS 36.211 section 6.10.1.2)."""
-    first = one.identity % 3
-    for port in range(min(2, len(one.channel))):
-        in_first = (first + 3 * np.arange(24) - one.identity - 3 * port) % 6 == 0
-        yield Slot(pilots_of(one, port), in_first, waves_of(first, earliest, known))
-
-
-def pilots_of(one: Evidence, port: int) -> radio.Complex:
-    found: radio.Complex = np.array(one.channel[port], float) @ np.array((1, 1j))
+def knowledge(slots: Slots, signal: radio.Complex, paths: Paths, noise: float) -> radio.Real:
+    """Returns how much each slot says of the phase, by its signal: by this and the noise its error is."""
+    power, half = energy(signal), signal * ~slots.in_first
+    shares = energy(half - paths.kept(half)) / np.maximum(power, 1e-9)
+    found: radio.Real = shares * np.maximum(power - paths.size * noise, 0)
     return found
 
 
-def parts_of(slot: Slot) -> tuple[Slot, Slot]:
-    """Returns the pilots of the first symbol alone, and those of the later one."""
-    return slot._replace(pilots=slot.pilots * slot.in_first), slot._replace(pilots=slot.pilots * ~slot.in_first)
-
-
-def first_and_turned(slot: Slot, turn: float) -> radio.Complex:
-    """Returns all as in the first symbol."""
-    found: radio.Complex = np.where(slot.in_first, 1, np.exp(-1j * turn)) * slot.pilots
+def energy(pilots: radio.Complex) -> radio.Real:
+    """Returns the energy of each slot's pilots."""
+    found: radio.Real = np.sum(np.abs(pilots) ** 2, axis=1)
     return found
 
 
-def kept(slot: Slot) -> radio.Complex:
-    """Returns what paths make of pilots."""
-    found: radio.Complex = slot.waves @ (slot.waves.conj().T @ slot.pilots)
-    return found
+class Paths(NamedTuple):
+    """What paths may make of 24 pilots: the projection on it, and how many numbers describe it."""
 
+    projection: radio.Complex
+    size: int
 
-def knowledge(slot: Slot, noise: float) -> float:
-    """Returns how much a slot says of the phase: by this and the noise its error is."""
-    signal = kept(slot)
-    power = float(np.sum(np.abs(signal) ** 2))
-    half = slot._replace(pilots=signal * ~slot.in_first)
-    share = float(np.sum(np.abs(half.pilots - kept(half)) ** 2)) / max(power, 1e-9)
-    return share * max(power - slot.size * noise, 0)
+    def kept(self, pilots: radio.Complex) -> radio.Complex:
+        """Returns what paths make of the pilots of each slot."""
+        found: radio.Complex = pilots @ self.projection
+        return found
 
 
 @functools.cache
-def waves_of(subcarrier: int, earliest: int, known: tuple[int, ...]) -> radio.Complex:
-    """Returns orthogonal waves over the 24 pilots from this subcarrier on: any path's wave is a sum of them."""
+def paths_from(subcarrier: int, earliest: int, known: tuple[int, ...]) -> Paths:
+    """Returns paths from the earliest one, and the known ones, at the 24 pilots from this subcarrier: any path's wave is a
+    sum of few orthogonal waves."""
     delays = np.concatenate([earliest + PATHS, *(delay + ABOUT for delay in known)])
     k = subcarrier + 3 * np.arange(24)
     frequencies = np.where(k < 36, k - 36, k - 35) / 128
     waves, sizes, _ = np.linalg.svd(np.exp(-2j * np.pi * np.outer(frequencies, delays)))
     left = 1 - np.cumsum(sizes**2) / np.sum(sizes**2)
-    found: radio.Complex = waves[:, : int(np.argmax(left < REST)) + 1]
-    return found
+    size = int(np.argmax(left < REST)) + 1
+    kept = waves[:, :size]
+    return Paths((kept @ kept.conj().T).T, size)

@@ -27,7 +27,7 @@ from dataclasses import dataclass
 from typing import TYPE_CHECKING, Any, Generic, Iterator, Mapping, TypeVar, Union
 
 from . import foreign, machine, options, rates, records
-from .answers import Answer, Cell, Evidence, Hit, Identity, Tuning
+from .answers import Answer, Cell, CellEvidence, Evidence, Hit, Identity, Tuning
 from .machine import ProgramRefused, Refused
 from .reasons import Why
 from .rules import RULES, Rule
@@ -242,13 +242,25 @@ def evidence(
     format: str | None = None,
     ports: int = 1,
     prefix: str = "normal",
+    all: bool = False,
     shift: float = 0,
     at: float = 0,
     wide_rate: float | None = None,
 ) -> Answers[Evidence]:
-    """Returns what supports each cell of a list (`lte_cli evidence`); parameters as in `search`."""
+    """Returns what supports each cell of a list (`lte_cli evidence`); parameters as in `search`. With `all` the answers are
+    `CellEvidence`: the cells of all four lists, each with its `rule` and what supports it."""
     recording = recording_of(samples, Reading(rate, format, shift, at, wide_rate))
-    return listed(Evidence, rule_of(ports, prefix).evidence, recording, "evidence")
+    return Answers(every_evidence(recording).items) if all else evidence_of(recording, rule_of(ports, prefix))
+
+
+def evidence_of(recording: Recording, rule: Rule) -> Answers[Evidence]:
+    """Returns what supports each cell of a rule's list."""
+    return listed(Evidence, rule.evidence, recording, "evidence")
+
+
+def every_evidence(recording: Recording) -> Answers[CellEvidence]:
+    """Returns the lines of all four lists, each with what supports it."""
+    return listed(CellEvidence, ("evidence", "--all", "--json"), recording, "evidence_all")
 
 
 def why(
@@ -340,6 +352,8 @@ def survey(path: str | os.PathLike[str], **keys: Any) -> Survey:
 
 def surveyed(given: options.SurveyOptions) -> Survey:
     """Returns the survey of a file of samples, or the one that a file of JSON has."""
+    if given.is_survey:
+        return Survey.read(given.file)
     from . import surveying
 
-    return Survey.read(given.file) if given.is_survey else surveying.survey_of(given)
+    return surveying.survey_of(given)

@@ -73,9 +73,10 @@ class RadioFile:
         parts = parts[:, self.channel]
         if self.form == "f32" and not np.all(is_number(parts)):
             raise Spoiled(f"{self.path}: not numbers of f32 near sample {first}")
-        parts = (parts.astype(float) - form.middle) / form.full
-        i, q = (parts[:, 1], parts[:, 0]) if self.is_exchanged else (parts[:, 0], parts[:, 1])
-        found: radio.Complex = i + 1j * q
+        parts = np.ascontiguousarray(parts[:, ::-1] if self.is_exchanged else parts, float)
+        if form.middle:
+            parts = parts - form.middle
+        found: radio.Complex = (parts / form.full).view(complex)[:, 0]
         return found
 
     def numbers(self, kind: str, first: int, count: int) -> npt.NDArray[Any]:
@@ -108,7 +109,12 @@ class RadioFile:
         """Returns such a recording as `to_ci16.py` makes it of any file: at 1.92 million samples per second filtered to
         six resource blocks."""
         first = round(start * self.rate)
-        samples = self.samples(first, round(seconds * self.rate))
+        return self.converted(self.samples(first, round(seconds * self.rate)), first, offset, rate)
+
+    def converted(
+        self, samples: radio.Complex, first: int, offset: float = 0, rate: int = radio.RATE
+    ) -> tuple[bytes, float]:
+        """Returns the recording of samples of the file from `first`, and what full scale of the file is in it."""
         window = converted(samples, self.rate, self.shift_at(first) + offset, rate)
         scale = radio.FULL / 2 / (radio.peak(window) or 1)
         return radio.to_bytes(window * scale), scale

@@ -5,15 +5,17 @@ Debian: python3-numpy, python3-scipy. Needs lte_cli and lte_tune.
 from __future__ import annotations
 
 import dataclasses
+import functools
+import itertools
 from dataclasses import dataclass
-from typing import NamedTuple
+from typing import Iterable, Iterator, Mapping, NamedTuple, Sequence
 
 import numpy as np
 
 from . import neighbours, pilots, programs, radio, spectrum
 from .answers import STEP_HERTZ, Cell, Evidence
 from .radio_file import LEAST, RadioFile, Spoiled
-from .rules import BY_NAME, RULES, Rule, reads
+from .rules import BY_NAME, Rule, reads
 
 WINDOW = 17 * radio.FRAME / radio.RATE  # seconds: what a list depends on
 CYCLE = 1024 * radio.FRAME  # samples until a frame number repeats
@@ -37,6 +39,11 @@ class Task:
     length: float
     offset: float = 0
 
+    @property
+    def first(self) -> int:
+        """The sample of the file at which it begins."""
+        return round(self.start * self.file.rate)
+
     def with_offset(self, offset: float) -> Task:
         return dataclasses.replace(self, offset=offset)
 
@@ -51,6 +58,10 @@ class Window(NamedTuple):
     full: float
     offset: float
 
+    @property
+    def recording(self) -> programs.Recording:
+        return programs.Recording(self.data)
+
     def turned(self, hertz: float) -> Window:
         """Returns the window with `hertz` more corrected."""
         x = radio.shifted(radio.from_bytes(self.data), -hertz)
@@ -63,18 +74,15 @@ class Window(NamedTuple):
         return self._replace(data=self.data[frame * size : (frame + PART) * size])
 
 
-def window_of(task: Task) -> Window:
-    """Returns a window with the task's offset corrected, if there is one."""
-    offset = task.offset if abs(task.offset) > FINE else 0
-    return Window(*task.file.filtered(task.start, task.length, offset), offset)
-
-
 def samples_of(task: Task) -> radio.Complex:
-    """Returns a window's samples without their mean, where 1 is full scale."""
-    file = task.file
-    x = file.samples(round(task.start * file.rate), round(task.length * file.rate))
-    found: radio.Complex = x - x.mean()
-    return found
+    """Returns a window's samples, where 1 is full scale."""
+    return task.file.samples(task.first, round(task.length * task.file.rate))
+
+
+def window_of(task: Task, samples: radio.Complex | None = None) -> Window:
+    """Returns a window with the task's offset corrected, if there is one; its samples are read unless they are given."""
+    offset, x = task.offset if abs(task.offset) > FINE else 0, samples_of(task) if samples is None else samples
+    return Window(*task.file.converted(x, task.first, offset), offset)
 
 
 def energy(task: Task) -> float:
@@ -95,7 +103,7 @@ class Detection:
     """A line of a window's list, and what `evidence` says of it, of some frames of the window."""
 
     line: Cell
-    evidence: list[Evidence]
+    evidence: tuple[Evidence, ...]
     paths: tuple[int, ...] = ()  # samples by which other paths of its cell are later, of which the list has lines too
 
     @property
@@ -107,32 +115,43 @@ class Detection:
         """Cost by total."""
         return self.evidence[0].share
 
-    @property
+    @functools.cached_property
     def measured(self) -> pilots.Measured:
         return pilots.measured(self.evidence, self.rule, self.paths)
 
+    @property
+    def is_unsure(self) -> bool:
+        """Whether its pilots do not say what is left of the offset."""
+        return self.measured.error > FINE
+
+    def with_further(self, further: Sequence[Further]) -> Detection:
+        """Returns it with what the evidence of further frames says of it."""
+        more = (matching(self.line, by_rule[self.rule], frame) for frame, by_rule in further)
+        return dataclasses.replace(self, evidence=(*self.evidence, *itertools.chain.from_iterable(more)))
+
+
+class Further(NamedTuple):
+    """Evidence of a part of a window that begins with one of its frames, by the rules that were asked."""
+
+    frame: int
+    by_rule: Mapping[Rule, Iterable[Evidence]]
+
 
 def detections_in(window: Window) -> list[Detection]:
-    """Returns the lines of a window's list."""
-    recording = programs.Recording(window.data)
-    found = programs.listed(Cell, ("search", "--all", "--json"), recording, "search_all")
-    used = [rule for rule in RULES if any(line.rule == rule.name for line in found)]
-    support = {rule.name: {place_of(one): one for one in evidence_of(window, rule)} for rule in used}
-    return [Detection(line, [support[str(line.rule)][place_of(line)]], paths_of(line, found.items)) for line in found]
+    """Returns the lines of a window's lists."""
+    found = programs.every_evidence(window.recording)
+    lines = [one.cell for one in found]
+    return [Detection(line, (one,), paths_of(line, lines)) for line, one in zip(lines, found)]
 
 
-def paths_of(line: Cell, found: tuple[Cell, ...]) -> tuple[int, ...]:
+def paths_of(line: Cell, found: Sequence[Cell]) -> tuple[int, ...]:
     """Returns by how many samples lines of the same cell are later, except those that are another rule's."""
     half, place = CYCLE // 2, epoch_of(line)
     later = {(epoch_of(one) - place + half) % CYCLE - half for one in found if is_of_one_cell(one, line)}
     return tuple(sorted(delay for delay in later if NEAR < abs(delay) <= ECHO))
 
 
-def evidence_of(window: Window, rule: Rule) -> programs.Answers[Evidence]:
-    return programs.listed(Evidence, rule.evidence, programs.Recording(window.data), "evidence")
-
-
-def matching(line: Cell, support: programs.Answers[Evidence], frame: int = 0) -> list[Evidence]:
+def matching(line: Cell, support: Iterable[Evidence], frame: int = 0) -> list[Evidence]:
     """Returns what of the evidence of a window's part, from `frame` on, is about this line's cell."""
     place = epoch_of(line)
     return [
@@ -168,16 +187,19 @@ def left_of_surest(found: list[Detection]) -> tuple[float, float]:
     return min(((one.hertz, one.error) for one in every), key=lambda left: left[1], default=(0, VAGUE))
 
 
-def add_evidence(window: Window, found: list[Detection]) -> None:
-    """Reads pilots of further frames where those of one do not say what is left."""
-    unsure = [one for one in found if one.measured.error > FINE]
+def with_evidence(window: Window, found: Sequence[Detection]) -> list[Detection]:
+    """Returns detections with pilots of further frames where those of one do not say what is left."""
+    rules = {one.rule for one in found if one.is_unsure}
+    further = list(further_evidence(window, rules)) if rules else []
+    return [one.with_further(further) if one.is_unsure else one for one in found]
+
+
+def further_evidence(window: Window, rules: set[Rule]) -> Iterator[Further]:
+    """Yields the evidence of rules of parts of a window."""
     for frame in PARTS:
         part = window.part(frame)
-        if len(part.data) < 4 * LEAST:
-            break
-        support = {rule.name: evidence_of(part, rule) for rule in {one.rule for one in unsure}}
-        for one in unsure:
-            one.evidence.extend(matching(one.line, support[one.rule.name], frame))
+        if len(part.data) >= 4 * LEAST:
+            yield Further(frame, {rule: programs.evidence_of(part.recording, rule) for rule in rules})
 
 
 def by_itself(window: Window, one: Detection) -> tuple[Window, Detection]:
@@ -185,20 +207,20 @@ def by_itself(window: Window, one: Detection) -> tuple[Window, Detection]:
     left = one.measured
     if abs(left.hertz) > max(FINE, 3 * left.error):
         turned = window.turned(left.hertz)
-        if own := matching(one.line, evidence_of(turned, one.rule)):
-            window, one = turned, dataclasses.replace(one, evidence=own)
-            add_evidence(window, [one])
+        if own := matching(one.line, programs.evidence_of(turned.recording, one.rule)):
+            window = turned
+            (one,) = with_evidence(window, [dataclasses.replace(one, evidence=tuple(own))])
     return window, one
 
 
 # ---- the offset of a window
 
 
-def offset_in(task: Task) -> float | None:
+def offset_in(task: Task, samples: radio.Complex | None = None) -> float | None:
     """Returns the offset of a window in hertz, if a cell is listed in it: `lte_tune` asks the list of one port alone, so
     where that has none each of its candidates is asked of all lists."""
     try:
-        window = window_of(task)
+        window = window_of(task, samples)
     except Spoiled:
         return None
     answer = programs.tell(window.data)
@@ -247,6 +269,11 @@ class Sighting:
     missing: float = 0  # samples of a recording that are missing before it in the file
     gain: float = 0  # dB of the radio's gain, which its level includes
     unread: str | None = None  # why SIB1 was not read at the cell's bandwidth, if that was asked (wide.py)
+
+    @functools.cached_property
+    def fixed(self) -> Cell:
+        """What stays of its line from window to window."""
+        return dataclasses.replace(self.line, at=0, sfn=0)
 
     @property
     def seconds(self) -> float:
@@ -306,14 +333,18 @@ class Sighting:
 def sightings(task: Task) -> list[Sighting] | None:
     """Returns the cells of a window, each with the rules that list it; None where its samples are not numbers."""
     try:
-        window, detections = settled(window_of(task))
+        return sightings_in(task, samples_of(task))
     except Spoiled:
         return None
-    add_evidence(window, detections)
+
+
+def sightings_in(task: Task, samples: radio.Complex) -> list[Sighting]:
+    """Returns the cells of a window with these samples, each with the rules that list it."""
+    window, detections = settled(window_of(task, samples))
     found: list[Sighting] = []
-    for one in detections:
+    for one in with_evidence(window, detections):
         add_line(found, sighting_of(task, *by_itself(window, one)))
-    return [with_beside(one) if is_narrow(one.line) else one for one in found]
+    return [with_beside(one, samples) if is_narrow(one.line) else one for one in found]
 
 
 def is_narrow(line: Cell) -> bool:
@@ -321,11 +352,11 @@ def is_narrow(line: Cell) -> bool:
     return line.bandwidth == "n6" and line.sib1 is None
 
 
-def with_beside(one: Sighting) -> Sighting:
-    """Returns a sighting with the power outside its 6 resource blocks."""
-    task = one.task
-    centre = task.file.shift_at(round(task.start * task.file.rate)) + one.taken
-    power = spectrum.beside(samples_of(task), task.file.rate, centre)
+def with_beside(one: Sighting, samples: radio.Complex) -> Sighting:
+    """Returns a sighting with the power outside its 6 resource blocks, in the samples of its window."""
+    file = one.task.file
+    centre = file.shift_at(one.task.first) + one.taken
+    power = spectrum.beside(samples - samples.mean(), file.rate, centre)
     return dataclasses.replace(one, beside=radio.decibels(power))
 
 
@@ -334,7 +365,9 @@ def neighbour_of(window: Window, one: Detection) -> int | None:
     ratio = one.measured.ratio
     if ratio is None or ratio > LOW_RATIO or one.share >= DEAR:
         return None
-    return neighbours.in_pilots(radio.from_bytes(window.data), one.line.at, one.line.identity, one.rule)
+    begin = 4 * one.line.at
+    samples = radio.from_bytes(window.data[begin : begin + 4 * neighbours.LENGTH])
+    return neighbours.in_pilots(samples, one.line.identity, one.rule)
 
 
 def sighting_of(task: Task, window: Window, one: Detection) -> Sighting:

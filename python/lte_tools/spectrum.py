@@ -33,7 +33,8 @@ def spectra(x: radio.Complex, rate: float) -> tuple[Real, Real]:
     blocks = x[: len(x) // size * size].reshape(-1, size)
     blocks = blocks[:: max(1, -(-len(blocks) // MOST))]
     window = np.hanning(size + 2)[1:-1]
-    power = np.abs(np.fft.fft(blocks * window, axis=1)) ** 2 / (size * np.sum(window**2))
+    found = np.fft.fft(blocks * window, axis=1)
+    power = (found.real**2 + found.imag**2) / (size * np.sum(window**2))
     return np.fft.fftfreq(size, 1 / rate), power
 
 

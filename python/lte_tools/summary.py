@@ -67,6 +67,7 @@ def survey_of_cells(
     options: SurveyOptions, file: RadioFile, cells: Sequence[SeenCell], looked: Looked, hint: str | None = None
 ) -> Survey:
     """Returns the survey of a file's cells."""
+    surest = surest_of(cells)
     return Survey(
         file=str(options.file),
         datetime=file.time_at(file.stretches[0].first / file.rate) if file.stretches else None,
@@ -84,7 +85,7 @@ def survey_of_cells(
         spoiled=tuple(looked.spoiled),
         hint=hint,
         offsets=tuple(looked.offsets),
-        cells=tuple(surveyed(cell, cells, file, surest_of(cells)) for cell in cells),
+        cells=tuple(surveyed(cell, cells, file, surest) for cell in cells),
         gaps=tuple(jump.gap(file.rate) for jump in looked.jumps),
         powers=tuple(looked.powers),
         steps=tuple(looked.steps),

@@ -13,10 +13,9 @@ explains, and with a word what is doubtful. docs/RECORDINGS.md, "A whole file", 
 
 The file is read in windows of 17 frames, as far as a list looks, one after the other or every S seconds. Each becomes
 a recording as to_ci16.py makes it. `lte_tune tell` tells the offset of the strongest window and of some along the
-file, and of more where it drifts; between them it is a straight line. `lte_cli search --all`, and `lte_cli evidence` of
-each list with a cell, tell of each window, one process a processor; by the pilots that `evidence` writes (pilots.py)
-the rest of the offset is taken off, and each cell has its own. `lte_cli search --rate` reads SIB1 of cells of any
-bandwidth that the file holds (wide.py). Lines are one cell where identity, frame numbers and offset fit, and one with an
+file, and of more where it drifts; between them it is a straight line. `lte_cli evidence --all` lists the cells of each
+window, one process a processor; by the pilots that it writes (pilots.py) the rest of the offset is corrected, and each
+cell has its own. `lte_cli search --rate` reads SIB1 of cells of any bandwidth that the file holds (wide.py). Lines are one cell where identity, frame numbers and offset fit, and one with an
 echo where they come within 40 samples; samples that are missing, a radio that was restarted, and a generator's loop are
 stated below the table. Where no cell is sure, I and Q are tried exchanged. Where the noise and all cells step together,
 the radio's gain has changed: levels are those at the first gain. --gain states it by time, as 0:-20,14:-14: dBFS of a

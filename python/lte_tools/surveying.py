@@ -21,7 +21,7 @@ from .options import SurveyOptions
 from .radio_file import RadioFile
 from .sightings import WINDOW, Sighting, Task, energy, offset_in, sightings
 from .summary import Looked, survey_of_cells
-from .survey_data import Power, Survey
+from .survey_data import Survey
 
 TELL_EVERY = 10  # seconds from one window whose offset is asked for to the next
 STEEP = 350  # hertz between two windows with offsets above which one between them is asked too
@@ -78,21 +78,18 @@ def surveyed(options: SurveyOptions, file: RadioFile, ask: Ask) -> Survey:
     if points:
         offsets = np.interp(range(len(tasks)), [i for i, _ in points], [offset for _, offset in points])
     tasks = [task.with_offset(float(offset)) for task, offset in zip(tasks, offsets)]
-    found = ask("cells", sightings, tasks)
+    looked = ask("cells", levels.looked_at, tasks)
+    found = [sightings for sightings, _ in looked]
     lines = joined(flat(found))
     wide.inform(ask, lines)
     cells, jumps = as_one(lines)
-    powers, steps = levels.even(cells, powers_of(ask, tasks), options.gain)
+    known = [power for _, power in looked if power is not None]
+    powers, steps = levels.even(cells, known, options.gain)
     is_none = all(cell.is_chance(cells) for cell in cells)
     hint = why_none(ask, tasks, found, cells) if is_none else hints.of_cancelling(cells, file)
     spoiled = [round(task.start, 6) for task, one in zip(tasks, found) if one is None]
     asked = [(round(tasks[i].start, 6), round(offset, 1)) for i, offset in points]
     return survey_of_cells(options, file, cells, Looked(len(tasks), spoiled, asked, jumps, powers, steps), hint)
-
-
-def powers_of(ask: Ask, tasks: Sequence[Task]) -> list[Power]:
-    """Returns the powers of the windows that have numbers."""
-    return [one for one in ask("power", levels.power_of, tasks) if one is not None]
 
 
 def flat(found: Sequence[list[Sighting] | None]) -> list[Sighting]:

@@ -5,11 +5,11 @@ import numpy as np
 import pytest
 
 import lte_reference.search
-from lte_tools import columns, doubts, levels, neighbours, radio, rules, spectrum
+from lte_tools import columns, doubts, levels, live, neighbours, radio, rules, spectrum
 from lte_tools.cells import SeenCell, joined
 from lte_tools.levels import Gains
 from lte_tools.radio_file import RadioFile
-from lte_tools.sightings import Task
+from lte_tools.sightings import Task, samples_of
 from lte_tools.survey_data import Power, Step
 from tests.test_one_line import EVERY, sighting
 
@@ -49,12 +49,16 @@ def test_power_next_to_a_narrow_carrier(noise):
 def test_power_of_a_window(tmp_path, noise):
     (tmp_path / "x.ci16").write_bytes(radio.to_bytes(3_276.8 * noise))
     file = RadioFile(tmp_path / "x.ci16", "s16", RATE, len(noise), 0, 0)
-    power = levels.power_of(Task(file, 0, 0.1))
+    task = Task(file, 0, 0.1)
+    power = levels.power_of(task, samples_of(task))
     assert power.total == pytest.approx(-20, abs=0.1) and power.noise == pytest.approx(-42.0, abs=0.5)
     (tmp_path / "x.ci16").write_bytes(bytes(400_000))
-    assert levels.power_of(Task(file, 0, 0.01)) == Power(0, None, None)
+    task = Task(file, 0, 0.01)
+    assert levels.power_of(task, samples_of(task)) == Power(0, None, None)
     np.full(60_000, np.nan, "<f4").tofile(tmp_path / "x.ci16")
-    assert levels.power_of(Task(dataclasses.replace(file, form="f32"), 0, 0.01)) is None
+    spoiled = dataclasses.replace(file, form="f32")
+    assert levels.looked_at(Task(spoiled, 0, 0.01)) == (None, None)
+    assert live.look(Task(spoiled, 0, 0.01), True, frozenset()) == (None, None)
 
 
 # ---- steps of the gain
