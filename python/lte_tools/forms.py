@@ -24,6 +24,12 @@ class Form(NamedTuple):
         """Bytes of a sample of one channel."""
         return 2 * np.dtype(self.numbers).itemsize
 
+    @property
+    def rounding(self) -> float:
+        """The power of the error of a sample whose components are rounded to whole numbers: a twelfth of a step squared for
+        each; 0 for floating-point numbers."""
+        return 0.0 if np.dtype(self.numbers).kind == "f" else 1 / (6 * self.full**2)
+
 
 FORMS = {
     "u8": Form("u1", 127.5, 127.5),

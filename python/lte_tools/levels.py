@@ -1,7 +1,8 @@
 """Levels of a survey: total power and noise floor of each window, and the steps that the radio's gain makes in them.
 
 Where the noise floor steps, and the cells step with it, the radio's gain has changed: levels are then those at the gain of
-the first window.
+the first window. The noise floor of a file of whole numbers has their rounding errors, which do not step: a step is that of
+the rest.
 
 Debian: python3-numpy.
 """
@@ -16,7 +17,10 @@ import numpy as np
 
 from . import radio, spectrum
 from .cells import SeenCell
-from .radio_file import Spoiled
+from .forms import FORMS
+from .options import Gain
+from .radio_file import RadioFile, Spoiled
+from .rates import SPACING
 from .sightings import WINDOW, Sighting, Task, samples_of, sightings_in
 from .survey_data import Power, Step
 
@@ -26,6 +30,7 @@ FEW = 5  # windows on either side of a step that give the noise
 AGREED = 3  # dB by which a cell's step may differ from that of the noise
 MIXED = 0.1  # of a window that is on either side of a step, at least
 PARTS = np.linspace(MIXED, 1 - MIXED, 17)  # of a window at which its gain is looked at
+MOST_ROUNDING = 0.75  # of a noise floor that rounding errors may be, at most
 CLOSE = 3  # seconds on either side of a step in which a cell is compared
 
 
@@ -56,10 +61,24 @@ def rounded(power: float) -> float | None:
 # ---- steps of the gain
 
 
-def steps_of(powers: Sequence[Power], cells: Sequence[SeenCell]) -> list[Step]:
-    """Returns the steps of the radio's gain, by windows in the order of time and the cells in them."""
+def rounding_of(file: RadioFile) -> float:
+    """Returns the power in 15 kHz of the rounding errors in a file's samples."""
+    return FORMS[file.form].rounding * SPACING / file.rate
+
+
+def without_rounding(one: Power, rounding: float) -> Power:
+    """Returns a power whose noise floor is without rounding errors of this power, as far as it is known to have them."""
+    if not rounding:
+        return one
+    floor = 10 ** (noise_of(one) / 10)
+    return dataclasses.replace(one, noise=10 * math.log10(max(floor - rounding, floor * (1 - MOST_ROUNDING))))
+
+
+def steps_of(powers: Sequence[Power], cells: Sequence[SeenCell], rounding: float = 0.0) -> list[Step]:
+    """Returns the steps of the radio's gain, by windows in the order of time and the cells in them; `rounding` is the power
+    in 15 kHz of the rounding errors in the samples."""
     found: list[Step] = []
-    known = [one for one in powers if one.noise is not None and one.total is not None]
+    known = [without_rounding(one, rounding) for one in powers if one.noise is not None and one.total is not None]
     first = 0
     for i in range(1, len(known)):
         before = known[max(first, i - FEW) : i]
@@ -155,12 +174,13 @@ class Gains(NamedTuple):
 
 
 def even(
-    cells: Sequence[SeenCell], powers: Sequence[Power], gain: float | Sequence[tuple[float, float]] | None
+    cells: Sequence[SeenCell], powers: Sequence[Power], gain: Gain, rounding: float = 0.0
 ) -> tuple[list[Power], list[Step]]:
     """Sets the gain of all sightings, by the steps of a constant gain or as options name it over time; those of a window
-    within which it steps have no level. Returns the powers of the windows at the first gain, and the steps."""
+    within which it steps have no level. Returns the powers of the windows at the first gain, and the steps; `rounding` is
+    that of `steps_of`."""
     gains = gains_of(gain)
-    steps = steps_of(powers, cells) if len(gains.points) == 1 else []
+    steps = steps_of(powers, cells, rounding) if len(gains.points) == 1 else []
     gains = gains.with_steps(steps) if steps else gains
     for cell in cells:
         cell.seen = [at_gains(one, gains) for one in cell.seen]
@@ -180,7 +200,7 @@ def at_gain(one: Power, gains: Gains) -> Power:
     return Power(one.seconds, total, noise if is_one else None, round(gain, 1) + 0.0)
 
 
-def gains_of(gain: float | Sequence[tuple[float, float]] | None) -> Gains:
+def gains_of(gain: Gain) -> Gains:
     """Returns the gain that options name: none, one in dB, or pairs of a second and dB."""
     if gain is None:
         return Gains()

@@ -232,7 +232,7 @@ class Live:
     def survey(self) -> Survey:
         """Returns the survey."""
         count, cells = self.ring.size // width_of(self.file), in_windows_order(self.cells)
-        powers, steps = levels.even(cells, list(self.powers), self.options.gain)
+        powers, steps = levels.even(cells, list(self.powers), self.options.gain, levels.rounding_of(self.file))
         hint = self.hint(cells) if all(cell.is_chance(cells) for cell in cells) else None
         file = begun(self, count)
         looked = Looked(self.windows, self.spoiled, self.offsets, self.jumps, powers, steps)

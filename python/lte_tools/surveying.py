@@ -84,7 +84,7 @@ def surveyed(options: SurveyOptions, file: RadioFile, ask: Ask) -> Survey:
     wide.inform(ask, lines)
     cells, jumps = as_one(lines)
     known = [power for _, power in looked if power is not None]
-    powers, steps = levels.even(cells, known, options.gain)
+    powers, steps = levels.even(cells, known, options.gain, levels.rounding_of(file))
     is_none = all(cell.is_chance(cells) for cell in cells)
     hint = why_none(ask, tasks, found, cells) if is_none else hints.of_cancelling(cells, file)
     spoiled = [round(task.start, 6) for task, one in zip(tasks, found) if one is None]

@@ -7,6 +7,7 @@ import pytest
 import lte_reference.search
 from lte_tools import columns, doubts, levels, live, neighbours, radio, rules, spectrum
 from lte_tools.cells import SeenCell, joined
+from lte_tools.forms import FORMS
 from lte_tools.levels import Gains
 from lte_tools.radio_file import RadioFile
 from lte_tools.sightings import Task, samples_of
@@ -100,6 +101,24 @@ def test_gain_step_while_a_cell_fades():
     values[5] = dataclasses.replace(values[5], total=-37.0)
     (step,) = levels.steps_of(values, cells([-40.0] * 5 + [-32.0] * 5))
     assert step == Step(round(5 * WINDOW, 2), 8)
+
+
+def test_gain_step_in_a_file_of_bytes(tmp_path, noise):
+    """The noise is half a step of the numbers in each component: a quarter of the noise floor is their rounding, which the
+    gain does not change."""
+    gain, middle, full = np.repeat([0, 8], 6), *FORMS["u8"][1:]
+    x = carrier_in(noise, -540e3, 540e3, 20) * np.sqrt(2)
+    parts = [0.5 * 10 ** (one / 20) * x[i * 20_000 :][:60_000].view(float) for i, one in enumerate(gain)]
+    (tmp_path / "x.cu8").write_bytes(np.clip(np.round(np.concatenate(parts) + middle), 0, 255).astype("u1").tobytes())
+    file = RadioFile(tmp_path / "x.cu8", "u8", RATE, 12 * 60_000, 0, 0)
+    tasks = [Task(file, 0.025 * i, 0.025) for i in range(12)]
+    values = [levels.power_of(task, samples_of(task)).noise for task in tasks]
+    assert np.ptp(values[:6]) < 1 and np.ptp(values[6:]) < 1
+    (step,) = levels.steps_of(powers(values), cells(-40.0 + gain), levels.rounding_of(file))
+    assert step.decibels == pytest.approx(8, abs=0.3) and step.seconds == pytest.approx(6 * WINDOW, abs=0.1)
+    (step,) = levels.steps_of(powers(values), cells(-40.0 + gain))
+    assert step.decibels == pytest.approx(7, abs=0.3)
+    assert levels.rounding_of(dataclasses.replace(file, form="f32")) == 0
 
 
 @pytest.mark.parametrize(
